@@ -1,28 +1,28 @@
 -- A line at a door, by each way that it is answered.
 use Rattle.std.proofs.Common.{◌≡◌, ℕ, List, true, false, None, Some}
 use Rattle.agent_ask.specs.Events.{Call}
+use Rattle.agent_ask.specs.PartExchanges.{AnyExchange}
+use Rattle.agent_commands.specs.Endings.{went_after}
 use Rattle.agent_commands.specs.States.{AnswersRequest}
-use Rattle.agent_commands.specs.Talks.{WholeOrCut, whole, cut}
 use Rattle.agent_commands.specs.declared.went.Went.{Went}
 use Rattle.assuan_server.specs.Connections.{Connection}
-use Rattle.assuan_server.specs.Written.{failed}
+use Rattle.assuan_server.specs.Written.{failed, refusal_line}
 use Rattle.session_client.specs.declared.code.Code.TheVariants.{Forbidden}
 use Rattle.assuan_text.specs.Words.{command_of}
 use Rattle.cache_policy.specs.declared.mark.MarkStep.{MarkStep}
 use Rattle.cache_policy.specs.Turns.{Turn}
 use Rattle.key_commands.specs.Events.{Event}
 use Rattle.session_options.specs.declared.rules.Rules.{Rules}
-use Rattle.agent_origin.specs.DoorSessions.{door_help, helped, trusts, any, DoorExchange, forbidden, is_allowed}
+use Rattle.agent_origin.specs.DoorSessions.{door_command_named, door_help, helped, trusts, any, DoorExchange, forbidden, is_allowed}
 use Rattle.agent_origin.specs.Doors.{allowed}
-use Rattle.agent_origin.specs.Exchanges.{TrustExchange}
-use Rattle.agent_origin.specs.Names.{door_command_named}
+use Rattle.agent_origin.specs.TrustExchanges.{TrustReplies}
 use Rattle.agent_origin.specs.FurtherStates.{FurtherWorld, FurtherState}
-use Rattle.agent_origin.specs.Requests.{trust_request_of}
+use Rattle.agent_origin.specs.TrustRequests.{trust_request_of}
 use Rattle.agent_origin.specs.SessionExchanges.{SessionExchange}
-use Rattle.agent_origin.specs.States.{SaysText}
+use Rattle.agent_origin.specs.Serving.{SaysText}
 use Rattle.agent_origin.specs.declared.door.Door.{Door}
 use Rattle.agent_origin.specs.declared.kept.Kept.{Kept}
-use Rattle.agent_origin.specs.declared.names.DoorCommand.TheVariants.{Help, Trust}
+use Rattle.agent_origin.specs.declared.door_session.DoorCommand.TheVariants.{Help, Trust}
 use Rattle.agent_commands.proofs.Beside.{exchange_as}
 use Rattle.agent_origin.proofs.Serving.{text_answers}
 
@@ -42,29 +42,23 @@ module _ {D P : Type 0} (turned : D → MarkStep → Turn → D → Type 0) (pro
     help_is_answered kept start now named going said =
         text_answers {w = FurtherWorld turned prompted} (λ k. DoorExchange door rules k line) kept start now (is_allowed may (rw named helped)) going said
 
-    pub trust_is_answered : (kept : Kept) {start now : FurtherState turned prompted} {went : Went} → door_command_named (command_of line) ≡ Some Trust
-        → AnswersRequest {w = FurtherWorld turned prompted} {S = Unit {0}} (λ before events after went. TrustExchange rules kept.options (trust_request_of line) events went) tt start went tt now
-        → Answers kept start went kept now
-    trust_is_answered kept named answered = record {
+    answered_as : {S : Type 0} {exchange : S → List Event → S → Went → Type 0} {from to : S} {before after : Kept} {start now : FurtherState turned prompted} {went : Went}
+        → ((events : List Event) (went : Went) → exchange from events to went → DoorExchange door rules before line events after went)
+        → AnswersRequest {w = FurtherWorld turned prompted} exchange from start went to now → Answers before start went after now
+    answered_as same answered = record {
       events = answered.events;
-      exchanges = as_door answered.exchanges;
+      exchanges = exchange_as same answered.exchanges;
       done = answered.done;
       fits = answered.fits;
       faults = answered.faults;
     }
-      where
-        as_door : {events : List Event} {went : Went} → WholeOrCut {S = Unit {0}} (λ before events after went. TrustExchange rules kept.options (trust_request_of line) events went) tt events tt went
-            → WholeOrCut (λ k. DoorExchange door rules k line) kept events kept went
-        as_door {went} (whole exchanged) = whole (is_allowed may (rw named (trusts exchanged)))
-        as_door (cut {went} exchanged last) = cut {went = went} (is_allowed may (rw named (trusts exchanged))) last
+
+    pub trust_is_answered : (kept : Kept) {start now : FurtherState turned prompted} {went : Went} → door_command_named (command_of line) ≡ Some Trust
+        → AnswersRequest {w = FurtherWorld turned prompted} (λ options. AnyExchange refusal_line went_after (TrustReplies rules options (trust_request_of line)) options) kept.options start went kept.options now
+        → Answers kept start went kept now
+    trust_is_answered kept named answered = answered_as (λ events went exchanged. is_allowed may (rw named (trusts exchanged))) answered
 
     -- with the trust file beside
     pub session_line_is_answered : {before after : Kept} {start now : FurtherState turned prompted} {went : Went} → door_command_named (command_of line) ≡ None
         → AnswersRequest {w = FurtherWorld turned prompted} (λ kept. SessionExchange rules kept line) before start went after now → Answers before start went after now
-    session_line_is_answered named answered = record {
-      events = answered.events;
-      exchanges = exchange_as (λ events went exchanged. is_allowed may (rw named (any exchanged))) answered.exchanges;
-      done = answered.done;
-      fits = answered.fits;
-      faults = answered.faults;
-    }
+    session_line_is_answered named answered = answered_as (λ events went exchanged. is_allowed may (rw named (any exchanged))) answered

@@ -1,15 +1,15 @@
 -- The commands that are known, in the table of the rules at the doors.
-use Rattle.std.proofs.Common.{◌≡◌, ℕ, Bool, true, false, cond, IsSome, List, [], ◌∷◌, ◌++◌, map, take, drop, Option, None, Some, refl, sym, subst}
+use Rattle.std.proofs.Common.{◌≡◌, ℕ, Bool, true, false, cond, IsSome, List, [], ◌∷◌, ◌++◌, map, Option, None, Some, refl, sym, subst}
 use Rattle.std.specs.Str.{str_eq_ignore_ascii_case}
 use Rattle.agent_commands.specs.Names.{commands as cache_commands, prompt_commands, command_named as cache_command_named}
 use Rattle.assuan_text.specs.Rows.{found_in_any_case}
 use Rattle.key_commands.specs.Names.{commands as key_commands, command_named as key_command_named}
-use Rattle.agent_origin.specs.Doors.{rules, rule_named}
-use Rattle.agent_origin.specs.Names.{commands as trust_commands, command_named as trust_command_named}
+use Rattle.agent_origin.specs.Doors.{cache_rules, key_rules, trust_rules, rule_named}
+use Rattle.agent_origin.specs.TrustNames.{commands_on_trust, trust_command_named}
 use Rattle.agent_origin.specs.declared.door.Rule.{Rule}
 use Rattle.agent_origin.specs.declared.door.Rule.TheVariants.{Always, Never}
-use Rattle.agent_origin.specs.declared.names.TrustCommandName.{TrustCommandName}
-use Rattle.agent_origin.specs.declared.names.TrustCommandName.TheVariants.{IsTrusted, MarkTrusted}
+use Rattle.agent_origin.specs.declared.trust.names.TrustCommandName.{TrustCommandName}
+use Rattle.agent_origin.specs.declared.trust.names.TrustCommandName.TheVariants.{IsTrusted, MarkTrusted}
 use Rattle.agent_origin.proofs.Outer.{cache_rule, found_mapped, found_joined}
 use Rattle.agent_origin.proofs.OuterKeys.{key_rule}
 
@@ -38,11 +38,11 @@ found_behind word (row ∷ rows) more is =
 pub cache_command_has_a_rule : (word : List ℕ) → IsSome (cache_command_named word) → IsSome (rule_named word)
 unfolding cache_command_named rule_named
 cache_command_has_a_rule word is =
-    found_as cache_rule word (cache_commands ++ prompt_commands) (drop 13 rules) (subst IsSome (sym (found_joined word cache_commands prompt_commands)) is)
+    found_as cache_rule word (cache_commands ++ prompt_commands) (key_rules ++ trust_rules) (subst IsSome (sym (found_joined word cache_commands prompt_commands)) is)
 
 pub key_command_has_a_rule : (word : List ℕ) → IsSome (key_command_named word) → IsSome (rule_named word)
 unfolding key_command_named rule_named
-key_command_has_a_rule word is = found_behind word (take 13 rules) (drop 13 rules) (found_as key_rule word key_commands (drop 20 rules) is)
+key_command_has_a_rule word is = found_behind word cache_rules (key_rules ++ trust_rules) (found_as key_rule word key_commands trust_rules is)
 
 abbrev trust_rule : TrustCommandName → Rule
 trust_rule IsTrusted = Always
@@ -50,4 +50,4 @@ trust_rule MarkTrusted = Never
 
 pub trust_command_has_a_rule : (word : List ℕ) → IsSome (trust_command_named word) → IsSome (rule_named word)
 unfolding trust_command_named rule_named
-trust_command_has_a_rule word is = found_behind word (take 20 rules) (drop 20 rules) (found_as trust_rule word trust_commands [] is)
+trust_command_has_a_rule word is = found_behind word (cache_rules ++ key_rules) trust_rules (found_as trust_rule word commands_on_trust [] is)

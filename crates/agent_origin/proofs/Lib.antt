@@ -1,5 +1,4 @@
-pub mod Doing
-mod Trusting
+mod TrustDone
 mod Outer
 mod OuterKeys
 mod OuterTrust
@@ -7,8 +6,6 @@ mod KnownCommands
 pub mod OuterSessions
 pub mod OuterRuns
 mod NewTrustFiles
-mod Prompts
-mod Replying
 mod WorkedExamples
 mod WorkedExchanges
 mod AtDoor

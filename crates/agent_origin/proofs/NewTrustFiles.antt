@@ -1,365 +1,401 @@
 -- New trust files: each has its two consents.
-use Rattle.std.proofs.Common.{◌≡◌, ◌≤◌, ℕ, Bool, true, false, List, [], ◌∷◌, ◌++◌, length, Option, None, Some, Result, Ok, refl, ap, sym, ◌∙◌, subst, inl, inr}
+use Rattle.std.proofs.Common.{◌≡◌, ◌≤◌, ℕ, Bool, true, false, List, [], ◌∷◌, ◌++◌, length, Option, None, Some, Result, Ok, Err, refl, ap, sym, ◌∙◌, subst}
 use Rattle.std.specs.List.{AllByRecursion}
-use Rattle.std.specs.Prelude.{◌⊎◌}
-use Rattle.std.proofs.lemmas.List.{append_assoc}
+use Rattle.std.proofs.lemmas.List.{append_assoc, append-nil}
 use Rattle.arrayvec.specs.ArrayVec.{ArrayVec}
-use Rattle.agent_ask.specs.Further.{Keys, Dice, NoMemory, Prompt, Trust}
-use Rattle.agent_ask.specs.SessionEvents.{Received, Sent, Cut, Inquiry, CacheTurn, Further, cache_turn, CutAtLast, said_last}
-use Rattle.agent_ask.specs.TrustCalls.{Read, Replaced}
-use Rattle.agent_commands.specs.Answers.{ok}
+use Rattle.agent_ask.specs.ConsentParts.{AgreesTo, consents, refused as dissents}
+use Rattle.agent_ask.specs.PartExchanges.{AnyExchange, answered, refused}
+use Rattle.agent_ask.specs.Parts.{Follows, goes_on, stops, returns, Refuses, refuses}
+use Rattle.agent_ask.specs.SessionEvents.{Received, Sent, Cut, cache_turn, CutAtLast, said_last}
+use Rattle.agent_ask.specs.TrustCalls.{Read}
+use Rattle.agent_ask.specs.TurnParts.{Seats, opened, Closes, closed}
+use Rattle.agent_commands.specs.Endings.{went_after}
+use Rattle.agent_commands.specs.Exchanges.{CacheReply}
 use Rattle.agent_commands.specs.Requests.{request_of}
 use Rattle.agent_commands.specs.Talks.{WholeOrCut, whole, cut, Talk, over, ended, spent, read_fault, too_long as talk_too_long, cut_too_long, Session as SessionOf, greeted, cut_greeting}
 use Rattle.agent_commands.specs.Talks as talks
 use Rattle.agent_commands.specs.declared.went.SessionEnd.{SessionEnd}
-use Rattle.assuan_line.specs.declared.reader.Took.TheVariants as took
 use Rattle.agent_commands.specs.declared.went.Went.{Went}
 use Rattle.agent_ports.specs.declared.grip.Grip.{Grip}
-use Rattle.agent_ports.specs.declared.trust.TrustDone.TheVariants.{Done}
 use Rattle.agent_ports.specs.declared.trust.TrustRead.{TrustRead}
-use Rattle.session_client.specs.declared.code.Code.TheVariants as code
+use Rattle.assuan_line.specs.declared.reader.Took.TheVariants as took
+use Rattle.assuan_server.specs.Clients.{session_lines}
+use Rattle.assuan_server.specs.Written.{failed, refusal_line}
 use Rattle.cache_policy.specs.Turns.{Turn, Open}
 use Rattle.cache_policy.specs.declared.mark.MarkStep.TheVariants.{Seat, Close}
 use Rattle.key_commands.specs.Events.{Event}
-use Rattle.key_commands.proofs.EachRequest.{IsBesideTrust}
+use Rattle.key_commands.specs.Parts.{Part}
+use Rattle.key_commands.proofs.EachEvent.{each_append, each_seats, each_closes}
+use Rattle.key_commands.proofs.EachRequest.{IsBesideTrust, said_last_so}
+use Rattle.session_client.specs.declared.code.Code.TheVariants.{LineTooLong}
+use Rattle.session_client.specs.declared.code.Code.TheVariants as code
+use Rattle.session_client.specs.declared.refusal.Refusal.{Refusal}
+use Rattle.session_client.specs.declared.refusal.Refusal.TheVariants.{Agent}
 use Rattle.session_options.specs.OptionValues.{OptionValues}
 use Rattle.session_options.specs.declared.options.PinMode.{PinMode}
 use Rattle.session_options.specs.declared.options.PinMode.TheVariants as mode
 use Rattle.session_options.specs.declared.rules.Rules.{Rules}
 use Rattle.trust_list.specs.Trust.{trust, with_entry}
 use Rattle.trust_list.specs.declared.TheConstants.{MAX_TRUST_FILE_LEN}
-use Rattle.agent_origin.specs.Exchanges.{flag_of, trust_question, fingerprint_question, unless_said, TrustedNow, Stores, StoresUnsaid, Consented, asked_in, Marked, Carried, TrustExchange, answered, refused as refused_so}
 use Rattle.agent_origin.specs.DoorSessions.{AllowedExchange, helped, trusts as on_trust, any, DoorExchange, forbidden, is_allowed}
 use Rattle.agent_origin.specs.Doors.{allowed}
 use Rattle.agent_origin.specs.NewTrustFiles.{replaced, HasConsents, HasConsentsIn}
-use Rattle.agent_ask.specs.ConsentParts.{consents, refused}
-use Rattle.agent_ask.specs.Parts.{goes_on, stops, returns, Refuses, refuses}
-use Rattle.agent_ask.specs.TurnParts.{opened, interrupted}
-use Rattle.agent_origin.specs.Parts.{given_back, Agrees, file_in, has_read, added, too_long, trust_called}
-use Rattle.assuan_server.specs.Written.{refusal_line}
-use Rattle.key_commands.specs.Parts.{refusal_events}
-use Rattle.agent_origin.specs.Parts as parts
-use Rattle.agent_origin.specs.Requests.{trust_request_of}
+use Rattle.agent_origin.specs.TrustExchanges.{flag_of, trust_question, fingerprint_question, unless_said, TrustedNow, Stores, StoresUnsaid, Consented, asked_in, Marked, Carried, TrustReplies}
+use Rattle.agent_origin.specs.TrustParts.{ReadsFile, AddsEntry, Replaces, file_in, has_read, added, trust_called}
+use Rattle.agent_origin.specs.TrustParts as parts
+use Rattle.agent_origin.specs.TrustRequests.{trust_request_of}
 use Rattle.agent_origin.specs.declared.door.Door.{Door}
 use Rattle.agent_origin.specs.declared.door.Door.TheVariants.{Home, Outer}
+use Rattle.agent_origin.specs.declared.door_session.DoorCommand.{DoorCommand}
 use Rattle.agent_origin.specs.declared.kept.Kept.{Kept}
-use Rattle.agent_origin.specs.declared.names.DoorCommand.{DoorCommand}
-use Rattle.session_client.specs.declared.refusal.Refusal.{Refusal}
-use Rattle.session_client.specs.declared.refusal.Refusal.TheVariants.{Agent}
-use Rattle.agent_origin.specs.declared.request.TrustPurpose.{TrustPurpose}
-use Rattle.agent_origin.specs.declared.request.TrustRequest.{TrustRequest}
-use Rattle.agent_origin.specs.declared.request.TrustRequest.TheVariants.{IsTrusted, MarkTrusted, Bad}
+use Rattle.agent_origin.specs.declared.trust.request.TrustPurpose.{TrustPurpose}
+use Rattle.agent_origin.specs.declared.trust.request.TrustRequest.{TrustRequest}
+use Rattle.agent_origin.specs.declared.trust.request.TrustRequest.TheVariants.{IsTrusted, MarkTrusted, Bad}
 use Rattle.agent_origin.proofs.EachLine.{shown_so, each_request}
 use Rattle.agent_origin.proofs.OuterTrust.{IsOuterTrust, trust_outer}
 
--- ---- the files that replaced others
+-- ---- where a file became another's successor
 
-abbrev file_by : Event → List (List ℕ)
-file_by (Further (Trust (Replaced file Done))) = file ∷ []
-file_by _ = []
+-- an element of two lists, one behind the other
+data InEither {A : Type 0} (xs ys front : List A) (x : A) (back : List A) : Type 0 where
+  in_first : (rest : List A) → xs ≡ front ++ x ∷ rest → back ≡ rest ++ ys → InEither xs ys front x back
+  in_second : (rest : List A) → front ≡ xs ++ rest → ys ≡ rest ++ x ∷ back → InEither xs ys front x back
 
-abbrev files : List Event → List (List ℕ)
-files [] = []
-files (event ∷ later) = file_by event ++ files later
+in_either : {A : Type 0} (xs ys front : List A) (x : A) (back : List A) → xs ++ ys ≡ front ++ x ∷ back → InEither xs ys front x back
+in_either [] ys front x back is = in_second front refl is
+in_either (first ∷ xs) ys [] x back is =
+    let same : first ≡ x = cc is in
+    let rest : xs ++ ys ≡ back = cc is in
+    in_first xs (ap (λ (f : _). f ∷ xs) same) (sym rest)
+in_either (first ∷ xs) ys (second ∷ front) x back is =
+    let same : first ≡ second = cc is in
+    let rest : xs ++ ys ≡ front ++ x ∷ back = cc is in
+    elim (in_either xs ys front x back rest) [
+      | in_first more here behind ↦ in_first more (ap (λ (f : _). f ∷ xs) same ∙ ap (λ (l : List _). second ∷ l) here) behind
+      | in_second more there here ↦ in_second more (ap (λ (l : List _). second ∷ l) there ∙ ap (λ (f : _). f ∷ (xs ++ more)) (sym same)) here
+    ]
 
-files_then : (first second : List Event) → files (first ++ second) ≡ files first ++ files second
-files_then [] second = refl
-files_then (event ∷ more) second = ap (λ (f : List (List ℕ)). file_by event ++ f) (files_then more second) ∙ sym (append_assoc (file_by event) (files more) (files second))
+only_there : (event that : Event) (front back : List Event) → event ∷ [] ≡ front ++ that ∷ back → (front ≡ []) × (that ≡ event) × (back ≡ [])
+only_there event that [] back is =
+    let same : event ≡ that = cc is in
+    let rest : [] ≡ back = cc is in
+    (refl, sym same, sym rest)
+only_there event that (first ∷ []) back is = cc is
+only_there event that (first ∷ second ∷ front) back is = cc is
 
-none_then : (first second : List Event) → files first ≡ [] → files second ≡ [] → files (first ++ second) ≡ []
-none_then first second none none_too = files_then first second ∙ ap (λ (f : List (List ℕ)). f ++ files second) none ∙ none_too
+-- by none of these events it did
+abbrev Lacks : List Event → Type 0
+Lacks events = (front : List Event) (file : List ℕ) (back : List Event) → events ≡ front ++ replaced file ∷ back → ⊥
 
--- events by which the trust file isn't called
-untrusting_none : (events : List Event) → AllByRecursion IsBesideTrust events → files events ≡ []
-untrusting_none [] each = refl
-untrusting_none (Received took ∷ more) each = absurd each.0
-untrusting_none (Sent text ∷ more) each = untrusting_none more each.1
-untrusting_none (Cut text ∷ more) each = untrusting_none more each.1
-untrusting_none (Inquiry word params limit inquired ∷ more) each = untrusting_none more each.1
-untrusting_none (CacheTurn taken ∷ more) each = untrusting_none more each.1
-untrusting_none (Further (Prompt event) ∷ more) each = untrusting_none more each.1
-untrusting_none (Further (Keys call) ∷ more) each = untrusting_none more each.1
-untrusting_none (Further (Dice draw) ∷ more) each = untrusting_none more each.1
-untrusting_none (Further NoMemory ∷ more) each = untrusting_none more each.1
-untrusting_none (Further (Trust call) ∷ more) each = absurd each.0
+none_lacks : Lacks []
+none_lacks [] file back is = cc is
+none_lacks (event ∷ front) file back is = cc is
 
-both_none : (first second : List (List ℕ)) → first ++ second ≡ [] → (first ≡ []) × (second ≡ [])
-both_none [] second none = (refl, none)
-both_none (file ∷ first) second none = cc none
+one_lacks : (event : Event) → ((file : List ℕ) → replaced file ≡ event → ⊥) → Lacks (event ∷ [])
+one_lacks event other front file back is = other file (only_there event (replaced file) front back is).1
 
-some_file : (front : List Event) (file : List ℕ) (back : List Event) → files (front ++ replaced file ∷ back) ≡ [] → ⊥
-some_file [] file back none = cc none
-some_file (event ∷ front) file back none = some_file front file back (both_none (file_by event) (files (front ++ replaced file ∷ back)) none).1
+its_own : (front : List Event) (event : Event) (back : List Event) → AllByRecursion IsBesideTrust (front ++ event ∷ back) → IsBesideTrust event
+its_own [] event back each = each.0
+its_own (first ∷ front) event back each = its_own front event back each.1
 
--- where there is one, it stands at one place
-one_place : (front back other more : List Event) (file that : List ℕ) → files front ≡ [] → files back ≡ [] → front ++ replaced file ∷ back ≡ other ++ replaced that ∷ more
-    → (other ≡ front) × (that ≡ file) × (more ≡ back)
-one_place [] back [] more file that none none_too is =
-    let same : trust_called (Replaced file Done) ≡ trust_called (Replaced that Done) = cc is in
-    let rest : back ≡ more = cc is in
-    (refl, cc same, sym rest)
-one_place [] back (event ∷ other) more file that none none_too is =
-    let rest : back ≡ other ++ replaced that ∷ more = cc is in
-    absurd (some_file other that more (sym (ap files rest) ∙ none_too))
-one_place (event ∷ front) back [] more file that none none_too is =
-    let same : event ≡ replaced that = cc is in
-    absurd (some_file [] that front (sym (ap (λ (e : Event). files (e ∷ front)) same) ∙ none))
-one_place (event ∷ front) back (first ∷ other) more file that none none_too is =
-    let same : event ≡ first = cc is in
-    let rest : front ++ replaced file ∷ back ≡ other ++ replaced that ∷ more = cc is in
-    let later = one_place front back other more file that (both_none (file_by event) (files front) none).1 none_too rest in
-    (ap (λ (o : List Event). first ∷ o) later.0 ∙ ap (λ (e : Event). e ∷ front) (sym same), later.1, later.2)
+each_lacks : (events : List Event) → AllByRecursion IsBesideTrust events → Lacks events
+each_lacks events each front file back is = its_own front (replaced file) back (subst (λ (e : List Event). AllByRecursion IsBesideTrust e) is each)
+
+-- ---- parts
+
+module _ (file : List ℕ) (later : List Event) where
+  abbrev Here : List Event → List Event → Type 0
+  Here before events = events ≡ before ++ replaced file ∷ later
+
+  -- it did behind a part, which came to a value
+  record Behind {A B : Type 0} (part : Part A) (next : A → Part B) (held : Option ℕ) (before : List Event) (result : Result B Refusal) (after : Option ℕ) : Type 0 where
+    pub first : List Event
+    pub value : A
+    pub mid : Option ℕ
+    pub does : part held first (Ok value) mid
+    pub more : List Event
+    pub goes_on : next value mid more result after
+    pub rest : List Event
+    pub here : Here rest more
+    pub begins : before ≡ first ++ rest
+
+  goes_past : {A B : Type 0} {part : Part A} {next : A → Part B} {held after : Option ℕ} {events : List Event} {result : Result B Refusal}
+      → ((events : List Event) (result : Result A Refusal) (after : Option ℕ) → part held events result after → Lacks events) → Follows part next held events result after → (before : List Event) → Here before events
+      → Behind part next held before result after
+  goes_past lacks (goes_on {first} {events = more} {value} {mid} does next_does) before is =
+      elim (in_either first more before (replaced file) later is) [
+        | in_first rest here past ↦ absurd (lacks first (Ok value) mid does before file rest here)
+        | in_second rest there here ↦
+            record { first = first; value = value; mid = mid; does = does; more = more; goes_on = next_does; rest = rest; here = here; begins = there }
+      ]
+  goes_past {after} {events} lacks (stops {refusal} does) before is = absurd (lacks events (Err refusal) after does before file later is)
+
+  -- what the file says decides nothing
+  unsaid : (said : Option Bool) (other : Part (Unit {0})) (held after : Option ℕ) (events : List Event) (result : Result (Unit {0}) Refusal) → unless_said said other held events result after
+      → (before : List Event) → Here before events → (said ≡ None) × other held events result after
+  unsaid (Some true) other held after events result returns before is = absurd (none_lacks before file later is)
+  unsaid (Some false) other held after events result refuses before is = absurd (none_lacks before file later is)
+  unsaid None other held after events result does before is = (refl, does)
+
+  refuses_lack : {A : Type 0} {why : Refusal} {held after : Option ℕ} {events : List Event} {result : Result A Refusal} → Refuses why held events result after → (before : List Event) → Here before events → ⊥
+  refuses_lack refuses before is = none_lacks before file later is
+
+reads_lack : (held : Option ℕ) (events : List Event) (result : Result (List ℕ) Refusal) (after : Option ℕ) → ReadsFile held events result after → Lacks events
+reads_lack held events result after (has_read is) = one_lacks _ (λ file same. cc same)
+reads_lack held events result after parts.ReadsFile.faulted = one_lacks _ (λ file same. cc same)
+reads_lack held events result after parts.ReadsFile.no_memory = one_lacks _ (λ file same. cc same)
+
+was_read : {held after : Option ℕ} {events : List Event} {file : List ℕ} → ReadsFile held events (Ok file) after
+    → (answer : TrustRead) × (file_in answer ≡ Some file) × (events ≡ trust_called (Read answer) ∷ []) × (after ≡ held)
+was_read (has_read {answer} is) = (answer, is, refl, refl)
+
+module _ (rules : Rules) (options : OptionValues) (question : List ℕ) where
+  abbrev Agrees : Part (Unit {0})
+  Agrees = AgreesTo session_lines rules options question
+
+  agrees_lack : (held : Option ℕ) (events : List Event) (result : Result (Unit {0}) Refusal) (after : Option ℕ) → Agrees held events result after → Lacks events
+  agrees_lack held events result after (consents spec is prompt) = each_lacks events (shown_so IsBesideTrust (λ event is. is) prompt.in_session)
+  agrees_lack held events result after (dissents spec is prompt why) = each_lacks events (shown_so IsBesideTrust (λ event is. is) prompt.in_session)
+
+  has_agreed : (ticket : ℕ) {held after : Option ℕ} {events : List Event} {value : Unit {0}} → held ≡ Some ticket → Agrees held events (Ok value) after
+      → Agrees (Some ticket) events (Ok tt) (Some ticket) × (after ≡ Some ticket)
+  has_agreed ticket is (consents spec of prompt) = (consents spec of prompt, is)
 
 -- ---- MARKTRUSTED
 
-agrees_none : {rules : Rules} {options : OptionValues} {question : List ℕ} {before after : Option ℕ} (events : List Event) (result : Result (Unit {0}) Refusal)
-    → Agrees rules options question before events result after → files events ≡ []
-agrees_none events result (consents spec is prompt) = untrusting_none events (shown_so IsBesideTrust (λ event is. is) prompt.in_session)
-agrees_none events result (refused spec is prompt why) = untrusting_none events (shown_so IsBesideTrust (λ event is. is) prompt.in_session)
-
-module _ (fingerprint : Grip) (purpose : TrustPurpose) where
+module _ (fingerprint : Grip) (purpose : TrustPurpose) (file : List ℕ) (later : List Event) where
   abbrev new_file : List ℕ → List ℕ
   new_file old = with_entry old fingerprint.0 (flag_of purpose)
 
-  stores_by : (before after : Option ℕ) (file : List ℕ) (events : List Event) (result : Result (Unit {0}) Refusal) → Stores fingerprint purpose file before events result after
-      → (files events ≡ []) ⊎ ((events ≡ replaced (new_file file) ∷ []) × (length (new_file file) ≤ MAX_TRUST_FILE_LEN))
-  unfolding Stores
-  stores_by before after file events result (goes_on (added fits) parts.replaced) = inr (refl, fits)
-  stores_by before after file events result (goes_on (added fits) (parts.Replaces.faulted)) = inl refl
-  stores_by before after file events result (goes_on (added fits) (parts.Replaces.no_memory)) = inl refl
-  stores_by before after file events result (stops (too_long long)) = inl refl
-  stores_by before after file events result (stops (parts.AddsEntry.no_memory)) = inl refl
+  replaces_it : (new : List ℕ) {held after : Option ℕ} {events : List Event} {result : Result (Unit {0}) Refusal} → Replaces new held events result after → (before : List Event)
+      → Here file later before events → (before ≡ []) × (file ≡ new) × (later ≡ []) × (after ≡ held)
+  replaces_it new parts.replaced before is =
+      let it = only_there _ (replaced file) before later is in
+      let same : replaced file ≡ replaced new = it.1 in
+      (it.0, cc same, it.2, refl)
+  replaces_it new parts.Replaces.faulted before is = let same = (only_there _ (replaced file) before later is).1 in cc same
+  replaces_it new parts.Replaces.no_memory before is = let same = (only_there _ (replaced file) before later is).1 in cc same
 
-  record Rewrites (events : List Event) : Type 0 where
+  adds_lack : (old : List ℕ) (held : Option ℕ) (events : List Event) (result : Result (List ℕ) Refusal) (after : Option ℕ) → AddsEntry old fingerprint (flag_of purpose) held events result after → Lacks events
+  adds_lack old held events result after (added fits) = none_lacks
+  adds_lack old held events result after (parts.too_long long) = none_lacks
+  adds_lack old held events result after parts.AddsEntry.no_memory = one_lacks _ (λ file same. cc same)
+
+  was_added : {old new : List ℕ} {held after : Option ℕ} {events : List Event} → AddsEntry old fingerprint (flag_of purpose) held events (Ok new) after
+      → (new ≡ new_file old) × (events ≡ []) × (length new ≤ MAX_TRUST_FILE_LEN) × (after ≡ held)
+  was_added (added fits) = (refl, refl, fits, refl)
+
+  stores_it : (old : List ℕ) (held after : Option ℕ) (events : List Event) (result : Result (Unit {0}) Refusal) → Stores fingerprint purpose old held events result after → (before : List Event)
+      → Here file later before events → (before ≡ []) × (file ≡ new_file old) × (length file ≤ MAX_TRUST_FILE_LEN) × (later ≡ []) × (after ≡ held)
+  unfolding Stores
+  stores_it old held after events result stores before is =
+      let at = goes_past file later (adds_lack old held) stores before is in
+      let new = was_added at.does in
+      let it = replaces_it at.value at.goes_on at.rest at.here in (
+        at.begins ∙ ap (λ (f : List Event). f ++ at.rest) new.1 ∙ it.0,
+        it.1 ∙ new.0,
+        subst (λ (f : List ℕ). length f ≤ MAX_TRUST_FILE_LEN) (sym it.1) new.2,
+        it.2,
+        it.3 ∙ new.3,
+      )
+
+  -- it was read, said nothing of the certificate, and became one with one entry more
+  record Rewrites (held after : Option ℕ) (before : List Event) : Type 0 where
     pub read : TrustRead
     pub old : List ℕ
+    pub before_is : before ≡ trust_called (Read read) ∷ []
     pub old_is : file_in read ≡ Some old
-    pub unsaid : trust old fingerprint.0 ≡ None
-    pub whole : events ≡ trust_called (Read read) ∷ replaced (new_file old) ∷ []
-    pub fits : length (new_file old) ≤ MAX_TRUST_FILE_LEN
+    pub unsaid_is : trust old fingerprint.0 ≡ None
+    pub new_is : file ≡ new_file old
+    pub fits : length file ≤ MAX_TRUST_FILE_LEN
+    pub ends : later ≡ []
+    pub holds : after ≡ held
 
-  unsaid_so : (answer : TrustRead) (file : List ℕ) → file_in answer ≡ Some file → (said : Option Bool) → trust file fingerprint.0 ≡ said → (before after : Option ℕ) (events : List Event)
-      (result : Result (Unit {0}) Refusal) → unless_said said (Stores fingerprint purpose file) before events result after → (files events ≡ []) ⊎ Rewrites (trust_called (Read answer) ∷ events)
-  unsaid_so answer file is (Some true) says before after events result returns = inl refl
-  unsaid_so answer file is (Some false) says before after events result refuses = inl refl
-  unsaid_so answer file is None says before after events result stores =
-      elim (stores_by before after file events result stores) [
-        | inl none ↦ inl none
-        | inr by ↦ inr (record { read = answer; old = file; old_is = is; unsaid = says; whole = ap (λ (e : List Event). trust_called (Read answer) ∷ e) by.0; fits = by.1 })
-      ]
-
-  unsaid_by : (before after : Option ℕ) (events : List Event) (result : Result (Unit {0}) Refusal) → StoresUnsaid fingerprint purpose before events result after → (files events ≡ []) ⊎ Rewrites events
+  rewrites_it : (held after : Option ℕ) (events : List Event) (result : Result (Unit {0}) Refusal) → StoresUnsaid fingerprint purpose held events result after → (before : List Event)
+      → Here file later before events → Rewrites held after before
   unfolding StoresUnsaid
-  unsaid_by before after events result (goes_on {events = more} (has_read {answer} {file} is) said) = unsaid_so answer file is (trust file fingerprint.0) refl before after more result said
-  unsaid_by before after events result (stops (parts.ReadsFile.faulted)) = inl refl
-  unsaid_by before after events result (stops (parts.ReadsFile.no_memory)) = inl refl
+  rewrites_it held after events result stores before is =
+      let at = goes_past file later (reads_lack held) stores before is in
+      let read = was_read at.does in
+      let said = unsaid file later (trust at.value fingerprint.0) (Stores fingerprint purpose at.value) at.mid after at.more result at.goes_on at.rest at.here in
+      let it = stores_it at.value at.mid after at.more result said.1 at.rest at.here in
+      record {
+        read = read.0;
+        old = at.value;
+        before_is = at.begins ∙ ap (λ (f : List Event). f ++ at.rest) read.2 ∙ ap (λ (r : List Event). trust_called (Read read.0) ∷ r) it.0;
+        old_is = read.1;
+        unsaid_is = said.0;
+        new_is = it.1;
+        fits = it.2;
+        ends = it.3;
+        holds = it.4 ∙ read.3;
+      }
 
-  module _ (rules : Rules) (options : OptionValues) (name : List ℕ) where
-    record Consents (ticket : ℕ) (events : List Event) : Type 0 where
+  module _ (rules : Rules) (options : OptionValues) (name : ArrayVec ℕ) where
+    -- behind two consents
+    record Both (ticket : ℕ) (after : Option ℕ) (before : List Event) : Type 0 where
       pub first : List Event
       pub second : List Event
-      pub rewritten : List Event
-      pub trusts : Agrees rules options (trust_question name) (Some ticket) first (Ok tt) (Some ticket)
-      pub is_right : Agrees rules options (fingerprint_question fingerprint name) (Some ticket) second (Ok tt) (Some ticket)
-      pub rewrites : Rewrites rewritten
-      pub whole : events ≡ first ++ (second ++ rewritten)
+      pub trusts : Agrees rules options (trust_question name.items) (Some ticket) first (Ok tt) (Some ticket)
+      pub is_right : Agrees rules options (fingerprint_question fingerprint name.items) (Some ticket) second (Ok tt) (Some ticket)
+      pub rest : List Event
+      pub rewrites : Rewrites (Some ticket) after rest
+      pub before_is : before ≡ first ++ (second ++ rest)
 
-    consented_by : (ticket : ℕ) (events : List Event) (result : Result (Unit {0}) Refusal) → Consented rules options fingerprint purpose name (Some ticket) events result (Some ticket)
-        → (files events ≡ []) ⊎ Consents ticket events
+    consents_to : (ticket : ℕ) (held after : Option ℕ) (events : List Event) (result : Result (Unit {0}) Refusal) → held ≡ Some ticket
+        → Consented rules options fingerprint purpose name.items held events result after → (before : List Event) → Here file later before events → Both ticket after before
     unfolding Consented
-    consented_by ticket events result (goes_on {first} (consents spec is prompt) (goes_on {first = second} {events = more} (consents second_spec is_second second_prompt) unsaid)) =
-        let trusts : Agrees rules options (trust_question name) (Some ticket) first (Ok tt) (Some ticket) = consents spec is prompt in
-        let is_right : Agrees rules options (fingerprint_question fingerprint name) (Some ticket) second (Ok tt) (Some ticket) = consents second_spec is_second second_prompt in
-        elim (unsaid_by (Some ticket) (Some ticket) more result unsaid) [
-          | inl none ↦ inl (none_then first (second ++ more) (agrees_none first _ trusts) (none_then second more (agrees_none second _ is_right) none))
-          | inr rewrites ↦ inr (record { first = first; second = second; rewritten = more; trusts = trusts; is_right = is_right; rewrites = rewrites; whole = refl })
-        ]
-    consented_by ticket events result (goes_on {first} trusts (stops {first = second} declines)) = inl (none_then first second (agrees_none first _ trusts) (agrees_none second _ declines))
-    consented_by ticket events result (stops {first} declines) = inl (agrees_none first _ declines)
+    consents_to ticket held after events result holds consented before is =
+        let one = goes_past file later (agrees_lack rules options (trust_question name.items) held) consented before is in
+        let trusts = has_agreed rules options (trust_question name.items) ticket holds one.does in
+        let two = goes_past file later (agrees_lack rules options (fingerprint_question fingerprint name.items) one.mid) one.goes_on one.rest one.here in
+        let is_right = has_agreed rules options (fingerprint_question fingerprint name.items) ticket trusts.1 two.does in
+        record {
+          first = one.first;
+          second = two.first;
+          trusts = trusts.0;
+          is_right = is_right.0;
+          rest = two.rest;
+          rewrites = subst (λ (h : Option ℕ). Rewrites h after two.rest) is_right.1 (rewrites_it two.mid after two.more result two.goes_on two.rest two.here);
+          before_is = one.begins ∙ ap (λ (r : List Event). one.first ++ r) two.begins;
+        }
 
-    record Under (events : List Event) : Type 0 where
-      pub ticket : ℕ
-      pub turn : Turn
-      pub consented : List Event
-      pub by : Consents ticket consented
-      pub whole : events ≡ cache_turn (Seat None None) (Open ticket) ∷ (consented ++ cache_turn (Close ticket None) turn ∷ [])
-
-    asked_by : (before after : Option ℕ) (wanted : PinMode) (events : List Event) (result : Result (Unit {0}) Refusal) → asked_in rules options fingerprint purpose name wanted before events result after
-        → (files events ≡ []) ⊎ Under events
-    asked_by before after mode.Ask events result (goes_on (opened {ticket}) (given_back {events = consented} turn part)) =
-        elim (consented_by ticket consented result part) [
-          | inl none ↦ inl (none_then consented (cache_turn (Close ticket None) turn ∷ []) none refl)
-          | inr by ↦ inr (record { ticket = ticket; turn = turn; consented = consented; by = by; whole = refl })
-        ]
-    asked_by before after mode.Ask events result (stops (interrupted by)) = inl refl
-    asked_by before after mode.Cancel events result refuses = inl refl
-    asked_by before after mode.Error events result refuses = inl refl
-    asked_by before after mode.Loopback events result refuses = inl refl
-
-    record Marks (events : List Event) : Type 0 where
+    -- under a ticket that is held yet
+    record Marks (after : Option ℕ) (before : List Event) : Type 0 where
       pub early : TrustRead
-      pub asked : List Event
-      pub under : Under asked
-      pub whole : events ≡ trust_called (Read early) ∷ asked
+      pub ticket : ℕ
+      pub rest : List Event
+      pub both : Both ticket after rest
+      pub before_is : before ≡ trust_called (Read early) ∷ cache_turn (Seat None None) (Open ticket) ∷ (both.first ++ (both.second ++ both.rest))
 
-    marked_so : (before after : Option ℕ) (answer : TrustRead) (said : Option Bool) (events : List Event) (result : Result (Unit {0}) Refusal)
-        → unless_said said (asked_in rules options fingerprint purpose name options.mode) before events result after
-        → (files events ≡ []) ⊎ Marks (trust_called (Read answer) ∷ events)
-    marked_so before after answer (Some true) events result returns = inl refl
-    marked_so before after answer (Some false) events result refuses = inl refl
-    marked_so before after answer None events result asks =
-        elim (asked_by before after options.mode events result asks) [
-          | inl none ↦ inl none
-          | inr under ↦ inr (record { early = answer; asked = events; under = under; whole = refl })
-        ]
+    asks : (wanted : PinMode) (held after : Option ℕ) (events : List Event) (result : Result (Unit {0}) Refusal) → asked_in rules options fingerprint purpose name.items wanted held events result after
+        → (before : List Event) → Here file later before events → asked_in rules options fingerprint purpose name.items mode.Ask held events result after
+    asks mode.Ask held after events result does before is = does
+    asks mode.Cancel held after events result refuses before is = absurd (none_lacks before file later is)
+    asks mode.Error held after events result refuses before is = absurd (none_lacks before file later is)
+    asks mode.Loopback held after events result refuses before is = absurd (none_lacks before file later is)
 
-    marked_by : (before after : Option ℕ) (events : List Event) (result : Result (Unit {0}) Refusal) → Marked rules options fingerprint purpose name before events result after → (files events ≡ []) ⊎ Marks events
+    seats_lack : (held : Option ℕ) (events : List Event) (result : Result (Unit {0}) Refusal) (after : Option ℕ) → Seats (Seat None None) held events result after → Lacks events
+    seats_lack held events result after seats = each_lacks events ((each_seats IsBesideTrust (λ turn. tt)).of held events result after seats)
+
+    was_seated : {held after : Option ℕ} {events : List Event} {value : Unit {0}} → Seats (Seat None None) held events (Ok value) after
+        → (ticket : ℕ) × (events ≡ cache_turn (Seat None None) (Open ticket) ∷ []) × (after ≡ Some ticket)
+    was_seated (opened {ticket}) = (ticket, refl, refl)
+
+    marks_it : (held after : Option ℕ) (events : List Event) (result : Result (Unit {0}) Refusal) → Marked rules options fingerprint purpose name.items held events result after → (before : List Event)
+        → Here file later before events → Marks after before
     unfolding Marked
-    marked_by before after events result (goes_on {events = more} (has_read {answer} {file} is) said) = marked_so before after answer (trust file fingerprint.0) more result said
-    marked_by before after events result (stops (parts.ReadsFile.faulted)) = inl refl
-    marked_by before after events result (stops (parts.ReadsFile.no_memory)) = inl refl
+    marks_it held after events result marked before is =
+        let early = goes_past file later (reads_lack held) marked before is in
+        let read = was_read early.does in
+        let asked : Part (Unit {0}) = asked_in rules options fingerprint purpose name.items options.mode in
+        let said = unsaid file later (trust early.value fingerprint.0) asked early.mid after early.more result early.goes_on early.rest early.here in
+        let seat = goes_past file later (seats_lack early.mid) (asks options.mode early.mid after early.more result said.1 early.rest early.here) early.rest early.here in
+        let seated = was_seated seat.does in
+        let both = consents_to seated.0 seat.mid after seat.more result seated.2 seat.goes_on seat.rest seat.here in
+        record {
+          early = read.0;
+          ticket = seated.0;
+          rest = seat.rest;
+          both = both;
+          before_is =
+              early.begins ∙ ap (λ (f : List Event). f ++ early.rest) read.2
+              ∙ ap (λ (r : List Event). trust_called (Read read.0) ∷ r)
+              (seat.begins ∙ ap (λ (f : List Event). f ++ seat.rest) seated.1 ∙ ap (λ (r : List Event). cache_turn (Seat None None) (Open seated.0) ∷ r) both.before_is);
+        }
 
 -- ---- exchanges
 
-laid_out : (first second : List Event) (r p c : Event) (tail : List Event) → ((first ++ (second ++ r ∷ p ∷ [])) ++ c ∷ []) ++ tail ≡ (first ++ (second ++ r ∷ [])) ++ p ∷ c ∷ tail
-laid_out first second r p c tail =
-    append_assoc (first ++ (second ++ r ∷ p ∷ [])) (c ∷ []) tail ∙ append_assoc first (second ++ r ∷ p ∷ []) (c ∷ tail)
-    ∙ ap (λ (e : List Event). first ++ e) (append_assoc second (r ∷ p ∷ []) (c ∷ tail) ∙ sym (append_assoc second (r ∷ []) (p ∷ c ∷ tail)))
-    ∙ sym (append_assoc first (second ++ r ∷ []) (p ∷ c ∷ tail))
-
--- one file became another's successor, by these consents
-record Placed (rules : Rules) (options : OptionValues) (request : TrustRequest) (events : List Event) : Type 0 where
-  pub before : List Event
-  pub file : List ℕ
-  pub after : List Event
-  pub whole : events ≡ before ++ replaced file ∷ after
-  pub none : files before ≡ []
-  pub none_too : files after ≡ []
-  pub consents : HasConsents rules options request before file after
-
-module _ (rules : Rules) (options : OptionValues) where
-  marks_placed : (fingerprint : Grip) (purpose : TrustPurpose) (name : ArrayVec ℕ) (events tail : List Event) → files tail ≡ [] → Marks fingerprint purpose rules options name.items events
-      → Placed rules options (MarkTrusted fingerprint purpose name) (events ++ tail)
-  marks_placed fingerprint purpose name events tail none marks =
-      let under = marks.under in
-      let by = under.by in
-      let rewrites = by.rewrites in
-      let new : List ℕ = with_entry rewrites.old fingerprint.0 (flag_of purpose) in
-      let seat : Event = cache_turn (Seat None None) (Open under.ticket) in
-      let close : Event = cache_turn (Close under.ticket None) under.turn in
-      let its : events ≡ trust_called (Read marks.early) ∷ seat ∷ ((by.first ++ (by.second ++ trust_called (Read rewrites.read) ∷ replaced new ∷ [])) ++ close ∷ []) =
-      marks.whole
-      ∙ ap (λ (e : List Event). trust_called (Read marks.early) ∷ e)
-      (under.whole ∙ ap (λ (c : List Event). seat ∷ (c ++ close ∷ [])) (by.whole ∙ ap (λ (r : List Event). by.first ++ (by.second ++ r)) rewrites.whole)) in
+module _ (rules : Rules) (options : OptionValues) (before : List Event) (file : List ℕ) where
+  has_consents : (fingerprint : Grip) (purpose : TrustPurpose) (name : ArrayVec ℕ) (rest back last : List Event) (held : Option ℕ) → Marks fingerprint purpose file rest rules options name held before
+      → Closes None held back (Ok tt) None → HasConsents rules options (MarkTrusted fingerprint purpose name) before file (rest ++ (back ++ last))
+  has_consents fingerprint purpose name rest back last held marks closes =
+      let both = marks.both in
+      let new = both.rewrites in
+      let gives = closed_by marks.ticket back (subst (λ (h : Option ℕ). Closes None h back (Ok tt) None) new.holds closes) in
       record {
-        before = trust_called (Read marks.early) ∷ seat ∷ (by.first ++ (by.second ++ trust_called (Read rewrites.read) ∷ []));
-        file = new;
-        after = close ∷ tail;
-        whole =
-            ap (λ (e : List Event). e ++ tail) its
-            ∙ ap (λ (e : List Event). trust_called (Read marks.early) ∷ seat ∷ e) (laid_out by.first by.second (trust_called (Read rewrites.read)) (replaced new) close tail);
-        none =
-            none_then by.first (by.second ++ trust_called (Read rewrites.read) ∷ []) (agrees_none by.first _ by.trusts)
-            (none_then by.second (trust_called (Read rewrites.read) ∷ []) (agrees_none by.second _ by.is_right) refl);
-        none_too = none;
-        consents = record {
-          fingerprint = fingerprint;
-          purpose = purpose;
-          name = name;
-          marks = refl;
-          early = marks.early;
-          ticket = under.ticket;
-          first = by.first;
-          second = by.second;
-          read = rewrites.read;
-          in_order = refl;
-          trusts = by.trusts;
-          is_right = by.is_right;
-          old = rewrites.old;
-          old_is = rewrites.old_is;
-          unsaid = rewrites.unsaid;
-          new_is = refl;
-          fits = rewrites.fits;
-          turn = under.turn;
-          later = tail;
-          given_back = refl;
-        };
+        fingerprint = fingerprint;
+        purpose = purpose;
+        name = name;
+        marks = refl;
+        early = marks.early;
+        ticket = marks.ticket;
+        first = both.first;
+        second = both.second;
+        read = new.read;
+        in_order = marks.before_is ∙ ap (λ (r : List Event). trust_called (Read marks.early) ∷ cache_turn (Seat None None) (Open marks.ticket) ∷ (both.first ++ (both.second ++ r))) new.before_is;
+        trusts = both.trusts;
+        is_right = both.is_right;
+        old = new.old;
+        old_is = new.old_is;
+        unsaid = new.unsaid_is;
+        new_is = new.new_is;
+        fits = new.fits;
+        turn = gives.0;
+        later = last;
+        given_back = ap (λ (r : List Event). r ++ (back ++ last)) new.ends ∙ ap (λ (b : List Event). b ++ last) gives.1;
       }
+    where
+      closed_by : (ticket : ℕ) (events : List Event) → Closes None (Some ticket) events (Ok tt) None → (turn : Turn) × (events ≡ cache_turn (Close ticket None) turn ∷ [])
+      closed_by ticket events (closed turn) = (turn, refl)
 
-  said_so : (before after : Option ℕ) (said : Option Bool) (events : List Event) (result : Result (Unit {0}) Refusal) → unless_said said (Refuses (Agent code.NotTrusted)) before events result after → files events ≡ []
-  said_so before after (Some true) events result returns = refl
-  said_so before after (Some false) events result refuses = refl
-  said_so before after None events result refuses = refl
-
-  now_none : (before after : Option ℕ) (fingerprint : Grip) (events : List Event) (result : Result (Unit {0}) Refusal) → TrustedNow fingerprint before events result after → files events ≡ []
+  carried_consents : (request : TrustRequest) (events rest back last : List Event) (result : Result (Unit {0}) Refusal) (held : Option ℕ) → events ≡ before ++ replaced file ∷ rest
+      → Carried rules options request None events result held → Closes None held back (Ok tt) None → HasConsents rules options request before file (rest ++ (back ++ last))
   unfolding TrustedNow
-  now_none before after fingerprint events result (goes_on (has_read {file} is) said) = said_so before after (trust file fingerprint.0) _ _ said
-  now_none before after fingerprint events result (stops (parts.ReadsFile.faulted)) = refl
-  now_none before after fingerprint events result (stops (parts.ReadsFile.no_memory)) = refl
+  carried_consents (IsTrusted fingerprint) events rest back last result held is carried closes =
+      let at = goes_past file rest (reads_lack None) carried before is in
+      let refusal : Part (Unit {0}) = Refuses (Agent code.NotTrusted) in
+      let said = unsaid file rest (trust at.value fingerprint.0) refusal at.mid held at.more result at.goes_on at.rest at.here in
+      absurd (refuses_lack file rest said.1 at.rest at.here)
+  carried_consents (MarkTrusted fingerprint purpose name) events rest back last result held is carried closes =
+      has_consents fingerprint purpose name rest back last held (marks_it fingerprint purpose file rest rules options name None held events result carried before is) closes
+  carried_consents (Bad code) events rest back last result held is carried closes = absurd (refuses_lack file rest carried before is)
 
-  carried_by : (request : TrustRequest) (events tail : List Event) (result : Result (Unit {0}) Refusal) → files tail ≡ [] → Carried rules options request None events result None
-      → (files (events ++ tail) ≡ []) ⊎ Placed rules options request (events ++ tail)
-  carried_by (IsTrusted fingerprint) events tail result none carried = inl (none_then events tail (now_none None None fingerprint events result carried) none)
-  carried_by (MarkTrusted fingerprint purpose name) events tail result none carried =
-      elim (marked_by fingerprint purpose rules options name.items None None events result carried) [
-        | inl nothing ↦ inl (none_then events tail nothing none)
-        | inr marks ↦ inr (marks_placed fingerprint purpose name events tail none marks)
+  -- and what comes behind the parts of a request
+  parts_consents : (request : TrustRequest) (back last : List Event) (held : Option ℕ) → Closes None held back (Ok tt) None → (own : List Event) (result : Result CacheReply Refusal)
+      → TrustReplies rules options request None own result held → (rest : List Event) → own ≡ before ++ replaced file ∷ rest → HasConsents rules options request before file (rest ++ (back ++ last))
+  parts_consents request back last held closes own result (goes_on {first} {value} does returns) rest here =
+      elim (in_either first [] before (replaced file) rest here) [
+        | in_first more there past ↦
+            subst (λ (r : List Event). HasConsents rules options request before file (r ++ (back ++ last))) (sym (past ∙ append-nil more))
+            (carried_consents request first more back last (Ok value) held there does closes)
+        | in_second more past there ↦ absurd (none_lacks more file rest there)
       ]
-  carried_by (Bad code) events tail result none refuses = inl none
+  parts_consents request back last held closes own result (stops {refusal} does) rest here = carried_consents request own rest back last (Err refusal) held here does closes
 
-  line_none : (line : Option (List ℕ)) → files (said_last line) ≡ []
-  line_none None = refl
-  line_none (Some line) = refl
+  replies_consents : (request : TrustRequest) (events back last after : List Event) (result : Result CacheReply Refusal) (held : Option ℕ) → TrustReplies rules options request None events result held
+      → Closes None held back (Ok tt) None → AllByRecursion IsBesideTrust last → events ++ (back ++ last) ≡ before ++ replaced file ∷ after → HasConsents rules options request before file after
+  replies_consents request events back last after result held replies closes each is =
+      elim (in_either events (back ++ last) before (replaced file) after is) [
+        | in_first rest here past ↦ subst (HasConsents rules options request before file) (sym past) (parts_consents request back last held closes events result replies rest here)
+        | in_second rest there here ↦
+            absurd (each_lacks (back ++ last) (each_append IsBesideTrust back last ((each_closes IsBesideTrust None (λ number turn. tt)).of held back (Ok tt) None closes) each) rest file after here)
+      ]
 
-  request_by : (request : TrustRequest) {events : List Event} {went : Went} → TrustExchange rules options request events went → (files events ≡ []) ⊎ Placed rules options request events
-  request_by request (answered events carried) = carried_by request events (Sent ok ∷ []) _ refl carried
-  request_by request (refused_so events why carried) = carried_by request events (refusal_events why) _ (line_none (refusal_line why)) carried
+  request_consents : (request : TrustRequest) {events : List Event} {values : OptionValues} {went : Went} → AnyExchange refusal_line went_after (TrustReplies rules options request) options events values went
+      → (after : List Event) → events ≡ before ++ replaced file ∷ after → HasConsents rules options request before file after
+  request_consents request (answered events held reply {back} does closes) after is = replies_consents request events back (Sent reply.text ∷ []) after (Ok reply) held does closes (tt, tt) is
+  request_consents request (refused events held why {back} does closes) after is =
+      replies_consents request events back (said_last (refusal_line why)) after (Err why) held does closes (said_last_so IsBesideTrust (λ event is. is) (refusal_line why)) is
 
 -- ---- lines at a door
 
--- the certificate is marked at home
-abbrev AtHome : Door → Rules → OptionValues → TrustRequest → List Event → Type 0
-AtHome door rules options request events = Placed rules options request events × (door ≡ Home)
-
-at_home : (door : Door) (line : List ℕ) {rules : Rules} {options : OptionValues} {events : List Event} → allowed door line ≡ true → Placed rules options (trust_request_of line) events → door ≡ Home
-at_home Home line may placed = refl
-at_home Outer line may placed = absurd (subst IsOuterTrust placed.consents.marks (trust_outer line may))
-
-line_by : (door : Door) (rules : Rules) {prior after : Kept} (line : List ℕ) {events : List Event} {went : Went} → DoorExchange door rules prior line events after went
-    → (files events ≡ []) ⊎ AtHome door rules prior.options (trust_request_of line) events
-line_by door rules line (forbidden not_allowed) = inl refl
-line_by door rules {prior} {after} line {events} (is_allowed may exchanged) = allowed_by exchanged
-  where
-    allowed_by : {named : Option DoorCommand} {events : List Event} {after : Kept} {went : Went} → AllowedExchange rules prior line named events after went
-        → (files events ≡ []) ⊎ AtHome door rules prior.options (trust_request_of line) events
-    allowed_by helped = inl refl
-    allowed_by (on_trust exchanged) =
-        elim (request_by rules prior.options (trust_request_of line) exchanged) [
-          | inl none ↦ inl none
-          | inr placed ↦ inr (placed, at_home door line may placed)
-        ]
-    allowed_by (any {events} exchanged) = inl (untrusting_none events (each_request IsBesideTrust (λ event is. is) (request_of line) exchanged))
-
--- at the place where a file became another's successor
-placed_there : {rules : Rules} {options : OptionValues} {request : TrustRequest} {events : List Event} (before : List Event) (file : List ℕ) (after : List Event) → events ≡ before ++ replaced file ∷ after
-    → Placed rules options request events → HasConsents rules options request before file after
-placed_there {rules} {options} {request} before file after is placed =
-    let same = one_place placed.before placed.after before after placed.file file placed.none placed.none_too (sym placed.whole ∙ is) in
-    subst (λ (b : List Event). HasConsents rules options request b file after) (sym same.0)
-    (subst (λ (f : List ℕ). HasConsents rules options request placed.before f after) (sym same.1)
-    (subst (λ (a : List Event). HasConsents rules options request placed.before placed.file a) (sym same.2) placed.consents))
-
-none_there : {A : Type 0} {events : List Event} (before : List Event) (file : List ℕ) (after : List Event) → files events ≡ [] → events ≡ before ++ replaced file ∷ after → A
-none_there before file after none is = absurd (some_file before file after (sym (ap files is) ∙ none))
+at_home : (door : Door) (line : List ℕ) {rules : Rules} {options : OptionValues} {before after : List Event} {file : List ℕ} → allowed door line ≡ true
+    → HasConsents rules options (trust_request_of line) before file after → door ≡ Home
+at_home Home line may has = refl
+at_home Outer line may has = absurd (subst IsOuterTrust has.marks (trust_outer line may))
 
 pub exchange_consents : (door : Door) (rules : Rules) {prior then : Kept} (line : List ℕ) {events : List Event} {went : Went} → DoorExchange door rules prior line events then went
     → (before : List Event) (file : List ℕ) (after : List Event) → events ≡ before ++ replaced file ∷ after
     → HasConsents rules prior.options (trust_request_of line) before file after × (door ≡ Home)
-exchange_consents door rules line exchanged before file after is =
-    elim (line_by door rules line exchanged) [
-      | inl none ↦ none_there before file after none is
-      | inr by ↦ (placed_there before file after is by.0, by.1)
-    ]
+exchange_consents door rules line (forbidden not_allowed) before file after is = absurd (one_lacks _ (λ file same. cc same) before file after is)
+exchange_consents door rules {prior} line (is_allowed may exchanged) before file after is = allowed_by exchanged is
+  where
+    allowed_by : {named : Option DoorCommand} {events : List Event} {then : Kept} {went : Went} → AllowedExchange rules prior line named events then went → events ≡ before ++ replaced file ∷ after
+        → HasConsents rules prior.options (trust_request_of line) before file after × (door ≡ Home)
+    allowed_by helped is = absurd (one_lacks _ (λ file same. cc same) before file after is)
+    allowed_by (on_trust exchanged) is = let has = request_consents rules prior.options before file (trust_request_of line) exchanged after is in (has, at_home door line may has)
+    allowed_by (any {events} exchanged) is = absurd (each_lacks events (each_request IsBesideTrust (λ event is. is) (request_of line) exchanged) before file after is)
 
 -- ---- sessions
 
@@ -393,30 +429,6 @@ moved_then : {rules : Rules} {options : OptionValues} {request : TrustRequest} {
     → HasConsents rules options request before file (after ++ more)
 moved_then {after} more has = moved has (after ++ more) (has.later ++ more) (ap (λ (a : List Event). a ++ more) has.given_back)
 
--- an element of two lists, one behind the other
-data InEither {A : Type 0} (xs ys front : List A) (x : A) (back : List A) : Type 0 where
-  in_first : (rest : List A) → xs ≡ front ++ x ∷ rest → back ≡ rest ++ ys → InEither xs ys front x back
-  in_second : (rest : List A) → front ≡ xs ++ rest → ys ≡ rest ++ x ∷ back → InEither xs ys front x back
-
-in_either : {A : Type 0} (xs ys front : List A) (x : A) (back : List A) → xs ++ ys ≡ front ++ x ∷ back → InEither xs ys front x back
-in_either [] ys front x back is = in_second front refl is
-in_either (first ∷ xs) ys [] x back is =
-    let same : first ≡ x = cc is in
-    let rest : xs ++ ys ≡ back = cc is in
-    in_first xs (ap (λ (f : _). f ∷ xs) same) (sym rest)
-in_either (first ∷ xs) ys (second ∷ front) x back is =
-    let same : first ≡ second = cc is in
-    let rest : xs ++ ys ≡ front ++ x ∷ back = cc is in
-    elim (in_either xs ys front x back rest) [
-      | in_first more here behind ↦ in_first more (ap (λ (f : _). f ∷ xs) same ∙ ap (λ (l : List _). second ∷ l) here) behind
-      | in_second more there here ↦ in_second more (ap (λ (l : List _). second ∷ l) there ∙ ap (λ (f : _). f ∷ (xs ++ more)) (sym same)) here
-    ]
-
-one_event : (event that : Event) (front back : List Event) → event ∷ [] ≡ front ++ that ∷ back → that ≡ event
-one_event event that [] back is = cc is
-one_event event that (first ∷ []) back is = cc is
-one_event event that (first ∷ second ∷ front) back is = cc is
-
 -- what is behind isn't only the last line
 behind_close : (rest : List Event) (sent unsent : List ℕ) (close : Event) (later : List Event) → rest ++ Sent (sent ++ unsent) ∷ [] ≡ close ∷ later → (Sent (sent ++ unsent) ≡ close → ⊥)
     → (more : List Event) × rest ≡ close ∷ more
@@ -436,12 +448,14 @@ module _ (door : Door) (rules : Rules) where
             let has = home.0 in
             let more = behind_close rest last.sent last.unsent (cache_turn (Close has.ticket None) has.turn) has.later has.given_back (λ same. cc same) in
             (moved has after (more.0 ++ Cut last.sent ∷ []) (behind ∙ ap (λ (r : List Event). r ++ Cut last.sent ∷ []) more.1), home.1)
-        | in_second rest there here ↦ let same = one_event (Cut last.sent) (replaced file) rest after here in cc same
+        | in_second rest there here ↦ absurd (one_lacks (Cut last.sent) (λ file same. cc same) rest file after here)
       ]
 
-  cut_files : {events done : List Event} → CutAtLast events done → files done ≡ files events
-  cut_files last =
-      ap files last.done_is ∙ files_then last.before (Cut last.sent ∷ []) ∙ sym (files_then last.before (Sent (last.sent ++ last.unsent) ∷ [])) ∙ sym (ap files last.whole)
+  -- one line alone was written, and cut
+  cut_lacks : {text : List ℕ} {done : List Event} → CutAtLast (Sent text ∷ []) done → Lacks done
+  cut_lacks {text} {done} last =
+      let only = only_there (Sent text) (Sent (last.sent ++ last.unsent)) last.before [] last.whole in
+      subst Lacks (sym (last.done_is ∙ ap (λ (b : List Event). b ++ Cut last.sent ∷ []) only.0)) (one_lacks (Cut last.sent) (λ file same. cc same))
 
   -- the last request of a session, behind what it did before
   further_in : {before after : List Event} {file : List ℕ} (front all : List Event) → all ≡ front ++ before → HasConsentsIn rules before file after → HasConsentsIn rules all file after
@@ -495,11 +509,13 @@ module _ (door : Door) (rules : Rules) where
         },
         has.1,
       )
-  talk_consents ended before file after is = none_there before file after refl is
-  talk_consents spent before file after is = none_there before file after refl is
-  talk_consents read_fault before file after is = none_there before file after refl is
-  talk_consents talk_too_long before file after is = none_there before file after refl is
-  talk_consents (cut_too_long last) before file after is = none_there before file after (cut_files last) is
+  talk_consents ended before file after is = absurd (one_lacks _ (λ file same. cc same) before file after is)
+  talk_consents spent before file after is = absurd (one_lacks _ (λ file same. cc same) before file after is)
+  talk_consents read_fault before file after is = absurd (one_lacks _ (λ file same. cc same) before file after is)
+  talk_consents talk_too_long [] file after is = cc is
+  talk_consents talk_too_long (first ∷ before) file after is = let rest : Sent (failed LineTooLong) ∷ [] ≡ before ++ replaced file ∷ after = cc is in absurd (one_lacks _ (λ file same. cc same) before file after rest)
+  talk_consents (cut_too_long last) [] file after is = cc is
+  talk_consents (cut_too_long {done} last) (first ∷ before) file after is = let rest : done ≡ before ++ replaced file ∷ after = cc is in absurd (cut_lacks last before file after rest)
 
   pub session_consents : {start : Kept} {events : List Event} {end : SessionEnd} → SessionOf (DoorExchange door rules) start events end
       → (before : List Event) (file : List ℕ) (after : List Event) → events ≡ before ++ replaced file ∷ after → HasConsentsIn rules before file after × (door ≡ Home)
@@ -508,4 +524,4 @@ module _ (door : Door) (rules : Rules) where
       let rest : events ≡ before ++ replaced file ∷ after = cc is in
       let has = talk_consents later before file after rest in
       (further_in (first ∷ []) (first ∷ before) refl has.0, has.1)
-  session_consents (cut_greeting last) before file after is = none_there before file after (cut_files last) is
+  session_consents (cut_greeting last) before file after is = absurd (cut_lacks last before file after is)

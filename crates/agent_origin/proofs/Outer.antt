@@ -1,5 +1,5 @@
 -- Lines that are allowed at the outer door, and what is done for them to the cache.
-use Rattle.std.proofs.Common.{◌≡◌, ℕ, Bool, true, false, cond, List, [], ◌∷◌, ◌++◌, map, drop, Option, None, Some, Result, Ok, Err, is_none, refl, ap, sym, ◌∙◌, subst, append_assoc}
+use Rattle.std.proofs.Common.{◌≡◌, ℕ, Bool, true, false, cond, List, [], ◌∷◌, ◌++◌, map, Option, None, Some, Result, Ok, Err, is_none, refl, ap, sym, ◌∙◌, subst, append_assoc}
 use Rattle.std.specs.Prelude.{⊤}
 use Rattle.std.specs.Option.{option_map, option_or}
 use Rattle.std.specs.Str.{str_eq_ignore_ascii_case}
@@ -49,7 +49,7 @@ use Rattle.cache_policy.specs.Extending.{Taken}
 use Rattle.cache_policy.specs.Turns.{Open}
 use Rattle.session_options.specs.OptionValues.{OptionValues}
 use Rattle.session_options.specs.declared.rules.Rules.{Rules}
-use Rattle.agent_origin.specs.Doors.{rules, rule_named, leaves_cache, passes, passes_by, allowed}
+use Rattle.agent_origin.specs.Doors.{key_rules, trust_rules, rule_named, leaves_cache, passes, passes_by, allowed}
 use Rattle.agent_origin.specs.OuterTurns.{AreOuterTurns, no_turns, peeks, unseated, seated, LeavesCache}
 use Rattle.agent_origin.specs.declared.door.Door.TheVariants.{Outer}
 use Rattle.agent_origin.specs.declared.door.Rule.{Rule}
@@ -85,12 +85,12 @@ prompt_still (out_of_memory more) = prompt_still more
 -- ---- parts
 
 -- What turns are to come to that a request takes with this ticket in hand: with the turn by which it was had, they leave the cache.
-abbrev Owes : Option ℕ → List Taken → Type 0
+abbrev pub Owes : Option ℕ → List Taken → Type 0
 Owes None turns = AreOuterTurns turns
 Owes (Some ticket) turns = AreOuterTurns (record { asked = Seat None None; turn = Open ticket } ∷ turns)
 
 -- a part that is begun with this ticket leaves the cache, where all that follows does
-record Leaves {A : Type 0} (held : Option ℕ) (part : Part A) : Type 0 where
+pub record Leaves {A : Type 0} (held : Option ℕ) (part : Part A) : Type 0 where
   pub of : (events : List CacheEvent) (result : Result A Refusal) (after : Option ℕ) → part held events result after → (later : List Taken) → Owes after later → Owes held (turns_in events ++ later)
 
 module _ {A B : Type 0} {part : Part A} {next : A → Part B} {held : Option ℕ} (first : Leaves held part) (then : (value : A) (mid : Option ℕ) → Leaves mid (next value)) where
@@ -101,7 +101,7 @@ module _ {A B : Type 0} {part : Part A} {next : A → Part B} {held : Option ℕ
       (first.of some (Ok value) mid does (turns_in more ++ later) ((then value mid).of more result after next_does later owes))
   bind_of events result after (stops {refusal = why} does) later owes = first.of events (Err why) after does later owes
 
-  bind : Leaves held (Follows part next)
+  pub bind : Leaves held (Follows part next)
   bind = record { of = bind_of }
 
 module _ {A : Type 0} {held : Option ℕ} where
@@ -109,14 +109,14 @@ module _ {A : Type 0} {held : Option ℕ} where
       → Owes held (turns_in events ++ later)
   returns_of value events result after returns later owes = owes
 
-  returned : (value : A) → Leaves held (Returns value)
+  pub returned : (value : A) → Leaves held (Returns value)
   returned value = record { of = returns_of value }
 
   refuses_of : (why : Refusal) (events : List CacheEvent) (result : Result A Refusal) (after : Option ℕ) → Refuses {A = A} why held events result after → (later : List Taken) → Owes after later
       → Owes held (turns_in events ++ later)
   refuses_of why events result after refuses later owes = owes
 
-  refused_by : (why : Refusal) → Leaves held (Refuses {A = A} why)
+  pub refused_by : (why : Refusal) → Leaves held (Refuses {A = A} why)
   refused_by why = record { of = refuses_of why }
 
   needed_leaves : (why : Code) (value : Option A) → Leaves held (needed why value)
@@ -275,7 +275,7 @@ ends_leave leaves events back last result held does closes last_leaves =
     (leaves.of events result held does (turns_in (back ++ last))
     (subst (Owes held) (sym (turns_then back last)) (closes_of held None back (Ok tt) None closes (turns_in last) last_leaves)))
 
-parts_leave : {S W : Type 0} {refusal_text : Refusal → Option (List ℕ)} {went_after : Option Gone → W} {parts : Part (AnyReply S W)} {before after : S} {events : List CacheEvent} {went : W} → Leaves None parts
+pub parts_leave : {S W : Type 0} {refusal_text : Refusal → Option (List ℕ)} {went_after : Option Gone → W} {parts : Part (AnyReply S W)} {before after : S} {events : List CacheEvent} {went : W} → Leaves None parts
     → AnyExchange refusal_text went_after parts before events after went → LeavesCache events
 parts_leave leaves (answered events held reply {back} does closes) = ends_leave leaves events back _ (Ok reply) held does closes no_turns
 parts_leave {refusal_text} leaves (refused events held why {back} does closes) = ends_leave leaves events back _ (Err why) held does closes (said_leaves _ _ _ (refusal_text why))
@@ -324,7 +324,7 @@ cache_rule _ = Always
 
 rule_of_cache : (word : List ℕ) (name : CommandName) → command_named word ≡ Some name → rule_named word ≡ Some (cache_rule name)
 unfolding command_named rule_named
-rule_of_cache word name is = found_mapped cache_rule word (commands ++ prompt_commands) (drop 13 rules) name (found_joined word commands prompt_commands ∙ is)
+rule_of_cache word name is = found_mapped cache_rule word (commands ++ prompt_commands) (key_rules ++ trust_rules) name (found_joined word commands prompt_commands ∙ is)
 
 -- ---- lines
 

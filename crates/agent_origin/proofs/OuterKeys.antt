@@ -1,5 +1,5 @@
 -- Lines with a command on keys that are allowed at the outer door, and what is done for them to the cache.
-use Rattle.std.proofs.Common.{◌≡◌, ℕ, Bool, true, false, not, cond, List, [], ◌∷◌, ◌++◌, map, drop, Option, None, Some, Result, Ok, Err, refl, ap, sym, ◌∙◌, subst}
+use Rattle.std.proofs.Common.{◌≡◌, ℕ, Bool, true, false, not, cond, List, [], ◌∷◌, ◌++◌, map, Option, None, Some, Result, Ok, Err, refl, ap, sym, ◌∙◌, subst}
 use Rattle.std.specs.Prelude.{codes}
 use Rattle.std.specs.Str.{str_eq_ignore_ascii_case}
 use Rattle.agent_ask.specs.Further.{FurtherEvent}
@@ -35,7 +35,7 @@ use Rattle.key_commands.specs.declared.went.KeyWent.{KeyWent}
 use Rattle.key_commands.specs.declared.wrap_keys.WrapKeys.{WrapKeys}
 use Rattle.session_options.specs.OptionValues.{OptionValues}
 use Rattle.session_options.specs.declared.rules.Rules.{Rules}
-use Rattle.agent_origin.specs.Doors.{rules, rule_named, passes, passes_by, allowed}
+use Rattle.agent_origin.specs.Doors.{key_rules, trust_rules, rule_named, passes, passes_by, allowed}
 use Rattle.agent_origin.specs.OuterTurns.{no_turns, peeks, LeavesCache}
 use Rattle.agent_origin.specs.declared.door.Door.TheVariants.{Outer}
 use Rattle.agent_origin.specs.declared.door.Rule.{Rule}
@@ -159,8 +159,8 @@ key_rule _ = Never
 
 rule_of_key : (word : List ℕ) (name : KeyCommandName) → cache_command_named word ≡ None → command_named word ≡ Some name → rule_named word ≡ Some (key_rule name)
 unfolding cache_command_named command_named rule_named
-rule_of_key word name other is = found_behind cache_rule word (cache_commands ++ prompt_commands) (drop 13 rules) (found_joined word cache_commands prompt_commands ∙ other)
-    ∙ found_mapped key_rule word commands (drop 20 rules) name is
+rule_of_key word name other is = found_behind cache_rule word (cache_commands ++ prompt_commands) (key_rules ++ trust_rules) (found_joined word cache_commands prompt_commands ∙ other)
+    ∙ found_mapped key_rule word commands trust_rules name is
 
 have_outer : (agent : Rules) (options : OptionValues) (wraps : WrapKeys) (read : Result (List Grip) Code) → IsOuterKey agent options wraps (either (read >>= λ grips. Ok (HaveKey grips)))
 have_outer agent options wraps (Ok grips) = tt

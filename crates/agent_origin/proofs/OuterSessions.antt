@@ -38,7 +38,7 @@ module _ (rules : Rules) where
   allowed_leaves : (line : List ℕ) {before after : Kept} → allowed Outer line ≡ true → {named : _} {events : List Event} {went : Went} → AllowedExchange rules before line named events after went
       → LeavesCache events
   allowed_leaves line allows helped = no_turns
-  allowed_leaves line allows (trusts exchanged) = trust_leaves line allows exchanged
+  allowed_leaves line {before} allows (trusts exchanged) = trust_leaves rules before.options line allows exchanged
   allowed_leaves line allows (any exchanged) = request_leaves line (request_of line) refl allows exchanged
 
   exchange_leaves : {line : List ℕ} {before after : Kept} {events : List Event} {went : Went} → DoorExchange Outer rules before line events after went → LeavesCache events

@@ -1,37 +1,36 @@
 -- Lines with a command on the trust list that are allowed at the outer door, and what is done for them to the cache.
-use Rattle.std.proofs.Common.{◌≡◌, ℕ, Bool, true, false, cond, List, [], ◌∷◌, Option, None, Some, Result, Ok, Err, bytes_eq, refl, subst}
+use Rattle.std.proofs.Common.{◌≡◌, ℕ, Bool, true, false, cond, List, [], ◌∷◌, ◌++◌, Option, None, Some, Result, Ok, Err, bytes_eq, refl, subst}
 use Rattle.std.specs.Prelude.{codes}
 use Rattle.std.specs.Str.{str_to_ascii_lowercase}
-use Rattle.agent_ask.specs.SessionEvents.{Sent}
-use Rattle.agent_commands.specs.Answers.{ok}
+use Rattle.agent_ask.specs.Parts.{Refuses}
+use Rattle.agent_ask.specs.SessionEvents.{turns_in}
 use Rattle.agent_commands.specs.declared.went.Went.{Went}
 use Rattle.agent_ports.specs.declared.grip.Grip.{Grip}
 use Rattle.session_client.specs.declared.code.Code.{Code}
 use Rattle.session_client.specs.declared.code.Code.TheVariants as code
 use Rattle.assuan_text.specs.Words.{command_of}
+use Rattle.cache_policy.specs.Extending.{Taken}
 use Rattle.key_commands.specs.Events.{Event}
 use Rattle.key_commands.specs.Requests.{◌>>=◌}
 use Rattle.session_options.specs.OptionValues.{OptionValues}
 use Rattle.session_options.specs.declared.rules.Rules.{Rules}
 use Rattle.trust_list.specs.Trust.{trust}
 use Rattle.agent_origin.specs.Doors.{rules, rule_named, passes_by, allowed}
-use Rattle.agent_origin.specs.Exchanges.{TrustExchange, answered, refused, Carried, TrustedNow, unless_said}
-use Rattle.agent_origin.specs.Names.{command_named}
-use Rattle.agent_origin.specs.OuterTurns.{no_turns, LeavesCache}
-use Rattle.agent_ask.specs.Parts.{goes_on, stops, returns, Refuses, refuses}
-use Rattle.agent_origin.specs.Parts.{has_read, faulted, no_memory}
-use Rattle.assuan_server.specs.Written.{refusal_line}
-use Rattle.agent_origin.specs.Requests.{either, request_by, trust_request_of}
+use Rattle.agent_origin.specs.TrustExchanges.{TrustExchange, Carried, TrustedNow, unless_said}
+use Rattle.agent_origin.specs.TrustNames.{trust_command_named}
+use Rattle.agent_origin.specs.OuterTurns.{LeavesCache}
+use Rattle.agent_origin.specs.TrustParts.{ReadsFile, has_read, faulted, no_memory}
+use Rattle.agent_origin.specs.TrustRequests.{trust_or_bad, trust_request_by, trust_request_of}
 use Rattle.agent_origin.specs.declared.door.Door.TheVariants.{Outer}
 use Rattle.agent_origin.specs.declared.door.Rule.{Rule}
 use Rattle.agent_origin.specs.declared.door.Rule.TheVariants.{Never}
-use Rattle.agent_origin.specs.declared.names.TrustCommandName.{TrustCommandName}
-use Rattle.agent_origin.specs.declared.names.TrustCommandName.TheVariants as name
+use Rattle.agent_origin.specs.declared.trust.names.TrustCommandName.{TrustCommandName}
+use Rattle.agent_origin.specs.declared.trust.names.TrustCommandName.TheVariants as name
 use Rattle.session_client.specs.declared.refusal.Refusal.{Refusal}
 use Rattle.session_client.specs.declared.refusal.Refusal.TheVariants.{Agent}
-use Rattle.agent_origin.specs.declared.request.TrustRequest.{TrustRequest}
-use Rattle.agent_origin.specs.declared.request.TrustRequest.TheVariants.{IsTrusted, MarkTrusted, Bad}
-use Rattle.agent_origin.proofs.Outer.{leaves_then, said_leaves}
+use Rattle.agent_origin.specs.declared.trust.request.TrustRequest.{TrustRequest}
+use Rattle.agent_origin.specs.declared.trust.request.TrustRequest.TheVariants.{IsTrusted, MarkTrusted, Bad}
+use Rattle.agent_origin.proofs.Outer.{Owes, Leaves, bind, returned, refused_by, parts_leave}
 use Rattle.std.proofs.lemmas.Slice.Eq.{bytes_eq-Decides}
 
 -- ---- MARKTRUSTED is never allowed
@@ -47,8 +46,8 @@ mark_by small true second same is = cc is
 mark_by small false false same is = cc is
 mark_by small false true same is = subst (λ (s : List ℕ). found_small s rules ≡ Some Never) ((bytes_eq-Decides (str_to_ascii_lowercase (codes "MARKTRUSTED")) small).0 same) refl
 
-rule_of_mark : (word : List ℕ) → command_named word ≡ Some name.MarkTrusted → rule_named word ≡ Some Never
-unfolding command_named rule_named
+rule_of_mark : (word : List ℕ) → trust_command_named word ≡ Some name.MarkTrusted → rule_named word ≡ Some Never
+unfolding trust_command_named rule_named
 rule_of_mark word is = mark_by (str_to_ascii_lowercase word) (bytes_eq (str_to_ascii_lowercase (codes "ISTRUSTED")) (str_to_ascii_lowercase word)) _ refl is
 
 -- ---- ISTRUSTED takes no turn
@@ -57,32 +56,31 @@ abbrev pub IsOuterTrust : TrustRequest → Type 0
 IsOuterTrust (MarkTrusted fingerprint purpose owner) = ⊥
 IsOuterTrust _ = Unit {0}
 
-said_so : (before after : Option ℕ) (said : Option Bool) (events : List Event) (result : Result (Unit {0}) Refusal) → unless_said said (Refuses (Agent code.NotTrusted)) before events result after → LeavesCache events
-said_so before after (Some true) events result returns = no_turns
-said_so before after (Some false) events result refuses = no_turns
-said_so before after None events result refuses = no_turns
+reads_of : (held : Option ℕ) (events : List Event) (result : Result (List ℕ) Refusal) (after : Option ℕ) → ReadsFile held events result after → (later : List Taken) → Owes after later
+    → Owes held (turns_in events ++ later)
+reads_of held events result after (has_read is) later owes = owes
+reads_of held events result after faulted later owes = owes
+reads_of held events result after no_memory later owes = owes
 
-now_leaves : (before after : Option ℕ) (fingerprint : Grip) (events : List Event) (result : Result (Unit {0}) Refusal) → TrustedNow fingerprint before events result after → LeavesCache events
+said_leaves : (held : Option ℕ) (said : Option Bool) → Leaves held (unless_said said (Refuses (Agent code.NotTrusted)))
+said_leaves held (Some true) = returned tt
+said_leaves held (Some false) = refused_by (Agent code.NotTrusted)
+said_leaves held None = refused_by (Agent code.NotTrusted)
+
+now_leaves : (fingerprint : Grip) → Leaves None (TrustedNow fingerprint)
 unfolding TrustedNow
-now_leaves before after fingerprint events result (goes_on (has_read {file} is) said) = said_so before after (trust file fingerprint.0) _ _ said
-now_leaves before after fingerprint events result (stops faulted) = no_turns
-now_leaves before after fingerprint events result (stops no_memory) = no_turns
+now_leaves fingerprint = bind (record { of = reads_of None }) (λ file mid. said_leaves mid (trust file fingerprint.0))
 
-module _ (agent : Rules) (options : OptionValues) where
-  carried_leaves : (request : TrustRequest) → IsOuterTrust request → (events : List Event) (result : Result (Unit {0}) Refusal) → Carried agent options request None events result None → LeavesCache events
-  carried_leaves (IsTrusted fingerprint) outer events result carried = now_leaves None None fingerprint events result carried
-  carried_leaves (MarkTrusted fingerprint purpose owner) outer events result carried = absurd outer
-  carried_leaves (Bad code) outer events result refuses = no_turns
+carried_leaves : (agent : Rules) (options : OptionValues) (request : TrustRequest) → IsOuterTrust request → Leaves None (Carried agent options request)
+carried_leaves agent options (IsTrusted fingerprint) outer = now_leaves fingerprint
+carried_leaves agent options (MarkTrusted fingerprint purpose owner) outer = absurd outer
+carried_leaves agent options (Bad code) outer = refused_by (Agent code)
 
-  request_leaves : (request : TrustRequest) → IsOuterTrust request → {events : List Event} {went : Went} → TrustExchange agent options request events went → LeavesCache events
-  request_leaves request outer (answered events carried) = leaves_then events (Sent ok ∷ []) (carried_leaves request outer events _ carried) no_turns
-  request_leaves request outer (refused events why carried) = leaves_then events _ (carried_leaves request outer events _ carried) (said_leaves _ _ _ (refusal_line why))
-
-is_trusted_outer : (read : Result Grip Code) → IsOuterTrust (either (read >>= λ fingerprint. Ok (IsTrusted fingerprint)))
+is_trusted_outer : (read : Result Grip Code) → IsOuterTrust (trust_or_bad (read >>= λ fingerprint. Ok (IsTrusted fingerprint)))
 is_trusted_outer (Ok fingerprint) = tt
 is_trusted_outer (Err code) = tt
 
-named_outer : (line : List ℕ) (found : Option TrustCommandName) → command_named (command_of line) ≡ found → allowed Outer line ≡ true → IsOuterTrust (request_by found line)
+named_outer : (line : List ℕ) (found : Option TrustCommandName) → trust_command_named (command_of line) ≡ found → allowed Outer line ≡ true → IsOuterTrust (trust_request_by found line)
 named_outer line None is allows = tt
 named_outer line (Some name.IsTrusted) is allows = is_trusted_outer _
 named_outer line (Some name.MarkTrusted) is allows =
@@ -90,8 +88,9 @@ named_outer line (Some name.MarkTrusted) is allows =
 
 pub trust_outer : (line : List ℕ) → allowed Outer line ≡ true → IsOuterTrust (trust_request_of line)
 unfolding trust_request_of
-trust_outer line allows = named_outer line (command_named (command_of line)) refl allows
+trust_outer line allows = named_outer line (trust_command_named (command_of line)) refl allows
 
-pub trust_leaves : {agent : Rules} {options : OptionValues} (line : List ℕ) {events : List Event} {went : Went} → allowed Outer line ≡ true
+pub trust_leaves : (agent : Rules) (options : OptionValues) (line : List ℕ) {events : List Event} {went : Went} → allowed Outer line ≡ true
     → TrustExchange agent options (trust_request_of line) events went → LeavesCache events
-trust_leaves line allows exchanged = request_leaves _ _ (trust_request_of line) (trust_outer line allows) exchanged
+trust_leaves agent options line allows exchanged =
+    parts_leave (bind (carried_leaves agent options (trust_request_of line) (trust_outer line allows)) (λ carried mid. returned _)) exchanged

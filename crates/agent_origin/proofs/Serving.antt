@@ -27,8 +27,7 @@ use Rattle.agent_ask.proofs.Doing.{done_none, done_then, done_said, done_cut, do
 use Rattle.assuan_server.proofs.Clients.{said_so, received_so}
 use Rattle.assuan_server.proofs.Reading.{here_going}
 use Rattle.agent_origin.specs.Sessions.{LineRelation, Leaves}
-use Rattle.agent_origin.specs.Serving.{ServesRequests}
-use Rattle.agent_origin.specs.States.{SaysText, says}
+use Rattle.agent_origin.specs.Serving.{ServesRequests, SaysText, says}
 
 leaves_part_of : (reader : Reader) (left : List ℕ) (o : Option Took) → reader.ended ≡ o → (ahead : List ℕ) × (unread reader left ≡ ahead ++ left)
 leaves_part_of reader left None is = (reader.ahead, here_going reader left is)

@@ -8,12 +8,12 @@ use Rattle.agent_commands.specs.Requests.{request_of}
 use Rattle.agent_ports.specs.declared.grip.Grip.{Grip}
 use Rattle.session_client.specs.declared.code.Code.TheVariants.{UnknownCommand, Parameter}
 use Rattle.agent_origin.specs.Doors.{rule_named, allowed}
-use Rattle.agent_origin.specs.Names.{command_named}
-use Rattle.agent_origin.specs.Requests.{trust_request_of}
-use Rattle.agent_origin.specs.declared.TheConstants.{MAX_NAME_LEN}
+use Rattle.agent_origin.specs.TrustNames.{trust_command_named}
+use Rattle.agent_origin.specs.TrustRequests.{trust_request_of}
+use Rattle.agent_origin.specs.declared.trust.request.TheConstants.{MAX_NAME_LEN}
 use Rattle.agent_origin.specs.declared.door.Door.TheVariants.{Home, Outer}
-use Rattle.agent_origin.specs.declared.request.TrustPurpose.TheVariants.{X509}
-use Rattle.agent_origin.specs.declared.request.TrustRequest.TheVariants.{IsTrusted, MarkTrusted, Bad}
+use Rattle.agent_origin.specs.declared.trust.request.TrustPurpose.TheVariants.{X509}
+use Rattle.agent_origin.specs.declared.trust.request.TrustRequest.TheVariants.{IsTrusted, MarkTrusted, Bad}
 
 -- ---- doors
 
@@ -81,36 +81,36 @@ abbrev fingerprint : Grip
 fingerprint = record { 0 = replicate 20 170 }
 
 is_trusted : trust_request_of (codes "istrusted " ++ replicate 40 65 ++ codes " more") ≡ IsTrusted fingerprint
-unfolding trust_request_of command_named hex_on_literals
+unfolding trust_request_of trust_command_named hex_on_literals
 is_trusted = refl
 
 is_trusted_of_none : trust_request_of (codes "ISTRUSTED") ≡ Bad Parameter
-unfolding trust_request_of command_named
+unfolding trust_request_of trust_command_named
 is_trusted_of_none = refl
 
 is_trusted_of_39 : trust_request_of (codes "ISTRUSTED " ++ replicate 39 65) ≡ Bad Parameter
-unfolding trust_request_of command_named
+unfolding trust_request_of trust_command_named
 is_trusted_of_39 = refl
 
 mark_trusted : trust_request_of (codes "MARKTRUSTED " ++ replicate 40 97 ++ codes " S Root+CA more") ≡ MarkTrusted fingerprint X509 (record { items = codes "Root CA" })
-unfolding trust_request_of command_named hex_on_literals percent_encoding_on_literals
+unfolding trust_request_of trust_command_named hex_on_literals percent_encoding_on_literals
 mark_trusted = refl
 
 mark_of_star : trust_request_of (codes "MARKTRUSTED " ++ replicate 40 97 ++ codes " * Root") ≡ Bad Parameter
-unfolding trust_request_of command_named hex_on_literals
+unfolding trust_request_of trust_command_named hex_on_literals
 mark_of_star = refl
 
 mark_without_name : trust_request_of (codes "MARKTRUSTED " ++ replicate 40 97 ++ codes " P") ≡ Bad Parameter
-unfolding trust_request_of command_named
+unfolding trust_request_of trust_command_named
 mark_without_name = refl
 
 mark_of_901 : trust_request_of (codes "MARKTRUSTED " ++ replicate 40 97 ++ codes " P " ++ replicate 901 97) ≡ Bad Parameter
-unfolding trust_request_of command_named hex_on_literals percent_encoding_on_literals
+unfolding trust_request_of trust_command_named hex_on_literals percent_encoding_on_literals
 mark_of_901 = refl
 
 longest_name : (name : List ℕ) → length name ≡ 900 → length name ≤ MAX_NAME_LEN
 longest_name name len = omega (arith, len)
 
 other_command : trust_request_of (codes "HAVEKEY") ≡ Bad UnknownCommand
-unfolding trust_request_of command_named
+unfolding trust_request_of trust_command_named
 other_command = refl

@@ -28,15 +28,17 @@ use Rattle.session_options.specs.OptionValues.{OptionValues}
 use Rattle.session_options.specs.declared.options.PinMode.TheVariants as mode
 use Rattle.session_options.specs.declared.rules.Rules.{Rules}
 use Rattle.trust_list.specs.Trust.{with_entry}
-use Rattle.agent_origin.specs.Exchanges.{trust_question, fingerprint_question, TrustExchange, answered, refused, TrustedNow, Stores, StoresUnsaid, Consented, Marked}
+use Rattle.agent_origin.specs.TrustExchanges.{trust_question, fingerprint_question, TrustExchange, TrustedNow, Stores, StoresUnsaid, Consented, Marked}
 use Rattle.agent_ask.specs.ConsentParts.{consents, refused as dissents}
 use Rattle.agent_ask.specs.Parts.{goes_on, stops, returns, refuses}
-use Rattle.agent_ask.specs.TurnParts.{opened}
-use Rattle.agent_origin.specs.Parts.{given_back, has_read, faulted, added, replaced, file_in, trust_called}
+use Rattle.agent_ask.specs.PartExchanges.{answered, refused}
+use Rattle.agent_ask.specs.TurnParts.{opened, unheld, closed}
+use Rattle.agent_commands.specs.Exchanges.{reply}
+use Rattle.agent_origin.specs.TrustParts.{has_read, faulted, added, replaced, file_in, trust_called}
 use Rattle.session_client.specs.declared.refusal.Refusal.TheVariants.{Agent, Pinentry}
-use Rattle.agent_origin.specs.declared.request.TrustPurpose.TheVariants.{X509}
-use Rattle.agent_origin.specs.declared.request.TrustRequest.{TrustRequest}
-use Rattle.agent_origin.specs.declared.request.TrustRequest.TheVariants.{IsTrusted, MarkTrusted}
+use Rattle.agent_origin.specs.declared.trust.request.TrustPurpose.TheVariants.{X509}
+use Rattle.agent_origin.specs.declared.trust.request.TrustRequest.{TrustRequest}
+use Rattle.agent_origin.specs.declared.trust.request.TrustRequest.TheVariants.{IsTrusted, MarkTrusted}
 use Rattle.assuan_server.specs.Written.{failed, failed_at_pinentry}
 use Rattle.session_client.specs.declared.code.Code.TheVariants.{General, NotTrusted, NotConfirmed, Forbidden}
 
@@ -86,16 +88,16 @@ module _ (rules : Rules) (values : OptionValues) where
   -- there is no file
   nothing_trusted : TrustExchange rules values (IsTrusted certificate) (trust_called (Read Absent) ∷ Sent (failed NotTrusted) ∷ []) On
   unfolding TrustedNow encode_with
-  nothing_trusted = refused (trust_called (Read Absent) ∷ []) (Agent NotTrusted) (goes_on (has_read refl) refuses)
+  nothing_trusted = refused (trust_called (Read Absent) ∷ []) None (Agent NotTrusted) (stops (goes_on (has_read refl) refuses)) unheld
 
   -- there is one
   trusted : (answer : TrustRead) → file_in answer ≡ Some file → TrustExchange rules values (IsTrusted certificate) (trust_called (Read answer) ∷ Sent ok ∷ []) On
   unfolding TrustedNow encode_with
-  trusted answer is = answered (trust_called (Read answer) ∷ []) (goes_on (has_read is) returns)
+  trusted answer is = answered (trust_called (Read answer) ∷ []) None (reply values ok) (goes_on (goes_on (has_read is) returns) returns) unheld
 
   unread : TrustExchange rules values (IsTrusted certificate) (trust_called (Read Failed) ∷ Sent (failed General) ∷ []) On
   unfolding TrustedNow
-  unread = refused (trust_called (Read Failed) ∷ []) (Agent General) (stops faulted)
+  unread = refused (trust_called (Read Failed) ∷ []) None (Agent General) (stops (stops faulted)) unheld
 
   module _ (first second : PromptSpec) where
     abbrev asking : OptionValues
@@ -113,14 +115,17 @@ module _ (rules : Rules) (values : OptionValues) where
       marked =
           answered
           (trust_called (Read Absent) ∷ cache_turn (Seat None None) (Open 3)
-          ∷ (prompt first Yes ++ (prompt second Yes ++ (trust_called (Read Absent) ∷ trust_called (Replaced (with_entry [] certificate.0 83) IsDone) ∷ cache_turn (Close 3 None) Done ∷ []))))
+          ∷ (prompt first Yes ++ (prompt second Yes ++ (trust_called (Read Absent) ∷ trust_called (Replaced (with_entry [] certificate.0 83) IsDone) ∷ []))))
+          (Some 3) (reply asking ok)
+          (goes_on
           (goes_on (has_read refl)
           (goes_on opened
-          (given_back {events = prompt first Yes ++ (prompt second Yes ++ (trust_called (Read Absent) ∷ trust_called (Replaced (with_entry [] certificate.0 83) IsDone) ∷ []))} Done
           (goes_on {first = prompt first Yes} (consents first is_first (record { prompt = _; asks = asks first false refl Yes; in_session = shown (shown (shown none)) }))
           (goes_on {first = prompt second Yes} (consents second is_second (record { prompt = _; asks = asks second false refl Yes; in_session = shown (shown (shown none)) }))
           (goes_on (has_read refl)
-          (goes_on {first = []} (added (lit≤ tt)) replaced)))))))
+          (goes_on {first = []} (added (lit≤ tt)) replaced))))))
+          returns)
+          (closed Done)
 
       -- the second one isn't: no file is made, and the seat is free
       unmarked : TrustExchange rules asking mark
@@ -128,11 +133,10 @@ module _ (rules : Rules) (values : OptionValues) where
           ∷ (prompt first Yes ++ (prompt second No ++ (cache_turn (Close 3 None) Done ∷ Sent (failed_at_pinentry NotConfirmed) ∷ [])))) On
       unfolding Marked Consented encode_with
       unmarked =
-          refused
-          (trust_called (Read Absent) ∷ cache_turn (Seat None None) (Open 3) ∷ (prompt first Yes ++ (prompt second No ++ (cache_turn (Close 3 None) Done ∷ []))))
-          (Pinentry NotConfirmed)
+          refused (trust_called (Read Absent) ∷ cache_turn (Seat None None) (Open 3) ∷ (prompt first Yes ++ prompt second No)) (Some 3) (Pinentry NotConfirmed)
+          (stops
           (goes_on (has_read refl)
           (goes_on opened
-          (given_back {events = prompt first Yes ++ prompt second No} Done
           (goes_on {first = prompt first Yes} (consents first is_first (record { prompt = _; asks = asks first false refl Yes; in_session = shown (shown (shown none)) }))
           (stops {first = prompt second No} (dissents second is_second (record { prompt = _; asks = asks second false refl No; in_session = shown (shown (shown none)) }) refl))))))
+          (closed Done)

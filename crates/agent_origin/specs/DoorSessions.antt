@@ -1,7 +1,7 @@
 -- Sessions by the door that they came in: what each has to do with, and what it does for each of its lines. At either door the commands on the trust
 -- list are served beside those of every session. A known command that isn't allowed there is answered by an error of its own, and nothing else is
 -- done. This is the project's own.
-use Rattle.std.specs.Prelude.{◌≡◌, ℕ, true, false, List, [], ◌∷◌, map, Option, Some, None}
+use Rattle.std.specs.Prelude.{◌≡◌, ℕ, true, false, List, [], ◌∷◌, codes, map, Option, Some, None}
 use Rattle.agent_ask.specs.Events.{Call}
 use Rattle.agent_ask.specs.SessionEvents.{Sent}
 use Rattle.agent_commands.specs.Answers.{help_with}
@@ -10,26 +10,39 @@ use Rattle.agent_commands.specs.declared.went.Went.{Went}
 use Rattle.agent_commands.specs.declared.went.Went.TheVariants.{On}
 use Rattle.assuan_server.specs.Written.{failed}
 use Rattle.session_client.specs.declared.code.Code.TheVariants.{Forbidden}
+use Rattle.assuan_text.specs.Rows.{found_in_any_case}
 use Rattle.assuan_text.specs.Words.{command_of}
 use Rattle.cache_policy.specs.declared.mark.MarkStep.{MarkStep}
 use Rattle.cache_policy.specs.Turns.{Turn}
 use Rattle.key_commands.specs.Events.{Event}
 use Rattle.session_options.specs.declared.rules.Rules.{Rules}
 use Rattle.agent_origin.specs.Doors.{allowed}
-use Rattle.agent_origin.specs.Exchanges.{TrustExchange}
+use Rattle.agent_origin.specs.TrustExchanges.{TrustExchange}
 use Rattle.agent_origin.specs.FurtherStates.{FurtherWorld}
-use Rattle.agent_origin.specs.Names.{commands, door_command_named}
-use Rattle.agent_origin.specs.Requests.{trust_request_of}
+use Rattle.agent_origin.specs.TrustNames.{commands_on_trust}
+use Rattle.agent_origin.specs.TrustRequests.{trust_request_of}
 use Rattle.agent_origin.specs.SessionExchanges.{SessionExchange, kept_at_start}
 use Rattle.agent_origin.specs.Sessions.{Surroundings, ServesSession}
 use Rattle.agent_origin.specs.declared.door.Door.{Door}
 use Rattle.agent_origin.specs.declared.kept.Kept.{Kept}
-use Rattle.agent_origin.specs.declared.names.DoorCommand.{DoorCommand}
-use Rattle.agent_origin.specs.declared.names.DoorCommand.TheVariants.{Help, Trust}
+use Rattle.agent_origin.specs.declared.door_session.DoorCommand.{DoorCommand}
+use Rattle.agent_origin.specs.declared.door_session.DoorCommand.TheVariants.{Help, Trust}
+
+-- the commands that a session at a door answers in a way of its own
+abbrev pub door_commands : List (List ℕ × DoorCommand)
+door_commands =
+    (codes "HELP", Help)
+    ∷ (codes "ISTRUSTED", Trust)
+    ∷ (codes "MARKTRUSTED", Trust)
+    ∷ []
+
+-- the one of this name, whatever the case of its letters
+unfoldable pub door_command_named : List ℕ → Option DoorCommand
+door_command_named word = found_in_any_case word door_commands
 
 -- HELP tells the commands on the trust list behind all others
 abbrev pub door_help : List ℕ
-door_help = help_with (map (λ row. row.0) commands)
+door_help = help_with (map (λ row. row.0) commands_on_trust)
 
 -- what is done for a line that is allowed, by the command that the door has a way of its own for, if it is one
 pub data AllowedExchange (rules : Rules) (before : Kept) (line : List ℕ) : Option DoorCommand → List Event → Kept → Went → Type 0 where

@@ -1,6 +1,6 @@
 -- What a session may ask for that came in by the agent's outer door, as the sessions of another machine do (GnuPG manual, "Agent Options",
 -- `--extra-socket`). Which commands these are is this project's own.
-use Rattle.std.specs.Prelude.{ℕ, ◌||◌, not, Bool, true, false, List, [], ◌∷◌, codes, Option, Some, None}
+use Rattle.std.specs.Prelude.{ℕ, ◌||◌, not, Bool, true, false, List, [], ◌∷◌, ◌++◌, codes, Option, Some, None}
 use Rattle.std.specs.Option.{is_none}
 use Rattle.std.specs.Str.{bytes_eq}
 use Rattle.agent_commands.specs.Requests.{GetFields, get_fields, request_of}
@@ -13,9 +13,9 @@ use Rattle.agent_origin.specs.declared.door.Door.TheVariants.{Home, Outer}
 use Rattle.agent_origin.specs.declared.door.Rule.{Rule}
 use Rattle.agent_origin.specs.declared.door.Rule.TheVariants.{Always, NotTheMode, AboutTheAgent, Uncached, OneKey, Never}
 
--- the commands that are known, each with what its line has to be
-abbrev pub rules : List (List ℕ × Rule)
-rules =
+-- the commands that are known, each with what its line has to be: those on the cache and the session, those on keys, and those on the trust list
+abbrev pub cache_rules : List (List ℕ × Rule)
+cache_rules =
     (codes "NOP", Always)
     ∷ (codes "RESET", Always)
     ∷ (codes "BYE", Always)
@@ -29,16 +29,24 @@ rules =
     ∷ (codes "RELOADAGENT", Never)
     ∷ (codes "KILLAGENT", Never)
     ∷ (codes "SETKEYDESC", Never)
-    ∷ (codes "HAVEKEY", Always)
+    ∷ []
+
+abbrev pub key_rules : List (List ℕ × Rule)
+key_rules =
+    (codes "HAVEKEY", Always)
     ∷ (codes "KEYINFO", OneKey)
     ∷ (codes "KEYWRAP_KEY", Never)
     ∷ (codes "IMPORT_KEY", Never)
     ∷ (codes "EXPORT_KEY", Never)
     ∷ (codes "PASSWD", Never)
     ∷ (codes "DELETE_KEY", Never)
-    ∷ (codes "ISTRUSTED", Always)
-    ∷ (codes "MARKTRUSTED", Never)
     ∷ []
+
+abbrev pub trust_rules : List (List ℕ × Rule)
+trust_rules = (codes "ISTRUSTED", Always) ∷ (codes "MARKTRUSTED", Never) ∷ []
+
+abbrev pub rules : List (List ℕ × Rule)
+rules = cache_rules ++ (key_rules ++ trust_rules)
 
 -- the rule of the command of this name, whatever the case of its letters
 unfoldable pub rule_named : List ℕ → Option Rule

@@ -1,12 +1,14 @@
 -- A new trust file: what was done for its request before it took the old one's place. This is this project's own.
 use Rattle.std.specs.Prelude.{◌≡◌, ◌≤◌, ℕ, List, [], ◌∷◌, ◌++◌, length, Some, None, Ok}
 use Rattle.arrayvec.specs.ArrayVec.{ArrayVec}
+use Rattle.agent_ask.specs.ConsentParts.{AgreesTo}
 use Rattle.agent_ask.specs.SessionEvents.{Received, cache_turn}
 use Rattle.agent_ask.specs.TrustCalls.{Read, Replaced}
 use Rattle.agent_ports.specs.declared.grip.Grip.{Grip}
 use Rattle.agent_ports.specs.declared.trust.TrustDone.TheVariants.{Done}
 use Rattle.agent_ports.specs.declared.trust.TrustRead.{TrustRead}
 use Rattle.assuan_line.specs.declared.reader.Took.TheVariants.{Line}
+use Rattle.assuan_server.specs.Clients.{session_lines}
 use Rattle.cache_policy.specs.Turns.{Turn, Open}
 use Rattle.cache_policy.specs.declared.mark.MarkStep.TheVariants.{Seat, Close}
 use Rattle.key_commands.specs.Events.{Event}
@@ -14,12 +16,12 @@ use Rattle.session_options.specs.OptionValues.{OptionValues}
 use Rattle.session_options.specs.declared.rules.Rules.{Rules}
 use Rattle.trust_list.specs.Trust.{trust, with_entry}
 use Rattle.trust_list.specs.declared.TheConstants.{MAX_TRUST_FILE_LEN}
-use Rattle.agent_origin.specs.Exchanges.{flag_of, trust_question, fingerprint_question}
-use Rattle.agent_origin.specs.Parts.{Agrees, file_in, trust_called}
-use Rattle.agent_origin.specs.Requests.{trust_request_of}
-use Rattle.agent_origin.specs.declared.request.TrustPurpose.{TrustPurpose}
-use Rattle.agent_origin.specs.declared.request.TrustRequest.{TrustRequest}
-use Rattle.agent_origin.specs.declared.request.TrustRequest.TheVariants.{MarkTrusted}
+use Rattle.agent_origin.specs.TrustExchanges.{flag_of, trust_question, fingerprint_question}
+use Rattle.agent_origin.specs.TrustParts.{file_in, trust_called}
+use Rattle.agent_origin.specs.TrustRequests.{trust_request_of}
+use Rattle.agent_origin.specs.declared.trust.request.TrustPurpose.{TrustPurpose}
+use Rattle.agent_origin.specs.declared.trust.request.TrustRequest.{TrustRequest}
+use Rattle.agent_origin.specs.declared.trust.request.TrustRequest.TheVariants.{MarkTrusted}
 
 -- these bytes became the file
 abbrev pub replaced : List ℕ → Event
@@ -39,8 +41,8 @@ pub record HasConsents (rules : Rules) (options : OptionValues) (request : Trust
   pub second : List Event
   pub read : TrustRead
   pub in_order : before ≡ trust_called (Read early) ∷ cache_turn (Seat None None) (Open ticket) ∷ (first ++ (second ++ trust_called (Read read) ∷ []))
-  pub trusts : Agrees rules options (trust_question name.items) (Some ticket) first (Ok tt) (Some ticket)
-  pub is_right : Agrees rules options (fingerprint_question fingerprint name.items) (Some ticket) second (Ok tt) (Some ticket)
+  pub trusts : AgreesTo session_lines rules options (trust_question name.items) (Some ticket) first (Ok tt) (Some ticket)
+  pub is_right : AgreesTo session_lines rules options (fingerprint_question fingerprint name.items) (Some ticket) second (Ok tt) (Some ticket)
   pub old : List ℕ
   pub old_is : file_in read ≡ Some old
   pub unsaid : trust old fingerprint.0 ≡ None

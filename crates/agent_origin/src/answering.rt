@@ -10,12 +10,13 @@ ghost use Rattle.key_commands.specs.States.{KeyWorld, key_state};
 ghost use Rattle.agent_origin.specs.FurtherStates.{FurtherWorld, further_state};
 ghost use Rattle.agent_origin.specs.SessionExchanges.{went_after_key, described_after};
 ghost use Rattle.agent_origin.specs.SessionExchanges.{RequestExchange, SessionExchange};
-ghost use Rattle.agent_origin.specs.States.{SaysText};
+ghost use Rattle.agent_origin.specs.Serving.{SaysText};
 
 use crate::Kept;
-use crate::reply::went_unless_cut;
 use agent_ask::Prompter;
-use agent_commands::{LineRequest, Request, SessionEnd, Went, run_cache, run_quiet};
+use agent_commands::{
+    LineRequest, Request, SessionEnd, Went, run_cache, run_quiet, went_unless_cut,
+};
 use agent_ports::{Dice, Keys, Link};
 use assuan_line::Line;
 use assuan_server::{Code, Conn, Origin};

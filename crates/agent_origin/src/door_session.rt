@@ -3,26 +3,49 @@
 ghost use Rattle.std.specs.Prelude.{◌≡◌, None};
 ghost use Rattle.agent_ask.specs.Prompters.{IsShut};
 ghost use Rattle.assuan_server.specs.Connections.{IsOpen};
-ghost use Rattle.agent_origin.specs.DoorSessions.{door_help, ServesDoor};
-ghost use Rattle.agent_origin.specs.Exchanges.{AnswersTrust};
+ghost use Rattle.agent_origin.specs.DoorSessions.{door_command_named, door_help, ServesDoor};
+ghost use Rattle.agent_origin.specs.TrustExchanges.{AnswersTrust};
 ghost use Rattle.agent_origin.specs.FurtherStates.{surroundings};
-ghost use Rattle.agent_origin.specs.Requests.{trust_request_of};
-ghost use Rattle.agent_origin.specs.States.{SaysText};
+ghost use Rattle.agent_origin.specs.TrustRequests.{trust_request_of};
+ghost use Rattle.agent_origin.specs.Serving.{SaysText};
 
 use crate::answering::{answer, refuse};
 use crate::door::{Door, allowed};
-use crate::names::{DoorCommand, TRUST_COMMANDS, door_command_named};
-use crate::reply::went_unless_cut;
-use crate::{Answers, Kept, read_trust, run_trust, serve};
+use crate::{Answers, Kept, TRUST_COMMANDS, read_trust, run_trust, serve};
 use agent_ask::Prompter;
-use agent_commands::{SessionEnd, Went, write_help};
+use agent_commands::{SessionEnd, Went, went_unless_cut, write_help};
 use agent_ports::{Dice, Keys, Link, TrustFile};
 use assuan_line::Line;
 use assuan_server::{Code, Conn};
-use assuan_text::command_and_rest;
+use assuan_text::{command_and_rest, found_in_any_case};
 use cache_policy::Desk;
 use session_options::{Options, Rules};
 use std::alloc::Global;
+
+/// What a session that came in by a door does with a command for itself. All others are those of
+/// every session.
+#[derive(Clone, Copy, Debug, PartialEq, Eq)]
+enum DoorCommand {
+    /// HELP, which tells the commands on the trust list too.
+    Help,
+    /// One on the trust list.
+    Trust,
+}
+
+/// These commands by their names.
+const DOOR_COMMANDS: [(&[u8], DoorCommand); 3] = [
+    (b"HELP", DoorCommand::Help),
+    (b"ISTRUSTED", DoorCommand::Trust),
+    (b"MARKTRUSTED", DoorCommand::Trust),
+];
+
+/// What a session at a door does for itself with the command of this name.
+#[tactic(auto, unfolding(crate::specs::DoorSessions::door_command_named))]
+fn door_command_named(word: &[u8]) -> Option<DoorCommand>
+    ensures { result ≡ door_command_named word.now }
+{
+    found_in_any_case(word, &DOOR_COMMANDS)
+}
 
 impl Answers for Door {
     ghost use Rattle.agent_origin.specs.DoorSessions.{DoorExchange};

@@ -11,28 +11,12 @@
 #![tactic(auto)]
 
 mod answering;
-mod consent;
 mod door;
 mod door_session;
 mod kept;
 mod laws;
-mod marking;
-mod names;
-mod read;
-mod reply;
-mod request;
-mod run;
 mod service;
-mod texts;
-mod trust_calls;
-
-use arrayvec::ArrayVec;
-
-/// How many bytes the name of a certificate's owner has at most.
-pub const MAX_NAME_LEN: usize = 900;
-
-/// The name of a certificate's owner.
-pub type OwnerName = ArrayVec<u8, MAX_NAME_LEN>;
+mod trust;
 
 pub use answering::answer;
 pub use door::{Door, allowed, doors_are_as_defined};
@@ -43,8 +27,8 @@ pub use laws::{
     an_outer_session_leaves_the_cache, an_outer_session_leaves_the_run,
     each_known_command_has_a_rule, the_outer_door_leaves_the_cache,
 };
-pub use names::{TRUST_COMMANDS, TrustCommandName, trust_commands_are_as_defined};
-pub use read::read_trust;
-pub use request::{TrustPurpose, TrustRequest};
-pub use run::run_trust;
 pub use service::{Answers, serve};
+pub use trust::{
+    MAX_NAME_LEN, OwnerName, TRUST_COMMANDS, TrustCommandName, TrustPurpose, TrustRequest,
+    read_trust, run_trust, trust_commands_are_as_defined,
+};

@@ -1,4 +1,4 @@
-use Rattle.agent_origin.specs.States.{says}
+use Rattle.agent_origin.specs.Serving.{says}
 use Rattle.assuan_server.proofs.Saying.{said}
 use Rattle.agent_origin.proofs.answering.refuse.Goals as goal
 

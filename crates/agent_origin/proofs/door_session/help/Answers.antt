@@ -1,4 +1,4 @@
-use Rattle.agent_origin.specs.States.{says}
+use Rattle.agent_origin.specs.Serving.{says}
 use Rattle.agent_origin.proofs.door_session.help.Goals as goal
 
 pub returns : goal.returns

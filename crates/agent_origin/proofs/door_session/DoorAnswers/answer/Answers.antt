@@ -1,7 +1,7 @@
 use Rattle.std.proofs.Common.{◌∙◌, ℕ, List, sym, ap, Some}
 use Rattle.assuan_text.specs.Words.{command_of}
-use Rattle.agent_origin.specs.Names.{door_command_named}
-use Rattle.agent_origin.specs.declared.names.DoorCommand.{DoorCommand}
+use Rattle.agent_origin.specs.DoorSessions.{door_command_named}
+use Rattle.agent_origin.specs.declared.door_session.DoorCommand.{DoorCommand}
 use Rattle.agent_origin.proofs.AtDoor.{forbidden_is_answered, help_is_answered, trust_is_answered, session_line_is_answered}
 use Rattle.agent_origin.proofs.door_session.DoorAnswers.answer.Goals as goal
 

@@ -1,9 +1,0 @@
-use Rattle.agent_origin.specs.States.{carried, refused}
-use Rattle.agent_origin.proofs.reply.respond.Goals as goal
-use Rattle.assuan_server.proofs.Saying.{said}
-
-pub returns-in-Ok : goal.returns-in-Ok
-returns-in-Ok g c = rw (c.in-Ok.is, c.went_unless_cut.ensures) (carried c.whole.result (said c.whole.ensures c.ok.ensures))
-
-pub returns-in-Err : goal.returns-in-Err
-returns-in-Err g c = rw (c.in-Err.is, c.went_unless_cut-in-Err.ensures, c.went_after.ensures) (refused c.refuse.result c.refuse.ensures)

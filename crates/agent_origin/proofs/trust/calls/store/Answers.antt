@@ -1,0 +1,30 @@
+use Rattle.std.proofs.Common.{◌≡◌, ◌≤◌, ℕ, List, length, refl, arith, ◌∙◌, subst}
+use Rattle.agent_ask.specs.Further.{NoMemory as WantsMemory}
+use Rattle.agent_ask.specs.Parts.{stops}
+use Rattle.agent_ask.specs.PartStates.{NoTurn}
+use Rattle.agent_ask.proofs.PartsDone.{part_then}
+use Rattle.assuan_server.specs.Clients.{connection_views}
+use Rattle.trust_list.specs.Trust.{with_entry}
+use Rattle.trust_list.specs.declared.TheConstants.{MAX_TRUST_FILE_LEN}
+use Rattle.agent_origin.specs.TrustExchanges.{flag_of, Stores}
+use Rattle.agent_origin.specs.TrustParts.{added, too_long, no_memory}
+use Rattle.agent_origin.specs.TrustStates.{DoesTrustFile, no_memory as out_of_memory}
+use Rattle.agent_origin.proofs.TrustDone.{file_event_done, file_left}
+use Rattle.agent_origin.proofs.trust.calls.store.Goals as goal
+
+pub returns-in-Ok : goal.returns-in-Ok
+unfolding Stores
+returns-in-Ok g c = λ conn going held.
+    let new : c.deref.result.now ≡ with_entry c.args.file.now c.args.fingerprint.now.0 (flag_of c.args.purpose) = c.deref.ensures.value ∙ (rw c.flag.ensures at c.in-Ok.ensures.added) in
+    part_then connection_views NoTurn DoesTrustFile
+    (file_left refl _ (λ held. added (subst (λ (f : List ℕ). length f ≤ MAX_TRUST_FILE_LEN) new (omega (arith, c.deref.ensures.len, c.in-Ok.ensures.fits)))) conn going held)
+    (rw new at (c.replace.ensures conn going held))
+
+pub returns-in-Err-TooLong : goal.returns-in-Err-TooLong
+unfolding Stores
+returns-in-Err-TooLong g c =
+    file_left refl _ (λ held. stops (too_long (rw c.flag.ensures at (c.add_trust.ensures.too_long.0 (cc (c.in-Err-TooLong.is, c.in-Err-TooLong.field-0-is))))))
+
+pub returns-in-Err-NoMemory : goal.returns-in-Err-NoMemory
+unfolding Stores
+returns-in-Err-NoMemory g c = file_event_done refl WantsMemory out_of_memory (λ held. stops no_memory)

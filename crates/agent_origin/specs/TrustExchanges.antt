@@ -1,0 +1,122 @@
+-- Requests on the trust list and what is done for them, as the GnuPG manual has them ("Agent's Assuan protocol", ISTRUSTED and MARKTRUSTED). The
+-- codes, the texts and the order of what is done are this project's own.
+use Rattle.std.specs.Prelude.{◌++◌, ℕ, Bool, true, false, List, codes, Option, Some, None}
+use Rattle.agent_ask.specs.ConsentParts.{AgreesTo}
+use Rattle.agent_ask.specs.Events.{Call}
+use Rattle.agent_ask.specs.PartExchanges.{AnyExchange}
+use Rattle.agent_ask.specs.Parts.{◌>>=◌, Returns, Refuses}
+use Rattle.agent_ask.specs.TurnParts.{Seats}
+use Rattle.agent_commands.specs.Answers.{ok}
+use Rattle.agent_commands.specs.Endings.{went_after}
+use Rattle.agent_commands.specs.Exchanges.{CacheReply, reply}
+use Rattle.agent_commands.specs.States.{AnswersRequest}
+use Rattle.agent_commands.specs.declared.went.Went.{Went}
+use Rattle.agent_ports.specs.KeyFiles.{KeyFiles}
+use Rattle.agent_ports.specs.Sides.{Side}
+use Rattle.agent_ports.specs.TrustFiles.{TrustState}
+use Rattle.agent_ports.specs.declared.grip.Grip.{Grip}
+use Rattle.assuan_server.specs.Clients.{session_lines}
+use Rattle.assuan_server.specs.Connections.{Connection}
+use Rattle.assuan_server.specs.Written.{refusal_line}
+use Rattle.cache_policy.specs.Turns.{Turn}
+use Rattle.cache_policy.specs.declared.mark.MarkStep.{MarkStep}
+use Rattle.cache_policy.specs.declared.mark.MarkStep.TheVariants.{Seat}
+use Rattle.hex.specs.Hex.{encode_upper}
+use Rattle.key_commands.specs.Events.{Event}
+use Rattle.key_commands.specs.Parts.{Part}
+use Rattle.session_client.specs.declared.code.Code.TheVariants as code
+use Rattle.session_client.specs.declared.refusal.Refusal.TheVariants.{Agent}
+use Rattle.session_options.specs.OptionValues.{OptionValues}
+use Rattle.session_options.specs.declared.options.PinMode.{PinMode}
+use Rattle.session_options.specs.declared.options.PinMode.TheVariants as mode
+use Rattle.session_options.specs.declared.rules.Rules.{Rules}
+use Rattle.trust_list.specs.Trust.{trust}
+use Rattle.agent_origin.specs.FurtherStates.{FurtherWorld, further_state}
+use Rattle.agent_origin.specs.TrustParts.{ReadsFile, AddsEntry, Replaces}
+use Rattle.agent_origin.specs.declared.trust.request.TrustPurpose.{TrustPurpose}
+use Rattle.agent_origin.specs.declared.trust.request.TrustPurpose.TheVariants.{X509, OpenPgp}
+use Rattle.agent_origin.specs.declared.trust.request.TrustRequest.{TrustRequest}
+use Rattle.agent_origin.specs.declared.trust.request.TrustRequest.TheVariants.{IsTrusted, MarkTrusted, Bad}
+
+-- the flag of an entry
+abbrev pub flag_of : TrustPurpose → ℕ
+flag_of X509 = 83
+flag_of OpenPgp = 80
+
+-- what the user is asked, one after the other
+abbrev pub trust_question : List ℕ → List ℕ
+trust_question name = codes "Trust " ++ (name ++ codes "?")
+
+abbrev pub fingerprint_question : Grip → List ℕ → List ℕ
+fingerprint_question fingerprint name = codes "Is " ++ (encode_upper fingerprint.0 ++ (codes " the right fingerprint of " ++ (name ++ codes "?")))
+
+-- What the file says of a certificate decides the request. Where it says nothing, something else is done.
+abbrev pub unless_said : Option Bool → Part (Unit {0}) → Part (Unit {0})
+unless_said (Some true) otherwise = Returns tt
+unless_said (Some false) otherwise = Refuses (Agent code.NotTrusted)
+unless_said None otherwise = otherwise
+
+-- the certificate is trusted by what the file says now
+unfoldable pub TrustedNow : Grip → Part (Unit {0})
+TrustedNow fingerprint = do
+  file ← ReadsFile
+  unless_said (trust file fingerprint.0) (Refuses (Agent code.NotTrusted))
+
+-- the file with the entry that is new takes its place
+unfoldable pub Stores : Grip → TrustPurpose → List ℕ → Part (Unit {0})
+Stores fingerprint purpose file = do
+  new ← AddsEntry file fingerprint (flag_of purpose)
+  Replaces new
+
+-- unless the file says by now whether the certificate is trusted
+unfoldable pub StoresUnsaid : Grip → TrustPurpose → Part (Unit {0})
+StoresUnsaid fingerprint purpose = do
+  file ← ReadsFile
+  unless_said (trust file fingerprint.0) (Stores fingerprint purpose file)
+
+module _ (rules : Rules) (options : OptionValues) (fingerprint : Grip) (purpose : TrustPurpose) (name : List ℕ) where
+  -- The user agrees twice. Only then is the file read from which the new one is made.
+  unfoldable pub Consented : Part (Unit {0})
+  Consented = do
+    trusted ← AgreesTo session_lines rules options (trust_question name)
+    right ← AgreesTo session_lines rules options (fingerprint_question fingerprint name)
+    StoresUnsaid fingerprint purpose
+
+  -- the user is asked, where the client wants prompts
+  abbrev pub asked_in : PinMode → Part (Unit {0})
+  asked_in mode.Ask = do
+    seated ← Seats (Seat None None)
+    Consented
+  asked_in mode.Cancel = Refuses (Agent code.Cancelled)
+  asked_in mode.Error = Refuses (Agent code.NoPinentry)
+  asked_in mode.Loopback = Refuses (Agent code.NoPinentry)
+
+  -- the certificate is marked as trusted, unless the file says already whether it is
+  unfoldable pub Marked : Part (Unit {0})
+  Marked = do
+    file ← ReadsFile
+    unless_said (trust file fingerprint.0) (asked_in options.mode)
+
+-- what is done for a request, up to its reply
+abbrev pub Carried : Rules → OptionValues → TrustRequest → Part (Unit {0})
+Carried rules options (IsTrusted fingerprint) = TrustedNow fingerprint
+Carried rules options (MarkTrusted fingerprint purpose name) = Marked rules options fingerprint purpose name.items
+Carried rules options (Bad code) = Refuses (Agent code)
+
+-- it is answered by OK alone, and leaves the option values
+abbrev pub TrustReplies : Rules → OptionValues → TrustRequest → Part CacheReply
+TrustReplies rules options request = do
+  carried ← Carried rules options request
+  Returns (reply options ok)
+
+-- A request: what the session does for it, and how the session goes on.
+abbrev pub TrustExchange : Rules → OptionValues → TrustRequest → List Event → Went → Type 0
+TrustExchange rules options request events went = AnyExchange refusal_line went_after (TrustReplies rules options request) options events options went
+
+module _ {D P : Type 0} (turned : D → MarkStep → Turn → D → Type 0) (prompted : P → Call → P → Type 0) (rules : Rules) (options : OptionValues) (request : TrustRequest) where
+  -- A request was answered, whole or in part. It has nothing to do with the keys and the dice, whatever these are.
+  abbrev pub AnswersTrust : Connection → D → P → TrustState → Went → Connection → D → P → TrustState → Type 0
+  AnswersTrust conn desk prompter trust went conn_now desk_now prompter_now trust_now =
+      (keys : KeyFiles) (dice : Side)
+      → AnswersRequest {w = FurtherWorld turned prompted} (λ before. AnyExchange refusal_line went_after (TrustReplies rules before request) before) options
+      (further_state turned prompted conn desk prompter keys dice trust) went options (further_state turned prompted conn_now desk_now prompter_now keys dice trust_now)

@@ -1,0 +1,62 @@
+-- What a line with a command on the trust list asks for, or the fault for which it is refused (GnuPG manual, "Agent's Assuan protocol"). Which
+-- fault a refusal has is this project's own.
+use Rattle.std.specs.Prelude.{ℕ, nat_le, true, List, ◌∷◌, length, codes, Option, Some, None, Result, Ok, Err, if◌then◌else◌}
+use Rattle.std.specs.Str.{bytes_eq}
+use Rattle.arrayvec.specs.ArrayVec.{ArrayVec}
+use Rattle.assuan_escape.specs.Escapes.{unescaped}
+use Rattle.session_client.specs.declared.code.Code.{Code}
+use Rattle.session_client.specs.declared.code.Code.TheVariants.{UnknownCommand, Parameter}
+use Rattle.assuan_text.specs.Options.{arguments_of}
+use Rattle.assuan_text.specs.Words.{command_of, rest_of, words}
+use Rattle.key_commands.specs.Requests.{◌>>=◌, needed, grip, first_grip}
+use Rattle.agent_origin.specs.TrustNames.{trust_command_named}
+use Rattle.agent_origin.specs.declared.trust.request.TheConstants.{MAX_NAME_LEN}
+use Rattle.agent_origin.specs.declared.trust.names.TrustCommandName.{TrustCommandName}
+use Rattle.agent_origin.specs.declared.trust.names.TrustCommandName.TheVariants as name
+use Rattle.agent_origin.specs.declared.trust.request.TrustPurpose.{TrustPurpose}
+use Rattle.agent_origin.specs.declared.trust.request.TrustPurpose.TheVariants.{X509, OpenPgp}
+use Rattle.agent_origin.specs.declared.trust.request.TrustRequest.{TrustRequest}
+use Rattle.agent_origin.specs.declared.trust.request.TrustRequest.TheVariants.{IsTrusted, MarkTrusted, Bad}
+
+-- what a certificate is to be trusted for
+abbrev pub purpose : List ℕ → Option TrustPurpose
+purpose word =
+    if bytes_eq word (codes "S") then Some X509
+    else if bytes_eq word (codes "P") then Some OpenPgp
+    else None
+
+-- the name of its owner, where a `+` is a blank
+abbrev pub owner : List ℕ → Option (ArrayVec ℕ)
+owner word = if nat_le (length (unescaped true word)) MAX_NAME_LEN then Some (record { items = unescaped true word }) else None
+
+-- ISTRUSTED FINGERPRINT; further words are passed over
+abbrev pub is_trusted_of : List (List ℕ) → Result TrustRequest Code
+is_trusted_of arguments = do
+  fingerprint ← needed (first_grip arguments)
+  Ok (IsTrusted fingerprint)
+
+-- MARKTRUSTED FINGERPRINT FLAG NAME; further words are passed over
+abbrev pub mark_trusted_of : List (List ℕ) → Result TrustRequest Code
+mark_trusted_of (fingerprint ∷ flag ∷ name ∷ more) = do
+  fingerprint ← needed (grip fingerprint)
+  purpose ← needed (purpose flag)
+  name ← needed (owner name)
+  Ok (MarkTrusted fingerprint purpose name)
+mark_trusted_of _ = Err Parameter
+
+-- a command, and what comes after it
+abbrev pub trust_asked_by : TrustCommandName → List ℕ → Result TrustRequest Code
+trust_asked_by name.IsTrusted rest = is_trusted_of (arguments_of (words rest))
+trust_asked_by name.MarkTrusted rest = mark_trusted_of (arguments_of (words rest))
+
+abbrev pub trust_or_bad : Result TrustRequest Code → TrustRequest
+trust_or_bad (Ok request) = request
+trust_or_bad (Err code) = Bad code
+
+-- the command that the line begins with, with the rest of the line
+abbrev pub trust_request_by : Option TrustCommandName → List ℕ → TrustRequest
+trust_request_by (Some name) line = trust_or_bad (trust_asked_by name (rest_of line))
+trust_request_by None line = Bad UnknownCommand
+
+unfoldable pub trust_request_of : List ℕ → TrustRequest
+trust_request_of line = trust_request_by (trust_command_named (command_of line)) line

@@ -1,0 +1,36 @@
+-- Private: parts of a request on the trust list that are done in the code.
+use Rattle.std.specs.Prelude.{ℕ, Option, Result}
+use Rattle.agent_ask.specs.Events.{Call}
+use Rattle.agent_ask.specs.Further.{FurtherEvent, DoesFurther, Trust, NoMemory}
+use Rattle.agent_ask.specs.PartStates.{part_state, DoesPart, NoTurn}
+use Rattle.agent_ask.specs.TrustCalls.{TrustCall, DoesTrust}
+use Rattle.agent_ports.specs.KeyFiles.{KeyFiles}
+use Rattle.agent_ports.specs.Sides.{Side}
+use Rattle.agent_ports.specs.TrustFiles.{TrustState}
+use Rattle.assuan_server.specs.Clients.{connection_views}
+use Rattle.assuan_server.specs.Connections.{Connection, IsOpen}
+use Rattle.cache_policy.specs.declared.mark.MarkStep.{MarkStep}
+use Rattle.cache_policy.specs.Turns.{Turn}
+use Rattle.key_commands.specs.Parts.{Part}
+use Rattle.session_client.specs.declared.refusal.Refusal.{Refusal}
+use Rattle.agent_origin.specs.FurtherStates.{further_state}
+
+-- what is done to a trust file that is the only further end
+pub data DoesTrustFile : TrustState → FurtherEvent → TrustState → Type 0 where
+  called : {before after : TrustState} {call : TrustCall} → DoesTrust before call after → DoesTrustFile before (Trust call) after
+  no_memory : {now : TrustState} → DoesTrustFile now NoMemory now
+
+-- a part in which nothing is done but with the trust file, whatever ticket is held and however the connection stands
+abbrev pub DoesAtFile : {A : Type 0} → Part A → TrustState → Result A Refusal → TrustState → Type 0
+DoesAtFile part trust result now =
+    (conn : Connection) → IsOpen conn → (held : Option ℕ)
+    → DoesPart connection_views NoTurn DoesTrustFile part held (part_state connection_views NoTurn DoesTrustFile conn tt trust) result held
+    (part_state connection_views NoTurn DoesTrustFile conn tt now)
+
+module _ {D P : Type 0} (turned : D → MarkStep → Turn → D → Type 0) (prompted : P → Call → P → Type 0) {A : Type 0} (part : Part A) where
+  -- a part in which neither the keys are called nor dice are thrown, whatever these are
+  abbrev pub LeavesKeys : Option ℕ → Connection → D → P → TrustState → Result A Refusal → Option ℕ → Connection → D → P → TrustState → Type 0
+  LeavesKeys before conn desk prompter trust result after conn_now desk_now prompter_now trust_now =
+      (keys : KeyFiles) (dice : Side)
+      → DoesPart connection_views turned (DoesFurther prompted) part before (further_state turned prompted conn desk prompter keys dice trust) result after
+      (further_state turned prompted conn_now desk_now prompter_now keys dice trust_now)

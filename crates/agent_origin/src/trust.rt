@@ -1,0 +1,16 @@
+//! The commands on the agent's trust list: a line of the client read as a request, or refused by a
+//! code, and carried out and answered over any link, any desk, any prompter and any trust file.
+
+mod calls;
+mod marking;
+mod names;
+mod questions;
+mod read;
+mod reply;
+mod request;
+mod run;
+
+pub use names::{TRUST_COMMANDS, TrustCommandName, trust_commands_are_as_defined};
+pub use read::read_trust;
+pub use request::{MAX_NAME_LEN, OwnerName, TrustPurpose, TrustRequest};
+pub use run::run_trust;

@@ -1,0 +1,19 @@
+//! What is written for a request, once all else is done for it.
+
+ghost use Rattle.std.specs.Prelude.{◌≡◌};
+ghost use Rattle.agent_commands.specs.Steps.{RespondsTo, ok_by};
+
+use agent_commands::{Went, went_after, went_unless_cut};
+use agent_ports::Link;
+use assuan_server::Conn;
+use session_client::Refusal;
+
+/// Writes that a request was carried out, or why it wasn't, and says how the session goes on.
+pub(crate) fn respond<L: Link>(carried: Result<(), Refusal>, conn: &mut Conn<'_, L>) -> Went
+    ensures { RespondsTo conn.old (ok_by carried) result conn.new }
+{
+    match carried {
+        Ok(()) => went_unless_cut(Went::On, conn.ok(b"").whole()),
+        Err(why) => went_unless_cut(went_after(why), conn.refuse(why)),
+    }
+}
