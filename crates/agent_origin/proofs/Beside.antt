@@ -14,8 +14,8 @@ use Rattle.cache_policy.specs.Turns.{Turn}
 use Rattle.session_client.specs.declared.unheard.Gone.TheVariants as gone
 use Rattle.session_options.specs.OptionValues.{OptionValues}
 use Rattle.session_options.specs.declared.rules.Rules.{Rules}
-use Rattle.agent_commands.specs.Events.{Event}
-use Rattle.agent_commands.specs.Exchanges.{Exchange}
+use Rattle.agent_commands.specs.Events.{EventWith}
+use Rattle.agent_commands.specs.Exchanges.{CacheExchange}
 use Rattle.agent_commands.specs.Outside.{world, prompt_world, DoesPrompts, prompts}
 use Rattle.agent_commands.specs.States.{session_state, prompt_state, AnswersRequest, ReaderAfter, FaultsRise}
 use Rattle.agent_commands.specs.Talks.{WholeOrCut, whole, cut}
@@ -50,7 +50,7 @@ module _ {D P : Type 0} (turned : D → MarkStep → Turn → D → Type 0) (pro
   module _ (rules : Rules) (files : KeyFiles) (dice : Side) (wraps : WrapKeys) (request : Request) {before after : OptionValues} {conn now : Connection} {desk desk_now : D} {went : Went} where
     -- by the prompter, with the keys and the dice beside
     pub cached_beside : {prompter prompter_now : P}
-        → AnswersRequest {w = prompt_world turned prompted} (λ options. Exchange rules options request) before (prompt_state turned prompted conn desk prompter) went after
+        → AnswersRequest {w = prompt_world turned prompted} (λ options. CacheExchange rules options request) before (prompt_state turned prompted conn desk prompter) went after
         (prompt_state turned prompted now desk_now prompter_now)
         → AnswersRequest {w = KeyWorld turned prompted} (λ kept. RequestExchange rules kept request) (kept_with before wraps) (key_state turned prompted conn desk prompter files dice) went
         (kept_with after wraps) (key_state turned prompted now desk_now prompter_now files dice)
@@ -58,7 +58,7 @@ module _ {D P : Type 0} (turned : D → MarkStep → Turn → D → Type 0) (pro
 
     -- by the cache alone, with the prompter beside too
     pub quiet_beside : (prompter : P)
-        → AnswersRequest {w = world turned} (λ options. Exchange rules options request) before (session_state turned conn desk) went after (session_state turned now desk_now)
+        → AnswersRequest {w = world turned} (λ options. CacheExchange rules options request) before (session_state turned conn desk) went after (session_state turned now desk_now)
         → AnswersRequest {w = KeyWorld turned prompted} (λ kept. RequestExchange rules kept request) (kept_with before wraps) (key_state turned prompted conn desk prompter files dice) went
         (kept_with after wraps) (key_state turned prompted now desk_now prompter files dice)
     quiet_beside prompter =
@@ -82,7 +82,7 @@ module _ {D P : Type 0} (turned : D → MarkStep → Turn → D → Type 0) (pro
   key_faults_rise (key.Gone gone.WriteFault) faults = record { read = λ e. absurd (cc e); write = λ e. faults.write refl }
 
   module _ (rules : Rules) (options : OptionValues) {line : ArrayVec ℕ} {before : WrapKeys} where
-    key_exchange_beside : {events : List (Event FurtherEvent)} {after : WrapKeys} {went : KeyWent}
+    key_exchange_beside : {events : List (EventWith FurtherEvent)} {after : WrapKeys} {went : KeyWent}
         → states.WholeOrCut turned prompted (KeyExchange rules options before (key_request_of line.items)) events after went
         → WholeOrCut (λ kept. RequestExchange rules kept (Key line)) (kept_with options before) events (kept_with (described_after line.items options) after) (went_after_key went)
     key_exchange_beside (states.whole exchanged) = whole (keys exchanged)
@@ -112,8 +112,8 @@ module _ {D P : Type 0} (turned : D → MarkStep → Turn → D → Type 0) (pro
   each_with_file _ _ _ (at_keys.dice does) = further.dice does
   each_with_file _ _ _ at_keys.no_memory = further.no_memory
 
-  pub trust_beside : {S T : Type 0} {exchange : S → List (Event FurtherEvent) → S → Went → Type 0} {other : T → List (Event FurtherEvent) → T → Went → Type 0} {before after : S} {from to : T}
-      {start now : KeyState turned prompted} {went : Went} → ((events : List (Event FurtherEvent)) (went : Went) → exchange before events after went → other from events to went)
+  pub trust_beside : {S T : Type 0} {exchange : S → List (EventWith FurtherEvent) → S → Went → Type 0} {other : T → List (EventWith FurtherEvent) → T → Went → Type 0} {before after : S} {from to : T}
+      {start now : KeyState turned prompted} {went : Went} → ((events : List (EventWith FurtherEvent)) (went : Went) → exchange before events after went → other from events to went)
       → AnswersRequest {w = KeyWorld turned prompted} exchange before start went after now
       → AnswersRequest {w = FurtherWorld turned prompted} other from (record { conn = start.conn; desk = start.desk; ends = with_file start.ends }) went to
       (record { conn = now.conn; desk = now.desk; ends = with_file now.ends })

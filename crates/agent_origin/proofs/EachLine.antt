@@ -9,9 +9,10 @@ use Rattle.agent_ask.specs.PartExchanges.{AnyReply, AnyExchange, answered, refus
 use Rattle.agent_ask.specs.TurnParts.{Closes}
 use Rattle.agent_ask.specs.SessionPrompts.{AnyInSession}
 use Rattle.agent_ask.specs.SessionPrompts as shown
-use Rattle.agent_commands.specs.Exchanges.{Exchange, option_replies, GivenOrAsked, Presets, confirms_by, InfoReplies, GetReplies, PresetReplies, ChangeReplies, ConfirmationReplies, Replies, TellsPassphrase, TellsInfo}
+use Rattle.agent_commands.specs.Exchanges.{CacheExchange, option_replies, GivenOrAsked, Presets, confirms_by, InfoReplies, GetReplies, PresetReplies, ChangeReplies, ConfirmationReplies, CacheReplies, TellsPassphrase, TellsInfo}
 use Rattle.agent_commands.specs.Exchanges as exchange
-use Rattle.agent_commands.specs.Parts.{limit_line, AsksPassphrase}
+use Rattle.agent_commands.specs.Parts.{AsksPassphrase}
+use Rattle.assuan_server.specs.Written.{limit_line}
 use Rattle.agent_commands.specs.Passphrases.{Looks, ask, ask_or_open, LooksFor, WantsPrompt, KeepsUnder, ByCache, ByClient, Uncached, WithoutPrompt, PromptsAny, Prompts, ByUser, as_wanted, passphrase_by}
 use Rattle.agent_commands.specs.Passphrases as passphrase
 use Rattle.agent_commands.specs.Requests.{GetFields}
@@ -150,7 +151,7 @@ module _ (Is : Event → Type 0) (every : (event : Event) → IsBesideTrust even
     confirms mode.Error description = each_refused Is (Agent code.NoPinentry)
     confirms mode.Loopback description = each_refused Is (Agent code.NoPinentry)
 
-    replies : (command : CacheCommand) → EachSo Is (Replies rules options command)
+    replies : (command : CacheCommand) → EachSo Is (CacheReplies rules options command)
     replies on.Nop = each_returned Is _
     replies on.Reset = each_returned Is _
     replies on.Bye = each_returned Is _
@@ -177,7 +178,7 @@ module _ (Is : Event → Type 0) (every : (event : Event) → IsBesideTrust even
   parts_so parts (answered events held reply {back} does closes) = ends_so events back _ (parts.of None events (Ok reply) held does) closes (every _ tt, tt)
   parts_so {refusal_text} parts (refused events held why {back} does closes) = ends_so events back _ (parts.of None events (Err why) held does) closes (said_last_so Is every (refusal_text why))
 
-  cache_so : (rules : Rules) (before after : OptionValues) (request : Request) (events : List Event) (went : Went) → Exchange rules before request events after went → All Is events
+  cache_so : (rules : Rules) (before after : OptionValues) (request : Request) (events : List Event) (went : Went) → CacheExchange rules before request events after went → All Is events
   cache_so rules before after (Cache command) events went does = parts_so (replies rules before command) does
   cache_so rules before after (Bad why) events went does = parts_so (each_refused Is (Agent why)) does
   cache_so rules before after (Key line) events went does = absurd does

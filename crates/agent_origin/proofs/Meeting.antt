@@ -9,7 +9,7 @@ use Rattle.assuan_line.specs.Next.{Reader}
 use Rattle.assuan_server.specs.Connections.{Connection}
 use Rattle.assuan_server.specs.Written.{greeting}
 use Rattle.assuan_text.specs.LineEnds.{line_of}
-use Rattle.agent_commands.specs.Events.{Event}
+use Rattle.agent_commands.specs.Events.{EventWith}
 use Rattle.agent_ask.specs.SessionEvents.{Sent, Cut}
 use Rattle.agent_commands.specs.Outside.{World}
 use Rattle.agent_ask.specs.Worlds.{Outside, Does, received, sent, cut, asked, not_asked, turned, further}
@@ -47,7 +47,7 @@ known_each None (Some rest) P known = known
 known_each (Some bytes) None P known = known
 known_each (Some bytes) (Some rest) P known = tt
 
-known_leads : {w : World} {supply : Supply} {before after : Outside w} {events : List (Event w.Further)} → Leads (Does w supply) before events after
+known_leads : {w : World} {supply : Supply} {before after : Outside w} {events : List (EventWith w.Further)} → Leads (Does w supply) before events after
     → WhereKnown before.input after.input (λ bytes rest. ⊤)
 known_leads {before} none = known_same before.input _ (λ bytes. tt)
 known_leads {before} {after} (one {mid} (received known needed) later) =
@@ -77,7 +77,7 @@ taken_known reader (Some bytes) (Some left) known total = omega (arith, total)
 
 module _ {w : World} {S : Type 0} (exchange : LineRelation w S) (before : S) (start : SessionState w) (new : start.conn.reader ≡ fresh) where
   -- what was done, from the first byte on
-  module _ (last : SessionState w) (events : List (Event w.Further)) (done : EventsLead events start last) where
+  module _ (last : SessionState w) (events : List (EventWith w.Further)) (done : EventsLead events start last) where
     abbrev from_start : Option (List ℕ) → Type 0
     from_start input = Leads (Does w (supply_of start.conn.input.bytes)) (ends_with input (around start)) events (ends_with (option_map (unread last.conn.reader) last.conn.input.bytes) (around last))
 

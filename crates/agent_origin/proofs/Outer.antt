@@ -12,14 +12,16 @@ use Rattle.agent_ask.specs.Parts.{Follows, goes_on, stops, Returns, returns, Ref
 use Rattle.agent_ask.specs.SessionEvents.{AnyEvent, Received, Sent, Cut, Inquiry, CacheTurn, Further, turns_in, said_last}
 use Rattle.agent_ask.specs.TurnParts.{Seats, opened, interrupted, Closes, unheld, closed}
 use Rattle.agent_ask.specs.SessionPrompts.{AnyInSession, none, called, noted, out_of_memory}
-use Rattle.agent_commands.specs.Exchanges.{Exchange, LineExchange, option_replies, confirms_by, Replies, TellsPassphrase, TellsInfo}
+use Rattle.agent_commands.specs.Exchanges.{CacheExchange, LineExchange, option_replies, confirms_by, CacheReplies, TellsPassphrase, TellsInfo}
 use Rattle.agent_commands.specs.Exchanges as exchange
-use Rattle.agent_commands.specs.Fields.{text}
+use Rattle.agent_ask.specs.Plans.{text}
 use Rattle.agent_commands.specs.Names.{commands, prompt_commands, command_named, is_key_command}
-use Rattle.agent_commands.specs.Parts.{CacheEvent, Part, limit_line, AsksPassphrase}
+use Rattle.agent_commands.specs.Parts.{CacheEvent, CachePart, AsksPassphrase}
+use Rattle.assuan_server.specs.Written.{limit_line}
 use Rattle.agent_commands.specs.Passphrases.{LooksFor, WantsPrompt, KeepsUnder, ByCache, Uncached as NotCached, WithoutPrompt, PromptsAny, Prompts, as_wanted, passphrase_by}
 use Rattle.agent_commands.specs.Passphrases as passphrase
-use Rattle.agent_commands.specs.Requests.{◌>>=◌, GetFields, get_fields, request_of, request_by, either, info_of, confirmation_of}
+use Rattle.agent_commands.specs.Requests.{GetFields, get_fields, request_of, request_by, either, info_of, confirmation_of}
+use Rattle.session_client.specs.Fields.{◌>>=◌}
 use Rattle.agent_commands.specs.declared.names.CommandName.{CommandName}
 use Rattle.agent_commands.specs.declared.names.CommandName.TheVariants as name
 use Rattle.agent_commands.specs.declared.request.CacheCommand.{CacheCommand}
@@ -90,10 +92,10 @@ Owes None turns = AreOuterTurns turns
 Owes (Some ticket) turns = AreOuterTurns (record { asked = Seat None None; turn = Open ticket } ∷ turns)
 
 -- a part that is begun with this ticket leaves the cache, where all that follows does
-pub record Leaves {A : Type 0} (held : Option ℕ) (part : Part A) : Type 0 where
+pub record Leaves {A : Type 0} (held : Option ℕ) (part : CachePart A) : Type 0 where
   pub of : (events : List CacheEvent) (result : Result A Refusal) (after : Option ℕ) → part held events result after → (later : List Taken) → Owes after later → Owes held (turns_in events ++ later)
 
-module _ {A B : Type 0} {part : Part A} {next : A → Part B} {held : Option ℕ} (first : Leaves held part) (then : (value : A) (mid : Option ℕ) → Leaves mid (next value)) where
+module _ {A B : Type 0} {part : CachePart A} {next : A → CachePart B} {held : Option ℕ} (first : Leaves held part) (then : (value : A) (mid : Option ℕ) → Leaves mid (next value)) where
   bind_of : (events : List CacheEvent) (result : Result B Refusal) (after : Option ℕ) → Follows part next held events result after → (later : List Taken) → Owes after later
       → Owes held (turns_in events ++ later)
   bind_of events result after (goes_on {first = some} {events = more} {value} {mid} does next_does) later owes =
@@ -123,7 +125,7 @@ module _ {A : Type 0} {held : Option ℕ} where
   needed_leaves why None = refused_by (Agent why)
   needed_leaves why (Some value) = returned value
 
-  otherwise : (value : Option A) {other : Part A} → Leaves held other → Leaves held (or_else value other)
+  otherwise : (value : Option A) {other : CachePart A} → Leaves held other → Leaves held (or_else value other)
   otherwise None other = other
   otherwise (Some value) other = returned value
 
@@ -246,7 +248,7 @@ module _ (agent : Rules) (options : OptionValues) where
   confirms_leave mode.Error description = refused_by (Agent code.NoPinentry)
   confirms_leave mode.Loopback description = refused_by (Agent code.NoPinentry)
 
-  replies_leave : (command : CacheCommand) → IsOuterRequest (Cache command) → Leaves None (Replies agent options command)
+  replies_leave : (command : CacheCommand) → IsOuterRequest (Cache command) → Leaves None (CacheReplies agent options command)
   replies_leave Nop outer = returned _
   replies_leave Reset outer = returned _
   replies_leave Bye outer = returned _
@@ -268,19 +270,19 @@ said_leaves T O F None = no_turns
 said_leaves T O F (Some line) = no_turns
 
 -- behind its parts a ticket is given back
-ends_leave : {A : Type 0} {part : Part A} (leaves : Leaves None part) (events back last : List CacheEvent) (result : Result A Refusal) (held : Option ℕ) → part None events result held
+ends_leave : {A : Type 0} {part : CachePart A} (leaves : Leaves None part) (events back last : List CacheEvent) (result : Result A Refusal) (held : Option ℕ) → part None events result held
     → Closes None held back (Ok tt) None → LeavesCache last → LeavesCache (events ++ (back ++ last))
 ends_leave leaves events back last result held does closes last_leaves =
     subst AreOuterTurns (sym (turns_then events (back ++ last)))
     (leaves.of events result held does (turns_in (back ++ last))
     (subst (Owes held) (sym (turns_then back last)) (closes_of held None back (Ok tt) None closes (turns_in last) last_leaves)))
 
-pub parts_leave : {S W : Type 0} {refusal_text : Refusal → Option (List ℕ)} {went_after : Option Gone → W} {parts : Part (AnyReply S W)} {before after : S} {events : List CacheEvent} {went : W} → Leaves None parts
+pub parts_leave : {S W : Type 0} {refusal_text : Refusal → Option (List ℕ)} {went_after : Option Gone → W} {parts : CachePart (AnyReply S W)} {before after : S} {events : List CacheEvent} {went : W} → Leaves None parts
     → AnyExchange refusal_text went_after parts before events after went → LeavesCache events
 parts_leave leaves (answered events held reply {back} does closes) = ends_leave leaves events back _ (Ok reply) held does closes no_turns
 parts_leave {refusal_text} leaves (refused events held why {back} does closes) = ends_leave leaves events back _ (Err why) held does closes (said_leaves _ _ _ (refusal_text why))
 
-exchange_leaves : (agent : Rules) (before after : OptionValues) (request : Request) (events : List CacheEvent) (went : Went) → IsOuterRequest request → Exchange agent before request events after went
+exchange_leaves : (agent : Rules) (before after : OptionValues) (request : Request) (events : List CacheEvent) (went : Went) → IsOuterRequest request → CacheExchange agent before request events after went
     → LeavesCache events
 exchange_leaves agent before after (Cache command) events went outer does = parts_leave (replies_leave agent before command outer) does
 exchange_leaves agent before after (Bad why) events went outer does = parts_leave (refused_by (Agent why)) does

@@ -4,8 +4,8 @@ use Rattle.std.specs.Prelude.{codes}
 use Rattle.std.specs.Str.{str_eq_ignore_ascii_case}
 use Rattle.agent_ask.specs.Further.{FurtherEvent}
 use Rattle.agent_ask.specs.SessionEvents.{Sent}
-use Rattle.agent_commands.specs.Events.{Event}
-use Rattle.agent_commands.specs.Fields.{text}
+use Rattle.agent_commands.specs.Events.{EventWith}
+use Rattle.agent_ask.specs.Plans.{text}
 use Rattle.agent_commands.specs.Names.{commands as cache_commands, prompt_commands, command_named as cache_command_named, is_key_command}
 use Rattle.agent_commands.specs.Requests.{request_of, asked_by, either as of_cache}
 use Rattle.agent_commands.specs.declared.names.CommandName.{CommandName}
@@ -25,7 +25,8 @@ use Rattle.agent_ask.specs.Parts.{goes_on, stops, returns, refuses}
 use Rattle.key_commands.specs.Parts.{Finds, found, absent, faulted, no_memory}
 use Rattle.agent_ask.specs.TurnParts.{peeked, interrupted, Closes, unheld, closed}
 use Rattle.assuan_server.specs.Written.{refusal_line}
-use Rattle.key_commands.specs.Requests.{◌>>=◌, needed, either, some_grips, first_grip, request_by, key_request_of}
+use Rattle.key_commands.specs.Requests.{either, some_grips, first_grip, request_by, key_request_of}
+use Rattle.session_client.specs.Fields.{◌>>=◌, in_form}
 use Rattle.key_commands.specs.declared.names.KeyCommandName.{KeyCommandName}
 use Rattle.key_commands.specs.declared.names.KeyCommandName.TheVariants as name
 use Rattle.session_client.specs.declared.refusal.Refusal.{Refusal}
@@ -45,16 +46,16 @@ use Rattle.agent_origin.proofs.Outer.{leaves_then, said_leaves, found_mapped, fo
 -- ---- what is done
 
 -- it leaves the cache, and the request holds the ticket that it held before, if any
-abbrev Leaves : Option ℕ → Option ℕ → List (Event FurtherEvent) → Type 0
+abbrev Leaves : Option ℕ → Option ℕ → List (EventWith FurtherEvent) → Type 0
 Leaves held after events = LeavesCache events × (after ≡ held)
 
-finds_leave : (grip : Grip) (held after : Option ℕ) (events : List (Event FurtherEvent)) (result : Result Bool Refusal) → Finds grip held events result after → Leaves held after events
+finds_leave : (grip : Grip) (held after : Option ℕ) (events : List (EventWith FurtherEvent)) (result : Result Bool Refusal) → Finds grip held events result after → Leaves held after events
 finds_leave grip held after events result found = (no_turns, refl)
 finds_leave grip held after events result absent = (no_turns, refl)
 finds_leave grip held after events result faulted = (no_turns, refl)
 finds_leave grip held after events result no_memory = (no_turns, refl)
 
-one_leaves : (grips : List Grip) (held after : Option ℕ) (events : List (Event FurtherEvent)) (result : Result (Unit {0}) Refusal) → HasOne grips held events result after → Leaves held after events
+one_leaves : (grips : List Grip) (held after : Option ℕ) (events : List (EventWith FurtherEvent)) (result : Result (Unit {0}) Refusal) → HasOne grips held events result after → Leaves held after events
 one_leaves [] held after events result refuses = (no_turns, refl)
 one_leaves (grip ∷ more) held after events result (goes_on {first} {events = others} {value = true} {mid} finds returns) =
     let one = finds_leave grip held mid first _ finds in
@@ -65,12 +66,12 @@ one_leaves (grip ∷ more) held after events result (goes_on {first} {events = o
     (leaves_then first others one.0 rest.0, rest.1 ∙ one.1)
 one_leaves (grip ∷ more) held after events result (stops finds) = finds_leave grip held after events _ finds
 
-closes_leave : (held after : Option ℕ) (back : List (Event FurtherEvent)) (result : Result (Unit {0}) Refusal) → held ≡ None → Closes None held back result after → LeavesCache back
+closes_leave : (held after : Option ℕ) (back : List (EventWith FurtherEvent)) (result : Result (Unit {0}) Refusal) → held ≡ None → Closes None held back result after → LeavesCache back
 closes_leave held after back result is unheld = no_turns
 closes_leave held after back result is (closed turn) = cc is
 
 module _ (agent : Rules) (options : OptionValues) (wraps : WrapKeys) where
-  have_leaves : (grips : List Grip) (held after : Option ℕ) (events : List (Event FurtherEvent)) (result : Result KeyReply Refusal) → HaveKeyReplies agent options wraps grips held events result after
+  have_leaves : (grips : List Grip) (held after : Option ℕ) (events : List (EventWith FurtherEvent)) (result : Result KeyReply Refusal) → HaveKeyReplies agent options wraps grips held events result after
       → Leaves held after events
   unfolding HaveKeyReplies
   have_leaves grips held after events result (goes_on {first} {mid} one returns) =
@@ -78,7 +79,7 @@ module _ (agent : Rules) (options : OptionValues) (wraps : WrapKeys) where
       (leaves_then first [] leaves.0 no_turns, leaves.1)
   have_leaves grips held after events result (stops one) = one_leaves grips held after events _ one
 
-  info_leaves : (grip : Grip) (held after : Option ℕ) (events : List (Event FurtherEvent)) (result : Result KeyReply Refusal) → KeyInfoReplies agent options wraps grip held events result after
+  info_leaves : (grip : Grip) (held after : Option ℕ) (events : List (EventWith FurtherEvent)) (result : Result KeyReply Refusal) → KeyInfoReplies agent options wraps grip held events result after
       → Leaves held after events
   unfolding KeyInfoReplies
   info_leaves grip held after events result (goes_on (is_key file says) (goes_on (goes_on peeked returns) returns)) = (peeks no_turns, refl)
@@ -94,7 +95,7 @@ module _ (agent : Rules) (options : OptionValues) (wraps : WrapKeys) where
   IsOuterKey (Bad code) = Unit {0}
   IsOuterKey _ = ⊥
 
-  replies_leave : (request : KeyRequest) → IsOuterKey request → (held after : Option ℕ) (events : List (Event FurtherEvent)) (result : Result KeyReply Refusal)
+  replies_leave : (request : KeyRequest) → IsOuterKey request → (held after : Option ℕ) (events : List (EventWith FurtherEvent)) (result : Result KeyReply Refusal)
       → Replies agent options wraps request held events result after → Leaves held after events
   replies_leave (HaveKey grips) outer held after events result does = have_leaves grips held after events result does
   replies_leave (KeyInfo grip) outer held after events result does = info_leaves grip held after events result does
@@ -106,7 +107,7 @@ module _ (agent : Rules) (options : OptionValues) (wraps : WrapKeys) where
   replies_leave (Passwd grip old new verify) outer held after events result does = absurd outer
   replies_leave (DeleteKey grip force) outer held after events result does = absurd outer
 
-  exchange_leaves : (request : KeyRequest) → IsOuterKey request → {events : List (Event FurtherEvent)} {after : WrapKeys} {went : KeyWent} → Exchange agent options wraps request events after went
+  exchange_leaves : (request : KeyRequest) → IsOuterKey request → {events : List (EventWith FurtherEvent)} {after : WrapKeys} {went : KeyWent} → Exchange agent options wraps request events after went
       → LeavesCache events
   exchange_leaves request outer (answered events held reply {back} does gives) =
       let leaves = replies_leave request outer None held events _ does in
@@ -176,7 +177,7 @@ module _ (agent : Rules) (options : OptionValues) (wraps : WrapKeys) (line : Lis
   passes_outer : (name : KeyCommandName) → passes (key_rule name) line ≡ true → IsOuterKey agent options wraps (request_by (Some name) line)
   passes_outer name.HaveKey is = have_outer agent options wraps (some_grips (arguments_of (words (rest_of line))))
   passes_outer name.KeyInfo is =
-      info_outer agent options wraps (needed (first_grip (arguments_of (words (rest_of line))))) (has_option (codes "--list") (options_of (words (rest_of line)))) is
+      info_outer agent options wraps (in_form (first_grip (arguments_of (words (rest_of line))))) (has_option (codes "--list") (options_of (words (rest_of line)))) is
   passes_outer name.KeyWrap is = cc is
   passes_outer name.ImportKey is = cc is
   passes_outer name.ExportKey is = cc is
@@ -189,7 +190,7 @@ module _ (agent : Rules) (options : OptionValues) (wraps : WrapKeys) (line : Lis
   named_outer (Some name) is other allows =
       passes_outer name (subst (λ (rule : Option Rule). passes_by rule line ≡ true) (rule_of_key (command_of line) name other is) allows)
 
-  pub key_leaves : {events : List (Event FurtherEvent)} {after : WrapKeys} {went : KeyWent} → allowed Outer line ≡ true → (handed : ArrayVec ℕ) → request_of line ≡ Key handed
+  pub key_leaves : {events : List (EventWith FurtherEvent)} {after : WrapKeys} {went : KeyWent} → allowed Outer line ≡ true → (handed : ArrayVec ℕ) → request_of line ≡ Key handed
       → Exchange agent options wraps (key_request_of line) events after went → LeavesCache events
   unfolding key_request_of
   key_leaves allows handed key exchanged =

@@ -1,7 +1,7 @@
 -- Whole sessions at the outer door, and what they do to the cache.
 use Rattle.std.proofs.Common.{◌≡◌, ℕ, true, List, [], ◌∷◌, ◌++◌, refl, ap, sym, ◌∙◌, subst}
 use Rattle.agent_ask.specs.SessionEvents.{AnyEvent, Sent, Cut, turns_in, CutAtLast}
-use Rattle.agent_commands.specs.Exchanges.{Exchange}
+use Rattle.agent_commands.specs.Exchanges.{CacheExchange}
 use Rattle.agent_commands.specs.Requests.{request_of}
 use Rattle.agent_commands.specs.Talks.{WholeOrCut, whole, cut, Talk, goes_on, over, ended, spent, read_fault, too_long, cut_too_long, Session, greeted, cut_greeting}
 use Rattle.agent_commands.specs.declared.request.Request.{Request}
@@ -30,7 +30,7 @@ module _ (rules : Rules) where
   request_leaves : (line : List ℕ) {before after : Kept} (request : Request) → request_of line ≡ request → allowed Outer line ≡ true
       → {events : List Event} {went : Went} → RequestExchange rules before request events after went → LeavesCache events
   request_leaves line {before} request is allows {events} {went} (cache {options} exchanged) =
-      line_leaves rules before.options options line events went allows (subst (λ (r : Request). Exchange rules before.options r events options went) (sym is) exchanged)
+      line_leaves rules before.options options line events went allows (subst (λ (r : Request). CacheExchange rules before.options r events options went) (sym is) exchanged)
   request_leaves line {before} request is allows {events} (keys {line = handed} {wraps} {went} exchanged) =
       key_leaves rules before.options before.wraps line allows handed is
       (subst (λ (l : List ℕ). KeyExchange rules before.options before.wraps (key_request_of l) events wraps went) (handed_line line handed is) exchanged)

@@ -11,7 +11,7 @@ use Rattle.session_client.specs.declared.code.Code.TheVariants as code
 use Rattle.assuan_text.specs.Words.{command_of}
 use Rattle.cache_policy.specs.Extending.{Taken}
 use Rattle.key_commands.specs.Events.{Event}
-use Rattle.key_commands.specs.Requests.{◌>>=◌}
+use Rattle.session_client.specs.Fields.{◌>>=◌}
 use Rattle.session_options.specs.OptionValues.{OptionValues}
 use Rattle.session_options.specs.declared.rules.Rules.{Rules}
 use Rattle.trust_list.specs.Trust.{trust}

@@ -8,7 +8,7 @@ use Rattle.assuan_server.specs.Connections.{Connection}
 use Rattle.assuan_server.specs.Requests.{NextRequest}
 use Rattle.session_client.specs.declared.code.Code.TheVariants.{LineTooLong}
 use Rattle.assuan_server.specs.Written.{failed}
-use Rattle.agent_commands.specs.Events.{Event}
+use Rattle.agent_commands.specs.Events.{EventWith}
 use Rattle.agent_ask.specs.SessionEvents.{Received, Sent, Cut}
 use Rattle.agent_commands.specs.Outside.{World}
 use Rattle.agent_commands.specs.States.{SessionState, EventsLead, ReaderAfter, FaultsRise, AnswersRequest}
@@ -54,16 +54,16 @@ leaves_what_is_unread reader took is left = rw is refl
 module _ {w : World} {S : Type 0} (exchange : LineRelation w S) (before : S) (start : SessionState w) where
   -- How a session stands between two requests: whatever it does from there on completes what it did so far.
   pub record IsServing (now : SessionState w) (kept : S) : Type 0 where
-    pub events : List (Event w.Further)
+    pub events : List (EventWith w.Further)
     pub done : EventsLead events start now
-    pub continues : (more : List (Event w.Further)) (end : SessionEnd) → Talk exchange kept more end → Talk exchange before (events ++ more) end
+    pub continues : (more : List (EventWith w.Further)) (end : SessionEnd) → Talk exchange kept more end → Talk exchange before (events ++ more) end
 
   pub serves_none : IsServing start before
   serves_none = record { events = []; done = done_none start; continues = λ more end talk. talk }
 
   module _ (now : SessionState w) (kept : S) (serving : IsServing now kept) where
     -- the session's end, after these events more
-    finishes : (last : SessionState w) (more : List (Event w.Further)) (end : SessionEnd) → EventsLead more now last
+    finishes : (last : SessionState w) (more : List (EventWith w.Further)) (end : SessionEnd) → EventsLead more now last
         → Talk exchange kept more end → ((left : List ℕ) → Leaves end (unread last.conn.reader left) left)
         → FaultsRise (End end) now last → ServesRequests exchange before start end last
     finishes last more end done talk leaves_so faults = record {
@@ -94,7 +94,7 @@ module _ {w : World} {S : Type 0} (exchange : LineRelation w S) (before : S) (st
           events = serving.events ++ (Received (took.Line line) ∷ answered.events);
           done = done_then serving.done (done_then (received_as (took.Line line) is) answered.done);
           continues = λ more end talk.
-              subst (λ (d : List (Event w.Further)). Talk exchange before d end) (sym (append_assoc serving.events (Received (took.Line line) ∷ answered.events) more))
+              subst (λ (d : List (EventWith w.Further)). Talk exchange before d end) (sym (append_assoc serving.events (Received (took.Line line) ∷ answered.events) more))
               (serving.continues (Received (took.Line line) ∷ (answered.events ++ more)) end (goes_on line answered.exchanges talk));
         }
 
@@ -153,7 +153,7 @@ module _ {w : World} {S : Type 0} (exchange : LineRelation w S) (before : S) (st
             (leaves_part last.reader) (record { read = λ e. absurd (cc e); write = λ e. omega (arith, received.output_faults, stopped.rose) })
 
 -- nothing was done for a request but to say one text
-pub text_answers : {w : World} {S : Type 0} (exchange : S → List (Event w.Further) → S → Went → Type 0) (before : S) {text : List ℕ} (start : SessionState w)
+pub text_answers : {w : World} {S : Type 0} (exchange : S → List (EventWith w.Further) → S → Went → Type 0) (before : S) {text : List ℕ} (start : SessionState w)
     (now : Connection) {went : Went} → exchange before (Sent text ∷ []) before On → start.conn.reader.ended ≡ None → SaysText text start.conn went now
     → AnswersRequest exchange before start went before (record start { conn = now })
 text_answers exchange before {text} start now on going (says (Ok tt) said) = answered_text exchange before before start now text on going said

@@ -1,7 +1,7 @@
 -- Private: how far a session has come at some state of its code.
 use Rattle.std.specs.Prelude.{◌≡◌, ℕ, List, Result}
 use Rattle.agent_commands.specs.Endings.{went_unless_cut}
-use Rattle.agent_commands.specs.Events.{Event}
+use Rattle.agent_commands.specs.Events.{EventWith}
 use Rattle.agent_commands.specs.Outside.{World}
 use Rattle.agent_commands.specs.States.{SessionState, EventsLead, FaultsRise}
 use Rattle.agent_ports.specs.declared.link.WriteFault.{WriteFault}
@@ -16,7 +16,7 @@ use Rattle.agent_origin.specs.Sessions.{Surroundings, Leaves, LineRelation, Serv
 
 -- the requests of a session were answered up to its end
 pub record ServesRequests {w : World} {S : Type 0} (exchange : LineRelation w S) (before : S) (start : SessionState w) (end : SessionEnd) (now : SessionState w) : Type 0 where
-  pub events : List (Event w.Further)
+  pub events : List (EventWith w.Further)
   pub talk : Talk exchange before events end
   pub done : EventsLead events start now
   pub leaves : (left : List ℕ) → Leaves end (unread now.conn.reader left) left

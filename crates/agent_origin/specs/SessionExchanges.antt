@@ -4,8 +4,8 @@ use Rattle.std.specs.Prelude.{ℕ, List, None, if◌then◌else◌}
 use Rattle.arrayvec.specs.ArrayVec.{ArrayVec}
 use Rattle.agent_ask.specs.Further.{FurtherEvent}
 use Rattle.agent_commands.specs.Endings.{end_of}
-use Rattle.agent_commands.specs.Events.{Event}
-use Rattle.agent_commands.specs.Exchanges.{Exchange}
+use Rattle.agent_commands.specs.Events.{EventWith}
+use Rattle.agent_commands.specs.Exchanges.{CacheExchange}
 use Rattle.agent_commands.specs.Requests.{request_of}
 use Rattle.agent_commands.specs.declared.request.Request.{Request}
 use Rattle.agent_commands.specs.declared.request.Request.TheVariants.{Key}
@@ -35,13 +35,13 @@ described_after line options = if ends_description line then without_description
 
 -- A request: what is kept before it, what the session does for it, what is kept after it, and how the session goes on. A request on the cache or
 -- on the session, or one that is refused, leaves the wrapping keys; one on keys leaves the option values but for the description, whatever it is answered.
-pub data RequestExchange (rules : Rules) (before : Kept) : Request → List (Event FurtherEvent) → Kept → Went → Type 0 where
-  cache : {request : Request} {events : List (Event FurtherEvent)} {options : OptionValues} {went : Went} → Exchange rules before.options request events options went
+pub data RequestExchange (rules : Rules) (before : Kept) : Request → List (EventWith FurtherEvent) → Kept → Went → Type 0 where
+  cache : {request : Request} {events : List (EventWith FurtherEvent)} {options : OptionValues} {went : Went} → CacheExchange rules before.options request events options went
       → RequestExchange rules before request events (record { options = options; wraps = before.wraps }) went
-  keys : {line : ArrayVec ℕ} {events : List (Event FurtherEvent)} {wraps : WrapKeys} {went : KeyWent}
+  keys : {line : ArrayVec ℕ} {events : List (EventWith FurtherEvent)} {wraps : WrapKeys} {went : KeyWent}
       → KeyExchange rules before.options before.wraps (key_request_of line.items) events wraps went
       → RequestExchange rules before (Key line) events (record { options = described_after line.items before.options; wraps = wraps }) (went_after_key went)
 
 -- the exchange of a line
-abbrev pub SessionExchange : Rules → Kept → List ℕ → List (Event FurtherEvent) → Kept → Went → Type 0
+abbrev pub SessionExchange : Rules → Kept → List ℕ → List (EventWith FurtherEvent) → Kept → Went → Type 0
 SessionExchange rules before line events after went = RequestExchange rules before (request_of line) events after went

@@ -6,7 +6,7 @@ use Rattle.agent_ask.specs.Events.{Call}
 use Rattle.agent_ask.specs.PartExchanges.{AnyExchange}
 use Rattle.agent_ask.specs.Parts.{◌>>=◌, Returns, Refuses}
 use Rattle.agent_ask.specs.TurnParts.{Seats}
-use Rattle.agent_commands.specs.Answers.{ok}
+use Rattle.assuan_server.specs.Written.{ok}
 use Rattle.agent_commands.specs.Endings.{went_after}
 use Rattle.agent_commands.specs.Exchanges.{CacheReply, reply}
 use Rattle.agent_commands.specs.States.{AnswersRequest}

@@ -8,7 +8,8 @@ use Rattle.session_client.specs.declared.code.Code.{Code}
 use Rattle.session_client.specs.declared.code.Code.TheVariants.{UnknownCommand, Parameter}
 use Rattle.assuan_text.specs.Options.{arguments_of}
 use Rattle.assuan_text.specs.Words.{command_of, rest_of, words}
-use Rattle.key_commands.specs.Requests.{◌>>=◌, needed, grip, first_grip}
+use Rattle.key_commands.specs.Requests.{grip, first_grip}
+use Rattle.session_client.specs.Fields.{◌>>=◌, in_form}
 use Rattle.agent_origin.specs.TrustNames.{trust_command_named}
 use Rattle.agent_origin.specs.declared.trust.request.TheConstants.{MAX_NAME_LEN}
 use Rattle.agent_origin.specs.declared.trust.names.TrustCommandName.{TrustCommandName}
@@ -32,15 +33,15 @@ owner word = if nat_le (length (unescaped true word)) MAX_NAME_LEN then Some (re
 -- ISTRUSTED FINGERPRINT; further words are passed over
 abbrev pub is_trusted_of : List (List ℕ) → Result TrustRequest Code
 is_trusted_of arguments = do
-  fingerprint ← needed (first_grip arguments)
+  fingerprint ← in_form (first_grip arguments)
   Ok (IsTrusted fingerprint)
 
 -- MARKTRUSTED FINGERPRINT FLAG NAME; further words are passed over
 abbrev pub mark_trusted_of : List (List ℕ) → Result TrustRequest Code
 mark_trusted_of (fingerprint ∷ flag ∷ name ∷ more) = do
-  fingerprint ← needed (grip fingerprint)
-  purpose ← needed (purpose flag)
-  name ← needed (owner name)
+  fingerprint ← in_form (grip fingerprint)
+  purpose ← in_form (purpose flag)
+  name ← in_form (owner name)
   Ok (MarkTrusted fingerprint purpose name)
 mark_trusted_of _ = Err Parameter
 

@@ -7,7 +7,8 @@ use Rattle.hex.specs.Hex.{decode_of, is_hex_digit}
 use Rattle.hex.specs.declared.error.FromHexError.{FromHexError}
 use Rattle.std.proofs.lemmas.Bool.{eq-eqb, eqb-true}
 use Rattle.hex.proofs.HexLemmas.{decode_of-ok}
-use Rattle.key_commands.specs.Requests.{◌>>=◌, grip, grip_of_bytes}
+use Rattle.key_commands.specs.Requests.{grip, grip_of_bytes}
+use Rattle.session_client.specs.Fields.{◌>>=◌}
 
 -- these grips, and then those
 abbrev pub onto : List Grip → Result (List Grip) Code → Result (List Grip) Code

@@ -22,7 +22,7 @@ use Rattle.session_options.specs.declared.rules.Rules.{Rules}
 use Rattle.sexp_keys.specs.Key.{Key}
 use Rattle.key_commands.specs.Exchanges.{KeyReply, key_reply}
 use Rattle.key_commands.specs.KeyParts.{KeepsNew}
-use Rattle.key_commands.specs.Lines.{ok}
+use Rattle.assuan_server.specs.Written.{ok}
 use Rattle.key_commands.specs.Parts.{Part, key_went_after, key_gone}
 use Rattle.key_commands.specs.Passphrases.{put_key, old_by, verified_by}
 use Rattle.key_commands.specs.Replies.{CarriesOut}

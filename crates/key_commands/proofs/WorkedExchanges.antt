@@ -26,7 +26,8 @@ use Rattle.key_commands.specs.Events.{called, read, drew, not_drawn}
 use Rattle.key_commands.specs.Exchanges.{KeyExchange, key_reply, with_wrap_key, KeyInfoReplies, KeyWrapReplies, ExportKeyReplies, PasswdReplies, RewritesFile, DeleteKeyReplies}
 use Rattle.key_commands.specs.Files.{FileSays, canonical_file}
 use Rattle.key_commands.specs.KeyParts.{is_key, file_in, tells, short, made, done as replaced}
-use Rattle.key_commands.specs.Lines.{ok, info_line, grip_text, IsDataAnswer}
+use Rattle.key_commands.specs.Lines.{info_line, grip_text}
+use Rattle.assuan_server.specs.Written.{ok, IsDataAnswer}
 use Rattle.agent_ask.specs.Parts.{goes_on, stops, returns, refuses}
 use Rattle.agent_ask.specs.TurnParts.{given, peeked, unheld, done}
 use Rattle.key_commands.specs.Parts.{absent, drawn, faulted}

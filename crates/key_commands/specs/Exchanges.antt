@@ -14,7 +14,8 @@ use Rattle.session_options.specs.declared.rules.Rules.{Rules}
 use Rattle.sexp_keys.specs.Key.{Key}
 use Rattle.key_commands.specs.Events.{Event}
 use Rattle.key_commands.specs.Files.{Rewrites}
-use Rattle.key_commands.specs.Lines.{ok, grip_text, nonce_line}
+use Rattle.key_commands.specs.Lines.{grip_text, nonce_line}
+use Rattle.assuan_server.specs.Written.{ok}
 use Rattle.key_commands.specs.Parts.{Part, Finds, Draws, key_went_after}
 use Rattle.agent_ask.specs.Parts.{◌>>=◌, Returns, Refuses, needed, wanted, or_else}
 use Rattle.agent_ask.specs.TurnParts.{Changes, Closes}

@@ -29,7 +29,8 @@ use Rattle.sexp_keys.specs.Lists.{grip_of, key_list_of}
 use Rattle.sexp_keys.specs.declared.fault.KeyFault.{KeyFault}
 use Rattle.key_commands.specs.Events.{Event, called, read, out_of_memory}
 use Rattle.key_commands.specs.Files.{FileSays}
-use Rattle.key_commands.specs.Lines.{IsDataAnswer, grip_text, info_line, limit_line, described, delete_description}
+use Rattle.key_commands.specs.Lines.{grip_text, info_line, described, delete_description}
+use Rattle.assuan_server.specs.Written.{IsDataAnswer, limit_line}
 use Rattle.agent_ask.specs.ConsentParts.{AgreesTo}
 use Rattle.key_commands.specs.Parts.{Part, Finds, read_fault}
 use Rattle.agent_ask.specs.Parts.{◌>>=◌, Returns, Refuses, wanted, unless}

@@ -26,7 +26,8 @@ use Rattle.session_options.specs.declared.rules.Rules.{Rules}
 use Rattle.sexp_keys.specs.Key.{Key}
 use Rattle.sexp_keys.specs.declared.fault.KeyFault.{KeyFault}
 use Rattle.key_commands.specs.Events.{Event, out_of_memory}
-use Rattle.key_commands.specs.Lines.{grip_text, described, old_description, new_description, field_text, limit_line}
+use Rattle.key_commands.specs.Lines.{grip_text, described, old_description, new_description, field_text}
+use Rattle.assuan_server.specs.Written.{limit_line}
 use Rattle.key_commands.specs.Parts.{Part}
 use Rattle.agent_ask.specs.Parts.{◌>>=◌, Returns, Refuses, needed, wanted, or_else}
 use Rattle.agent_ask.specs.TurnParts.{Asks, Seats, Changes}

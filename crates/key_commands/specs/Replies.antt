@@ -11,7 +11,8 @@ use Rattle.cache_policy.specs.Turns.{Turn}
 use Rattle.session_client.specs.declared.refusal.Refusal.{Refusal}
 use Rattle.key_commands.specs.Exchanges.{KeyReply}
 use Rattle.key_commands.specs.KeyEnds.{DoesAtKeys}
-use Rattle.key_commands.specs.Lines.{ok, info_line, nonce_line, IsDataAnswer}
+use Rattle.key_commands.specs.Lines.{info_line, nonce_line}
+use Rattle.assuan_server.specs.Written.{ok, IsDataAnswer}
 use Rattle.key_commands.specs.Parts.{Part, key_went_after}
 use Rattle.key_commands.specs.States.{KeyState}
 use Rattle.key_commands.specs.declared.reply.Reply.{Reply}

@@ -6,7 +6,7 @@ ghost use Rattle.assuan_server.specs.Clients.{connection_views};
 ghost use Rattle.assuan_server.specs.Connections.{IsOpen};
 ghost use Rattle.assuan_server.specs.Inquiries.{inquire_text};
 ghost use Rattle.assuan_server.specs.Written.{WritesText};
-ghost use Rattle.key_commands.specs.Lines.{limit_line};
+ghost use Rattle.assuan_server.specs.Written.{limit_line};
 ghost use Rattle.agent_ask.specs.ClientParts.{Writes};
 ghost use Rattle.agent_ask.specs.PartStates.{DoesWithClient};
 ghost use Rattle.key_commands.specs.Passphrases.{AsksSecret};

@@ -2,7 +2,8 @@ ghost use Rattle.std.specs.Prelude.{◌≡◌};
 ghost use Rattle.std.specs.Option.{option_map};
 ghost use Rattle.assuan_text.specs.Options.{options_of, arguments_of};
 ghost use Rattle.assuan_text.specs.Words.{words};
-ghost use Rattle.key_commands.specs.Requests.{needed, grip, first_grip, some_grips, nonce, have_of};
+ghost use Rattle.key_commands.specs.Requests.{grip, first_grip, some_grips, nonce, have_of};
+ghost use Rattle.session_client.specs.Fields.{in_form};
 ghost use Rattle.key_commands.specs.Requests.{key_info_of, wrap_of, import_of, export_of, passwd_of};
 ghost use Rattle.key_commands.specs.Requests.{delete_of, key_asked_by, key_request_of};
 ghost use Rattle.key_commands.specs.Requests.{ends_description};
@@ -68,14 +69,14 @@ fn read_command(name: KeyCommandName, rest: &[u8]) -> Result<KeyRequest, Code>
 
 /// The key that a word names.
 fn read_grip(word: &[u8]) -> Result<Grip, Code>
-    ensures { result ≡ needed (grip word.now) }
+    ensures { result ≡ in_form (grip word.now) }
 {
     Grip::of_hex(word).ok_or(Code::Parameter)
 }
 
 /// The key that the first argument names.
 fn first_grip(text: &[u8]) -> Result<Grip, Code>
-    ensures { result ≡ needed (first_grip (arguments_of (words text.now))) }
+    ensures { result ≡ in_form (first_grip (arguments_of (words text.now))) }
 {
     let (word, _) = next_word(arguments(text)).ok_or(Code::Parameter)?;
     read_grip(word)
@@ -83,7 +84,7 @@ fn first_grip(text: &[u8]) -> Result<Grip, Code>
 
 /// A nonce, where there is one.
 fn read_nonce(id: Option<&[u8]>) -> Result<Option<CacheId>, Code>
-    ensures { result ≡ needed (nonce (option_map (λ id. id.now) id.entry)) }
+    ensures { result ≡ in_form (nonce (option_map (λ id. id.now) id.entry)) }
 {
     match id {
         None => Ok(None),

@@ -2,7 +2,8 @@ ghost use Rattle.std.specs.Prelude.{◌≡◌, ◌≤◌, length};
 ghost use Rattle.assuan_text.specs.Options.{arguments_of};
 ghost use Rattle.assuan_text.specs.Words.{words};
 ghost use Rattle.assuan_text.specs.declared.TheConstants.{MAX_LINE_LEN};
-ghost use Rattle.key_commands.specs.Requests.{needed, grip};
+ghost use Rattle.key_commands.specs.Requests.{grip};
+ghost use Rattle.session_client.specs.Fields.{in_form};
 ghost use Rattle.agent_origin.specs.TrustRequests.{purpose, owner, is_trusted_of, mark_trusted_of};
 ghost use Rattle.agent_origin.specs.TrustRequests.{trust_asked_by, trust_request_of};
 
@@ -43,7 +44,7 @@ fn read_command(name: TrustCommandName, rest: &[u8]) -> Result<TrustRequest, Cod
 
 /// The certificate that a word names by its fingerprint.
 fn read_fingerprint(word: &[u8]) -> Result<Grip, Code>
-    ensures { result ≡ needed (grip word.now) }
+    ensures { result ≡ in_form (grip word.now) }
 {
     Grip::of_hex(word).ok_or(Code::Parameter)
 }
