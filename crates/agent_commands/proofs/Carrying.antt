@@ -59,16 +59,17 @@ module _ {D P : Type 0} (turned : D → MarkStep → Turn → D → Type 0) (pro
   carries_beside prompter =
       carries_in turned NoEnd turned (DoesPrompts prompted) (λ same. same) (λ none. prompter) (λ before after step turn does. does) (λ before after what never. absurd never)
 
-  -- a request that is answered by OK alone once its work is done
-  pub replies_ok : {work : CachePart (Unit {0})} {options : OptionValues} {start : PartState connection_views turned (DoesPrompts prompted)} {held : Option ℕ} (conn : Connection) (desk : D) (prompter : P)
-      → DoesPart connection_views turned (DoesPrompts prompted) work None start (Ok tt) held (at_prompter conn desk prompter)
-      → CarriesOut turned (DoesPrompts prompted) (work >>= (λ done. Returns (reply options ok))) options start (Ok response.Ok) options held (at_prompter conn desk prompter)
-  replies_ok {options} {held} conn desk prompter done =
-      comes_to {answer = response.Ok} {kept = options} {held = held} {now = at_prompter conn desk prompter} (λ text is. rw is (part_then done (part_still done.fits.0 refl returns)))
-
 -- what a prompt does to a prompter is an event at the only further end
 pub each_prompted : {P : Type 0} {prompted : P → Call → P → Type 0} (before after : P) (event : PromptEvent) → DoesCall prompted before event after → DoesPrompts prompted before (Prompt event) after
 each_prompted before after event does = prompts does
+
+-- a request that is answered by OK alone once its work is done
+pub replies_ok : {D E : Type 0} (turned : D → MarkStep → Turn → D → Type 0) (further : E → FurtherEvent → E → Type 0) {work : CachePart (Unit {0})} {options : OptionValues}
+    {start : PartState connection_views turned further} {held : Option ℕ} (conn : Connection) (desk : D) (ends : E)
+    → DoesPart connection_views turned further work None start (Ok tt) held (part_state connection_views turned further conn desk ends)
+    → CarriesOut turned further (work >>= (λ done. Returns (reply options ok))) options start (Ok response.Ok) options held (part_state connection_views turned further conn desk ends)
+replies_ok turned further {options} {held} conn desk ends done =
+    comes_to {answer = response.Ok} {kept = options} {held = held} {now = part_state connection_views turned further conn desk ends} (λ text is. rw is (part_then done (part_still done.fits.0 refl returns)))
 
 -- ---- requests
 

@@ -1,9 +1,9 @@
 pub mod Answering
 pub mod Beside
 mod Asking
-mod Carrying
+pub mod Carrying
 mod Helping
-mod Replying
+pub mod Replying
 mod Quieting
 mod WorkedExamples
 mod WorkedExchanges

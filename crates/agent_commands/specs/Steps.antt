@@ -114,6 +114,11 @@ info_response rules info.Pid = Number rules.pid
 info_response rules info.S2kCount = Number rules.s2k_count
 info_response rules info.Listed = Ok
 
+-- the response of a request that is answered by OK alone, or its refusal
+abbrev pub ok_by : Result (Unit {0}) Refusal → Result Response Refusal
+ok_by (Whole carried) = Whole Ok
+ok_by (Part why) = Part why
+
 -- a passphrase was found by the cache alone, and is told, or the request is refused
 pub data TellsCached {D : Type 0} (turned : D → MarkStep → Turn → D → Type 0) (plain : Bool) (id : Option (List ℕ)) (before : D) : Result Response Refusal → D → Type 0 where
   cached : {secret : List ℕ} {after : D} → DoesTurns turned (ByCache id) None before (Whole secret) None after → TellsCached turned plain id before (Whole (Passphrase secret plain)) after

@@ -58,7 +58,7 @@ pub(crate) fn respond<L: Link>(reply: &Result<Response, Refusal>, conn: &mut Con
 }
 
 /// How a session goes on after a refusal.
-fn went_after(why: Refusal) -> Went
+pub fn went_after(why: Refusal) -> Went
     ensures { result ≡ went_after (gone_by why) }
 {
     match why.gone() {

@@ -1,13 +1,15 @@
 -- Requests on the cache with the keys and the dice beside, requests on keys with the option values beside, and both with the trust file beside.
 use Rattle.std.proofs.Common.{ℕ, List, refl}
 use Rattle.arrayvec.specs.ArrayVec.{ArrayVec}
+use Rattle.agent_ask.specs.Answering.{ReaderLeft, FaultsCounted}
+use Rattle.agent_ask.specs.Answering as asked
 use Rattle.agent_ask.specs.Events.{Call}
 use Rattle.agent_ask.specs.Further.{FurtherEvent, FurtherEnds, DoesFurther}
 use Rattle.agent_ask.specs.Further as further
 use Rattle.agent_ports.specs.KeyFiles.{KeyFiles}
 use Rattle.agent_ports.specs.Sides.{Side}
 use Rattle.agent_ports.specs.TrustFiles.{TrustState}
-use Rattle.assuan_line.specs.Next.{Reader}
+use Rattle.assuan_server.specs.Clients.{connection_views}
 use Rattle.assuan_server.specs.Connections.{Connection}
 use Rattle.cache_policy.specs.declared.mark.MarkStep.{MarkStep}
 use Rattle.cache_policy.specs.Turns.{Turn}
@@ -28,7 +30,7 @@ use Rattle.key_commands.specs.KeyEnds.{KeyEnds, DoesAtKeys, prompt}
 use Rattle.key_commands.specs.KeyEnds as at_keys
 use Rattle.key_commands.specs.Requests.{key_request_of}
 use Rattle.key_commands.specs.States.{KeyWorld, KeyState, key_state, AnswersKey}
-use Rattle.key_commands.specs.States as states
+use Rattle.key_commands.specs.Parts.{key_went_after, key_gone}
 use Rattle.key_commands.specs.declared.went.KeyWent.{KeyWent}
 use Rattle.key_commands.specs.declared.went.KeyWent.TheVariants as key
 use Rattle.key_commands.specs.declared.wrap_keys.WrapKeys.{WrapKeys}
@@ -64,7 +66,7 @@ module _ {D P : Type 0} (turned : D → MarkStep → Turn → D → Type 0) (pro
     quiet_beside prompter =
         answers_beside turned (λ prior what later. ⊥) (DoesAtKeys prompted) (λ none. ends files dice prompter) (λ prior later what never. absurd never) (λ events then exchanged. cache exchanged)
 
-  key_reader_fits : (went : KeyWent) (first now : Reader) → states.ReaderAfter went first now → ReaderAfter (went_after_key went) first now
+  key_reader_fits : (went : KeyWent) (first now : Connection) → ReaderLeft connection_views (key_gone went) first now → ReaderAfter (went_after_key went) first.reader now.reader
   key_reader_fits key.On first now fits = fits
   key_reader_fits (key.Gone gone.Ended) first now fits = fits
   key_reader_fits (key.Gone gone.TooLong) first now fits = fits
@@ -72,7 +74,7 @@ module _ {D P : Type 0} (turned : D → MarkStep → Turn → D → Type 0) (pro
   key_reader_fits (key.Gone gone.ReadFault) first now fits = fits
   key_reader_fits (key.Gone gone.WriteFault) first now fits = fits
 
-  key_faults_rise : (went : KeyWent) {start now : KeyState turned prompted} → states.FaultsRise turned prompted went start now
+  key_faults_rise : (went : KeyWent) {start now : KeyState turned prompted} → FaultsCounted connection_views (key_gone went) start.conn now.conn
       → FaultsRise {w = KeyWorld turned prompted} (went_after_key went) start now
   key_faults_rise key.On faults = record { read = λ e. absurd (cc e); write = λ e. absurd (cc e) }
   key_faults_rise (key.Gone gone.Ended) faults = record { read = λ e. absurd (cc e); write = λ e. absurd (cc e) }
@@ -83,20 +85,20 @@ module _ {D P : Type 0} (turned : D → MarkStep → Turn → D → Type 0) (pro
 
   module _ (rules : Rules) (options : OptionValues) {line : ArrayVec ℕ} {before : WrapKeys} where
     key_exchange_beside : {events : List (EventWith FurtherEvent)} {after : WrapKeys} {went : KeyWent}
-        → states.WholeOrCut turned prompted (KeyExchange rules options before (key_request_of line.items)) events after went
+        → asked.WholeOrCut key_went_after (KeyExchange rules options before (key_request_of line.items)) events after went
         → WholeOrCut (λ kept. RequestExchange rules kept (Key line)) (kept_with options before) events (kept_with (described_after line.items options) after) (went_after_key went)
-    key_exchange_beside (states.whole exchanged) = whole (keys exchanged)
-    key_exchange_beside (states.cut exchanged last) = cut (keys exchanged) last
+    key_exchange_beside (asked.whole exchanged) = whole (keys exchanged)
+    key_exchange_beside (asked.cut exchanged last) = cut (keys exchanged) last
 
     -- with the option values beside
     pub keyed_beside : {start now : KeyState turned prompted} {went : KeyWent} {after : WrapKeys}
         → AnswersKey turned prompted (KeyExchange rules options before (key_request_of line.items)) start went after now
         → AnswersRequest {w = KeyWorld turned prompted} (λ kept. RequestExchange rules kept (Key line)) (kept_with options before) start (went_after_key went) (kept_with (described_after line.items options) after) now
-    keyed_beside {went} answered = record {
+    keyed_beside {start} {now} {went} answered = record {
       events = answered.events;
       exchanges = key_exchange_beside answered.exchanges;
       done = answered.done;
-      fits = key_reader_fits went _ _ answered.fits;
+      fits = key_reader_fits went start.conn now.conn answered.fits;
       faults = key_faults_rise went answered.faults;
     }
 

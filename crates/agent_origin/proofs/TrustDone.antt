@@ -26,7 +26,8 @@ use Rattle.session_client.specs.declared.refusal.Refusal.{Refusal}
 use Rattle.session_options.specs.OptionValues.{OptionValues}
 use Rattle.session_options.specs.declared.rules.Rules.{Rules}
 use Rattle.trust_list.specs.Trust.{trust}
-use Rattle.agent_commands.specs.Steps.{CarriesOut, stops_at, ok_by}
+use Rattle.agent_ask.specs.PartReplies.{stops_at}
+use Rattle.agent_commands.specs.Steps.{CarriesOut, ok_by}
 use Rattle.agent_commands.proofs.Carrying.{replies_ok}
 use Rattle.agent_origin.specs.FurtherStates.{further_ends, FurtherState}
 use Rattle.agent_origin.specs.TrustExchanges.{unless_said, Carried, TrustReplies}
@@ -49,13 +50,13 @@ module _ {A : Type 0} {part : Part A} {result : Result A Refusal} (on : gone_in 
 
   -- nothing
   pub file_left : (file : TrustState) → ((held : Option ℕ) → part held [] result held) → DoesAtFile part file result file
-  file_left file does conn going held = part_still connection_views NoTurn DoesTrustFile conn file tt going on (does held)
+  file_left file does conn going held = part_still going on (does held)
 
 -- the file was read, and what it says of a certificate decided the request, or something else was done
 pub said_done : (fingerprint : Grip) (otherwise : List ℕ → Part (Unit {0})) {file : List ℕ} {start mid now : TrustState} {result : Result (Unit {0}) Refusal} → DoesAtFile ReadsFile start (Ok file) mid
     → (said : Option Bool) → trust file fingerprint.0 ≡ said → DoesAtFile (unless_said said (otherwise file)) mid result now
     → DoesAtFile (ReadsFile >>= λ file. unless_said (trust file fingerprint.0) (otherwise file)) start result now
-said_done fingerprint otherwise read said is done conn going held = part_then connection_views NoTurn DoesTrustFile (read conn going held) (rw is (done conn going held))
+said_done fingerprint otherwise read said is done conn going held = part_then (read conn going held) (rw is (done conn going held))
 
 -- ---- beside the other ends
 
@@ -97,4 +98,4 @@ pub carried_out : {D P : Type 0} (turned : D → MarkStep → Turn → D → Typ
     → DoesPart connection_views turned (DoesFurther prompted) (Carried rules options request) None start result held now
     → CarriesOut turned (DoesFurther prompted) (TrustReplies rules options request) options start (ok_by result) options held now
 carried_out turned prompted rules options request {now} (Ok tt) done = replies_ok turned (DoesFurther prompted) now.conn now.desk now.ends done
-carried_out turned prompted rules options request (Err why) done = stops_at (part_stops connection_views turned (DoesFurther prompted) done)
+carried_out turned prompted rules options request (Err why) done = stops_at (part_stops done)

@@ -1,15 +1,16 @@
 -- Private: how far a session has come at some state of its code.
 use Rattle.std.specs.Prelude.{◌≡◌, ℕ, List, Result}
-use Rattle.agent_commands.specs.Endings.{went_unless_cut}
+use Rattle.agent_ask.specs.Answering.{unless_cut}
 use Rattle.agent_commands.specs.Events.{EventWith}
 use Rattle.agent_commands.specs.Outside.{World}
 use Rattle.agent_commands.specs.States.{SessionState, EventsLead, FaultsRise}
-use Rattle.agent_ports.specs.declared.link.WriteFault.{WriteFault}
+use Rattle.agent_ports.specs.declared.link.WriteFault.{WriteFault as Fault}
 use Rattle.assuan_server.specs.Connections.{Connection}
 use Rattle.assuan_server.specs.Reading.{unread}
 use Rattle.assuan_server.specs.Written.{WritesText}
 use Rattle.agent_commands.specs.Talks.{Talk}
 use Rattle.agent_commands.specs.declared.went.SessionEnd.{SessionEnd}
+use Rattle.agent_commands.specs.declared.went.SessionEnd.TheVariants.{WriteFault}
 use Rattle.agent_commands.specs.declared.went.Went.{Went}
 use Rattle.agent_commands.specs.declared.went.Went.TheVariants.{On, End}
 use Rattle.agent_origin.specs.Sessions.{Surroundings, Leaves, LineRelation, ServesSession}
@@ -33,4 +34,4 @@ pub record ServesConn {w : World} {S : Type 0} (exchange : LineRelation w S) (be
 
 -- a text was written, whole or in part, and the session goes on where it was whole
 pub data SaysText (text : List ℕ) (before : Connection) : Went → Connection → Type 0 where
-  says : {after : Connection} (written : Result (Unit {0}) WriteFault) → WritesText text before written after → SaysText text before (went_unless_cut On written) after
+  says : {after : Connection} (written : Result (Unit {0}) Fault) → WritesText text before written after → SaysText text before (unless_cut On (End WriteFault) written) after

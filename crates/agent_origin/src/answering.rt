@@ -13,10 +13,8 @@ ghost use Rattle.agent_origin.specs.SessionExchanges.{RequestExchange, SessionEx
 ghost use Rattle.agent_origin.specs.Serving.{SaysText};
 
 use crate::Kept;
-use agent_ask::Prompter;
-use agent_commands::{
-    LineRequest, Request, SessionEnd, Went, run_cache, run_quiet, went_unless_cut,
-};
+use agent_ask::{Prompter, unless_cut};
+use agent_commands::{LineRequest, Request, SessionEnd, Went, run_cache, run_quiet};
 use agent_ports::{Dice, Keys, Link};
 use assuan_line::Line;
 use assuan_server::{Code, Conn, Origin};
@@ -133,7 +131,8 @@ fn end_description(line: &[u8], options: &mut Options)
 pub(crate) fn refuse<L: Link>(code: Code, conn: &mut Conn<'_, L>) -> Went
     ensures { SaysText (failed code) conn.old result conn.new }
 {
-    went_unless_cut(Went::On, conn.err(code, Origin::Agent).whole())
+    let cut = Went::End(SessionEnd::WriteFault);
+    unless_cut(Went::On, cut, conn.err(code, Origin::Agent).whole())
 }
 
 /// How the session goes on after a request on keys.

@@ -12,8 +12,8 @@ ghost use Rattle.agent_origin.specs.Serving.{SaysText};
 use crate::answering::{answer, refuse};
 use crate::door::{Door, allowed};
 use crate::{Answers, Kept, TRUST_COMMANDS, read_trust, run_trust, serve};
-use agent_ask::Prompter;
-use agent_commands::{SessionEnd, Went, went_unless_cut, write_help};
+use agent_ask::{Prompter, unless_cut};
+use agent_commands::{SessionEnd, Went, write_help};
 use agent_ports::{Dice, Keys, Link, TrustFile};
 use assuan_line::Line;
 use assuan_server::{Code, Conn};
@@ -90,7 +90,8 @@ impl Answers for Door {
 fn help<L: Link>(conn: &mut Conn<'_, L>) -> Went
     ensures { SaysText door_help conn.old result conn.new }
 {
-    went_unless_cut(Went::On, write_help(conn, &TRUST_COMMANDS))
+    let cut = Went::End(SessionEnd::WriteFault);
+    unless_cut(Went::On, cut, write_help(conn, &TRUST_COMMANDS))
 }
 
 /// Reads a request on the trust list, and answers it.

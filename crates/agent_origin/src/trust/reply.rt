@@ -3,7 +3,8 @@
 ghost use Rattle.std.specs.Prelude.{◌≡◌};
 ghost use Rattle.agent_commands.specs.Steps.{RespondsTo, ok_by};
 
-use agent_commands::{Went, went_after, went_unless_cut};
+use agent_ask::unless_cut;
+use agent_commands::{SessionEnd, Went, went_after};
 use agent_ports::Link;
 use assuan_server::Conn;
 use session_client::Refusal;
@@ -12,8 +13,9 @@ use session_client::Refusal;
 pub(crate) fn respond<L: Link>(carried: Result<(), Refusal>, conn: &mut Conn<'_, L>) -> Went
     ensures { RespondsTo conn.old (ok_by carried) result conn.new }
 {
+    let cut = Went::End(SessionEnd::WriteFault);
     match carried {
-        Ok(()) => went_unless_cut(Went::On, conn.ok(b"").whole()),
-        Err(why) => went_unless_cut(went_after(why), conn.refuse(why)),
+        Ok(()) => unless_cut(Went::On, cut, conn.ok(b"").whole()),
+        Err(why) => unless_cut(went_after(why), cut, conn.refuse(why)),
     }
 }

@@ -3,6 +3,7 @@ use Rattle.std.proofs.lemmas.Result.{err_from_is_err_and}
 use Rattle.agent_ask.specs.Parts.{returns, goes_on}
 use Rattle.agent_ask.proofs.PartsDone.{part_then, part_stops, part_still}
 use Rattle.agent_commands.specs.Exchanges.{tells}
+use Rattle.agent_commands.specs.Outside.{DoesPrompts}
 use Rattle.agent_ask.specs.PartReplies.{comes_to, stops_at}
 use Rattle.agent_commands.proofs.Asking.{asks_nobody}
 use Rattle.agent_commands.proofs.Carrying.{beside_desk, carries_beside, replies_ok}
@@ -35,7 +36,7 @@ returns-in_err-preset-in-PresetPassphrase-clause-carries g c =
 pub returns-in_ok-preset-in-PresetPassphrase-clause-carries : goal.returns-in_ok-preset-in-PresetPassphrase-clause-carries
 returns-in_ok-preset-in-PresetPassphrase-clause-carries g c =
     rw (c.in-PresetPassphrase.is, c.requires.none)
-    (replies_ok g.D.Desk.turned g.P.Prompter.prompted c.preset.new.conn c.preset.new.desk c.args.prompter.now
+    (replies_ok g.D.Desk.turned (DoesPrompts g.P.Prompter.prompted) c.preset.new.conn c.preset.new.desk c.args.prompter.now
     (beside_desk g.D.Desk.turned g.P.Prompter.prompted c.args.prompter.now c.in_ok-preset-in-PresetPassphrase.ensures.presets))
 
 pub returns-in_err-confirm-in-GetConfirmation-clause-carries : goal.returns-in_err-confirm-in-GetConfirmation-clause-carries
@@ -47,7 +48,7 @@ returns-in_err-confirm-in-GetConfirmation-clause-carries g c =
 pub returns-in_ok-confirm-in-GetConfirmation-clause-carries : goal.returns-in_ok-confirm-in-GetConfirmation-clause-carries
 returns-in_ok-confirm-in-GetConfirmation-clause-carries g c =
     rw c.in-GetConfirmation.is
-    (replies_ok g.D.Desk.turned g.P.Prompter.prompted c.confirm.new.conn c.confirm.new.desk c.confirm.new.prompter
+    (replies_ok g.D.Desk.turned (DoesPrompts g.P.Prompter.prompted) c.confirm.new.conn c.confirm.new.desk c.confirm.new.prompter
     (rw c.requires.none at c.in_ok-confirm-in-GetConfirmation.ensures.confirms))
 
 pub returns-in_default-clause-carries : goal.returns-in_default-clause-carries

@@ -3,4 +3,4 @@ use Rattle.assuan_server.proofs.Saying.{said}
 use Rattle.agent_origin.proofs.answering.refuse.Goals as goal
 
 pub returns : goal.returns
-returns g c = rw c.went_unless_cut.ensures (says c.whole.result (said c.whole.ensures c.err.ensures))
+returns g c = rw c.unless_cut.ensures (says c.whole.result (said c.whole.ensures c.err.ensures))

@@ -16,7 +16,7 @@ pub returns-in-Ok : goal.returns-in-Ok
 unfolding Stores
 returns-in-Ok g c = λ conn going held.
     let new : c.deref.result.now ≡ with_entry c.args.file.now c.args.fingerprint.now.0 (flag_of c.args.purpose) = c.deref.ensures.value ∙ (rw c.flag.ensures at c.in-Ok.ensures.added) in
-    part_then connection_views NoTurn DoesTrustFile
+    part_then
     (file_left refl _ (λ held. added (subst (λ (f : List ℕ). length f ≤ MAX_TRUST_FILE_LEN) new (omega (arith, c.deref.ensures.len, c.in-Ok.ensures.fits)))) conn going held)
     (rw new at (c.replace.ensures conn going held))
 

@@ -14,7 +14,7 @@ pub returns-in_err-file : goal.returns-in_err-file
 unfolding StoresUnsaid
 returns-in_err-file g c = λ conn going held.
     let p = err_from_is_err_and c.from_residual.result c.from_residual.ensures.1 in
-    rw (p.1, p.2) (part_stops connection_views NoTurn DoesTrustFile (c.in_err-file.ensures.refused conn going held))
+    rw (p.1, p.2) (part_stops (c.in_err-file.ensures.refused conn going held))
 
 pub returns-in-Some-true : goal.returns-in-Some-true
 unfolding StoresUnsaid

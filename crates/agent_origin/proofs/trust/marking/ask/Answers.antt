@@ -3,7 +3,7 @@ use Rattle.std.proofs.lemmas.Result.{err_from_is_err_and}
 use Rattle.std.specs.Option.{option_copied}
 use Rattle.agent_ask.specs.Further.{DoesFurther}
 use Rattle.agent_ask.specs.Parts.{refuses}
-use Rattle.agent_ask.proofs.PartsDone.{part_then, part_stops, part_still, part_turned, seats_on}
+use Rattle.agent_ask.proofs.PartsDone.{part_then, part_stops, part_still, part_turned}
 use Rattle.agent_commands.proofs.Carrying.{seat_turn}
 use Rattle.assuan_server.specs.Clients.{connection_views}
 use Rattle.agent_origin.specs.FurtherStates.{further_ends}
@@ -15,30 +15,23 @@ returns-in_err-hold_seat-in-Ask-clause-asks g c = λ keys dice.
     let p = err_from_is_err_and c.from_residual.result c.from_residual.ensures.1 in
     let turn = seat_turn c.in_err-hold_seat-in-Ask.ensures.taken in
     rw (sym c.mode.ensures ∙ c.in-Ask.is, p.1, p.2)
-    (part_stops connection_views g.D.Desk.turned (DoesFurther g.P.Prompter.prompted)
-    (part_turned connection_views g.D.Desk.turned (DoesFurther g.P.Prompter.prompted) c.args.conn.now
-    (further_ends c.args.prompter.now keys dice (g.T.TrustFile.trust c.args.trust.now)) c.requires.open (seats_on turn.does) turn))
+    (part_stops (part_turned c.requires.open turn))
 
 pub returns-in-Some-clause-asks : goal.returns-in-Some-clause-asks
 returns-in-Some-clause-asks g c = λ keys dice.
     let held : c.hold_seat.new.held ≡ Some c.in-Some.ticket.now = sym c.ticket.ensures ∙ ap option_copied c.in-Some.is in
     rw (sym c.mode.ensures ∙ c.in-Ask.is)
-    (part_then connection_views g.D.Desk.turned (DoesFurther g.P.Prompter.prompted)
-    (part_turned connection_views g.D.Desk.turned (DoesFurther g.P.Prompter.prompted) c.args.conn.now
-    (further_ends c.args.prompter.now keys dice (g.T.TrustFile.trust c.args.trust.now)) c.requires.open refl (seat_turn c.in_ok-hold_seat-in-Ask.ensures.taken))
+    (part_then (part_turned c.requires.open (seat_turn c.in_ok-hold_seat-in-Ask.ensures.taken))
     (rw held (beside_desk g.D.Desk.turned g.P.Prompter.prompted c.hold_seat.new.desk c.mark_consented.ensures.marks keys dice)))
 
 pub returns-in-Cancel-clause-asks : goal.returns-in-Cancel-clause-asks
 returns-in-Cancel-clause-asks g c = λ keys dice.
     rw (sym c.mode.ensures ∙ c.in-Cancel.is, c.requires.none)
-    (part_still connection_views g.D.Desk.turned (DoesFurther g.P.Prompter.prompted) c.args.conn.now
-    (further_ends c.args.prompter.now keys dice (g.T.TrustFile.trust c.args.trust.now)) c.args.desk.now c.requires.open refl refuses)
+    (part_still c.requires.open refl refuses)
 
 pub returns-in-Error-clause-asks : goal.returns-in-Error-clause-asks
 returns-in-Error-clause-asks g c = λ keys dice.
-    let still = part_still connection_views g.D.Desk.turned (DoesFurther g.P.Prompter.prompted) c.args.conn.now
-    (further_ends c.args.prompter.now keys dice (g.T.TrustFile.trust c.args.trust.now)) c.args.desk.now c.requires.open in
     elim c.in-Error.is [
-      | inl error ↦ rw (sym c.mode.ensures ∙ error, c.requires.none) (still refl refuses)
-      | inr loopback ↦ rw (sym c.mode.ensures ∙ loopback, c.requires.none) (still refl refuses)
+      | inl error ↦ rw (sym c.mode.ensures ∙ error, c.requires.none) (part_still c.requires.open refl refuses)
+      | inr loopback ↦ rw (sym c.mode.ensures ∙ loopback, c.requires.none) (part_still c.requires.open refl refuses)
     ]

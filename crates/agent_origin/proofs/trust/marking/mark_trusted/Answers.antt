@@ -14,7 +14,7 @@ unfolding Marked
 returns-in_err-file-clause-marks g c = λ keys dice.
     let p = err_from_is_err_and c.from_residual.result c.from_residual.ensures.1 in
     rw (p.1, p.2, c.requires.none)
-    (part_stops connection_views g.D.Desk.turned (DoesFurther g.P.Prompter.prompted)
+    (part_stops
     (beside_all g.D.Desk.turned g.P.Prompter.prompted c.args.conn.now c.args.desk.now c.args.prompter.now _ c.requires.open c.in_err-file.ensures.refused keys dice))
 
 pub returns-in-Some-true-clause-marks : goal.returns-in-Some-true-clause-marks
@@ -42,6 +42,6 @@ unfolding Marked
 returns-clause-marks g c = λ keys dice.
     let m = c.args.marking.now in
     let is : trust c.in_ok-file.file.items m.fingerprint.now.0 ≡ None = rw c.deref.ensures.value at (sym c.trusted.ensures ∙ c.in-None.is) in
-    part_then connection_views g.D.Desk.turned (DoesFurther g.P.Prompter.prompted)
+    part_then
     (beside_all g.D.Desk.turned g.P.Prompter.prompted c.args.conn.now c.args.desk.now c.args.prompter.now None c.requires.open c.in_ok-file.ensures.read keys dice)
     (rw is (c.ask.ensures.asks keys dice))

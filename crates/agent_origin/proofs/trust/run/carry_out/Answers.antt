@@ -15,5 +15,4 @@ returns-in-IsTrusted-clause-carries g c =
 pub returns-in-Bad-clause-carries : goal.returns-in-Bad-clause-carries
 returns-in-Bad-clause-carries g c = λ keys dice.
     rw (c.in-Bad.is, c.requires.none)
-    (part_still connection_views g.D.Desk.turned (DoesFurther g.P.Prompter.prompted) c.args.conn.now
-    (further_ends c.args.prompter.now keys dice (g.T.TrustFile.trust c.args.trust.now)) c.args.desk.now c.requires.open refl refuses)
+    (part_still c.requires.open refl refuses)
