@@ -23,10 +23,9 @@ use Rattle.session_options.specs.declared.options.PinMode.{PinMode}
 use Rattle.session_options.specs.declared.options.PinMode.TheVariants as mode
 use Rattle.session_options.specs.declared.rules.Rules.{Rules}
 use Rattle.agent_commands.specs.Endings.{went_after}
-use Rattle.agent_commands.specs.Exchanges.{CacheExchange, CacheReply, TellsPassphrase, TellsInfo, option_replies, confirms_by, GetReplies, PresetReplies, CacheReplies}
+use Rattle.agent_commands.specs.Exchanges.{Exchange, CacheReply, TellsPassphrase, TellsInfo, option_replies, confirms_by, GetReplies, PresetReplies, Replies}
 use Rattle.agent_commands.specs.Exchanges as exchanges
-use Rattle.agent_commands.specs.Parts.{CachePart as CacheParts, AsksPassphrase}
-use Rattle.assuan_server.specs.Written.{limit_line}
+use Rattle.agent_commands.specs.Parts.{Part as CacheParts, limit_line, AsksPassphrase}
 use Rattle.agent_commands.specs.Passphrases.{Looks, LooksFor, WantsPrompt, KeepsUnder, ByCache, ByClient, Uncached, WithoutPrompt, PromptsAny, ByUser, as_wanted, passphrase_by}
 use Rattle.agent_commands.specs.Passphrases as passphrases
 use Rattle.agent_commands.specs.Requests.{GetFields}
@@ -154,7 +153,7 @@ module _ (rules : Rules) (options : OptionValues) where
   confirms mode.Error description = uncalled_so (each_refused IsUncalled (Agent code.NoPinentry))
   confirms mode.Loopback description = uncalled_so (each_refused IsUncalled (Agent code.NoPinentry))
 
-  replies : (command : CacheCommand) → PromptedSo (CacheReplies rules options command)
+  replies : (command : CacheCommand) → PromptedSo (Replies rules options command)
   replies Nop = uncalled_so (each_returned IsUncalled _)
   replies Reset = uncalled_so (each_returned IsUncalled _)
   replies Bye = uncalled_so (each_returned IsUncalled _)
@@ -173,7 +172,7 @@ exchanged : {parts : CacheParts CacheReply} {before after : OptionValues} {event
 exchanged so (whole.answered events held reply {back} does closes) = ends_so events back _ (so.of None events (Ok reply) held does) closes (tt, tt)
 exchanged so (whole.refused events held why {back} does closes) = ends_so events back _ (so.of None events (Err why) held does) closes (said_uncalled (refusal_line why))
 
-cache_prompted : (rules : Rules) (before after : OptionValues) (request : Request) (events : List Event) (went : Went) → CacheExchange rules before request events after went → Prompted events
+cache_prompted : (rules : Rules) (before after : OptionValues) (request : Request) (events : List Event) (went : Went) → Exchange rules before request events after went → Prompted events
 cache_prompted rules before after (Cache command) events went exchange = exchanged (replies rules before command) exchange
 cache_prompted rules before after (BadLine why) events went exchange = exchanged (uncalled_so (each_refused IsUncalled (Agent why))) exchange
 cache_prompted rules before after (KeyLine line) events went never = absurd never

@@ -28,11 +28,10 @@ use Rattle.session_options.specs.declared.options.PinMode.TheVariants as mode
 use Rattle.session_options.specs.declared.rules.Rules.{Rules}
 use Rattle.agent_commands.specs.Answers.{IsInfo}
 use Rattle.agent_commands.specs.Endings.{went_after}
-use Rattle.agent_commands.specs.Events.{EventWith}
-use Rattle.agent_commands.specs.Exchanges.{CacheExchange, CacheReply, CacheReplies, TellsPassphrase, TellsInfo, confirms_by, option_replies, reply}
+use Rattle.agent_commands.specs.Events.{Event}
+use Rattle.agent_commands.specs.Exchanges.{Exchange, CacheReply, Replies, TellsPassphrase, TellsInfo, confirms_by, option_replies, reply}
 use Rattle.agent_commands.specs.Exchanges as told
-use Rattle.agent_commands.specs.Parts.{CachePart, AsksPassphrase}
-use Rattle.assuan_server.specs.Written.{limit_line}
+use Rattle.agent_commands.specs.Parts.{Part, AsksPassphrase, limit_line}
 use Rattle.agent_commands.specs.Passphrases.{LooksFor, WantsPrompt, KeepsUnder, Uncached, WithoutPrompt, PromptsAny, Prompts, passphrase_by, as_wanted, ask, ask_or_open}
 use Rattle.agent_commands.specs.Passphrases as passphrases
 use Rattle.agent_commands.specs.Requests.{GetFields}
@@ -64,7 +63,7 @@ info_reply rules S2kCount is = reply_cache is
 info_reply rules Listed is = subst IsReply (sym is) reply_ok
 
 module _ (request : Request) where
-  abbrev PartHere : {A : Type 0} → CachePart A → Type 0
+  abbrev PartHere : {A : Type 0} → Part A → Type 0
   PartHere = WorksSo request
 
   asks_passphrase : PartHere AsksPassphrase
@@ -96,7 +95,7 @@ module _ (request : Request) where
 
   -- ---- behind the work
 
-  behind : {events : List (EventWith FurtherEvent)} (first : List (EventWith FurtherEvent)) → AreWork request first → Course request events → Course request (first ++ events)
+  behind : {events : List (Event FurtherEvent)} (first : List (Event FurtherEvent)) → AreWork request first → Course request events → Course request (first ++ events)
   behind first each goes = record {
     work = first ++ goes.work;
     last = goes.last;
@@ -105,47 +104,47 @@ module _ (request : Request) where
     end = goes.end;
   }
 
-  answered : {text : List ℕ} {held : Option ℕ} {back : List (EventWith FurtherEvent)} → IsReply text → Closes None held back (Ok tt) None → Course request (back ++ Sent text ∷ [])
+  answered : {text : List ℕ} {held : Option ℕ} {back : List (Event FurtherEvent)} → IsReply text → Closes None held back (Ok tt) None → Course request (back ++ Sent text ∷ [])
   answered is closes_so = record { work = []; last = _; is = refl; each = tt; end = last_end request (said (is_reply is)) closes_so }
 
-  refused_end : {A : Type 0} {last back : List (EventWith FurtherEvent)} {held : Option ℕ} {why : Refusal} → WorkEnd request {A = A} last (Err why) → Closes None held back (Ok tt) None
+  refused_end : {A : Type 0} {last back : List (Event FurtherEvent)} {held : Option ℕ} {why : Refusal} → WorkEnd request {A = A} last (Err why) → Closes None held back (Ok tt) None
       → IsEnd request (last ++ (back ++ said_last (refusal_line why)))
   refused_end {why} no_more closes_so = last_end request (refusal_last why) closes_so
   refused_end (refused allowed is) closes_so = course.refused allowed is (held_back _ closes_so)
 
-  refusal : {A : Type 0} {events back : List (EventWith FurtherEvent)} {held : Option ℕ} {why : Refusal} → Works request {A = A} events (Err why) → Closes None held back (Ok tt) None
+  refusal : {A : Type 0} {events back : List (Event FurtherEvent)} {held : Option ℕ} {why : Refusal} → Works request {A = A} events (Err why) → Closes None held back (Ok tt) None
       → Course request (events ++ (back ++ said_last (refusal_line why)))
   refusal {back} {why} does closes_so =
       record { work = does.work; last = does.last ++ _; is = ap (λ e. e ++ (back ++ said_last (refusal_line why))) does.is ∙ append_assoc does.work does.last _; each = does.each; end = refused_end does.end closes_so }
 
   -- what is written for what a request comes to
-  abbrev written_for : Result CacheReply Refusal → List (EventWith FurtherEvent)
+  abbrev written_for : Result CacheReply Refusal → List (Event FurtherEvent)
   written_for (Ok given_reply) = Sent given_reply.text ∷ []
   written_for (Err why) = said_last (refusal_line why)
 
   -- it is a course, with the return of a ticket that is held then, and the answer
-  abbrev Answered : List (EventWith FurtherEvent) → Result CacheReply Refusal → Option ℕ → Type 0
-  Answered events result held = (back : List (EventWith FurtherEvent)) → Closes None held back (Ok tt) None → Course request (events ++ (back ++ written_for result))
+  abbrev Answered : List (Event FurtherEvent) → Result CacheReply Refusal → Option ℕ → Type 0
+  Answered events result held = (back : List (Event FurtherEvent)) → Closes None held back (Ok tt) None → Course request (events ++ (back ++ written_for result))
 
-  record RepliesSo (part : CachePart CacheReply) : Type 0 where
-    of : (before : Option ℕ) (events : List (EventWith FurtherEvent)) (result : Result CacheReply Refusal) (after : Option ℕ) → part before events result after → Answered events result after
+  record RepliesSo (part : Part CacheReply) : Type 0 where
+    of : (before : Option ℕ) (events : List (Event FurtherEvent)) (result : Result CacheReply Refusal) (after : Option ℕ) → part before events result after → Answered events result after
 
-  replied_of : (value : CacheReply) → IsReply value.text → (before : Option ℕ) (events : List (EventWith FurtherEvent)) (result : Result CacheReply Refusal) (after : Option ℕ) → Returns value before events result after
+  replied_of : (value : CacheReply) → IsReply value.text → (before : Option ℕ) (events : List (Event FurtherEvent)) (result : Result CacheReply Refusal) (after : Option ℕ) → Returns value before events result after
       → Answered events result after
   replied_of value is before events result after returns back closes_so = answered is closes_so
 
   replied : (value : CacheReply) → IsReply value.text → RepliesSo (Returns value)
   replied value is = record { of = replied_of value is }
 
-  refused_of : (why : Refusal) (before : Option ℕ) (events : List (EventWith FurtherEvent)) (result : Result CacheReply Refusal) (after : Option ℕ) → Refuses {A = CacheReply} why before events result after → Answered events result after
+  refused_of : (why : Refusal) (before : Option ℕ) (events : List (Event FurtherEvent)) (result : Result CacheReply Refusal) (after : Option ℕ) → Refuses {A = CacheReply} why before events result after → Answered events result after
   refused_of why before events result after chain.refuses back closes_so = refusal {A = CacheReply} {events = []} {why = why} (works request tt) closes_so
 
   refused_by : (why : Refusal) → RepliesSo (Refuses why)
   refused_by why = record { of = refused_of why }
 
   -- work, and then what comes to the reply
-  module _ {A : Type 0} {part : CachePart A} {next : A → CachePart CacheReply} (first : PartHere part) (then : (value : A) → RepliesSo (next value)) where
-    then_of : (before : Option ℕ) (events : List (EventWith FurtherEvent)) (result : Result CacheReply Refusal) (after : Option ℕ) → Follows part next before events result after → Answered events result after
+  module _ {A : Type 0} {part : Part A} {next : A → Part CacheReply} (first : PartHere part) (then : (value : A) → RepliesSo (next value)) where
+    then_of : (before : Option ℕ) (events : List (Event FurtherEvent)) (result : Result CacheReply Refusal) (after : Option ℕ) → Follows part next before events result after → Answered events result after
     then_of before events result after (goes_on {first = some} {events = more} {value} {mid} does next_does) back closes_so =
         subst (Course request) (sym (append_assoc some more _)) (behind some (ok_works request (first.of before some (Ok value) mid does)) ((then value).of mid more result after next_does back closes_so))
     then_of before events result after (stops {refusal = why} does) back closes_so = refusal (first.of before events (Err why) after does) closes_so
@@ -154,8 +153,8 @@ module _ (request : Request) where
     then_replies = record { of = then_of }
 
   -- parts one after another, however they are grouped
-  module _ {A B : Type 0} {part : CachePart A} {middle : A → CachePart B} {next : B → CachePart CacheReply} (so : RepliesSo (part >>= λ value. (middle value >>= next))) where
-    grouped_of : (before : Option ℕ) (events : List (EventWith FurtherEvent)) (result : Result CacheReply Refusal) (after : Option ℕ) → Follows (part >>= middle) next before events result after → Answered events result after
+  module _ {A B : Type 0} {part : Part A} {middle : A → Part B} {next : B → Part CacheReply} (so : RepliesSo (part >>= λ value. (middle value >>= next))) where
+    grouped_of : (before : Option ℕ) (events : List (Event FurtherEvent)) (result : Result CacheReply Refusal) (after : Option ℕ) → Follows (part >>= middle) next before events result after → Answered events result after
     grouped_of before events result after (goes_on {events = last} (goes_on {first} {events = more} does then_does) next_does) back closes_so =
         subst (λ e. Course request (e ++ (back ++ written_for result))) (sym (append_assoc first more last)) (so.of before _ result after (goes_on does (goes_on then_does next_does)) back closes_so)
     grouped_of before events result after (stops (goes_on does then_does)) back closes_so = so.of before events result after (goes_on does (stops then_does)) back closes_so
@@ -167,12 +166,12 @@ module _ (request : Request) where
   module _ (rules : Rules) (options : OptionValues) where
     -- ---- prompts
 
-    any_of : (texts : Texts) (check quality : Bool) (repeat : ℕ) (before : Option ℕ) (events : List (EventWith FurtherEvent)) (result : Result (List ℕ) Refusal) (after : Option ℕ)
+    any_of : (texts : Texts) (check quality : Bool) (repeat : ℕ) (before : Option ℕ) (events : List (Event FurtherEvent)) (result : Result (List ℕ) Refusal) (after : Option ℕ)
         → PromptsAny rules options texts check quality repeat before events result after → Works request events result
     any_of texts check quality repeat before events result after (passphrases.given spec is prompt) = shown_ok request (pin_shows_work request prompt.asks prompt.in_session)
     any_of texts check quality repeat before events result after (passphrases.refused spec is prompt other refusal_is) = refused_pin request prompt refusal_is
 
-    agrees_of : (question : List ℕ) (before : Option ℕ) (events : List (EventWith FurtherEvent)) (result : Result (Unit {0}) Refusal) (after : Option ℕ)
+    agrees_of : (question : List ℕ) (before : Option ℕ) (events : List (Event FurtherEvent)) (result : Result (Unit {0}) Refusal) (after : Option ℕ)
         → AgreesTo session_lines rules options question before events result after → Works request events result
     agrees_of question before events result after (consent.consents spec is prompt) = shown_ok request (consent_shows_work request prompt.asks prompt.in_session)
     agrees_of question before events result after (consent.refused spec is prompt refusal_is) = refused_consent request prompt refusal_is
@@ -186,18 +185,18 @@ module _ (request : Request) where
     -- ---- GET_PASSPHRASE
 
     module _ (fields : GetFields) (stores : (named : List ℕ) → fields.id ≡ Some named → MayStore request named User) where
-      abbrev Tells : List ℕ → CachePart CacheReply
+      abbrev Tells : List ℕ → Part CacheReply
       Tells secret = TellsPassphrase fields.plain secret >>= λ text. Returns (reply options text)
 
-      tells_of : (secret : List ℕ) (before : Option ℕ) (events : List (EventWith FurtherEvent)) (result : Result CacheReply Refusal) (after : Option ℕ) → Tells secret before events result after → Answered events result after
+      tells_of : (secret : List ℕ) (before : Option ℕ) (events : List (Event FurtherEvent)) (result : Result CacheReply Refusal) (after : Option ℕ) → Tells secret before events result after → Answered events result after
       tells_of secret before events result after (goes_on (told.tells is) returns) back closes_so = answered (reply_passphrase fields.plain _ _ is) closes_so
       tells_of secret before events result after (stops never) back closes_so = elim never [ ]
 
-      then_tells : {part : CachePart (List ℕ)} → PartHere part → RepliesSo (part >>= Tells)
+      then_tells : {part : Part (List ℕ)} → PartHere part → RepliesSo (part >>= Tells)
       then_tells first = then_replies first (λ secret. record { of = tells_of secret })
 
       -- the ticket is given back before
-      kept_of : (pin : List ℕ) (before : Option ℕ) (events : List (EventWith FurtherEvent)) (result : Result CacheReply Refusal) (after : Option ℕ)
+      kept_of : (pin : List ℕ) (before : Option ℕ) (events : List (Event FurtherEvent)) (result : Result CacheReply Refusal) (after : Option ℕ)
           → ((Closes (Some pin) >>= λ kept. Returns pin) >>= Tells) before events result after → Answered events result after
       kept_of pin before events result after (goes_on (goes_on taken.unheld returns) (goes_on (told.tells is) returns)) back closes_so = answered (reply_passphrase fields.plain _ _ is) closes_so
       kept_of pin before events result after (goes_on (goes_on (taken.closed turn) returns) (goes_on (told.tells is) returns)) back taken.unheld =
@@ -230,7 +229,7 @@ module _ (request : Request) where
     presets id life secret stores =
         bind request (is_wanted request code.NotSupported rules.allow_preset) (λ allowed. bind request (or_otherwise request secret asks_passphrase) (λ given_so. changes request _ refl stores))
 
-    info_of : (what : Info) (before : Option ℕ) (events : List (EventWith FurtherEvent)) (result : Result CacheReply Refusal) (after : Option ℕ)
+    info_of : (what : Info) (before : Option ℕ) (events : List (Event FurtherEvent)) (result : Result CacheReply Refusal) (after : Option ℕ)
         → (TellsInfo rules what >>= λ text. Returns (reply options text)) before events result after → Answered events result after
     info_of what before events result after (goes_on (told.tells is) returns) back closes_so = answered (info_reply rules what is) closes_so
     info_of what before events result after (stops never) back closes_so = elim never [ ]
@@ -241,7 +240,7 @@ module _ (request : Request) where
     option_so option_answer.Parameter after = refused_by (Agent code.Parameter)
     option_so option_answer.NotSupported after = refused_by (Agent code.NotSupported)
 
-    replies : (command : CacheCommand) → request ≡ Cache command → RepliesSo (CacheReplies rules options command)
+    replies : (command : CacheCommand) → request ≡ Cache command → RepliesSo (Replies rules options command)
     replies Nop is = replied _ reply_ok
     replies Reset is = replied _ reply_ok
     replies Bye is = replied _ reply_closing
@@ -258,12 +257,12 @@ module _ (request : Request) where
     replies ReloadAgent is = then_replies (changes request _ refl is) (λ changed. replied _ reply_ok)
     replies KillAgent is = then_replies (changes request _ refl is) (λ changed. replied _ reply_closing)
 
-  part_course : {part : CachePart CacheReply} → RepliesSo part → {before after : OptionValues} {events : List (EventWith FurtherEvent)} {went : Went} → AnyExchange refusal_line went_after part before events after went
+  part_course : {part : Part CacheReply} → RepliesSo part → {before after : OptionValues} {events : List (Event FurtherEvent)} {went : Went} → AnyExchange refusal_line went_after part before events after went
       → Course request events
   part_course so (exchange.answered events held given_reply does closes_so) = so.of None events (Ok given_reply) held does _ closes_so
   part_course so (exchange.refused events held why does closes_so) = so.of None events (Err why) held does _ closes_so
 
-pub cache_course : (rules : Rules) (before after : OptionValues) (request : Request) (events : List (EventWith FurtherEvent)) (went : Went) → CacheExchange rules before request events after went → Course request events
+pub cache_course : (rules : Rules) (before after : OptionValues) (request : Request) (events : List (Event FurtherEvent)) (went : Went) → Exchange rules before request events after went → Course request events
 cache_course rules before after (Cache command) events went exchanged = part_course (Cache command) (replies (Cache command) rules before command refl) exchanged
 cache_course rules before after (Bad why) events went exchanged = part_course (Bad why) (refused_by (Bad why) (Agent why)) exchanged
 cache_course rules before after (Key line) events went never = absurd never

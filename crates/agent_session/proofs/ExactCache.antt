@@ -28,9 +28,8 @@ use Rattle.session_options.specs.declared.options.PinMode.TheVariants as mode
 use Rattle.session_options.specs.declared.rules.Rules.{Rules}
 use Rattle.agent_commands.specs.Endings.{went_after}
 use Rattle.agent_commands.specs.Exchanges as exchanges
-use Rattle.agent_commands.specs.Exchanges.{CacheExchange, CacheReply, CacheReplies, ChangeReplies, TellsPassphrase, TellsInfo, Presets, confirms_by, option_replies, is_quiet}
-use Rattle.agent_commands.specs.Parts.{CachePart, AsksPassphrase}
-use Rattle.assuan_server.specs.Written.{limit_line}
+use Rattle.agent_commands.specs.Exchanges.{Exchange, CacheReply, Replies, ChangeReplies, TellsPassphrase, TellsInfo, Presets, confirms_by, option_replies, is_quiet}
+use Rattle.agent_commands.specs.Parts.{Part, AsksPassphrase, limit_line}
 use Rattle.agent_commands.specs.Passphrases as passphrases
 use Rattle.agent_commands.specs.Passphrases.{Looks, LooksFor, WantsPrompt, KeepsUnder, ByCache, ByClient, Uncached, WithoutPrompt, PromptsAny, ByUser, as_wanted, passphrase_by, ask, ask_or_open}
 use Rattle.agent_commands.specs.Requests.{GetFields, get_passphrase}
@@ -67,7 +66,7 @@ cache_due options (Bad given) why = given ≡ why
 cache_due options _ why = ⊥
 
 module _ (deciding : Deciding) where
-  nothing : {A : Type 0} {part : CachePart A} → NeverDecides deciding part → Heeds deciding NoneDue part NoneOwed
+  nothing : {A : Type 0} {part : Part A} → NeverDecides deciding part → Heeds deciding NoneDue part NoneOwed
   nothing never = by_never deciding NoneOwed never
 
   -- ---- the client
@@ -186,7 +185,7 @@ module _ (deciding : Deciding) where
         bind deciding NoneOwed (nothing (wanted_never deciding code.NotSupported rules.allow_preset))
         (λ allowed. bind deciding NoneOwed (otherwise deciding secret asks_passphrase) (λ given. nothing (changes_never deciding _)))
 
-    replies : (command : CacheCommand) → Heeds deciding (cache_due options (Cache command)) (CacheReplies rules options command) NoneOwed
+    replies : (command : CacheCommand) → Heeds deciding (cache_due options (Cache command)) (Replies rules options command) NoneOwed
     replies Nop = nothing (returns_never deciding _)
     replies Reset = nothing (returns_never deciding _)
     replies Bye = nothing (returns_never deciding _)
@@ -206,7 +205,7 @@ module _ (deciding : Deciding) where
 
   -- ---- the answer
 
-  module _ {Due : Code → Type 0} {parts : CachePart CacheReply} (heeds : Heeds deciding Due parts NoneOwed) where
+  module _ {Due : Code → Type 0} {parts : Part CacheReply} (heeds : Heeds deciding Due parts NoneOwed) where
     before_answer : (events last : List Event) {held : Option ℕ} {back : List Event} (why : Code) → Closes None held back (Ok tt) None → AllByRecursion (IsFree deciding) last
         → Due why ⊎ IsDecided deciding (events ++ (back ++ last)) why → Due why ⊎ IsDecided deciding events why
     before_answer events last why closes frees (inl due) = inl due
@@ -222,7 +221,7 @@ module _ (deciding : Deciding) where
         (heeds.of None events (Err refusal) held does (each_left Remembers events _ remembers) why (before_answer events _ why closes (said_free deciding (refusal_line refusal)) due))
 
   -- a request on the cache is answered by the error line of what is due before it, or decides it among its events
-  pub cache_answered : (rules : Rules) (before after : OptionValues) (request : Request) (events : List Event) (went : Went) → CacheExchange rules before request events after went → AllByRecursion Remembers events
+  pub cache_answered : (rules : Rules) (before after : OptionValues) (request : Request) (events : List Event) (went : Went) → Exchange rules before request events after went → AllByRecursion Remembers events
       → (why : Code) → cache_due before request why ⊎ IsDecided deciding events why → HasError why OfAgent events
   cache_answered rules before after (Cache command) events went exchange remembers why due = exchange_answered (replies rules before command) exchange remembers why due
   cache_answered rules before after (Bad given) events went exchange remembers why due = exchange_answered (refuses_due deciding given) exchange remembers why due
@@ -241,10 +240,10 @@ quiet_empty plain (Some id) named (answers completeness.empty) has = later here
 quiet_empty plain (Some id) named (interrupted why) here = elim why [ ]
 quiet_empty plain (Some id) named (interrupted why) (later (later has)) = elim has [ ]
 
-module _ (rules : Rules) (before after : OptionValues) (request : Request) (events : List Event) (went : Went) (exchange : CacheExchange rules before request events after went) (fields : GetFields)
+module _ (rules : Rules) (before after : OptionValues) (request : Request) (events : List Event) (went : Went) (exchange : Exchange rules before request events after went) (fields : GetFields)
     (is : request ≡ Cache (get_passphrase fields)) (quiet : is_quiet fields.no_ask fields.texts ≡ true) where
   looks : LooksAlone fields.plain fields.id events
-  looks = looked rules before fields quiet (subst (λ r. CacheExchange rules before r events after went) is exchange)
+  looks = looked rules before fields quiet (subst (λ r. Exchange rules before r events after went) is exchange)
 
   pub none_without : fields.id ≡ None → HasError code.NoData OfAgent events
   none_without none = quiet_without fields.plain fields.id looks none

@@ -5,7 +5,7 @@ use Rattle.agent_ask.specs.PartExchanges.{answered, refused}
 use Rattle.agent_ask.specs.Parts as chain
 use Rattle.agent_ask.specs.Parts.{goes_on}
 use Rattle.agent_commands.specs.Endings.{went_after}
-use Rattle.agent_commands.specs.Exchanges.{CacheExchange, CacheReply, CacheReplies, option_replies}
+use Rattle.agent_commands.specs.Exchanges.{Exchange, CacheReply, Replies, option_replies}
 use Rattle.agent_commands.specs.declared.request.CacheCommand.{CacheCommand}
 use Rattle.agent_commands.specs.declared.request.CacheCommand.TheVariants.{Nop, Reset, Bye, Help, SetOption, GetInfo, GetPassphrase, PresetPassphrase, ClearPassphrase, GetConfirmation, ReloadAgent, KillAgent, SetKeyDesc}
 use Rattle.agent_commands.specs.declared.request.Request.{Request}
@@ -66,7 +66,7 @@ option_on Parameter values events reply held does = elim does [ ]
 option_on NotSupported values events reply held does = elim does [ ]
 
 module _ (rules : Rules) (options : OptionValues) where
-  reply_on : (command : CacheCommand) (events : List Event) (reply : CacheReply) (held : Option ℕ) → CacheReplies rules options command None events (Ok reply) held → reply.went ≡ End TooLong → ⊥
+  reply_on : (command : CacheCommand) (events : List Event) (reply : CacheReply) (held : Option ℕ) → Replies rules options command None events (Ok reply) held → reply.went ≡ End TooLong → ⊥
   reply_on Nop _ _ _ chain.returns is = cc is
   reply_on Reset _ _ _ chain.returns is = cc is
   reply_on Bye _ _ _ chain.returns is = cc is
@@ -81,7 +81,7 @@ module _ (rules : Rules) (options : OptionValues) where
   reply_on ReloadAgent _ _ _ (goes_on does chain.returns) is = cc is
   reply_on KillAgent _ _ _ (goes_on does chain.returns) is = cc is
 
-cache_told : (rules : Rules) (before after : OptionValues) (request : Request) (events : List Event) (went : Went) → CacheExchange rules before request events after went → IsTold events went
+cache_told : (rules : Rules) (before after : OptionValues) (request : Request) (events : List Event) (went : Went) → Exchange rules before request events after went → IsTold events went
 cache_told rules before after (Cache command) events went (answered first held reply does closes) is = absurd (reply_on rules before command first reply held does is)
 cache_told rules before after (Cache command) events went (refused first held why {back} does closes) is = refusal_told first back why is
 cache_told rules before after (Bad given) events went (answered first held reply does closes) is = elim does [ ]

@@ -28,7 +28,7 @@ use Rattle.agent_ask.specs.ConsentParts.{AgreesTo, consent_refusal}
 use Rattle.key_commands.specs.Lines.{grip_text}
 use Rattle.cache_policy.specs.declared.mode.Mode.TheVariants.{Normal}
 use Rattle.key_commands.specs.KeyParts as parts
-use Rattle.assuan_server.specs.Written.{limit_line}
+use Rattle.key_commands.specs.Lines.{limit_line}
 use Rattle.key_commands.specs.Parts.{Part, Writes, Inquires, AsksClient, Draws}
 use Rattle.agent_ask.specs.Parts.{◌>>=◌, Follows, goes_on, stops, Returns, Refuses, needed, or_else, wanted}
 use Rattle.agent_ask.specs.TurnParts.{Asks, Seats, Changes, Peeks, Closes}

@@ -20,7 +20,7 @@ use Rattle.key_commands.specs.Faults.{fault_code}
 use Rattle.key_commands.specs.Files.{FileSays}
 use Rattle.key_commands.specs.KeyParts.{ReadsFile, Removes, IsFree, AsksKeyData, Unwraps, ReceivesKey, file_in, change_fault, max_key_data}
 use Rattle.key_commands.specs.KeyParts as parts
-use Rattle.assuan_server.specs.Written.{limit_line}
+use Rattle.key_commands.specs.Lines.{limit_line}
 use Rattle.key_commands.specs.Parts.{Finds, read_fault}
 use Rattle.agent_ask.specs.Parts.{wanted, refuses, returns}
 use Rattle.key_commands.specs.Parts as small

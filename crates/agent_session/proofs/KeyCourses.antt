@@ -30,7 +30,7 @@ use Rattle.session_options.specs.declared.options.PinMode.{PinMode}
 use Rattle.session_options.specs.declared.options.PinMode.TheVariants as mode
 use Rattle.session_options.specs.declared.rules.Rules.{Rules}
 use Rattle.sexp_keys.specs.Key.{Key}
-use Rattle.agent_commands.specs.Events.{EventWith}
+use Rattle.agent_commands.specs.Events.{Event}
 use Rattle.agent_commands.specs.declared.request.Request.{Request}
 use Rattle.key_commands.specs.Exchanges.{KeyReply, Exchange, HaveKeyReplies, KeyInfoReplies, ListKeysReplies, KeyWrapReplies, ImportKeyReplies, ExportKeyReplies, PasswdReplies, VerifyReplies}
 use Rattle.key_commands.specs.Exchanges.{DeleteKeyReplies, Replies, wrap_key, StoresKey, FoundOrNew, RenewsPassphrase, RewritesFile, ChangesOpened}
@@ -41,8 +41,7 @@ use Rattle.key_commands.specs.KeyParts.{Tells, tells, ReadsFile, Replaces, Remov
 use Rattle.key_commands.specs.KeyParts.{max_key_data, AsksKeyData, Unwraps, ReceivesKey, NamesKey, IsFree, LooksOver, WrapsKey, Agrees, Consents, file_in, grips_in, change_fault}
 use Rattle.agent_ask.specs.ConsentParts.{consent_refusal}
 use Rattle.key_commands.specs.KeyParts as parts
-use Rattle.key_commands.specs.Lines.{grip_text, info_line}
-use Rattle.assuan_server.specs.Written.{ok, limit_line}
+use Rattle.key_commands.specs.Lines.{ok, grip_text, info_line, limit_line}
 use Rattle.key_commands.specs.Parts.{Part, Writes, Inquires, AsksClient, Finds, Draws, read_fault, refusal_events, refusal_went}
 use Rattle.agent_ask.specs.Parts.{◌>>=◌, Follows, goes_on, stops, Returns, returns, Refuses}
 use Rattle.agent_ask.specs.Interrupts.{Interrupts}
@@ -76,18 +75,18 @@ use Rattle.agent_session.proofs.Asides.{info_status, nonce_status, status_aside}
 use Rattle.agent_session.proofs.Replying.{IsReply, begins, ends_in_ok, reply_keys}
 
 module _ (request : Request) where
-  abbrev Here : {A : Type 0} → List (EventWith FurtherEvent) → Result A Refusal → Type 0
+  abbrev Here : {A : Type 0} → List (Event FurtherEvent) → Result A Refusal → Type 0
   Here = Works request
 
   abbrev PartHere : {A : Type 0} → Part A → Type 0
   PartHere = WorksSo request
 
   -- one event that refuses its request
-  refused_by : {A : Type 0} {event : EventWith FurtherEvent} {why : Code} → IsAllowed request event → refuses event ≡ Some why → shuts event ≡ [] → Here {A = A} (event ∷ []) (Err (Agent why))
+  refused_by : {A : Type 0} {event : Event FurtherEvent} {why : Code} → IsAllowed request event → refuses event ≡ Some why → shuts event ≡ [] → Here {A = A} (event ∷ []) (Err (Agent why))
   refused_by {event} allowed is alone = record { work = []; last = event ∷ shuts event; is = ap (λ e. event ∷ e) (sym alone); each = tt; end = refused allowed is }
 
   -- and behind one that is its work
-  refused_second : {A : Type 0} {first event : EventWith FurtherEvent} {why : Code} → IsWork request first → IsAllowed request event → refuses event ≡ Some why → shuts event ≡ []
+  refused_second : {A : Type 0} {first event : Event FurtherEvent} {why : Code} → IsWork request first → IsAllowed request event → refuses event ≡ Some why → shuts event ≡ []
       → Here {A = A} (first ∷ event ∷ []) (Err (Agent why))
   refused_second {first} is_work allowed is alone = behind_work request (first ∷ []) (is_work, tt) (refused_by allowed is alone)
 
@@ -104,7 +103,7 @@ module _ (request : Request) where
     interrupt_here turns.stopping = one_works request own.allowed (by_turn step _ own.no_close refl)
     interrupt_here turns.late = one_works request own.allowed (by_turn step _ own.no_close refl)
 
-    looks_of : (before : Option ℕ) (events : List (EventWith FurtherEvent)) (result : Result (Option (List ℕ)) Refusal) (after : Option ℕ) → Asks step before events result after → Here events result
+    looks_of : (before : Option ℕ) (events : List (Event FurtherEvent)) (result : Result (Option (List ℕ)) Refusal) (after : Option ℕ) → Asks step before events result after → Here events result
     looks_of before events result after taken.given = one_works request own.allowed (by_turn step _ own.no_close refl)
     looks_of before events result after taken.empty = one_works request own.allowed (by_turn step _ own.no_close refl)
     looks_of before events result after taken.opened = one_works request own.allowed (by_turn step _ own.no_close refl)
@@ -113,14 +112,14 @@ module _ (request : Request) where
     looks : PartHere (Asks step)
     looks = record { of = looks_of }
 
-    seats_of : (before : Option ℕ) (events : List (EventWith FurtherEvent)) (result : Result (Unit {0}) Refusal) (after : Option ℕ) → Seats step before events result after → Here events result
+    seats_of : (before : Option ℕ) (events : List (Event FurtherEvent)) (result : Result (Unit {0}) Refusal) (after : Option ℕ) → Seats step before events result after → Here events result
     seats_of before events result after taken.opened = one_works request own.allowed (by_turn step _ own.no_close refl)
     seats_of before events result after (taken.interrupted why) = interrupt_here why
 
     seats : PartHere (Seats step)
     seats = record { of = seats_of }
 
-    changes_of : (before : Option ℕ) (events : List (EventWith FurtherEvent)) (result : Result (Unit {0}) Refusal) (after : Option ℕ) → Changes step before events result after → Here events result
+    changes_of : (before : Option ℕ) (events : List (Event FurtherEvent)) (result : Result (Unit {0}) Refusal) (after : Option ℕ) → Changes step before events result after → Here events result
     changes_of before events result after taken.done = one_works request own.allowed (by_turn step _ own.no_close refl)
     changes_of before events result after (taken.interrupted why) = interrupt_here why
 
@@ -130,7 +129,7 @@ module _ (request : Request) where
   own_step : (step : MarkStep) → closes step ≡ None → IsWorkStep request step → IsOwn step
   own_step asked no_close allowed = record { no_close = no_close; allowed = allowed }
 
-  peeks_of : (grip : Grip) (before : Option ℕ) (events : List (EventWith FurtherEvent)) (result : Result Bool Refusal) (after : Option ℕ) → Peeks (grip_text grip) Normal before events result after → Here events result
+  peeks_of : (grip : Grip) (before : Option ℕ) (events : List (Event FurtherEvent)) (result : Result Bool Refusal) (after : Option ℕ) → Peeks (grip_text grip) Normal before events result after → Here events result
   peeks_of grip before events result after taken.peeked = one_works request tt refl
   peeks_of grip before events result after (taken.interrupted why) = interrupt_here (own_step _ refl tt) why
 
@@ -141,7 +140,7 @@ module _ (request : Request) where
   looks_for_nonce None = returned request None
   looks_for_nonce (Some id) = looks (own_step _ refl tt)
 
-  looks_over_of : (id : Option (List ℕ)) (before : Option ℕ) (events : List (EventWith FurtherEvent)) (result : Result (Option (List ℕ)) Refusal) (after : Option ℕ) → LooksOver id before events result after
+  looks_over_of : (id : Option (List ℕ)) (before : Option ℕ) (events : List (Event FurtherEvent)) (result : Result (Option (List ℕ)) Refusal) (after : Option ℕ) → LooksOver id before events result after
       → Here events result
   looks_over_of id before events result after parts.no_nonce = works request tt
   looks_over_of id before events result after parts.given = one_works request tt refl
@@ -152,7 +151,7 @@ module _ (request : Request) where
   looks_over : (id : Option (List ℕ)) → PartHere (LooksOver id)
   looks_over id = record { of = looks_over_of id }
 
-  takes_seat_of : (grip : Grip) (before : Option ℕ) (events : List (EventWith FurtherEvent)) (result : Result (Unit {0}) Refusal) (after : Option ℕ) → TakesSeat grip before events result after → Here events result
+  takes_seat_of : (grip : Grip) (before : Option ℕ) (events : List (Event FurtherEvent)) (result : Result (Unit {0}) Refusal) (after : Option ℕ) → TakesSeat grip before events result after → Here events result
   takes_seat_of grip None events result after does = (seats (own_step (seat_for grip) refl tt)).of None events result after does
   takes_seat_of grip (Some number) events result after does = (returned request tt).of (Some number) events result after does
 
@@ -161,7 +160,7 @@ module _ (request : Request) where
 
   -- ---- the client
 
-  writes_of : (text : List ℕ) → IsNotice text → (before : Option ℕ) (events : List (EventWith FurtherEvent)) (result : Result (Unit {0}) Refusal) (after : Option ℕ) → Writes text before events result after
+  writes_of : (text : List ℕ) → IsNotice text → (before : Option ℕ) (events : List (Event FurtherEvent)) (result : Result (Unit {0}) Refusal) (after : Option ℕ) → Writes text before events result after
       → Here events result
   writes_of text notice before events result after small.written = one_works request notice refl
   writes_of text notice before events result after (small.cut unsent is) = one_works request tt refl
@@ -169,7 +168,7 @@ module _ (request : Request) where
   writes : (text : List ℕ) → IsNotice text → PartHere (Writes text)
   writes text notice = record { of = writes_of text notice }
 
-  inquires_of : (word : List ℕ) (most : ℕ) (before : Option ℕ) (events : List (EventWith FurtherEvent)) (result : Result (List ℕ) Refusal) (after : Option ℕ) → Inquires word most before events result after
+  inquires_of : (word : List ℕ) (most : ℕ) (before : Option ℕ) (events : List (Event FurtherEvent)) (result : Result (List ℕ) Refusal) (after : Option ℕ) → Inquires word most before events result after
       → Here events result
   inquires_of word most before events result after (small.given is) = one_works request tt refl
   inquires_of word most before events result after (small.not_given is) = one_works request tt refl
@@ -179,7 +178,7 @@ module _ (request : Request) where
 
   -- ---- the keys and the dice
 
-  finds_of : (grip : Grip) (before : Option ℕ) (events : List (EventWith FurtherEvent)) (result : Result Bool Refusal) (after : Option ℕ) → Finds grip before events result after → Here events result
+  finds_of : (grip : Grip) (before : Option ℕ) (events : List (Event FurtherEvent)) (result : Result Bool Refusal) (after : Option ℕ) → Finds grip before events result after → Here events result
   finds_of grip before events result after small.found = one_works request tt refl
   finds_of grip before events result after small.absent = one_works request tt refl
   finds_of grip before events result after small.faulted = refused_by tt refl refl
@@ -188,7 +187,7 @@ module _ (request : Request) where
   finds : (grip : Grip) → PartHere (Finds grip)
   finds grip = record { of = finds_of grip }
 
-  draws_of : (count : ℕ) (before : Option ℕ) (events : List (EventWith FurtherEvent)) (result : Result (List ℕ) Refusal) (after : Option ℕ) → Draws count before events result after → Here events result
+  draws_of : (count : ℕ) (before : Option ℕ) (events : List (Event FurtherEvent)) (result : Result (List ℕ) Refusal) (after : Option ℕ) → Draws count before events result after → Here events result
   draws_of count before events result after (small.drawn long) = one_works request tt refl
   draws_of count before events result after small.faulted = refused_by tt refl refl
 
@@ -207,7 +206,7 @@ module _ (request : Request) where
   unread grip key_read.Failed is = refused_by tt is refl
   unread grip key_read.NoMemory is = refused_by tt is refl
 
-  reads_file_of : (grip : Grip) (before : Option ℕ) (events : List (EventWith FurtherEvent)) (result : Result _ Refusal) (after : Option ℕ) → ReadsFile grip before events result after → Here events result
+  reads_file_of : (grip : Grip) (before : Option ℕ) (events : List (Event FurtherEvent)) (result : Result _ Refusal) (after : Option ℕ) → ReadsFile grip before events result after → Here events result
   reads_file_of grip before events result after (parts.is_key {answer} is says) = works request (found_read grip answer is, tt)
   reads_file_of grip before events result after (parts.faulty {answer} is says) = works request (found_read grip answer is, tt)
   reads_file_of grip before events result after (parts.no_memory {answer} is) = refused_second (found_read grip answer is) tt refl refl
@@ -216,7 +215,7 @@ module _ (request : Request) where
   reads_file : (grip : Grip) → PartHere (ReadsFile grip)
   reads_file grip = record { of = reads_file_of grip }
 
-  reads_listed_of : (grip : Grip) (before : Option ℕ) (events : List (EventWith FurtherEvent)) (result : Result (Option Key) Refusal) (after : Option ℕ) → ReadsListed grip before events result after → Here events result
+  reads_listed_of : (grip : Grip) (before : Option ℕ) (events : List (Event FurtherEvent)) (result : Result (Option Key) Refusal) (after : Option ℕ) → ReadsListed grip before events result after → Here events result
   reads_listed_of grip before events result after (parts.is_key {answer} is says) = works request (found_read grip answer is, tt)
   reads_listed_of grip before events result after (parts.faulty {answer} is says) = works request (found_read grip answer is, tt)
   reads_listed_of grip before events result after parts.absent = one_works request tt refl
@@ -231,20 +230,20 @@ module _ (request : Request) where
   listed_names key_names.Failed is = absurd (cc is)
   listed_names key_names.NoMemory is = absurd (cc is)
 
-  lists_of : (before : Option ℕ) (events : List (EventWith FurtherEvent)) (result : Result (List Grip) Refusal) (after : Option ℕ) → ListsGrips before events result after → Here events result
+  lists_of : (before : Option ℕ) (events : List (Event FurtherEvent)) (result : Result (List Grip) Refusal) (after : Option ℕ) → ListsGrips before events result after → Here events result
   lists_of before events result after (parts.listed {answer} is) = works request (listed_names answer is, tt)
   lists_of before events result after parts.faulted = refused_by tt refl refl
   lists_of before events result after parts.no_memory = refused_by tt refl refl
 
   -- ---- parts that only want memory
 
-  tells_of : (bytes : List ℕ) (before : Option ℕ) (events : List (EventWith FurtherEvent)) (result : Result (List ℕ) Refusal) (after : Option ℕ) → Tells bytes before events result after → Here events result
+  tells_of : (bytes : List ℕ) (before : Option ℕ) (events : List (Event FurtherEvent)) (result : Result (List ℕ) Refusal) (after : Option ℕ) → Tells bytes before events result after → Here events result
   tells_of bytes before events result after (tells is) = works request tt
 
   told : (bytes : List ℕ) → PartHere (Tells bytes)
   told bytes = record { of = tells_of bytes }
 
-  protects_of : (key : Key) (pass salt iv : List ℕ) (count : ℕ) (before : Option ℕ) (events : List (EventWith FurtherEvent)) (result : Result (List ℕ) Refusal) (after : Option ℕ)
+  protects_of : (key : Key) (pass salt iv : List ℕ) (count : ℕ) (before : Option ℕ) (events : List (Event FurtherEvent)) (result : Result (List ℕ) Refusal) (after : Option ℕ)
       → Protects key pass salt iv count before events result after → Here events result
   protects_of key pass salt iv count before events result after parts.made = works request tt
   protects_of key pass salt iv count before events result after parts.no_memory = refused_by tt refl refl
@@ -252,39 +251,39 @@ module _ (request : Request) where
   protects : (key : Key) (pass salt iv : List ℕ) (count : ℕ) → PartHere (Protects key pass salt iv count)
   protects key pass salt iv count = record { of = protects_of key pass salt iv count }
 
-  is_short_of : (key : Key) (before : Option ℕ) (events : List (EventWith FurtherEvent)) (result : Result (Unit {0}) Refusal) (after : Option ℕ) → IsShort key before events result after → Here events result
+  is_short_of : (key : Key) (before : Option ℕ) (events : List (Event FurtherEvent)) (result : Result (Unit {0}) Refusal) (after : Option ℕ) → IsShort key before events result after → Here events result
   is_short_of key before events result after (parts.short few) = works request tt
   is_short_of key before events result after (parts.long many) = works request tt
 
-  rewrites_of : (file list : List ℕ) (before : Option ℕ) (events : List (EventWith FurtherEvent)) (result : Result (List ℕ) Refusal) (after : Option ℕ) → Rewrites file list before events result after → Here events result
+  rewrites_of : (file list : List ℕ) (before : Option ℕ) (events : List (Event FurtherEvent)) (result : Result (List ℕ) Refusal) (after : Option ℕ) → Rewrites file list before events result after → Here events result
   rewrites_of file list before events result after (files.canonical_file is) = works request tt
   rewrites_of file list before events result after (files.extended_file other with_list few) = works request tt
   rewrites_of file list before events result after (files.too_long new_file other with_list many) = works request tt
   rewrites_of file list before events result after files.no_memory = refused_by tt refl refl
 
-  names_key_of : (key : Key) (before : Option ℕ) (events : List (EventWith FurtherEvent)) (result : Result Grip Refusal) (after : Option ℕ) → NamesKey key before events result after → Here events result
+  names_key_of : (key : Key) (before : Option ℕ) (events : List (Event FurtherEvent)) (result : Result Grip Refusal) (after : Option ℕ) → NamesKey key before events result after → Here events result
   names_key_of key before events result after (parts.named is) = works request tt
   names_key_of key before events result after parts.no_memory = refused_by tt refl refl
 
-  wraps_key_of : (wrap : List ℕ) (key : Key) (before : Option ℕ) (events : List (EventWith FurtherEvent)) (result : Result (List ℕ) Refusal) (after : Option ℕ) → WrapsKey wrap key before events result after → Here events result
+  wraps_key_of : (wrap : List ℕ) (key : Key) (before : Option ℕ) (events : List (Event FurtherEvent)) (result : Result (List ℕ) Refusal) (after : Option ℕ) → WrapsKey wrap key before events result after → Here events result
   wraps_key_of wrap key before events result after parts.is_wrapped = works request tt
   wraps_key_of wrap key before events result after parts.no_memory = refused_by tt refl refl
 
-  asks_key_data_of : (before : Option ℕ) (events : List (EventWith FurtherEvent)) (result : Result (List ℕ) Refusal) (after : Option ℕ) → AsksKeyData before events result after → Here events result
+  asks_key_data_of : (before : Option ℕ) (events : List (Event FurtherEvent)) (result : Result (List ℕ) Refusal) (after : Option ℕ) → AsksKeyData before events result after → Here events result
   asks_key_data_of before events result after (parts.asked inquires) = inquires_of (codes "KEYDATA") max_key_data before events result before inquires
   asks_key_data_of before events result after (parts.no_memory at_end) = refused_second (tt, refl) tt refl refl
 
-  unwraps_of : (wrap wrapped : List ℕ) (before : Option ℕ) (events : List (EventWith FurtherEvent)) (result : Result Key Refusal) (after : Option ℕ) → Unwraps wrap wrapped before events result after → Here events result
+  unwraps_of : (wrap wrapped : List ℕ) (before : Option ℕ) (events : List (Event FurtherEvent)) (result : Result Key Refusal) (after : Option ℕ) → Unwraps wrap wrapped before events result after → Here events result
   unwraps_of wrap wrapped before events result after (parts.is_key says) = works request tt
   unwraps_of wrap wrapped before events result after (parts.refused says) = works request tt
   unwraps_of wrap wrapped before events result after parts.no_memory = refused_by tt refl refl
 
-  locks_of : (key : Key) (before : Option ℕ) (events : List (EventWith FurtherEvent)) (result : Result LockedKey Refusal) (after : Option ℕ) → Locks key before events result after → Here events result
+  locks_of : (key : Key) (before : Option ℕ) (events : List (Event FurtherEvent)) (result : Result LockedKey Refusal) (after : Option ℕ) → Locks key before events result after → Here events result
   locks_of key before events result after (passphrases.is_locked same locked) = works request tt
   locks_of key before events result after (passphrases.has_fault is) = works request tt
   locks_of key before events result after passphrases.no_memory = refused_by tt refl refl
 
-  tries_of : (locked : LockedKey) (pass : List ℕ) (before : Option ℕ) (events : List (EventWith FurtherEvent)) (result : Result (Option _) Refusal) (after : Option ℕ) → Tries locked pass before events result after
+  tries_of : (locked : LockedKey) (pass : List ℕ) (before : Option ℕ) (events : List (Event FurtherEvent)) (result : Result (Option _) Refusal) (after : Option ℕ) → Tries locked pass before events result after
       → Here events result
   tries_of locked pass before events result after (passphrases.opens to) = works request tt
   tries_of locked pass before events result after (passphrases.stays closed) = works request tt
@@ -313,30 +312,30 @@ module _ (request : Request) where
   stopped_consent (agreed.Heard heard) refusal is = absurd (cc is)
   stopped_consent agreed.NoPinentry refusal is = cc
 
-  shown_end : {A : Type 0} {code : Option Code} {why : Refusal} {last : List (EventWith FurtherEvent)} → ShownEnd request code last → ((stop : Code) → code ≡ Some stop → why ≡ Agent stop)
+  shown_end : {A : Type 0} {code : Option Code} {why : Refusal} {last : List (Event FurtherEvent)} → ShownEnd request code last → ((stop : Code) → code ≡ Some stop → why ≡ Agent stop)
       → WorkEnd request {A = A} last (Err why)
   shown_end no_shown same = no_more
   shown_end {A} (stopped {event} {why = stop} allowed is so) same = subst (λ w. WorkEnd request {A = A} (event ∷ shuts event) (Err w)) (sym (same stop so)) (refused allowed is)
 
-  shown_none : {A : Type 0} {value : A} {last : List (EventWith FurtherEvent)} → ShownEnd request None last → WorkEnd request last (Ok value)
+  shown_none : {A : Type 0} {value : A} {last : List (Event FurtherEvent)} → ShownEnd request None last → WorkEnd request last (Ok value)
   shown_none no_shown = no_more
   shown_none (stopped allowed is never) = absurd (cc never)
 
-  shown_ok : {A : Type 0} {value : A} {events : List (EventWith FurtherEvent)} → Shows request None events → Here events (Ok value)
+  shown_ok : {A : Type 0} {value : A} {events : List (Event FurtherEvent)} → Shows request None events → Here events (Ok value)
   shown_ok shows = record { work = shows.work; last = shows.last; is = shows.is; each = shows.each; end = shown_none shows.end }
 
-  shown_err : {A : Type 0} {code : Option Code} {why : Refusal} {events : List (EventWith FurtherEvent)} → Shows request code events → ((stop : Code) → code ≡ Some stop → why ≡ Agent stop)
+  shown_err : {A : Type 0} {code : Option Code} {why : Refusal} {events : List (Event FurtherEvent)} → Shows request code events → ((stop : Code) → code ≡ Some stop → why ≡ Agent stop)
       → Here {A = A} events (Err why)
   shown_err shows same = record { work = shows.work; last = shows.last; is = shows.is; each = shows.each; end = shown_end shows.end same }
 
   module _ (rules : Rules) (options : OptionValues) (grip : Grip) where
-    prompts_old_of : (locked : LockedKey) (before : Option ℕ) (events : List (EventWith FurtherEvent)) (result : Result _ Refusal) (after : Option ℕ) → PromptsOld rules options grip locked before events result after
+    prompts_old_of : (locked : LockedKey) (before : Option ℕ) (events : List (Event FurtherEvent)) (result : Result _ Refusal) (after : Option ℕ) → PromptsOld rules options grip locked before events result after
         → Here events result
     prompts_old_of locked before events result after (passphrases.opens_by spec is prompt to) = shown_ok (pin_shows_work request prompt.asks prompt.in_session)
     prompts_old_of locked before events result after (passphrases.refused {answer} spec is prompt refusal) =
         shown_err (pin_shows_work request prompt.asks prompt.in_session) (λ stop so. stopped_pin answer refusal so)
 
-    prompts_new_of : (before : Option ℕ) (events : List (EventWith FurtherEvent)) (result : Result (List ℕ) Refusal) (after : Option ℕ) → PromptsNew rules options grip before events result after → Here events result
+    prompts_new_of : (before : Option ℕ) (events : List (Event FurtherEvent)) (result : Result (List ℕ) Refusal) (after : Option ℕ) → PromptsNew rules options grip before events result after → Here events result
     prompts_new_of before events result after (passphrases.given spec is prompt) = shown_ok (pin_shows_work request prompt.asks prompt.in_session)
     prompts_new_of before events result after (passphrases.refused {answer} spec is prompt refusal) =
         shown_err (pin_shows_work request prompt.asks prompt.in_session) (λ stop so. stopped_pin answer refusal so)
@@ -382,7 +381,7 @@ module _ (request : Request) where
     new_here mode.Loopback = client_new
 
   module _ (rules : Rules) (options : OptionValues) (grip : Grip) where
-    agrees_of : (before : Option ℕ) (events : List (EventWith FurtherEvent)) (result : Result (Unit {0}) Refusal) (after : Option ℕ) → Agrees rules options grip before events result after → Here events result
+    agrees_of : (before : Option ℕ) (events : List (Event FurtherEvent)) (result : Result (Unit {0}) Refusal) (after : Option ℕ) → Agrees rules options grip before events result after → Here events result
     agrees_of before events result after (consent.consents spec is prompt) = shown_ok (consent_shows_work request prompt.asks prompt.in_session)
     agrees_of before events result after (consent.refused {answer} spec is prompt refusal) =
         shown_err (consent_shows_work request prompt.asks prompt.in_session) (λ stop so. stopped_consent answer refusal so)
@@ -402,10 +401,10 @@ module _ (request : Request) where
   tells_info : (grip : Grip) (key : Key) → PartHere (TellsInfo grip key)
   tells_info grip key = bind request (peeks grip) (λ cached. returned request _)
 
-  info_notice : (grip : Grip) (key : Key) {before mid : Option ℕ} {events : List (EventWith FurtherEvent)} {line : List ℕ} → TellsInfo grip key before events (Ok line) mid → IsNotice line
+  info_notice : (grip : Grip) (key : Key) {before mid : Option ℕ} {events : List (Event FurtherEvent)} {line : List ℕ} → TellsInfo grip key before events (Ok line) mid → IsNotice line
   info_notice grip key (goes_on peeks returns) = info grip _ _
 
-  writes_info_of : (grip : Grip) (key : Option Key) (before : Option ℕ) (events : List (EventWith FurtherEvent)) (result : Result (Unit {0}) Refusal) (after : Option ℕ) → WritesInfo grip key before events result after
+  writes_info_of : (grip : Grip) (key : Option Key) (before : Option ℕ) (events : List (Event FurtherEvent)) (result : Result (Unit {0}) Refusal) (after : Option ℕ) → WritesInfo grip key before events result after
       → Here events result
   writes_info_of grip None before events result after returns = works request tt
   writes_info_of grip (Some key) before events result after (goes_on {first} {events = more} {value = line} {mid} tells_so writes_so) =
@@ -434,8 +433,8 @@ module _ (request : Request) where
 
   -- ---- behind the work
 
-  data KeyEnd {A : Type 0} : List (EventWith FurtherEvent) → Result A Refusal → Option ℕ → Type 0 where
-    working : {last : List (EventWith FurtherEvent)} {result : Result A Refusal} {held : Option ℕ} → WorkEnd request last result → KeyEnd last result held
+  data KeyEnd {A : Type 0} : List (Event FurtherEvent) → Result A Refusal → Option ℕ → Type 0 where
+    working : {last : List (Event FurtherEvent)} {result : Result A Refusal} {held : Option ℕ} → WorkEnd request last result → KeyEnd last result held
     closed : {ticket : ℕ} {keep : Option (List ℕ)} {value : A} (turn : Turn) → KeyEnd (cache_turn (Close ticket keep) turn ∷ []) (Ok value) None
     unwrapped : {ticket : ℕ} {keep : Option (List ℕ)} (turn : Turn) → KeyEnd (cache_turn (Close ticket keep) turn ∷ Further NoMemory ∷ []) (Err (Agent code.NoMemory)) None
     kept : {grip : Grip} {file : List ℕ} {ticket : ℕ} {pass : List ℕ} {value : A} (turn : Turn)
@@ -447,21 +446,21 @@ module _ (request : Request) where
     uncleared : {grip : Grip} {turn : Turn} {why : Code} {held : Option ℕ} → Interrupts turn why
         → KeyEnd (Further (Keys (Removed grip key_done.Done)) ∷ cache_turn (Clear (grip_text grip) Normal) turn ∷ []) (Err (Agent why)) held
 
-  record Ends {A : Type 0} (events : List (EventWith FurtherEvent)) (result : Result A Refusal) (held : Option ℕ) : Type 0 where
-    work : List (EventWith FurtherEvent)
-    last : List (EventWith FurtherEvent)
+  record Ends {A : Type 0} (events : List (Event FurtherEvent)) (result : Result A Refusal) (held : Option ℕ) : Type 0 where
+    work : List (Event FurtherEvent)
+    last : List (Event FurtherEvent)
     is : events ≡ work ++ last
     each : AreWork request work
     end : KeyEnd last result held
 
-  working_ends : {A : Type 0} {events : List (EventWith FurtherEvent)} {result : Result A Refusal} {held : Option ℕ} → Here events result → Ends events result held
+  working_ends : {A : Type 0} {events : List (Event FurtherEvent)} {result : Result A Refusal} {held : Option ℕ} → Here events result → Ends events result held
   working_ends does = record { work = does.work; last = does.last; is = does.is; each = does.each; end = working does.end }
 
   -- nothing is left of the work
-  ends_with : {A : Type 0} {events : List (EventWith FurtherEvent)} {result : Result A Refusal} {held : Option ℕ} → KeyEnd events result held → Ends events result held
+  ends_with : {A : Type 0} {events : List (Event FurtherEvent)} {result : Result A Refusal} {held : Option ℕ} → KeyEnd events result held → Ends events result held
   ends_with {events} end = record { work = []; last = events; is = refl; each = tt; end = end }
 
-  behind : {A : Type 0} {events : List (EventWith FurtherEvent)} {result : Result A Refusal} {held : Option ℕ} (first : List (EventWith FurtherEvent)) → AreWork request first → Ends events result held
+  behind : {A : Type 0} {events : List (Event FurtherEvent)} {result : Result A Refusal} {held : Option ℕ} (first : List (Event FurtherEvent)) → AreWork request first → Ends events result held
       → Ends (first ++ events) result held
   behind first each ends = record {
     work = first ++ ends.work;
@@ -472,14 +471,14 @@ module _ (request : Request) where
   }
 
   record EndsSo {A : Type 0} (part : Part A) : Type 0 where
-    of : (before : Option ℕ) (events : List (EventWith FurtherEvent)) (result : Result A Refusal) (after : Option ℕ) → part before events result after → Ends events result after
+    of : (before : Option ℕ) (events : List (Event FurtherEvent)) (result : Result A Refusal) (after : Option ℕ) → part before events result after → Ends events result after
 
   ends_working : {A : Type 0} {part : Part A} → PartHere part → EndsSo part
   ends_working part_works = record { of = λ before events result after does. working_ends (part_works.of before events result after does) }
 
   -- work, and then what ends the request
   module _ {A B : Type 0} {part : Part A} {next : A → Part B} (first : PartHere part) (then : (value : A) → EndsSo (next value)) where
-    bind_ends_of : (before : Option ℕ) (events : List (EventWith FurtherEvent)) (result : Result B Refusal) (after : Option ℕ) → Follows part next before events result after → Ends events result after
+    bind_ends_of : (before : Option ℕ) (events : List (Event FurtherEvent)) (result : Result B Refusal) (after : Option ℕ) → Follows part next before events result after → Ends events result after
     bind_ends_of before events result after (goes_on {first = some} {events = more} {value} {mid} does next_does) =
         behind some (ok_works request (first.of before some (Ok value) mid does)) ((then value).of mid more result after next_does)
     bind_ends_of before events result after (stops {refusal = why} does) = working_ends (err_works request (first.of before events (Err why) after does))
@@ -488,14 +487,14 @@ module _ (request : Request) where
     bind_ends = record { of = bind_ends_of }
 
   -- a value is made of what a request ends with
-  ok_end : {A B : Type 0} {last : List (EventWith FurtherEvent)} {value : A} {held : Option ℕ} (other : B) → KeyEnd last (Ok value) held → KeyEnd last (Ok other) held
+  ok_end : {A B : Type 0} {last : List (Event FurtherEvent)} {value : A} {held : Option ℕ} (other : B) → KeyEnd last (Ok value) held → KeyEnd last (Ok other) held
   ok_end other (working no_more) = working no_more
   ok_end other (closed turn) = closed turn
   ok_end other (kept turn) = kept turn
   ok_end other put = put
   ok_end other cleared = cleared
 
-  err_end : {A B : Type 0} {last : List (EventWith FurtherEvent)} {why : Refusal} {held : Option ℕ} → KeyEnd {A = A} last (Err why) held → KeyEnd {A = B} last (Err why) held
+  err_end : {A B : Type 0} {last : List (Event FurtherEvent)} {why : Refusal} {held : Option ℕ} → KeyEnd {A = A} last (Err why) held → KeyEnd {A = B} last (Err why) held
   err_end (working no_more) = working no_more
   err_end (working (refused allowed is)) = working (refused allowed is)
   err_end (unwrapped turn) = unwrapped turn
@@ -503,11 +502,11 @@ module _ (request : Request) where
   err_end (uncleared why) = uncleared why
 
   module _ {A B : Type 0} {part : Part A} (make : A → B) (all_ends : EndsSo part) where
-    made_with : {some more : List (EventWith FurtherEvent)} {mid : Option ℕ} (value : A) {result : Result B Refusal} {after : Option ℕ} → Ends some (Ok value) mid → Returns (make value) mid more result after
+    made_with : {some more : List (Event FurtherEvent)} {mid : Option ℕ} (value : A) {result : Result B Refusal} {after : Option ℕ} → Ends some (Ok value) mid → Returns (make value) mid more result after
         → Ends (some ++ more) result after
     made_with {some} value ends returns = record { work = ends.work; last = ends.last; is = append-nil some ∙ ends.is; each = ends.each; end = ok_end (make value) ends.end }
 
-    made_of : (before : Option ℕ) (events : List (EventWith FurtherEvent)) (result : Result B Refusal) (after : Option ℕ) → Follows part (λ value. Returns (make value)) before events result after → Ends events result after
+    made_of : (before : Option ℕ) (events : List (Event FurtherEvent)) (result : Result B Refusal) (after : Option ℕ) → Follows part (λ value. Returns (make value)) before events result after → Ends events result after
     made_of before events result after (goes_on {first = some} {value} {mid} does returns_so) = made_with value (all_ends.of before some (Ok value) mid does) returns_so
     made_of before events result after (stops {refusal = why} does) =
         let ends : Ends events (Err why) after = all_ends.of before events (Err why) after does in
@@ -526,7 +525,7 @@ module _ (request : Request) where
   unchanged key_done.NoMemory call allowed same is = refused_by (allowed key_done.NoMemory (λ e. absurd (cc e))) (same key_done.NoMemory ∙ is) refl
 
   module _ (grip : Grip) (file pass : List ℕ) where
-    replaces_so_of : (before : Option ℕ) (events : List (EventWith FurtherEvent)) (result : Result (Unit {0}) Refusal) (after : Option ℕ)
+    replaces_so_of : (before : Option ℕ) (events : List (Event FurtherEvent)) (result : Result (Unit {0}) Refusal) (after : Option ℕ)
         → (Replaces grip file >>= λ replaced. KeepsNew grip pass) before events result after → Ends events result after
     replaces_so_of None events result after (goes_on parts.done taken.done) = ends_with put
     replaces_so_of None events result after (goes_on parts.done (taken.interrupted why)) = ends_with (unput why)
@@ -537,7 +536,7 @@ module _ (request : Request) where
     ends_replacing = record { of = replaces_so_of }
 
     -- and then a value
-    stores_so_of : {A : Type 0} (value : A) (before : Option ℕ) (events : List (EventWith FurtherEvent)) (result : Result A Refusal) (after : Option ℕ)
+    stores_so_of : {A : Type 0} (value : A) (before : Option ℕ) (events : List (Event FurtherEvent)) (result : Result A Refusal) (after : Option ℕ)
         → (Replaces grip file >>= λ replaced. (KeepsNew grip pass >>= λ kept. Returns value)) before events result after → Ends events result after
     stores_so_of value None events result after (goes_on parts.done (goes_on taken.done returns)) = ends_with put
     stores_so_of value None events result after (goes_on parts.done (stops (taken.interrupted why))) = ends_with (unput why)
@@ -545,20 +544,20 @@ module _ (request : Request) where
     stores_so_of value (Some number) events result after (goes_on parts.done (stops never)) = elim never [ ]
     stores_so_of value before events result after (stops (parts.not_done {answer} is)) = working_ends (unchanged answer (λ given. Replaced grip file given) (λ given other. other) (λ given. refl) is)
 
-  removes_so_of : {A : Type 0} (grip : Grip) (value : A) (before : Option ℕ) (events : List (EventWith FurtherEvent)) (result : Result A Refusal) (after : Option ℕ)
+  removes_so_of : {A : Type 0} (grip : Grip) (value : A) (before : Option ℕ) (events : List (Event FurtherEvent)) (result : Result A Refusal) (after : Option ℕ)
       → (Removes grip >>= λ removed. (Changes (Clear (grip_text grip) Normal) >>= λ cleared. Returns value)) before events result after → Ends events result after
   removes_so_of grip value before events result after (goes_on parts.done (goes_on taken.done returns)) = ends_with cleared
   removes_so_of grip value before events result after (goes_on parts.done (stops (taken.interrupted why))) = ends_with (uncleared why)
   removes_so_of grip value before events result after (stops (parts.not_done {answer} is)) = working_ends (unchanged answer (λ given. Removed grip given) (λ given other. other) (λ given. refl) is)
 
   -- a ticket is given back
-  gives_back_of : {A : Type 0} (keep : Option (List ℕ)) (value : A) (before : Option ℕ) (events : List (EventWith FurtherEvent)) (result : Result A Refusal) (after : Option ℕ)
+  gives_back_of : {A : Type 0} (keep : Option (List ℕ)) (value : A) (before : Option ℕ) (events : List (Event FurtherEvent)) (result : Result A Refusal) (after : Option ℕ)
       → (Closes keep >>= λ closed. Returns value) before events result after → Ends events result after
   gives_back_of keep value before events result after (goes_on taken.unheld returns) = working_ends (works request tt)
   gives_back_of keep value before events result after (goes_on (taken.closed turn) returns) = ends_with (closed turn)
   gives_back_of keep value before events result after (stops never) = elim never [ ]
 
-  wraps_last_of : (keep : Option (List ℕ)) (wrap : List ℕ) (key : Key) (wraps : WrapKeys) (before : Option ℕ) (events : List (EventWith FurtherEvent)) (result : Result KeyReply Refusal) (after : Option ℕ)
+  wraps_last_of : (keep : Option (List ℕ)) (wrap : List ℕ) (key : Key) (wraps : WrapKeys) (before : Option ℕ) (events : List (Event FurtherEvent)) (result : Result KeyReply Refusal) (after : Option ℕ)
       → (Closes keep >>= λ closed. (WrapsKey wrap key >>= λ wrapped. (Tells wrapped >>= λ text. Returns (exchange.reply wraps text)))) before events result after → Ends events result after
   wraps_last_of keep wrap key wraps before events result after (goes_on taken.unheld (goes_on parts.is_wrapped (goes_on (tells answers) returns))) = working_ends (works request tt)
   wraps_last_of keep wrap key wraps before events result after (goes_on taken.unheld (stops parts.no_memory)) = working_ends (refused_by tt refl refl)
@@ -656,15 +655,15 @@ module _ (request : Request) where
   last_of (Client (unheard.Gone gone.ReadFault)) = client_gone
   last_of (Client (unheard.Gone gone.WriteFault)) = client_gone
 
-  held_back : {held : Option ℕ} {back : List (EventWith FurtherEvent)} (last : List (EventWith FurtherEvent)) → Closes None held back (Ok tt) None → GivesBack last (back ++ last)
+  held_back : {held : Option ℕ} {back : List (Event FurtherEvent)} (last : List (Event FurtherEvent)) → Closes None held back (Ok tt) None → GivesBack last (back ++ last)
   held_back last taken.unheld = no_ticket
   held_back last (taken.closed turn) = with_ticket turn
 
-  last_end : {held : Option ℕ} {back last : List (EventWith FurtherEvent)} → IsLast last → Closes None held back (Ok tt) None → IsEnd request (back ++ last)
+  last_end : {held : Option ℕ} {back last : List (Event FurtherEvent)} → IsLast last → Closes None held back (Ok tt) None → IsEnd request (back ++ last)
   last_end is_last taken.unheld = course.answered is_last
   last_end is_last (taken.closed turn) = course.given_back turn is_last
 
-  ok_end_closes : {last back : List (EventWith FurtherEvent)} {held : Option ℕ} {reply : KeyReply} → EndsInOk reply.text → KeyEnd last (Ok reply) held → Closes None held back (Ok tt) None
+  ok_end_closes : {last back : List (Event FurtherEvent)} {held : Option ℕ} {reply : KeyReply} → EndsInOk reply.text → KeyEnd last (Ok reply) held → Closes None held back (Ok tt) None
       → IsEnd request (last ++ (back ++ Sent reply.text ∷ []))
   ok_end_closes good (working no_more) closes_so = last_end (said (done good)) closes_so
   ok_end_closes good (closed turn) taken.unheld = course.given_back turn (said (done good))
@@ -672,7 +671,7 @@ module _ (request : Request) where
   ok_end_closes good put taken.unheld = course.stored (settled good)
   ok_end_closes good cleared closes_so = course.cleared (settled good) (held_back _ closes_so)
 
-  err_end_closes : {last back : List (EventWith FurtherEvent)} {held : Option ℕ} {why : Refusal} → KeyEnd {A = KeyReply} last (Err why) held → Closes None held back (Ok tt) None
+  err_end_closes : {last back : List (Event FurtherEvent)} {held : Option ℕ} {why : Refusal} → KeyEnd {A = KeyReply} last (Err why) held → Closes None held back (Ok tt) None
       → IsEnd request (last ++ (back ++ refusal_events why))
   err_end_closes (working no_more) closes_so = last_end (last_of _) closes_so
   err_end_closes (working (refused {event} allowed is)) closes_so = course.refused allowed is (held_back _ closes_so)
@@ -680,22 +679,22 @@ module _ (request : Request) where
   err_end_closes (unput why) taken.unheld = course.stored (interrupted why)
   err_end_closes (uncleared why) closes_so = course.cleared (interrupted why) (held_back _ closes_so)
 
-  ends_course : {A : Type 0} {events : List (EventWith FurtherEvent)} {result : Result A Refusal} {held : Option ℕ} (ends : Ends events result held) (more : List (EventWith FurtherEvent)) → IsEnd request (ends.last ++ more)
+  ends_course : {A : Type 0} {events : List (Event FurtherEvent)} {result : Result A Refusal} {held : Option ℕ} (ends : Ends events result held) (more : List (Event FurtherEvent)) → IsEnd request (ends.last ++ more)
       → Course request (events ++ more)
   ends_course ends more end = record { work = ends.work; last = ends.last ++ more; is = ap (λ e. e ++ more) ends.is ∙ append_assoc ends.work ends.last more; each = ends.each; end = end }
 
 -- every reply ends in an OK line
 record RepliesOk (part : Part KeyReply) : Type 0 where
-  of : {before after : Option ℕ} {events : List (EventWith FurtherEvent)} {reply : KeyReply} → part before events (Ok reply) after → EndsInOk reply.text
+  of : {before after : Option ℕ} {events : List (Event FurtherEvent)} {reply : KeyReply} → part before events (Ok reply) after → EndsInOk reply.text
 
-ok_returns_of : (value : KeyReply) → EndsInOk value.text → {before after : Option ℕ} {events : List (EventWith FurtherEvent)} {reply : KeyReply} → Returns value before events (Ok reply) after → EndsInOk reply.text
+ok_returns_of : (value : KeyReply) → EndsInOk value.text → {before after : Option ℕ} {events : List (Event FurtherEvent)} {reply : KeyReply} → Returns value before events (Ok reply) after → EndsInOk reply.text
 ok_returns_of value ok returns = ok
 
 ok_returns : (value : KeyReply) → EndsInOk value.text → RepliesOk (Returns value)
 ok_returns value ok = record { of = ok_returns_of value ok }
 
 module _ {A : Type 0} {part : Part A} {next : A → Part KeyReply} (then : (value : A) → RepliesOk (next value)) where
-  ok_then_of : {before after : Option ℕ} {events : List (EventWith FurtherEvent)} {reply : KeyReply} → Follows part next before events (Ok reply) after → EndsInOk reply.text
+  ok_then_of : {before after : Option ℕ} {events : List (Event FurtherEvent)} {reply : KeyReply} → Follows part next before events (Ok reply) after → EndsInOk reply.text
   ok_then_of (goes_on {value} does next_does) = (then value).of next_does
 
   ok_then : RepliesOk (part >>= next)
@@ -705,14 +704,14 @@ reply_ends_in_ok : {text : List ℕ} → IsReply text → EndsInOk text
 reply_ends_in_ok (begins other ends) = ends
 
 -- what is known of a key, and an OK line
-info_ok_of : (grip : Grip) (key : Key) (wraps : WrapKeys) {before after : Option ℕ} {events : List (EventWith FurtherEvent)} {reply : KeyReply}
+info_ok_of : (grip : Grip) (key : Key) (wraps : WrapKeys) {before after : Option ℕ} {events : List (Event FurtherEvent)} {reply : KeyReply}
     → (TellsInfo grip key >>= λ line. Returns (exchange.reply wraps (line ++ ok))) before events (Ok reply) after → EndsInOk reply.text
 info_ok_of grip key wraps (goes_on (goes_on {value = cached} peeks line) returns) = info_told line
   where
-    info_told : {before after : Option ℕ} {events : List (EventWith FurtherEvent)} {line : List ℕ} → Returns (info_line grip cached key.is_clear) before events (Ok line) after → EndsInOk (line ++ ok)
+    info_told : {before after : Option ℕ} {events : List (Event FurtherEvent)} {line : List ℕ} → Returns (info_line grip cached key.is_clear) before events (Ok line) after → EndsInOk (line ++ ok)
     info_told returns = ends_in_ok (status_aside (info_status grip cached key.is_clear))
 
-tells_ok_of : (bytes : List ℕ) (make : List ℕ → WrapKeys) {before after : Option ℕ} {events : List (EventWith FurtherEvent)} {reply : KeyReply}
+tells_ok_of : (bytes : List ℕ) (make : List ℕ → WrapKeys) {before after : Option ℕ} {events : List (Event FurtherEvent)} {reply : KeyReply}
     → (Tells bytes >>= λ text. Returns (exchange.reply (make text) text)) before events (Ok reply) after → EndsInOk reply.text
 tells_ok_of bytes make (goes_on (tells answers) returns) = reply_ends_in_ok (reply_keys answers)
 
@@ -753,7 +752,7 @@ module _ (rules : Rules) (options : OptionValues) (wraps : WrapKeys) where
   unfolding DeleteKeyReplies
   delete_key_ok force grip = ok_then (λ there. ok_then (λ some. ok_then (λ agreed. ok_then (λ removed. ok_then (λ cleared. ok_returns _ (ends_in_ok completeness.none))))))
 
-  bad_ok_of : (why : Code) {before after : Option ℕ} {events : List (EventWith FurtherEvent)} {result : Result KeyReply Refusal} {reply : KeyReply} → Refuses (Agent why) before events result after → result ≡ Ok reply
+  bad_ok_of : (why : Code) {before after : Option ℕ} {events : List (Event FurtherEvent)} {result : Result KeyReply Refusal} {reply : KeyReply} → Refuses (Agent why) before events result after → result ≡ Ok reply
       → EndsInOk reply.text
   bad_ok_of why chain.refuses is = absurd (cc is)
 
@@ -773,7 +772,7 @@ module _ (rules : Rules) (options : OptionValues) (wraps : WrapKeys) where
   replies_ok (on.Bad why) = bad_ok why
 
 module _ (request : Request) (rules : Rules) (options : OptionValues) (wraps : WrapKeys) where
-  pub key_course : (asked : KeyRequest) → on_keys request ≡ Some asked → {events : List (EventWith FurtherEvent)} {after : WrapKeys} {went : KeyWent} → Exchange rules options wraps asked events after went
+  pub key_course : (asked : KeyRequest) → on_keys request ≡ Some asked → {events : List (Event FurtherEvent)} {after : WrapKeys} {went : KeyWent} → Exchange rules options wraps asked events after went
       → Course request events
   key_course asked is (exchange.answered events held reply does closes_so) =
       let ends : Ends request events (Ok reply) held = (replies request rules options wraps asked is).of None events (Ok reply) held does in

@@ -8,9 +8,8 @@ use Rattle.assuan_server.specs.declared.errors.Origin.TheVariants.{Agent}
 use Rattle.assuan_text.specs.Options.{options_of, arguments_of, has_option, last_option, last_value}
 use Rattle.assuan_text.specs.Words.{command_of, rest_of, words}
 use Rattle.session_options.specs.declared.rules.Rules.{Rules}
-use Rattle.agent_commands.specs.Events.{EventWith}
-use Rattle.agent_commands.specs.Fields.{cache_id, repeats, texts, life, cleared_mode, given_passphrase}
-use Rattle.agent_ask.specs.Plans.{text}
+use Rattle.agent_commands.specs.Events.{Event}
+use Rattle.agent_commands.specs.Fields.{cache_id, text, repeats, texts, life, cleared_mode, given_passphrase}
 use Rattle.agent_commands.specs.Names.{command_named, is_key_command, info_named}
 use Rattle.agent_commands.specs.Requests as requests
 use Rattle.agent_commands.specs.Requests.{request_of}
@@ -170,7 +169,7 @@ key_request_fits input why is = named_asked (key_names.command_named (command_of
 
 -- ---- so its refusal has its cause
 
-module _ (rules : Rules) (kept : Kept) (request : Request) (whole : List (EventWith FurtherEvent)) where
+module _ (rules : Rules) (kept : Kept) (request : Request) (whole : List (Event FurtherEvent)) where
   code_caused : (why : Code) → IsLineCode why → IsRefusedBy request why → IsCaused whole rules kept request why Agent
   code_caused why unknown by = by
   code_caused why form by = IsMalformed.line by
@@ -186,7 +185,7 @@ on_keys_fits (Key input) why is = let bad : key_request_of input.items ≡ on.Ba
 on_keys_fits (Cache command) why is = absurd (cc is)
 on_keys_fits (Bad given) why is = absurd (cc is)
 
-pub line_caused : (rules : Rules) (kept : Kept) (input : List ℕ) (whole : List (EventWith FurtherEvent)) (why : Code) → IsRefusedBy (request_of input) why
+pub line_caused : (rules : Rules) (kept : Kept) (input : List ℕ) (whole : List (Event FurtherEvent)) (why : Code) → IsRefusedBy (request_of input) why
     → IsCaused whole rules kept (request_of input) why Agent
 line_caused rules kept input whole why (inl is) = code_caused rules kept (request_of input) whole why (bad_fits (request_of input) (request_fits input) why is) (inl is)
 line_caused rules kept input whole why (inr is) = code_caused rules kept (request_of input) whole why (on_keys_fits (request_of input) why is) (inr is)

@@ -5,7 +5,7 @@ use Rattle.agent_ask.specs.Further.{FurtherEvent}
 use Rattle.agent_ports.specs.declared.grip.Grip.{Grip}
 use Rattle.secret_file.specs.Opens.{LockedKey, IsLocked}
 use Rattle.sexp_keys.specs.Key.{Key}
-use Rattle.agent_commands.specs.Events.{EventWith}
+use Rattle.agent_commands.specs.Events.{Event}
 use Rattle.agent_commands.specs.declared.request.Request.{Request}
 use Rattle.key_commands.specs.Files.{Rewrites}
 use Rattle.key_commands.specs.Files as files
@@ -31,34 +31,34 @@ stand_more {part} more stands = record {
   is = ap (λ w. w ++ more) stands.is ∙ append_assoc stands.before (part ++ stands.after) more ∙ ap (λ x. stands.before ++ x) (append_assoc part stands.after more);
 }
 
-pub sent_more : {prior : List (EventWith FurtherEvent)} {word pass : List ℕ} {limit : ℕ} (more : List (EventWith FurtherEvent)) → IsSent prior word limit pass → IsSent (prior ++ more) word limit pass
+pub sent_more : {prior : List (Event FurtherEvent)} {word pass : List ℕ} {limit : ℕ} (more : List (Event FurtherEvent)) → IsSent prior word limit pass → IsSent (prior ++ more) word limit pass
 sent_more more (sent says has) = sent says (has_left more has)
 
-pub drawn_more : {prior : List (EventWith FurtherEvent)} {count : ℕ} {bytes : List ℕ} (more : List (EventWith FurtherEvent)) → IsDrawn prior count bytes → IsDrawn (prior ++ more) count bytes
+pub drawn_more : {prior : List (Event FurtherEvent)} {count : ℕ} {bytes : List ℕ} (more : List (Event FurtherEvent)) → IsDrawn prior count bytes → IsDrawn (prior ++ more) count bytes
 drawn_more more drawn = record { long = drawn.long; has = has_left more drawn.has }
 
-pub read_more : {prior : List (EventWith FurtherEvent)} {grip : Grip} {says : _} (more : List (EventWith FurtherEvent)) → IsRead prior grip says → IsRead (prior ++ more) grip says
+pub read_more : {prior : List (Event FurtherEvent)} {grip : Grip} {says : _} (more : List (Event FurtherEvent)) → IsRead prior grip says → IsRead (prior ++ more) grip says
 read_more more (read is says has) = read is says (has_left more has)
 
-pub locked_more : {prior : List (EventWith FurtherEvent)} {grip : Grip} {locked : LockedKey} (more : List (EventWith FurtherEvent)) → IsReadLocked prior grip locked → IsReadLocked (prior ++ more) grip locked
+pub locked_more : {prior : List (Event FurtherEvent)} {grip : Grip} {locked : LockedKey} (more : List (Event FurtherEvent)) → IsReadLocked prior grip locked → IsReadLocked (prior ++ more) grip locked
 locked_more more locked = record { key = read_more more locked.key; protection = locked.protection }
 
 module _ (request : Request) where
-  pub ticket_more : {prior : List (EventWith FurtherEvent)} {ticket : ℕ} (more : List (EventWith FurtherEvent)) → HasTicket request prior ticket → HasTicket request (prior ++ more) ticket
+  pub ticket_more : {prior : List (Event FurtherEvent)} {ticket : ℕ} (more : List (Event FurtherEvent)) → HasTicket request prior ticket → HasTicket request (prior ++ more) ticket
   ticket_more more (has_ticket wants has) = has_ticket wants (has_left more has)
 
-  pub accepted_more : {prior : List (EventWith FurtherEvent)} {pin : List ℕ} (more : List (EventWith FurtherEvent)) → IsAccepted request prior pin → IsAccepted request (prior ++ more) pin
+  pub accepted_more : {prior : List (Event FurtherEvent)} {pin : List ℕ} (more : List (Event FurtherEvent)) → IsAccepted request prior pin → IsAccepted request (prior ++ more) pin
   accepted_more more (any asks in_session stands) = any asks in_session (stand_more more stands)
   accepted_more more (opening unlocks locked asks in_session stands) = opening unlocks (locked_more more locked) asks in_session (stand_more more stands)
 
-  pub given_more : {prior : List (EventWith FurtherEvent)} {pass : List ℕ} (more : List (EventWith FurtherEvent)) → IsGivenNew request prior pass → IsGivenNew request (prior ++ more) pass
+  pub given_more : {prior : List (Event FurtherEvent)} {pass : List ℕ} (more : List (Event FurtherEvent)) → IsGivenNew request prior pass → IsGivenNew request (prior ++ more) pass
   given_more more (given names has) = given names (has_left more has)
 
 -- ---- quiet parts
 
 -- a question for what is cached, without a prompt, gives no ticket
 module _ (id : List ℕ) where
-  nonce_of : (before : Option ℕ) (events : List (EventWith FurtherEvent)) (result : Result (Option (List ℕ)) Refusal) (after : Option ℕ) → Asks (ask_nonce id) before events result after → Fit events
+  nonce_of : (before : Option ℕ) (events : List (Event FurtherEvent)) (result : Result (Option (List ℕ)) Refusal) (after : Option ℕ) → Asks (ask_nonce id) before events result after → Fit events
       → AllByRecursion IsQuiet events × (after ≡ before)
   nonce_of before events result after turning.given fits = (((λ hands. elim hands [ ]), tt), refl)
   nonce_of before events result after turning.empty fits = (((λ hands. elim hands [ ]), tt), refl)
@@ -68,11 +68,11 @@ module _ (id : List ℕ) where
 pub writes_quiet : (text : List ℕ) → Quiet (Writes text)
 writes_quiet text = record { of = writes_of }
   where
-    writes_of : (before : Option ℕ) (events : List (EventWith FurtherEvent)) (result : Result (Unit {0}) Refusal) (after : Option ℕ) → Writes text before events result after → Fit events → AllByRecursion IsQuiet events × (after ≡ before)
+    writes_of : (before : Option ℕ) (events : List (Event FurtherEvent)) (result : Result (Unit {0}) Refusal) (after : Option ℕ) → Writes text before events result after → Fit events → AllByRecursion IsQuiet events × (after ≡ before)
     writes_of before events result after small.written fits = ((tt, tt), refl)
     writes_of before events result after (small.cut unsent is) fits = ((tt, tt), refl)
 
-inquires_of : (word : List ℕ) (limit : ℕ) (prior : List (EventWith FurtherEvent)) (before : Option ℕ) (events : List (EventWith FurtherEvent)) (result : Result (List ℕ) Refusal) (after : Option ℕ)
+inquires_of : (word : List ℕ) (limit : ℕ) (prior : List (Event FurtherEvent)) (before : Option ℕ) (events : List (Event FurtherEvent)) (result : Result (List ℕ) Refusal) (after : Option ℕ)
     → Inquires word limit before events result after → Fit events → AllByRecursion IsQuiet events × (after ≡ before) × HoldsOf (λ pass. IsSent (prior ++ events) word limit pass) result
 inquires_of word limit prior before events result after (small.given is) fits = ((tt, tt), refl, sent is (has_right prior here))
 inquires_of word limit prior before events result after (small.not_given is) fits = ((tt, tt), refl, tt)
@@ -80,7 +80,7 @@ inquires_of word limit prior before events result after (small.not_given is) fit
 pub inquires_quiet : (word : List ℕ) (limit : ℕ) → QuietWith (Inquires word limit) (λ pass prior. IsSent prior word limit pass)
 inquires_quiet word limit = record { of = inquires_of word limit }
 
-key_data_of : (before : Option ℕ) (events : List (EventWith FurtherEvent)) (result : Result (List ℕ) Refusal) (after : Option ℕ) → AsksKeyData before events result after → Fit events
+key_data_of : (before : Option ℕ) (events : List (Event FurtherEvent)) (result : Result (List ℕ) Refusal) (after : Option ℕ) → AsksKeyData before events result after → Fit events
     → AllByRecursion IsQuiet events × (after ≡ before)
 key_data_of before events result after (parts.asked inquires) fits = let so = inquires_of _ _ [] before events result before inquires fits in (so.0, refl)
 key_data_of before events result after (parts.no_memory at_end) fits = ((tt, (tt, tt)), refl)
@@ -88,7 +88,7 @@ key_data_of before events result after (parts.no_memory at_end) fits = ((tt, (tt
 pub key_data_quiet : Quiet AsksKeyData
 key_data_quiet = record { of = key_data_of }
 
-finds_of : (grip : Grip) (before : Option ℕ) (events : List (EventWith FurtherEvent)) (result : Result Bool Refusal) (after : Option ℕ) → Finds grip before events result after → Fit events
+finds_of : (grip : Grip) (before : Option ℕ) (events : List (Event FurtherEvent)) (result : Result Bool Refusal) (after : Option ℕ) → Finds grip before events result after → Fit events
     → AllByRecursion IsQuiet events × (after ≡ before)
 finds_of grip before events result after small.found fits = ((tt, tt), refl)
 finds_of grip before events result after small.absent fits = ((tt, tt), refl)
@@ -98,7 +98,7 @@ finds_of grip before events result after small.no_memory fits = ((tt, tt), refl)
 pub finds_quiet : (grip : Grip) → Quiet (Finds grip)
 finds_quiet grip = record { of = finds_of grip }
 
-draws_of : (count : ℕ) (prior : List (EventWith FurtherEvent)) (before : Option ℕ) (events : List (EventWith FurtherEvent)) (result : Result (List ℕ) Refusal) (after : Option ℕ) → Draws count before events result after → Fit events
+draws_of : (count : ℕ) (prior : List (Event FurtherEvent)) (before : Option ℕ) (events : List (Event FurtherEvent)) (result : Result (List ℕ) Refusal) (after : Option ℕ) → Draws count before events result after → Fit events
     → AllByRecursion IsQuiet events × (after ≡ before) × HoldsOf (λ bytes. IsDrawn (prior ++ events) count bytes) result
 draws_of count prior before events result after (small.drawn long) fits = ((tt, tt), refl, record { long = long; has = has_right prior here })
 draws_of count prior before events result after small.faulted fits = ((tt, tt), refl, tt)
@@ -106,7 +106,7 @@ draws_of count prior before events result after small.faulted fits = ((tt, tt), 
 pub draws_quiet : (count : ℕ) → QuietWith (Draws count) (λ bytes prior. IsDrawn prior count bytes)
 draws_quiet count = record { of = draws_of count }
 
-reads_file_of : (grip : Grip) (prior : List (EventWith FurtherEvent)) (before : Option ℕ) (events : List (EventWith FurtherEvent)) (result : Result _ Refusal) (after : Option ℕ) → ReadsFile grip before events result after
+reads_file_of : (grip : Grip) (prior : List (Event FurtherEvent)) (before : Option ℕ) (events : List (Event FurtherEvent)) (result : Result _ Refusal) (after : Option ℕ) → ReadsFile grip before events result after
     → Fit events → AllByRecursion IsQuiet events × (after ≡ before) × HoldsOf (λ file. IsRead (prior ++ events) grip (Ok file.key)) result
 reads_file_of grip prior before events result after (parts.is_key is says) fits = ((tt, tt), refl, read is says (has_right prior here))
 reads_file_of grip prior before events result after (parts.faulty is says) fits = ((tt, tt), refl, tt)
@@ -116,14 +116,14 @@ reads_file_of grip prior before events result after (parts.unread is) fits = ((t
 pub reads_file_quiet : (grip : Grip) → QuietWith (ReadsFile grip) (λ file prior. IsRead prior grip (Ok file.key))
 reads_file_quiet grip = record { of = reads_file_of grip }
 
-tells_of : (bytes : List ℕ) (before : Option ℕ) (events : List (EventWith FurtherEvent)) (result : Result (List ℕ) Refusal) (after : Option ℕ) → Tells bytes before events result after → Fit events
+tells_of : (bytes : List ℕ) (before : Option ℕ) (events : List (Event FurtherEvent)) (result : Result (List ℕ) Refusal) (after : Option ℕ) → Tells bytes before events result after → Fit events
     → AllByRecursion IsQuiet events × (after ≡ before)
 tells_of bytes before events result after (tells is) fits = (tt, refl)
 
 pub tells_quiet : (bytes : List ℕ) → Quiet (Tells bytes)
 tells_quiet bytes = record { of = tells_of bytes }
 
-protects_of : (key : Key) (pass salt iv : List ℕ) (count : ℕ) (before : Option ℕ) (events : List (EventWith FurtherEvent)) (result : Result (List ℕ) Refusal) (after : Option ℕ)
+protects_of : (key : Key) (pass salt iv : List ℕ) (count : ℕ) (before : Option ℕ) (events : List (Event FurtherEvent)) (result : Result (List ℕ) Refusal) (after : Option ℕ)
     → Protects key pass salt iv count before events result after → Fit events → AllByRecursion IsQuiet events × (after ≡ before)
 protects_of key pass salt iv count before events result after parts.made fits = (tt, refl)
 protects_of key pass salt iv count before events result after parts.no_memory fits = ((tt, tt), refl)
@@ -131,7 +131,7 @@ protects_of key pass salt iv count before events result after parts.no_memory fi
 pub protects_quiet : (key : Key) (pass salt iv : List ℕ) (count : ℕ) → Quiet (Protects key pass salt iv count)
 protects_quiet key pass salt iv count = record { of = protects_of key pass salt iv count }
 
-is_short_of : (key : Key) (before : Option ℕ) (events : List (EventWith FurtherEvent)) (result : Result (Unit {0}) Refusal) (after : Option ℕ) → IsShort key before events result after → Fit events
+is_short_of : (key : Key) (before : Option ℕ) (events : List (Event FurtherEvent)) (result : Result (Unit {0}) Refusal) (after : Option ℕ) → IsShort key before events result after → Fit events
     → AllByRecursion IsQuiet events × (after ≡ before)
 is_short_of key before events result after (parts.short few) fits = (tt, refl)
 is_short_of key before events result after (parts.long many) fits = (tt, refl)
@@ -139,7 +139,7 @@ is_short_of key before events result after (parts.long many) fits = (tt, refl)
 pub is_short_quiet : (key : Key) → Quiet (IsShort key)
 is_short_quiet key = record { of = is_short_of key }
 
-rewrites_of : (file list : List ℕ) (before : Option ℕ) (events : List (EventWith FurtherEvent)) (result : Result (List ℕ) Refusal) (after : Option ℕ) → Rewrites file list before events result after → Fit events
+rewrites_of : (file list : List ℕ) (before : Option ℕ) (events : List (Event FurtherEvent)) (result : Result (List ℕ) Refusal) (after : Option ℕ) → Rewrites file list before events result after → Fit events
     → AllByRecursion IsQuiet events × (after ≡ before)
 rewrites_of file list before events result after (files.canonical_file is) fits = (tt, refl)
 rewrites_of file list before events result after (files.extended_file other with_list few) fits = (tt, refl)
@@ -149,7 +149,7 @@ rewrites_of file list before events result after files.no_memory fits = ((tt, tt
 pub rewrites_quiet : (file list : List ℕ) → Quiet (Rewrites file list)
 rewrites_quiet file list = record { of = rewrites_of file list }
 
-names_key_of : (key : Key) (before : Option ℕ) (events : List (EventWith FurtherEvent)) (result : Result Grip Refusal) (after : Option ℕ) → NamesKey key before events result after → Fit events
+names_key_of : (key : Key) (before : Option ℕ) (events : List (Event FurtherEvent)) (result : Result Grip Refusal) (after : Option ℕ) → NamesKey key before events result after → Fit events
     → AllByRecursion IsQuiet events × (after ≡ before)
 names_key_of key before events result after (parts.named is) fits = (tt, refl)
 names_key_of key before events result after parts.no_memory fits = ((tt, tt), refl)
@@ -157,7 +157,7 @@ names_key_of key before events result after parts.no_memory fits = ((tt, tt), re
 pub names_key_quiet : (key : Key) → Quiet (NamesKey key)
 names_key_quiet key = record { of = names_key_of key }
 
-wraps_key_of : (wrap : List ℕ) (key : Key) (before : Option ℕ) (events : List (EventWith FurtherEvent)) (result : Result (List ℕ) Refusal) (after : Option ℕ) → WrapsKey wrap key before events result after → Fit events
+wraps_key_of : (wrap : List ℕ) (key : Key) (before : Option ℕ) (events : List (Event FurtherEvent)) (result : Result (List ℕ) Refusal) (after : Option ℕ) → WrapsKey wrap key before events result after → Fit events
     → AllByRecursion IsQuiet events × (after ≡ before)
 wraps_key_of wrap key before events result after parts.is_wrapped fits = (tt, refl)
 wraps_key_of wrap key before events result after parts.no_memory fits = ((tt, tt), refl)
@@ -165,7 +165,7 @@ wraps_key_of wrap key before events result after parts.no_memory fits = ((tt, tt
 pub wraps_key_quiet : (wrap : List ℕ) (key : Key) → Quiet (WrapsKey wrap key)
 wraps_key_quiet wrap key = record { of = wraps_key_of wrap key }
 
-unwraps_of : (wrap wrapped : List ℕ) (before : Option ℕ) (events : List (EventWith FurtherEvent)) (result : Result Key Refusal) (after : Option ℕ) → Unwraps wrap wrapped before events result after → Fit events
+unwraps_of : (wrap wrapped : List ℕ) (before : Option ℕ) (events : List (Event FurtherEvent)) (result : Result Key Refusal) (after : Option ℕ) → Unwraps wrap wrapped before events result after → Fit events
     → AllByRecursion IsQuiet events × (after ≡ before)
 unwraps_of wrap wrapped before events result after (parts.is_key says) fits = (tt, refl)
 unwraps_of wrap wrapped before events result after (parts.refused says) fits = (tt, refl)
@@ -174,7 +174,7 @@ unwraps_of wrap wrapped before events result after parts.no_memory fits = ((tt, 
 pub unwraps_quiet : (wrap wrapped : List ℕ) → Quiet (Unwraps wrap wrapped)
 unwraps_quiet wrap wrapped = record { of = unwraps_of wrap wrapped }
 
-locks_of : (key : Key) (prior : List (EventWith FurtherEvent)) (before : Option ℕ) (events : List (EventWith FurtherEvent)) (result : Result LockedKey Refusal) (after : Option ℕ) → Locks key before events result after → Fit events
+locks_of : (key : Key) (prior : List (Event FurtherEvent)) (before : Option ℕ) (events : List (Event FurtherEvent)) (result : Result LockedKey Refusal) (after : Option ℕ) → Locks key before events result after → Fit events
     → AllByRecursion IsQuiet events × (after ≡ before) × HoldsOf (λ locked. (locked.key ≡ key) × IsLocked locked) result
 locks_of key prior before events result after (passphrases.is_locked same locked) fits = (tt, refl, (same, locked))
 locks_of key prior before events result after (passphrases.has_fault is) fits = (tt, refl, tt)
@@ -183,7 +183,7 @@ locks_of key prior before events result after passphrases.no_memory fits = ((tt,
 pub locks_quiet : (key : Key) → QuietWith (Locks key) (λ locked prior. (locked.key ≡ key) × IsLocked locked)
 locks_quiet key = record { of = locks_of key }
 
-tries_of : (locked : LockedKey) (pass : List ℕ) (before : Option ℕ) (events : List (EventWith FurtherEvent)) (result : Result (Option _) Refusal) (after : Option ℕ) → Tries locked pass before events result after
+tries_of : (locked : LockedKey) (pass : List ℕ) (before : Option ℕ) (events : List (Event FurtherEvent)) (result : Result (Option _) Refusal) (after : Option ℕ) → Tries locked pass before events result after
     → Fit events → AllByRecursion IsQuiet events × (after ≡ before)
 tries_of locked pass before events result after (passphrases.opens to) fits = (tt, refl)
 tries_of locked pass before events result after (passphrases.stays closed) fits = (tt, refl)
@@ -192,7 +192,7 @@ tries_of locked pass before events result after passphrases.no_memory fits = ((t
 pub tries_quiet : (locked : LockedKey) (pass : List ℕ) → Quiet (Tries locked pass)
 tries_quiet locked pass = record { of = tries_of locked pass }
 
-replaces_of : (grip : Grip) (file : List ℕ) (before : Option ℕ) (events : List (EventWith FurtherEvent)) (result : Result (Unit {0}) Refusal) (after : Option ℕ) → Replaces grip file before events result after
+replaces_of : (grip : Grip) (file : List ℕ) (before : Option ℕ) (events : List (Event FurtherEvent)) (result : Result (Unit {0}) Refusal) (after : Option ℕ) → Replaces grip file before events result after
     → Fit events → AllByRecursion IsQuiet events × (after ≡ before)
 replaces_of grip file before events result after parts.done fits = ((tt, tt), refl)
 replaces_of grip file before events result after (parts.not_done is) fits = ((tt, tt), refl)
@@ -202,18 +202,18 @@ replaces_quiet grip file = record { of = replaces_of grip file }
 
 module _ (request : Request) where
   -- what was found under the nonce of a new one
-  abbrev pub FoundNew : Option (List ℕ) → List (EventWith FurtherEvent) → Type 0
+  abbrev pub FoundNew : Option (List ℕ) → List (Event FurtherEvent) → Type 0
   FoundNew None prior = Unit {0}
   FoundNew (Some pass) prior = IsGivenNew request prior pass
 
-  new_nonce_of : (id : List ℕ) → NamesNew request id → (prior : List (EventWith FurtherEvent)) (before : Option ℕ) (events : List (EventWith FurtherEvent)) (result : Result (Option (List ℕ)) Refusal) (after : Option ℕ)
+  new_nonce_of : (id : List ℕ) → NamesNew request id → (prior : List (Event FurtherEvent)) (before : Option ℕ) (events : List (Event FurtherEvent)) (result : Result (Option (List ℕ)) Refusal) (after : Option ℕ)
       → Asks (ask_nonce id) before events result after → Fit events → AllByRecursion IsQuiet events × (after ≡ before) × HoldsOf (λ found. FoundNew found (prior ++ events)) result
   new_nonce_of id names prior before events result after turning.given fits = (((λ hands. elim hands [ ]), tt), refl, given names (has_right prior here))
   new_nonce_of id names prior before events result after turning.empty fits = (((λ hands. elim hands [ ]), tt), refl, tt)
   new_nonce_of id names prior before events result after turning.opened fits = absurd fits.0
   new_nonce_of id names prior before events result after (turning.interrupted why) fits = (((λ hands. elim hands [ ]), tt), refl, tt)
 
-  no_nonce_of : (prior : List (EventWith FurtherEvent)) (before : Option ℕ) (events : List (EventWith FurtherEvent)) (result : Result (Option (List ℕ)) Refusal) (after : Option ℕ)
+  no_nonce_of : (prior : List (Event FurtherEvent)) (before : Option ℕ) (events : List (Event FurtherEvent)) (result : Result (Option (List ℕ)) Refusal) (after : Option ℕ)
       → chain.Returns None before events result after → Fit events → AllByRecursion IsQuiet events × (after ≡ before) × HoldsOf (λ found. FoundNew found (prior ++ events)) result
   no_nonce_of prior before events result after chain.returns fits = (tt, refl, tt)
 
@@ -221,7 +221,7 @@ module _ (request : Request) where
   new_nonce_quiet None names = record { of = no_nonce_of }
   new_nonce_quiet (Some id) names = record { of = new_nonce_of id (names id refl) }
 
-  looks_over_of : (id : Option (List ℕ)) → ((nonce : List ℕ) → id ≡ Some nonce → NamesNew request nonce) → (prior : List (EventWith FurtherEvent)) (before : Option ℕ) (events : List (EventWith FurtherEvent))
+  looks_over_of : (id : Option (List ℕ)) → ((nonce : List ℕ) → id ≡ Some nonce → NamesNew request nonce) → (prior : List (Event FurtherEvent)) (before : Option ℕ) (events : List (Event FurtherEvent))
       (result : Result (Option (List ℕ)) Refusal) (after : Option ℕ) → LooksOver id before events result after → Fit events
       → AllByRecursion IsQuiet events × (after ≡ before) × HoldsOf (λ found. FoundNew found (prior ++ events)) result
   looks_over_of id names prior before events result after parts.no_nonce fits = (tt, refl, tt)
@@ -233,7 +233,7 @@ module _ (request : Request) where
   pub looks_over_quiet : (id : Option (List ℕ)) → ((nonce : List ℕ) → id ≡ Some nonce → NamesNew request nonce) → QuietWith (LooksOver id) FoundNew
   looks_over_quiet id names = record { of = looks_over_of id names }
 
-no_look_of : (before : Option ℕ) (events : List (EventWith FurtherEvent)) (result : Result (Option (List ℕ)) Refusal) (after : Option ℕ)
+no_look_of : (before : Option ℕ) (events : List (Event FurtherEvent)) (result : Result (Option (List ℕ)) Refusal) (after : Option ℕ)
     → chain.Returns None before events result after → Fit events → AllByRecursion IsQuiet events × (after ≡ before)
 no_look_of before events result after chain.returns fits = (tt, refl)
 

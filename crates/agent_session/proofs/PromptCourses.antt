@@ -26,7 +26,7 @@ use Rattle.session_client.specs.declared.code.Code.{Code}
 use Rattle.session_client.specs.declared.code.Code.TheVariants as code
 use Rattle.session_client.specs.declared.refusal.Refusal.{Refusal}
 use Rattle.session_client.specs.declared.refusal.Refusal.TheVariants.{Agent}
-use Rattle.agent_commands.specs.Events.{EventWith}
+use Rattle.agent_commands.specs.Events.{Event}
 use Rattle.agent_commands.specs.declared.request.Request.{Request}
 use Rattle.agent_session.specs.Refusals.{call_refuses, refuses, IsAllowed, IsWork, AreWork, shuts}
 use Rattle.key_commands.proofs.EachEvent.{each_append}
@@ -126,48 +126,48 @@ consent_goes (consents.asked consent (prompts.told is)) = after_these (_ ∷ _ �
 
 module _ (request : Request) where
   -- what a prompt shows, whose request is refused by this code where an event of it refuses
-  pub data ShownEnd (code : Option Code) : List (EventWith FurtherEvent) → Type 0 where
+  pub data ShownEnd (code : Option Code) : List (Event FurtherEvent) → Type 0 where
     no_more : ShownEnd code []
-    stopped : {event : EventWith FurtherEvent} {why : Code} → IsAllowed request event → refuses event ≡ Some why → code ≡ Some why → ShownEnd code (event ∷ shuts event)
+    stopped : {event : Event FurtherEvent} {why : Code} → IsAllowed request event → refuses event ≡ Some why → code ≡ Some why → ShownEnd code (event ∷ shuts event)
 
-  pub record Shows (code : Option Code) (shown : List (EventWith FurtherEvent)) : Type 0 where
-    pub work : List (EventWith FurtherEvent)
-    pub last : List (EventWith FurtherEvent)
+  pub record Shows (code : Option Code) (shown : List (Event FurtherEvent)) : Type 0 where
+    pub work : List (Event FurtherEvent)
+    pub last : List (Event FurtherEvent)
     pub is : shown ≡ work ++ last
     pub each : AreWork request work
     pub end : ShownEnd code last
 
-  data Split (rest : List PromptEvent) : List (EventWith FurtherEvent) → Type 0 where
-    split : {more : List (EventWith FurtherEvent)} (work : List (EventWith FurtherEvent)) → AreWork request work → AnyInSession session_lines rest more → Split rest (work ++ more)
+  data Split (rest : List PromptEvent) : List (Event FurtherEvent) → Type 0 where
+    split : {more : List (Event FurtherEvent)} (work : List (Event FurtherEvent)) → AreWork request work → AnyInSession session_lines rest more → Split rest (work ++ more)
 
-  split_later : {rest : List PromptEvent} {shown : List (EventWith FurtherEvent)} (event : EventWith FurtherEvent) → IsWork request event → Split rest shown → Split rest (event ∷ shown)
+  split_later : {rest : List PromptEvent} {shown : List (Event FurtherEvent)} (event : Event FurtherEvent) → IsWork request event → Split rest shown → Split rest (event ∷ shown)
   split_later event is (split work each more) = split (event ∷ work) (is, each) more
 
-  split_shown : (work rest : List PromptEvent) {shown : List (EventWith FurtherEvent)} → AllByRecursion Goes work → AnyInSession session_lines (work ++ rest) shown → Split rest shown
+  split_shown : (work rest : List PromptEvent) {shown : List (Event FurtherEvent)} → AllByRecursion Goes work → AnyInSession session_lines (work ++ rest) shown → Split rest shown
   split_shown [] rest each in_session = split [] tt in_session
   split_shown (Called call ∷ work) rest each (session.called more) = split_later _ (tt, each.0) (split_shown work rest each.1 more)
   split_shown (Notified pid heard ∷ work) rest each (session.noted says more) = split_later _ (tt, refl) (split_shown work rest each.1 more)
   split_shown (OutOfMemory ∷ work) rest each (session.out_of_memory more) = absurd (cc (each.0))
 
-  shut_shows : {code : Option Code} {shown : List (EventWith FurtherEvent)} → Split (Called Shut ∷ []) shown → Shows code shown
+  shut_shows : {code : Option Code} {shown : List (Event FurtherEvent)} → Split (Called Shut ∷ []) shown → Shows code shown
   shut_shows (split work each (session.called session.none)) =
       record { work = work ++ Further (Prompt (Called Shut)) ∷ []; last = []; is = sym (append-nil _); each = each_append (IsWork request) work _ each ((tt, refl), tt); end = no_more }
 
-  stop_shows : (event : PromptEvent) {why : Code} {shown : List (EventWith FurtherEvent)} → prompt_refuses event ≡ Some why → Split (event ∷ Called Shut ∷ []) shown → Shows (Some why) shown
+  stop_shows : (event : PromptEvent) {why : Code} {shown : List (Event FurtherEvent)} → prompt_refuses event ≡ Some why → Split (event ∷ Called Shut ∷ []) shown → Shows (Some why) shown
   stop_shows (Called call) is (split work each (session.called (session.called session.none))) = record { work = work; last = _; is = refl; each = each; end = stopped tt is refl }
   stop_shows OutOfMemory is (split work each (session.out_of_memory (session.called session.none))) = record { work = work; last = _; is = refl; each = each; end = stopped tt is refl }
   stop_shows (Notified pid heard) is splits = absurd (cc is)
 
-  prompt_shows : {events : List PromptEvent} {code : Option Code} {shown : List (EventWith FurtherEvent)} → GoesOrStops events code → AnyInSession session_lines (events ++ Called Shut ∷ []) shown → Shows code shown
+  prompt_shows : {events : List PromptEvent} {code : Option Code} {shown : List (Event FurtherEvent)} → GoesOrStops events code → AnyInSession session_lines (events ++ Called Shut ∷ []) shown → Shows code shown
   prompt_shows (goes {events} each) in_session = shut_shows (split_shown events (Called Shut ∷ []) each in_session)
   prompt_shows {shown} (stops work event each is) in_session =
       stop_shows event is (split_shown work (event ∷ Called Shut ∷ []) each (subst (λ p. AnyInSession session_lines p shown) (append_assoc work (event ∷ []) (Called Shut ∷ [])) in_session))
 
-  pub pin_shows_work : {spec : PromptSpec} {plan : AskPlan} {Rule : List ℕ → Type 0} {prompt : List PromptEvent} {end : Asked} {shown : List (EventWith FurtherEvent)} → AsksPin spec plan Rule prompt end
+  pub pin_shows_work : {spec : PromptSpec} {plan : AskPlan} {Rule : List ℕ → Type 0} {prompt : List PromptEvent} {end : Asked} {shown : List (Event FurtherEvent)} → AsksPin spec plan Rule prompt end
       → AnyInSession session_lines prompt shown → Shows (pin_code end) shown
   pin_shows_work {shown} asks in_session = prompt_shows (before_goes asks.asks) (subst (λ p. AnyInSession session_lines p shown) asks.whole in_session)
 
-  pub consent_shows_work : {spec : PromptSpec} {notify : _} {prompt : List PromptEvent} {end : Agreed} {shown : List (EventWith FurtherEvent)} → AsksConsent spec notify prompt end
+  pub consent_shows_work : {spec : PromptSpec} {notify : _} {prompt : List PromptEvent} {end : Agreed} {shown : List (Event FurtherEvent)} → AsksConsent spec notify prompt end
       → AnyInSession session_lines prompt shown → Shows (consent_code end) shown
   consent_shows_work {shown} asks in_session = prompt_shows (consent_goes asks.asks) (subst (λ p. AnyInSession session_lines p shown) asks.whole in_session)
 
@@ -190,23 +190,23 @@ module _ (request : Request) where
   stopped_consent (agreed.Heard heard) refusal is = absurd (cc is)
   stopped_consent agreed.NoPinentry refusal is = cc
 
-  shown_none : {A : Type 0} {value : A} {last : List (EventWith FurtherEvent)} → ShownEnd None last → WorkEnd request last (Ok value)
+  shown_none : {A : Type 0} {value : A} {last : List (Event FurtherEvent)} → ShownEnd None last → WorkEnd request last (Ok value)
   shown_none no_more = no_work
   shown_none (stopped allowed is never) = absurd (cc never)
 
-  shown_end : {A : Type 0} {code : Option Code} {why : Refusal} {last : List (EventWith FurtherEvent)} → ShownEnd code last → ((stop : Code) → code ≡ Some stop → why ≡ Agent stop)
+  shown_end : {A : Type 0} {code : Option Code} {why : Refusal} {last : List (Event FurtherEvent)} → ShownEnd code last → ((stop : Code) → code ≡ Some stop → why ≡ Agent stop)
       → WorkEnd request {A = A} last (Err why)
   shown_end no_more same = no_work
   shown_end {A} (stopped {event} {why = stop} allowed is so) same = subst (λ w. WorkEnd request {A = A} (event ∷ shuts event) (Err w)) (sym (same stop so)) (refused allowed is)
 
-  pub shown_ok : {A : Type 0} {value : A} {events : List (EventWith FurtherEvent)} → Shows None events → Works request events (Ok value)
+  pub shown_ok : {A : Type 0} {value : A} {events : List (Event FurtherEvent)} → Shows None events → Works request events (Ok value)
   shown_ok shows = record { work = shows.work; last = shows.last; is = shows.is; each = shows.each; end = shown_none shows.end }
 
-  shown_err : {A : Type 0} {code : Option Code} {why : Refusal} {events : List (EventWith FurtherEvent)} → Shows code events → ((stop : Code) → code ≡ Some stop → why ≡ Agent stop)
+  shown_err : {A : Type 0} {code : Option Code} {why : Refusal} {events : List (Event FurtherEvent)} → Shows code events → ((stop : Code) → code ≡ Some stop → why ≡ Agent stop)
       → Works request {A = A} events (Err why)
   shown_err shows same = record { work = shows.work; last = shows.last; is = shows.is; each = shows.each; end = shown_end shows.end same }
 
-  module _ {A : Type 0} {shown : List (EventWith FurtherEvent)} {why : Refusal} where
+  module _ {A : Type 0} {shown : List (Event FurtherEvent)} {why : Refusal} where
     pub refused_pin : {spec : PromptSpec} {plan : AskPlan} {Rule : List ℕ → Type 0} {answer : Asked} → PromptsPin session_lines spec plan Rule shown answer → pin_refusal answer ≡ Some why
         → Works request {A = A} shown (Err why)
     refused_pin {answer} prompt refusal = shown_err (pin_shows_work prompt.asks prompt.in_session) (λ stop so. stopped_pin answer refusal so)

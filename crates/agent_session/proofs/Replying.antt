@@ -2,11 +2,10 @@
 use Rattle.std.proofs.Common.{◌≡◌, ◌≢◌, ℕ, Bool, true, false, List, [], ◌∷◌, ◌++◌, codes, refl, sym, subst, arith}
 use Rattle.std.specs.Prelude.{if◌then◌else◌}
 use Rattle.agent_commands.specs.Answers as answers
-use Rattle.agent_commands.specs.Answers.{closing, help, comments}
-use Rattle.assuan_server.specs.Written.{ok}
+use Rattle.agent_commands.specs.Answers.{ok, closing, help, comments}
 use Rattle.agent_commands.specs.Names.{command_names}
 use Rattle.assuan_escape.specs.DataLines.{data_text}
-use Rattle.assuan_escape.proofs.EscapeLemmas.{has_lf_hex_text}
+use Rattle.assuan_escape.proofs.EscapeLemmas.{has_lf-hex_text}
 use Rattle.assuan_escape.specs.Escapes.{hex_text}
 use Rattle.assuan_text.specs.LineEnds.{has_lf, line_of}
 use Rattle.key_commands.specs.Lines as lines
@@ -52,4 +51,4 @@ reply_text false text short = begins (λ e. omega (arith, e)) (record { before =
 
 pub reply_passphrase : (plain : Bool) (secret text : List ℕ) → answers.IsPassphrase plain secret text → IsReply text
 reply_passphrase true secret text answer = reply_cache answer
-reply_passphrase false secret text answer = subst IsReply (sym answer) (reply_text _ (hex_text secret) (has_lf_hex_text secret))
+reply_passphrase false secret text answer = subst IsReply (sym answer) (reply_text _ (hex_text secret) (has_lf-hex_text secret))

@@ -3,7 +3,7 @@ use Rattle.std.specs.List.{AllByRecursion}
 use Rattle.std.proofs.Common.{◌≡◌, ◌⊎◌, ◌∙◌, ℕ, Bool, true, false, List, [], ◌∷◌, ◌++◌, Option, Some, None, Ok, Err, refl, sym, subst, inl, inr}
 use Rattle.agent_ask.specs.SessionEvents.{CacheTurn, said_last}
 use Rattle.agent_ask.specs.TrustCalls.{TrustCall}
-use Rattle.assuan_server.specs.Written.{ok}
+use Rattle.agent_commands.specs.Answers.{ok}
 use Rattle.agent_commands.specs.declared.went.Went.{Went}
 use Rattle.agent_ports.specs.declared.grip.Grip.{Grip}
 use Rattle.assuan_server.specs.Written.{failed, refusal_line}

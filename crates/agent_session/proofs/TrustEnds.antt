@@ -4,7 +4,7 @@ use Rattle.std.proofs.Common.{◌≡◌, ◌∙◌, ℕ, Bool, true, false, List
 use Rattle.agent_ask.specs.Further.{Keys, Dice, NoMemory, Prompt, Trust}
 use Rattle.agent_ask.specs.SessionEvents.{Received, Sent, Cut, Inquiry, CacheTurn, Further, cache_turn, said_last}
 use Rattle.agent_ask.specs.TrustCalls.{Read}
-use Rattle.assuan_server.specs.Written.{ok}
+use Rattle.agent_commands.specs.Answers.{ok}
 use Rattle.agent_commands.specs.Requests.{request_of}
 use Rattle.agent_commands.specs.declared.went.Went.{Went}
 use Rattle.agent_ports.specs.declared.grip.Grip.{Grip}

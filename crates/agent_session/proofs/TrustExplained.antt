@@ -12,7 +12,7 @@ use Rattle.agent_ask.specs.declared.caller.Heard.{Heard}
 use Rattle.agent_ask.specs.declared.caller.Heard.TheVariants as heard_as
 use Rattle.agent_ask.specs.declared.consent.Agreed.{Agreed}
 use Rattle.agent_ask.specs.declared.consent.Agreed.TheVariants as agreed
-use Rattle.assuan_server.specs.Written.{ok}
+use Rattle.agent_commands.specs.Answers.{ok}
 use Rattle.agent_commands.specs.Endings.{went_after}
 use Rattle.agent_ask.specs.Interrupts.{Interrupts}
 use Rattle.agent_ask.specs.Interrupts as turns
@@ -36,8 +36,7 @@ use Rattle.assuan_text.specs.Options.{arguments_of}
 use Rattle.assuan_text.specs.Words.{command_of, rest_of, words}
 use Rattle.key_commands.specs.Events.{Event}
 use Rattle.key_commands.specs.Requests as requests
-use Rattle.key_commands.specs.Requests.{grip, first_grip}
-use Rattle.session_client.specs.Fields.{in_form}
+use Rattle.key_commands.specs.Requests.{needed, grip, first_grip}
 use Rattle.key_commands.proofs.EachEvent.{each_append}
 use Rattle.session_client.specs.Asking.{gone_of}
 use Rattle.session_client.specs.declared.unheard.Gone.TheVariants as gone
@@ -344,7 +343,7 @@ abbrev IsForm : TrustRequest → Type 0
 IsForm (Bad why) = why ≡ code.Parameter
 IsForm _ = ⊤
 
-needed_form : {A : Type 0} (field : Option A) (next : A → Result TrustRequest Code) → ((value : A) → IsForm (either (next value))) → IsForm (either (requests.◌>>=◌ (in_form field) next))
+needed_form : {A : Type 0} (field : Option A) (next : A → Result TrustRequest Code) → ((value : A) → IsForm (either (next value))) → IsForm (either (requests.◌>>=◌ (needed field) next))
 needed_form None next each = refl
 needed_form (Some value) next each = each value
 

@@ -18,7 +18,7 @@ use Rattle.session_client.specs.Refusals.{refusal_code}
 use Rattle.session_client.specs.declared.code.Code.{Code}
 use Rattle.session_client.specs.declared.refusal.Refusal.{Refusal}
 use Rattle.session_client.specs.declared.refusal.Refusal.TheVariants.{Agent, Pinentry, Client}
-use Rattle.agent_commands.specs.Events.{EventWith}
+use Rattle.agent_commands.specs.Events.{Event}
 use Rattle.agent_commands.specs.declared.request.Request.{Request}
 use Rattle.agent_session.specs.Completeness.{error}
 use Rattle.agent_session.specs.Refusals.{IsWorkStep, IsNotice, IsLast, said, gone, GivesBack, no_ticket, with_ticket, IsEnd, answered, given_back}
@@ -34,12 +34,12 @@ refusal_last (Agent why) = said (error why origin.Agent refl)
 refusal_last (Pinentry why) = said (error why origin.Pinentry refl)
 refusal_last (Client why) = coded_last (refusal_code why)
 
-pub held_back : {held : Option ℕ} {back : List (EventWith FurtherEvent)} (last : List (EventWith FurtherEvent)) → Closes None held back (Ok tt) None → GivesBack last (back ++ last)
+pub held_back : {held : Option ℕ} {back : List (Event FurtherEvent)} (last : List (Event FurtherEvent)) → Closes None held back (Ok tt) None → GivesBack last (back ++ last)
 held_back last taken.unheld = no_ticket
 held_back last (taken.closed turn) = with_ticket turn
 
 module _ (request : Request) where
-  pub last_end : {held : Option ℕ} {back last : List (EventWith FurtherEvent)} → IsLast last → Closes None held back (Ok tt) None → IsEnd request (back ++ last)
+  pub last_end : {held : Option ℕ} {back last : List (Event FurtherEvent)} → IsLast last → Closes None held back (Ok tt) None → IsEnd request (back ++ last)
   last_end is_last taken.unheld = answered is_last
   last_end is_last (taken.closed turn) = given_back turn is_last
 
@@ -50,7 +50,7 @@ module _ (request : Request) where
     interrupted turns.stopping = one_works request allowed (by_turn step _ no_close refl)
     interrupted turns.late = one_works request allowed (by_turn step _ no_close refl)
 
-    looks_of : (before : Option ℕ) (events : List (EventWith FurtherEvent)) (result : Result (Option (List ℕ)) Refusal) (after : Option ℕ) → Asks step before events result after → Works request events result
+    looks_of : (before : Option ℕ) (events : List (Event FurtherEvent)) (result : Result (Option (List ℕ)) Refusal) (after : Option ℕ) → Asks step before events result after → Works request events result
     looks_of before events result after taken.given = one_works request allowed (by_turn step _ no_close refl)
     looks_of before events result after taken.empty = one_works request allowed (by_turn step _ no_close refl)
     looks_of before events result after taken.opened = one_works request allowed (by_turn step _ no_close refl)
@@ -59,14 +59,14 @@ module _ (request : Request) where
     pub looks : WorksSo request (Asks step)
     looks = record { of = looks_of }
 
-    seats_of : (before : Option ℕ) (events : List (EventWith FurtherEvent)) (result : Result (Unit {0}) Refusal) (after : Option ℕ) → Seats step before events result after → Works request events result
+    seats_of : (before : Option ℕ) (events : List (Event FurtherEvent)) (result : Result (Unit {0}) Refusal) (after : Option ℕ) → Seats step before events result after → Works request events result
     seats_of before events result after taken.opened = one_works request allowed (by_turn step _ no_close refl)
     seats_of before events result after (taken.interrupted why) = interrupted why
 
     pub seats : WorksSo request (Seats step)
     seats = record { of = seats_of }
 
-    changes_of : (before : Option ℕ) (events : List (EventWith FurtherEvent)) (result : Result (Unit {0}) Refusal) (after : Option ℕ) → Changes step before events result after → Works request events result
+    changes_of : (before : Option ℕ) (events : List (Event FurtherEvent)) (result : Result (Unit {0}) Refusal) (after : Option ℕ) → Changes step before events result after → Works request events result
     changes_of before events result after taken.done = one_works request allowed (by_turn step _ no_close refl)
     changes_of before events result after (taken.interrupted why) = interrupted why
 
@@ -75,12 +75,12 @@ module _ (request : Request) where
 
   -- ---- the client
 
-  writes_of : (text : List ℕ) → IsNotice text → (before : Option ℕ) (events : List (EventWith FurtherEvent)) (result : Result (Unit {0}) Refusal) (after : Option ℕ) → Writes text before events result after
+  writes_of : (text : List ℕ) → IsNotice text → (before : Option ℕ) (events : List (Event FurtherEvent)) (result : Result (Unit {0}) Refusal) (after : Option ℕ) → Writes text before events result after
       → Works request events result
   writes_of text notice before events result after client.written = one_works request notice refl
   writes_of text notice before events result after (client.cut unsent is) = one_works request tt refl
 
-  inquires_of : (word : List ℕ) (most : ℕ) (before : Option ℕ) (events : List (EventWith FurtherEvent)) (result : Result (List ℕ) Refusal) (after : Option ℕ)
+  inquires_of : (word : List ℕ) (most : ℕ) (before : Option ℕ) (events : List (Event FurtherEvent)) (result : Result (List ℕ) Refusal) (after : Option ℕ)
       → Inquires session_lines word most before events result after → Works request events result
   inquires_of word most before events result after (client.given is) = one_works request tt refl
   inquires_of word most before events result after (client.not_given is) = one_works request tt refl

@@ -5,8 +5,8 @@ use Rattle.arrayvec.specs.ArrayVec.{ArrayVec}
 use Rattle.agent_ask.specs.SessionEvents.{Sent, Inquiry, cache_turn}
 use Rattle.agent_ask.specs.ClientParts as client
 use Rattle.agent_ask.specs.PartExchanges as exchanges
-use Rattle.agent_commands.specs.Exchanges.{CacheExchange}
-use Rattle.assuan_server.specs.Written.{limit_line}
+use Rattle.agent_commands.specs.Exchanges.{Exchange as CacheExchange}
+use Rattle.agent_commands.specs.Parts.{limit_line}
 use Rattle.agent_commands.specs.Passphrases.{ask}
 use Rattle.agent_commands.specs.Requests.{GetFields, get_passphrase}
 use Rattle.agent_commands.specs.declared.request.CacheCommand.TheVariants.{PresetPassphrase}

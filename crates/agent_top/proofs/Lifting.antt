@@ -16,7 +16,7 @@ use Rattle.cache_policy.specs.Extending.{IsExtended}
 use Rattle.cache_policy.specs.Legal.{IsLegalRun}
 use Rattle.cache_policy.specs.Replay.{first_history}
 use Rattle.cache_policy.proofs.Extending.{extends}
-use Rattle.agent_commands.specs.Events.{EventWith}
+use Rattle.agent_commands.specs.Events.{Event}
 use Rattle.agent_ask.specs.SessionEvents.{turns_in}
 use Rattle.agent_commands.specs.Outside.{World}
 use Rattle.assuan_server.specs.Clients.{session_lines}
@@ -51,13 +51,13 @@ module _ {C La : Type 0} (readings : C → Readings) (launches : La → Launches
     ends = record { prompter = at_pinentry launches ends.ends.prompter; keys = ends.ends.keys; dice = ends.ends.dice; trust = ends.ends.trust };
   }
 
-  pub record Lifts (before after : Outside (held_world readings launches)) (events : List (EventWith FurtherEvent)) : Type 0 where
+  pub record Lifts (before after : Outside (held_world readings launches)) (events : List (Event FurtherEvent)) : Type 0 where
     pub leads : Leads (Does seen_world supply) (with_seen before) events (with_seen after)
     pub lent : after.desk.lent ≡ before.desk.lent
     pub launcher : after.ends.prompter.lent ≡ before.ends.prompter.lent
     pub program : after.ends.prompter.program ≡ before.ends.prompter.program
 
-  pub lifts : {before after : Outside (held_world readings launches)} {events : List (EventWith FurtherEvent)}
+  pub lifts : {before after : Outside (held_world readings launches)} {events : List (Event FurtherEvent)}
       → Leads (Does (held_world readings launches) supply) before events after → Lifts before after events
   lifts none = record { leads = none; lent = refl; launcher = refl; program = refl }
   lifts (one (received known needed) more) = let r = lifts more in record { leads = one (received known needed) r.leads; lent = r.lent; launcher = r.launcher; program = r.program }
@@ -74,7 +74,7 @@ module _ {C La : Type 0} (readings : C → Readings) (launches : La → Launches
   lifts (one (further no_memory) more) = let r = lifts more in record { leads = one (further no_memory) r.leads; lent = r.lent; launcher = r.launcher; program = r.program }
 
 -- the run goes on by the turns of the events
-extended : (supply : session_lines.Supply) (before after : Outside seen_world) (events : List (EventWith FurtherEvent))
+extended : (supply : session_lines.Supply) (before after : Outside seen_world) (events : List (Event FurtherEvent))
     → Leads (Does seen_world supply) before events after
     → IsExtended before.desk.limits before.desk.session before.desk.run (turns_in events) after.desk.run
 extended supply before after events leads =
