@@ -1,104 +1,308 @@
--- Parts of a request on keys by which no file is changed and no ticket is given back: all their events are the request's work, but one that refuses it.
-use Rattle.std.proofs.Common.{◌≡◌, ℕ, Bool, true, false, List, [], ◌∷◌, ◌++◌, Option, Some, None, Result, Ok, Err, refl, sym, ap, ◌∙◌, subst, append_assoc, append-nil}
-use Rattle.agent_ask.specs.Further.{FurtherEvent}
+-- How a request ends, once its work is done: what its last part does, and the course that this makes of its exchange. So a client that is gone ends it.
+use Rattle.std.specs.List.{AllByRecursion}
+use Rattle.std.specs.Option.{option_map}
+use Rattle.std.proofs.Common.{◌≡◌, ℕ, List, [], ◌∷◌, ◌++◌, Option, Some, None, Result, Ok, Err, refl, sym, ap, ◌∙◌, subst, append_assoc, append-nil, inl, inr}
+use Rattle.agent_ask.specs.Further.{Prompt, Keys, Dice, Trust, NoMemory, Replaced, Removed}
+use Rattle.agent_ask.specs.Interrupts.{Interrupts}
+use Rattle.agent_ask.specs.Parts.{◌>>=◌, Follows, goes_on, stops, Returns, returns, Refuses}
+use Rattle.agent_ask.specs.SessionEvents.{Received, Sent, Cut, Inquiry, CacheTurn, Further, cache_turn, said_last}
+use Rattle.agent_ask.specs.TurnParts.{Closes}
+use Rattle.agent_ask.specs.TurnParts as taken
+use Rattle.agent_ports.specs.declared.grip.Grip.{Grip}
+use Rattle.agent_ports.specs.declared.keys.KeyDone.TheVariants as key_done
+use Rattle.assuan_server.specs.Written.{failed, refusal_line}
+use Rattle.assuan_server.specs.declared.errors.Origin.TheVariants as origin
+use Rattle.cache_policy.specs.Turns.{Turn, Done}
+use Rattle.cache_policy.specs.declared.mark.MarkStep.TheVariants.{Close, Clear}
+use Rattle.cache_policy.specs.declared.mode.Mode.TheVariants.{Normal}
+use Rattle.session_client.specs.Refusals.{refusal_code}
 use Rattle.session_client.specs.declared.code.Code.{Code}
-use Rattle.cache_policy.specs.Turns.{Turn, closes}
-use Rattle.cache_policy.specs.declared.mark.MarkStep.{MarkStep}
-use Rattle.agent_commands.specs.Events.{Event}
-use Rattle.agent_commands.specs.declared.request.Request.{Request}
-use Rattle.key_commands.specs.Parts.{Part}
-use Rattle.agent_ask.specs.Parts.{◌>>=◌, Follows, goes_on, stops, Returns, returns, Refuses, needed, or_else, unless, wanted}
-use Rattle.agent_ask.specs.Parts as chain
+use Rattle.session_client.specs.declared.code.Code.TheVariants as code
 use Rattle.session_client.specs.declared.refusal.Refusal.{Refusal}
-use Rattle.session_client.specs.declared.refusal.Refusal.TheVariants.{Agent}
+use Rattle.session_client.specs.declared.refusal.Refusal.TheVariants.{Agent, Pinentry, Client}
+use Rattle.session_client.specs.declared.unheard.Gone.{Gone}
+use Rattle.session_client.specs.declared.unheard.Unheard.TheVariants as unheard
+use Rattle.agent_commands.specs.declared.request.Request.{Request}
+use Rattle.key_commands.specs.Events.{Event}
+use Rattle.key_commands.specs.Lines.{grip_text}
+use Rattle.key_commands.specs.Parts.{Part}
+use Rattle.key_commands.specs.Passphrases.{put_key}
 use Rattle.key_commands.proofs.EachEvent.{each_append}
-use Rattle.agent_session.specs.Refusals.{turn_refuses, refuses, IsAllowed, IsWork, AreWork, shuts}
+use Rattle.agent_session.specs.Causes.{here, later, IsSaid, said as says_so}
+use Rattle.agent_session.specs.Completeness.{EndsInOk, error, done}
+use Rattle.agent_session.specs.Refusals.{refuses, shuts, IsAllowed, IsWork, AreWork, IsLast, said, gone, GivesBack, no_ticket, with_ticket, settled, interrupted, IsEnd, Course}
+use Rattle.agent_session.specs.Refusals as course
+use Rattle.agent_session.proofs.Explained.{has_split}
+use Rattle.agent_session.proofs.Replying.{IsReply, begins}
+use Rattle.agent_session.proofs.Standing.{each_has}
+use Rattle.agent_session.proofs.Works.{gone_said, loses, lost_goes, GoesOn, WorkEnd, no_more, refused, lost, Works, ok_works, err_works, WorksSo}
 
--- a turn of a step that gives no ticket back refuses its request by its outcome alone
-pub by_turn : (asked : MarkStep) (turn : Turn) {said : Option Code} → closes asked ≡ None → turn_refuses None turn ≡ said → turn_refuses (closes asked) turn ≡ said
-by_turn asked turn no_close is = ap (λ c. turn_refuses c turn) no_close ∙ is
+-- ---- answers
+
+-- what a refusal is answered by
+coded_last : (code : Option Code) → IsLast (said_last (option_map failed code))
+coded_last None = gone
+coded_last (Some why) = said (error why origin.Agent refl)
+
+refusal_last : (why : Refusal) → IsLast (said_last (refusal_line why))
+refusal_last (Agent why) = said (error why origin.Agent refl)
+refusal_last (Pinentry why) = said (error why origin.Pinentry refl)
+refusal_last (Client why) = coded_last (refusal_code why)
+
+held_back : {held : Option ℕ} {back : List Event} (last : List Event) → Closes None held back (Ok tt) None → GivesBack last (back ++ last)
+held_back last taken.unheld = no_ticket
+held_back last (taken.closed turn) = with_ticket turn
+
+-- ---- a client that is gone
+
+abbrev pub IsHeard : Event → Type 0
+IsHeard event = loses event ≡ None
+
+-- none is among such events
+pub heard_so : {how : Gone} (events : List Event) → AllByRecursion IsHeard events → IsSaid events (unheard.Gone how) → ⊥
+heard_so events each (says_so says has) = let goes : gone_said _ ≡ None = each_has IsHeard events each has in let gone_so = ap gone_said says in cc (goes, gone_so)
+
+back_heard : {held : Option ℕ} {back : List Event} → Closes None held back (Ok tt) None → AllByRecursion IsHeard back
+back_heard taken.unheld = tt
+back_heard (taken.closed turn) = (refl, tt)
+
+pub last_heard : (line : Option (List ℕ)) → AllByRecursion IsHeard (said_last line)
+last_heard None = tt
+last_heard (Some line) = (refl, tt)
+
+-- it is none in what stands behind these
+pub said_before : {how : Gone} (events more : List Event) → AllByRecursion IsHeard more → IsSaid (events ++ more) (unheard.Gone how) → IsSaid events (unheard.Gone how)
+said_before events more each (says_so says has) = elim (has_split events more has) [ inl before ↦ says_so says before | inr behind ↦ absurd (heard_so more each (says_so says behind)) ]
+
+pub answer_heard : {held : Option ℕ} {back : List Event} (line : Option (List ℕ)) → Closes None held back (Ok tt) None → AllByRecursion IsHeard (back ++ said_last line)
+answer_heard {back} line closes_so = each_append IsHeard back (said_last line) (back_heard closes_so) (last_heard line)
+
+-- it is by the last event of a part's work, and by none before it
+shut_heard : (event : Event) → AllByRecursion IsHeard (shuts event)
+shut_heard (Further (Prompt event)) = (refl, tt)
+shut_heard (Further (Keys call)) = tt
+shut_heard (Further (Dice draw)) = tt
+shut_heard (Further (Trust call)) = tt
+shut_heard (Further NoMemory) = tt
+shut_heard (Received took) = tt
+shut_heard (Sent text) = tt
+shut_heard (Cut text) = tt
+shut_heard (CacheTurn taken) = tt
+shut_heard (Inquiry word params limit inquired) = tt
+
+refused_heard : (event : Event) {why : Code} → refuses event ≡ Some why → IsHeard event
+refused_heard (Cut text) is = absurd (cc is)
+refused_heard (Inquiry word params limit inquired) is = absurd (cc is)
+refused_heard (Received took) is = refl
+refused_heard (Sent text) is = refl
+refused_heard (CacheTurn taken) is = refl
+refused_heard (Further what) is = refl
+
+module _ (Fits : Event → Type 0) where
+  all_heard : (events : List Event) → AllByRecursion (GoesOn Fits) events → AllByRecursion IsHeard events
+  all_heard [] each = tt
+  all_heard (event ∷ more) each = (each.0.2, all_heard more each.1)
+
+  work_gone : {A : Type 0} {last : List Event} {result : Result A Refusal} {how : Gone} → WorkEnd Fits last result → IsSaid last (unheard.Gone how) → result ≡ Err (Client (unheard.Gone how))
+  work_gone no_more says = absurd (heard_so [] tt says)
+  work_gone (refused {event} fits is) says = absurd (heard_so (event ∷ shuts event) (refused_heard event is, shut_heard event) says)
+  work_gone {how} (lost {how = other} fits is each) (says_so says here) = let both : Some how ≡ Some other = sym (ap gone_said says) ∙ is in ap (λ h. Err (Client (unheard.Gone h))) (sym (cc both))
+  work_gone (lost {last = more} fits is each) (says_so says (later has)) = absurd (heard_so more (all_heard more each) (says_so says has))
+
+  gone_behind : {how : Gone} (work last : List Event) → AllByRecursion (GoesOn Fits) work → IsSaid (work ++ last) (unheard.Gone how) → IsSaid last (unheard.Gone how)
+  gone_behind work last each (says_so says has) = elim (has_split work last has) [
+    | inl first ↦ absurd (heard_so work (all_heard work each) (says_so says first))
+    | inr behind_it ↦ says_so says behind_it
+  ]
+
+  pub works_gone : {A : Type 0} {events : List Event} {result : Result A Refusal} {how : Gone} → Works Fits events result → IsSaid events (unheard.Gone how) → result ≡ Err (Client (unheard.Gone how))
+  works_gone {how} does says = work_gone does.end (gone_behind does.work does.last does.each (subst (λ e. IsSaid e (unheard.Gone how)) does.is says))
 
 module _ (request : Request) where
-  -- a part's events, and what it comes to: work, and perhaps an event that refuses the request
-  pub data WorkEnd {A : Type 0} : List (Event FurtherEvent) → Result A Refusal → Type 0 where
-    no_more : {result : Result A Refusal} → WorkEnd [] result
-    refused : {event : Event FurtherEvent} {why : Code} → IsAllowed request event → refuses event ≡ Some why → WorkEnd (event ∷ shuts event) (Err (Agent why))
+  abbrev Fine : Event → Type 0
+  Fine = GoesOn (IsAllowed request)
 
-  pub record Works {A : Type 0} (events : List (Event FurtherEvent)) (result : Result A Refusal) : Type 0 where
-    pub work : List (Event FurtherEvent)
-    pub last : List (Event FurtherEvent)
+  are_work : (events : List Event) → AllByRecursion Fine events → AreWork request events
+  are_work [] each = tt
+  are_work (event ∷ more) each = ((each.0.0, each.0.1), are_work more each.1)
+
+  -- ---- what a request ends with
+
+  pub data RequestEnd {A : Type 0} : List Event → Result A Refusal → Option ℕ → Type 0 where
+    working : {last : List Event} {result : Result A Refusal} {held : Option ℕ} → WorkEnd (IsAllowed request) last result → RequestEnd last result held
+    closed : {ticket : ℕ} {keep : Option (List ℕ)} {value : A} (turn : Turn) → RequestEnd (cache_turn (Close ticket keep) turn ∷ []) (Ok value) None
+    unwrapped : {ticket : ℕ} {keep : Option (List ℕ)} (turn : Turn) → RequestEnd (cache_turn (Close ticket keep) turn ∷ Further NoMemory ∷ []) (Err (Agent code.NoMemory)) None
+    kept : {grip : Grip} {file : List ℕ} {ticket : ℕ} {pass : List ℕ} {value : A} (turn : Turn)
+        → RequestEnd (Further (Keys (Replaced grip file key_done.Done)) ∷ cache_turn (Close ticket (Some pass)) turn ∷ []) (Ok value) None
+    put : {grip : Grip} {file pass : List ℕ} {value : A} → RequestEnd (Further (Keys (Replaced grip file key_done.Done)) ∷ cache_turn (put_key grip pass) Done ∷ []) (Ok value) None
+    unput : {grip : Grip} {file pass : List ℕ} {turn : Turn} {why : Code} → Interrupts turn why
+        → RequestEnd (Further (Keys (Replaced grip file key_done.Done)) ∷ cache_turn (put_key grip pass) turn ∷ []) (Err (Agent why)) None
+    cleared : {grip : Grip} {value : A} {held : Option ℕ} → RequestEnd (Further (Keys (Removed grip key_done.Done)) ∷ cache_turn (Clear (grip_text grip) Normal) Done ∷ []) (Ok value) held
+    uncleared : {grip : Grip} {turn : Turn} {why : Code} {held : Option ℕ} → Interrupts turn why
+        → RequestEnd (Further (Keys (Removed grip key_done.Done)) ∷ cache_turn (Clear (grip_text grip) Normal) turn ∷ []) (Err (Agent why)) held
+
+  pub record Ends {A : Type 0} (events : List Event) (result : Result A Refusal) (held : Option ℕ) : Type 0 where
+    pub work : List Event
+    pub last : List Event
     pub is : events ≡ work ++ last
-    pub each : AreWork request work
-    pub end : WorkEnd last result
+    pub each : AllByRecursion Fine work
+    pub end : RequestEnd last result held
 
-  pub works : {A : Type 0} {events : List (Event FurtherEvent)} {result : Result A Refusal} → AreWork request events → Works events result
-  works {events} each = record { work = events; last = []; is = sym (append-nil events); each = each; end = no_more }
+  pub working_ends : {A : Type 0} {events : List Event} {result : Result A Refusal} {held : Option ℕ} → Works (IsAllowed request) events result → Ends events result held
+  working_ends does = record { work = does.work; last = does.last; is = does.is; each = does.each; end = working does.end }
 
-  ok_last : {A : Type 0} {last : List (Event FurtherEvent)} {value : A} → WorkEnd last (Ok value) → last ≡ []
-  ok_last no_more = refl
+  -- nothing is left of the work
+  pub ends_with : {A : Type 0} {events : List Event} {result : Result A Refusal} {held : Option ℕ} → RequestEnd events result held → Ends events result held
+  ends_with {events} end = record { work = []; last = events; is = refl; each = tt; end = end }
 
-  err_last : {A B : Type 0} {last : List (Event FurtherEvent)} {why : Refusal} → WorkEnd {A = A} last (Err why) → WorkEnd {A = B} last (Err why)
-  err_last no_more = no_more
-  err_last (refused allowed is) = refused allowed is
+  -- ---- parts
 
-  pub ok_works : {A : Type 0} {events : List (Event FurtherEvent)} {value : A} → Works events (Ok value) → AreWork request events
-  ok_works does = subst (AreWork request) (sym (does.is ∙ ap (λ l. does.work ++ l) (ok_last does.end) ∙ append-nil does.work)) does.each
+  pub record EndsSo {A : Type 0} (part : Part A) : Type 0 where
+    pub of : {before after : Option ℕ} {events : List Event} {result : Result A Refusal} → part before events result after → Ends events result after
 
-  pub err_works : {A B : Type 0} {events : List (Event FurtherEvent)} {why : Refusal} → Works {A = A} events (Err why) → Works {A = B} events (Err why)
-  err_works does = record { work = does.work; last = does.last; is = does.is; each = does.each; end = err_last does.end }
+  pub ends_working : {A : Type 0} {part : Part A} → WorksSo (IsAllowed request) part → EndsSo part
+  ends_working part_works = record { of = λ {before} {after} {events} {result} does. working_ends (part_works.of does) }
 
-  -- behind other work
-  pub behind_work : {A : Type 0} {result : Result A Refusal} {events : List (Event FurtherEvent)} (first : List (Event FurtherEvent)) → AreWork request first → Works events result → Works (first ++ events) result
-  behind_work first each does = record {
-    work = first ++ does.work;
-    last = does.last;
-    is = ap (λ e. first ++ e) does.is ∙ sym (append_assoc first does.work does.last);
-    each = each_append (IsWork request) first does.work each does.each;
-    end = does.end;
+  behind : {A : Type 0} {events : List Event} {result : Result A Refusal} {held : Option ℕ} (first : List Event) → AllByRecursion Fine first → Ends events result held → Ends (first ++ events) result held
+  behind first each ends = record {
+    work = first ++ ends.work;
+    last = ends.last;
+    is = ap (λ e. first ++ e) ends.is ∙ sym (append_assoc first ends.work ends.last);
+    each = each_append Fine first ends.work each ends.each;
+    end = ends.end;
   }
 
-  -- one event alone
-  pub one_works : {A : Type 0} {result : Result A Refusal} {event : Event FurtherEvent} → IsAllowed request event → refuses event ≡ None → Works (event ∷ []) result
-  one_works allowed goes = works ((allowed, goes), tt)
+  -- work, and then what ends the request
+  module _ {A B : Type 0} {part : Part A} {next : A → Part B} (first : WorksSo (IsAllowed request) part) (then : (value : A) → EndsSo (next value)) where
+    bind_ends_of : {before after : Option ℕ} {events : List Event} {result : Result B Refusal} → Follows part next before events result after → Ends events result after
+    bind_ends_of (goes_on {first = some} {value} does next_does) = behind some (ok_works (IsAllowed request) (first.of does)) ((then value).of next_does)
+    bind_ends_of (stops does) = working_ends (err_works (IsAllowed request) (first.of does))
 
-  pub record WorksSo {A : Type 0} (part : Part A) : Type 0 where
-    pub of : (before : Option ℕ) (events : List (Event FurtherEvent)) (result : Result A Refusal) (after : Option ℕ) → part before events result after → Works events result
+    pub bind_ends : EndsSo (part >>= next)
+    bind_ends = record { of = bind_ends_of }
 
-  -- a part, and then what follows on its value
-  module _ {A B : Type 0} {part : Part A} {next : A → Part B} (first : WorksSo part) (then : (value : A) → WorksSo (next value)) where
-    bind_of : (before : Option ℕ) (events : List (Event FurtherEvent)) (result : Result B Refusal) (after : Option ℕ) → Follows part next before events result after → Works events result
-    bind_of before events result after (goes_on {first = some} {events = more} {value} {mid} does next_does) =
-        behind_work some (ok_works (first.of before some (Ok value) mid does)) ((then value).of mid more result after next_does)
-    bind_of before events result after (stops {refusal = why} does) = err_works (first.of before events (Err why) after does)
+  -- a value is made of what a request ends with
+  ok_end : {A B : Type 0} {last : List Event} {value : A} {held : Option ℕ} (other : B) → RequestEnd last (Ok value) held → RequestEnd last (Ok other) held
+  ok_end other (working no_more) = working no_more
+  ok_end other (closed turn) = closed turn
+  ok_end other (kept turn) = kept turn
+  ok_end other put = put
+  ok_end other cleared = cleared
 
-    pub bind : WorksSo (part >>= next)
-    bind = record { of = bind_of }
+  err_end : {A B : Type 0} {last : List Event} {why : Refusal} {held : Option ℕ} → RequestEnd {A = A} last (Err why) held → RequestEnd {A = B} last (Err why) held
+  err_end (working no_more) = working no_more
+  err_end (working (refused allowed is)) = working (refused allowed is)
+  err_end (working (lost allowed is each)) = working (lost allowed is each)
+  err_end (unwrapped turn) = unwrapped turn
+  err_end (unput why) = unput why
+  err_end (uncleared why) = uncleared why
 
-  module _ {A : Type 0} where
-    returns_of : (value : A) (before : Option ℕ) (events : List (Event FurtherEvent)) (result : Result A Refusal) (after : Option ℕ) → Returns value before events result after → Works events result
-    returns_of value before events result after returns = works tt
+  -- by a part that does nothing but to make one
+  pub record Makes {A : Type 0} (part : Part A) : Type 0 where
+    pub of : {before after : Option ℕ} {events : List Event} {result : Result A Refusal} → part before events result after → (value : A) × (result ≡ Ok value) × (events ≡ []) × (after ≡ before)
 
-    pub returned : (value : A) → WorksSo (Returns value)
-    returned value = record { of = returns_of value }
+  returns_makes : {A : Type 0} {value : A} {before after : Option ℕ} {events : List Event} {result : Result A Refusal} → Returns value before events result after
+      → (value : A) × (result ≡ Ok value) × (events ≡ []) × (after ≡ before)
+  returns_makes returns = (_, refl, refl, refl)
 
-    refuses_of : (why : Refusal) (before : Option ℕ) (events : List (Event FurtherEvent)) (result : Result A Refusal) (after : Option ℕ) → Refuses {A = A} why before events result after → Works events result
-    refuses_of why before events result after chain.refuses = works tt
+  pub makes : {A : Type 0} (value : A) → Makes (Returns value)
+  makes value = record { of = returns_makes }
 
-    pub refuses_by : (why : Refusal) → WorksSo (Refuses {A = A} why)
-    refuses_by why = record { of = refuses_of why }
+  module _ {A B : Type 0} {part : Part A} {next : A → Part B} (all_ends : EndsSo part) (then : (value : A) → Makes (next value)) where
+    made_with : (some more : List Event) (mid after : Option ℕ) (value : A) (other : B) (result : Result B Refusal) → Ends some (Ok value) mid → result ≡ Ok other → more ≡ [] → after ≡ mid
+        → Ends (some ++ more) result after
+    made_with some more mid after value other result ends came none same =
+        subst (λ r. Ends (some ++ more) r after) (sym came) (subst (λ m. Ends (some ++ m) (Ok other) after) (sym none) (subst (λ h. Ends (some ++ []) (Ok other) h) (sym same)
+        (record { work = ends.work; last = ends.last; is = append-nil some ∙ ends.is; each = ends.each; end = ok_end other ends.end })))
 
-    pub is_needed : (why : Code) (value : Option A) → WorksSo (needed why value)
-    is_needed why None = refuses_by (Agent why)
-    is_needed why (Some value) = returned value
+    made_of : (before after : Option ℕ) (events : List Event) (result : Result B Refusal) → Follows part next before events result after → Ends events result after
+    made_of before after events result (goes_on {first = some} {events = more} {value} {mid} does next_does) =
+        let so = (then value).of next_does in made_with some more mid after value so.0 result (all_ends.of does) so.1 so.2 so.3
+    made_of before after events result (stops does) = let ends = all_ends.of does in record { work = ends.work; last = ends.last; is = ends.is; each = ends.each; end = err_end ends.end }
 
-    pub or_otherwise : (value : Option A) {other : Part A} → WorksSo other → WorksSo (or_else value other)
-    or_otherwise None other = other
-    or_otherwise (Some value) other = returned value
+    pub made : EndsSo (part >>= next)
+    made = record { of = λ {before} {after} {events} {result} does. made_of before after events result does }
 
-  pub is_unless : (so : Bool) {other : Part (Unit {0})} → WorksSo other → WorksSo (unless so other)
-  is_unless true other = returned tt
-  is_unless false other = other
+  -- ---- courses
 
-  pub is_wanted : (why : Code) (so : Bool) → WorksSo (wanted why so)
-  is_wanted why true = returned tt
-  is_wanted why false = refuses_by (Agent why)
+  course_at : (work last more : List Event) → AllByRecursion Fine work → IsEnd request (last ++ more) → Course request ((work ++ last) ++ more)
+  course_at work last more each end = record { work = work; last = last ++ more; is = append_assoc work last more; each = are_work work each; end = end }
+
+  last_end : {held : Option ℕ} {back last : List Event} → IsLast last → Closes None held back (Ok tt) None → IsEnd request (back ++ last)
+  last_end is_last taken.unheld = course.answered is_last
+  last_end is_last (taken.closed turn) = course.given_back turn is_last
+
+  ok_course_at : {A : Type 0} (work last back : List Event) {held : Option ℕ} {value : A} {text : List ℕ} → AllByRecursion Fine work → EndsInOk text → RequestEnd last (Ok value) held
+      → Closes None held back (Ok tt) None → Course request ((work ++ last) ++ (back ++ Sent text ∷ []))
+  ok_course_at _ _ _ each good (working no_more) closes_so = course_at _ _ _ each (last_end (said (done good)) closes_so)
+  ok_course_at _ _ _ each good (closed turn) taken.unheld = course_at _ _ _ each (course.given_back turn (said (done good)))
+  ok_course_at _ _ _ each good (kept turn) taken.unheld = course_at _ _ _ each (course.kept turn good)
+  ok_course_at _ _ _ each good put taken.unheld = course_at _ _ _ each (course.stored (settled good))
+  ok_course_at _ _ _ each good cleared closes_so = course_at _ _ _ each (course.cleared (settled good) (held_back _ closes_so))
+
+  err_course_at : {A : Type 0} (work last back : List Event) {held : Option ℕ} {why : Refusal} → AllByRecursion Fine work → RequestEnd {A = A} last (Err why) held → Closes None held back (Ok tt) None
+      → Course request ((work ++ last) ++ (back ++ said_last (refusal_line why)))
+  err_course_at _ _ _ each (working no_more) closes_so = course_at _ _ _ each (last_end (refusal_last _) closes_so)
+  err_course_at _ _ _ each (working (refused allowed is)) closes_so = course_at _ _ _ each (course.refused allowed is (held_back _ closes_so))
+  err_course_at work _ back each (working (lost {event} {last} {how} allowed is each_last)) closes_so = record {
+    work = work ++ event ∷ last;
+    last = _;
+    is = refl;
+    each = each_append (IsWork request) work (event ∷ last) (are_work work each) ((allowed, lost_goes event is), are_work last each_last);
+    end = last_end (refusal_last (Client (unheard.Gone how))) closes_so;
+  }
+  err_course_at _ _ _ each (unwrapped turn) taken.unheld = course_at _ _ _ each (course.unanswered turn)
+  err_course_at _ _ _ each (unput why) taken.unheld = course_at _ _ _ each (course.stored (interrupted why))
+  err_course_at _ _ _ each (uncleared why) closes_so = course_at _ _ _ each (course.cleared (interrupted why) (held_back _ closes_so))
+
+  module _ {A : Type 0} {events back : List Event} {held : Option ℕ} where
+    pub ok_course : {value : A} {text : List ℕ} → EndsInOk text → Ends events (Ok value) held → Closes None held back (Ok tt) None → Course request (events ++ (back ++ Sent text ∷ []))
+    ok_course {text} good ends closes_so = subst (λ e. Course request (e ++ (back ++ Sent text ∷ []))) (sym ends.is) (ok_course_at ends.work ends.last back ends.each good ends.end closes_so)
+
+    pub err_course : {why : Refusal} → Ends {A = A} events (Err why) held → Closes None held back (Ok tt) None → Course request (events ++ (back ++ said_last (refusal_line why)))
+    err_course {why} ends closes_so = subst (λ e. Course request (e ++ (back ++ said_last (refusal_line why)))) (sym ends.is) (err_course_at ends.work ends.last back ends.each ends.end closes_so)
+
+  -- ---- a client that is gone ends its request
+
+  end_gone : {A : Type 0} {last : List Event} {result : Result A Refusal} {held : Option ℕ} {how : Gone} → RequestEnd last result held → IsSaid last (unheard.Gone how) → result ≡ Err (Client (unheard.Gone how))
+  end_gone (working end) says = work_gone (IsAllowed request) end says
+  end_gone (closed turn) says = absurd (heard_so _ (refl, tt) says)
+  end_gone (unwrapped turn) says = absurd (heard_so _ (refl, (refl, tt)) says)
+  end_gone (kept turn) says = absurd (heard_so _ (refl, (refl, tt)) says)
+  end_gone put says = absurd (heard_so _ (refl, (refl, tt)) says)
+  end_gone (unput why) says = absurd (heard_so _ (refl, (refl, tt)) says)
+  end_gone cleared says = absurd (heard_so _ (refl, (refl, tt)) says)
+  end_gone (uncleared why) says = absurd (heard_so _ (refl, (refl, tt)) says)
+
+  pub ends_gone : {A : Type 0} {events : List Event} {result : Result A Refusal} {held : Option ℕ} {how : Gone} → Ends events result held → IsSaid events (unheard.Gone how)
+      → result ≡ Err (Client (unheard.Gone how))
+  ends_gone {how} ends says = end_gone ends.end (gone_behind (IsAllowed request) ends.work ends.last ends.each (subst (λ e. IsSaid e (unheard.Gone how)) ends.is says))
+
+-- ---- every reply ends in an OK line
+
+pub reply_ends_in_ok : {text : List ℕ} → IsReply text → EndsInOk text
+reply_ends_in_ok (begins other ends) = ends
+
+module _ {R : Type 0} (text_of : R → List ℕ) where
+  pub record RepliesOk (part : Part R) : Type 0 where
+    pub of : {before after : Option ℕ} {events : List Event} {reply : R} → part before events (Ok reply) after → EndsInOk (text_of reply)
+
+  ok_returns_of : {value : R} → EndsInOk (text_of value) → {before after : Option ℕ} {events : List Event} {reply : R} → Returns value before events (Ok reply) after → EndsInOk (text_of reply)
+  ok_returns_of ok returns = ok
+
+  ok_refuses_of : {why : Refusal} {before after : Option ℕ} {events : List Event} {reply : R} → Refuses why before events (Ok reply) after → EndsInOk (text_of reply)
+  ok_refuses_of never = elim never [ ]
+
+  module _ {A : Type 0} {part : Part A} {next : A → Part R} (then : (value : A) → RepliesOk (next value)) where
+    ok_then_of : {before after : Option ℕ} {events : List Event} {reply : R} → Follows part next before events (Ok reply) after → EndsInOk (text_of reply)
+    ok_then_of (goes_on {value} does next_does) = (then value).of next_does
+
+module _ {R : Type 0} {text_of : R → List ℕ} where
+  pub ok_returns : (value : R) → EndsInOk (text_of value) → RepliesOk text_of (Returns value)
+  ok_returns value ok = record { of = ok_returns_of text_of ok }
+
+  pub ok_refuses : (why : Refusal) → RepliesOk text_of (Refuses why)
+  ok_refuses why = record { of = ok_refuses_of text_of }
+
+  pub ok_then : {A : Type 0} {part : Part A} {next : A → Part R} → ((value : A) → RepliesOk text_of (next value)) → RepliesOk text_of (part >>= next)
+  ok_then then = record { of = ok_then_of text_of then }

@@ -185,7 +185,7 @@ module _ (door : Door) (rules : Rules) (before : Kept) (line : List ℕ) where
 -- ---- without faults
 
 module _ (rules : Rules) (before : Kept) (line : List ℕ) (events : List Event) where
-  abbrev Because : Option TrustCommandName → Code → Type 0
+  abbrev pub Because : Option TrustCommandName → Code → Type 0
   Because found why = IsCausedBy rules before line events found why Agent
 
   wanted_by : (found : Option TrustCommandName) → Because found code.NoMemory → HasOne events WantsMemory
@@ -204,7 +204,7 @@ module _ (rules : Rules) (before : Kept) (line : List ℕ) (events : List Event)
 
   module _ (door : Door) where
     -- an error line but Forbidden has a cause that the line's command says
-    because : (why : Code) → ¬ (code.Forbidden ≡ why) → IsCausedAtDoor door rules before line events why Agent → Because (command_named (command_of line)) why
+    pub because : (why : Code) → ¬ (code.Forbidden ≡ why) → IsCausedAtDoor door rules before line events why Agent → Because (command_named (command_of line)) why
     because why other (forbidden refuses) = absurd (other refl)
     because why other (is_allowed allows cause) = cause
 

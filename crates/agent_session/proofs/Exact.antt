@@ -6,7 +6,6 @@ use Rattle.agent_ask.specs.SessionEvents.{Inquiry, Further}
 use Rattle.arrayvec.specs.ArrayVec.{ArrayVec}
 use Rattle.agent_ports.specs.declared.grip.Grip.{Grip}
 use Rattle.agent_ports.specs.declared.keys.KeyDone.TheVariants as key_done
-use Rattle.agent_ports.specs.declared.keys.KeyRead.{KeyRead}
 use Rattle.agent_ports.specs.declared.keys.KeyRead.TheVariants as key_read
 use Rattle.session_client.specs.Refusals.{refusal_code}
 use Rattle.session_client.specs.declared.code.Code.{Code}
@@ -30,7 +29,7 @@ use Rattle.key_commands.specs.Events.{Event}
 use Rattle.key_commands.specs.Exchanges.{Exchange as KeyExchange}
 use Rattle.key_commands.specs.Faults.{fault_code}
 use Rattle.key_commands.specs.Files.{FileSays}
-use Rattle.key_commands.specs.KeyParts.{file_in, max_key_data}
+use Rattle.key_commands.specs.KeyParts.{max_key_data}
 use Rattle.key_commands.specs.Requests.{key_request_of}
 use Rattle.key_commands.specs.declared.request.KeyRequest.{KeyRequest}
 use Rattle.key_commands.specs.declared.request.KeyRequest.TheVariants as on
@@ -42,12 +41,13 @@ use Rattle.agent_session.specs.Causes.{Has, IsSaid, said, IsSent, sent, IsRead, 
 use Rattle.agent_session.specs.Causes.{IsOption, option, KeyDataSays, data_says, IsFaulty, file, protection, key_data, HasNoData, no_id, empty, IsMalformed, no_import, no_export, IsThere, there}
 use Rattle.agent_session.specs.Causes as causes
 use Rattle.agent_session.specs.Completeness.{Remembers, HasError}
-use Rattle.agent_session.specs.Exactly.{ExactCause}
+use Rattle.agent_session.specs.Exactly.{ExactCause, IsLong, long, long_file}
 use Rattle.agent_session.proofs.ExactCache.{option_due, cache_due, cache_answered, none_without, none_cached}
 use Rattle.agent_session.proofs.ExactHave.{have_answered}
 use Rattle.agent_session.proofs.ExactKeys.{by_said, NoFault, due_of, deciding_of, keys_answered}
+use Rattle.agent_session.proofs.ExactLong.{long_answered}
 use Rattle.agent_session.proofs.ExactPrompts.{Deciding, SaidDecides, IsDecided}
-use Rattle.agent_session.proofs.ExactReads.{SentRefuses, IsUnlockable, FileRefuses, faulty, owes, ReadRefuses, by_file}
+use Rattle.agent_session.proofs.ExactReads.{SentRefuses, IsUnlockable, FileRefuses, faulty, owes, read_refuses, by_file}
 
 -- what the client said decides its request
 pub said_decides : (deciding : Deciding) {events : List Event} {why : Code} (unheard : Unheard) → refusal_code unheard ≡ Some why → IsSaid events unheard → IsDecided deciding events why
@@ -74,12 +74,6 @@ same_sent wraps (Some (on.ExportKey grip nonce)) why bytes refuses_so = refuses_
 same_sent wraps (Some (on.Passwd grip old new verify)) why bytes refuses_so = refuses_so
 same_sent wraps (Some (on.DeleteKey grip force)) why bytes refuses_so = refuses_so
 same_sent wraps (Some (on.Bad given)) why bytes refuses_so = refuses_so
-
-read_refuses : (Owes : Key → Code → Type 0) (answer : KeyRead) (bytes : List ℕ) {why : Code} → file_in answer ≡ Some bytes → FileRefuses Owes bytes why → ReadRefuses Owes answer why
-read_refuses Owes (key_read.Found found) bytes {why} is refuses_so = let same : found.items ≡ bytes = cc is in subst (λ b. FileRefuses Owes b why) (sym same) refuses_so
-read_refuses Owes key_read.Absent bytes is refuses_so = absurd (cc is)
-read_refuses Owes key_read.Failed bytes is refuses_so = absurd (cc is)
-read_refuses Owes key_read.NoMemory bytes is refuses_so = absurd (cc is)
 
 module _ (rules : Rules) (kept : Kept) (request : Request) (events : List Event) where
   -- what is due before the request, or decides it among its events
@@ -152,7 +146,8 @@ module _ (rules : Rules) (kept : Kept) (request : Request) (events : List Event)
 
   -- what decides a request is its answer, and so is what the cache or the files lack, where nothing else is looked for
   module _ (decides : (why : Code) → Decided why → HasError why Agent events) (no_data : HasNoData events rules kept request → HasError code.NoData Agent events)
-      (none_there : (grips : List Grip) → on_keys request ≡ Some (on.HaveKey grips) → AreUnread events grips → HasError code.NoSecKey Agent events) where
+      (none_there : (grips : List Grip) → on_keys request ≡ Some (on.HaveKey grips) → AreUnread events grips → HasError code.NoSecKey Agent events)
+      (is_long : IsLong events rules kept request → HasError code.BadSecKey Agent events) where
     by_cause : (why : Code) → ExactCause events rules kept request why → HasError why Agent events
     by_cause code.NoData cause = no_data cause
     by_cause code.NoSecKey cause = elim (lacks_so (on_keys request) refl cause) [ inl decided ↦ decides code.NoSecKey decided | inr have ↦ none_there have.0 have.1 have.2 ]
@@ -160,7 +155,8 @@ module _ (rules : Rules) (kept : Kept) (request : Request) (events : List Event)
         decides code.FileExists (decides_so is (record { event = Further (Keys (Read grip (key_read.Found found))); has = has; decides = refl }))
     by_cause code.Checksum cause = decides code.Checksum (data_decides code.Checksum cause)
     by_cause code.InvSexp cause = decides code.InvSexp (faulty_so code.InvSexp cause)
-    by_cause code.BadSecKey cause = decides code.BadSecKey (faulty_so code.BadSecKey cause)
+    by_cause code.BadSecKey (inl cause) = decides code.BadSecKey (faulty_so code.BadSecKey cause)
+    by_cause code.BadSecKey (inr cause) = is_long cause
     by_cause code.UnknownCommand cause = decides code.UnknownCommand (refused_so code.UnknownCommand cause)
     by_cause code.UnknownOption cause = decides code.UnknownOption (option_so option_answer.Unknown code.UnknownOption cause refl)
     by_cause code.Parameter (causes.IsMalformed.line is) = decides code.Parameter (refused_so code.Parameter is)
@@ -190,7 +186,11 @@ module _ (rules : Rules) (kept : Kept) (request : Request) (events : List Event)
     cache_without (empty fields id is quiet same has) = none_cached rules kept.options options request events went exchange fields is quiet id has
 
     cache_cause : (why : Code) → ExactCause events rules kept request why → HasError why Agent events
-    cache_cause = by_cause cache_decides cache_without (λ grips is each. let none = not_keys request exchange in absurd (cc (is, none)))
+    cache_cause = by_cause cache_decides cache_without (λ grips is each. let none = not_keys request exchange in absurd (cc (is, none))) never_long
+      where
+        never_long : IsLong events rules kept request → HasError code.BadSecKey Agent events
+        never_long (long is opened list_long) = let none = not_keys request exchange in absurd (cc (is, none))
+        never_long (long_file is drawn file_long) = let none = not_keys request exchange in absurd (cc (is, none))
 
 -- ---- requests on keys
 
@@ -217,4 +217,5 @@ module _ (one_canon : (file : List ℕ) (a b : Option (List ℕ)) → Canon file
       → ExactCause events rules kept request why → HasError why Agent events
   cause_answered request {events} (cache exchange) remembers why cause = cache_cause rules kept request events _ _ exchange remembers why cause
   cause_answered (OnKeys line) {events} (keys exchange) remembers why cause =
-      by_cause rules kept (OnKeys line) events (keys_decide line events exchange remembers) (keys_without line events exchange remembers) (keys_lack line events exchange remembers) why cause
+      by_cause rules kept (OnKeys line) events (keys_decide line events exchange remembers) (keys_without line events exchange remembers) (keys_lack line events exchange remembers)
+      (long_answered one_canon rules kept (OnKeys line) refl exchange remembers) why cause

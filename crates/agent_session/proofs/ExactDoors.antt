@@ -95,7 +95,7 @@ module _ (rules : Rules) (before : Kept) where
   trust_cause request exchanged remembers code.NotTrusted cause = denial_is_said rules before.options exchanged cause
   trust_cause request exchanged remembers code.Parameter cause =
       trust_answered rules before.options request exchanged remembers code.Parameter (inl (subst (λ r. due_trust r code.Parameter) (sym cause) refl))
-  trust_cause request exchanged remembers code.TooMuch (inl said) = trust_answered rules before.options request exchanged remembers code.TooMuch (inr (said_decides (by_said None) unheard.TooMuch refl said))
+  trust_cause request exchanged remembers code.TooMuch (inl says) = trust_answered rules before.options request exchanged remembers code.TooMuch (inr (said_decides (by_said None) unheard.TooMuch refl says))
   trust_cause request {events} {went} exchanged remembers code.TooMuch (inr (too_long {fingerprint} {purpose} {name} {file} is again none many)) =
       long_answered fingerprint purpose name file none many (subst (λ r. TrustExchange rules before.options r events went) is exchanged) remembers again
   trust_cause request exchanged remembers code.Unexpected cause =

@@ -44,7 +44,7 @@ abbrev IsTold : List Event → Went → Type 0
 IsTold events went = went ≡ End TooLong → HasError code.LineTooLong Agent events
 
 -- a refusal by which a session ends so is told
-refusal_told : (events back : List Event) (why : Refusal) → went_after (gone_by why) ≡ End TooLong → HasError code.LineTooLong Agent (events ++ (back ++ said_last (refusal_line why)))
+pub refusal_told : (events back : List Event) (why : Refusal) → went_after (gone_by why) ≡ End TooLong → HasError code.LineTooLong Agent (events ++ (back ++ said_last (refusal_line why)))
 refusal_told events back (refusals.Agent why) is = absurd (cc is)
 refusal_told events back (refusals.Pinentry why) is = absurd (cc is)
 refusal_told events back (refusals.Client unheard.Cancelled) is = absurd (cc is)

@@ -62,6 +62,12 @@ ReadRefuses Owes (key_read.Found file) why = FileRefuses Owes file.items why
 ReadRefuses Owes key_read.Absent why = code.NoSecKey ≡ why
 ReadRefuses Owes _ why = ⊥
 
+pub read_refuses : (Owes : Key → Code → Type 0) (answer : KeyRead) (bytes : List ℕ) {why : Code} → file_in answer ≡ Some bytes → FileRefuses Owes bytes why → ReadRefuses Owes answer why
+read_refuses Owes (key_read.Found found) bytes {why} is refuses_so = let same : found.items ≡ bytes = cc is in subst (λ b. FileRefuses Owes b why) (sym same) refuses_so
+read_refuses Owes key_read.Absent bytes is refuses_so = absurd (cc is)
+read_refuses Owes key_read.Failed bytes is refuses_so = absurd (cc is)
+read_refuses Owes key_read.NoMemory bytes is refuses_so = absurd (cc is)
+
 abbrev pub by_file : Option (List ℕ) → (Key → Code → Type 0) → Deciding
 by_file wrap Owes = record { sent = SentRefuses wrap; reads = λ grip answer why. ReadRefuses Owes answer why; removed = λ answer why. ⊥; trust = λ call why. ⊥ }
 

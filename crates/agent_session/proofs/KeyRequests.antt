@@ -279,7 +279,7 @@ module _ (rules : Rules) (kept : Kept) (request : Request) (whole : List (Event 
         (none_opens rules kept request whole (ask_key grip (way_of kept.options.mode)) locked cached given second_closed))))))))
 
   module _ (grip : Grip) (unlocks : Unlocks request grip) where
-    old_passphrase : (clear : Bool) (key : Key) (id : Option (List ℕ)) → IsRead whole grip (Ok (record key { is_clear = clear }))
+    pub old_passphrase : (clear : Bool) (key : Key) (id : Option (List ℕ)) → IsRead whole grip (Ok (record key { is_clear = clear }))
         → ((locked : LockedKey) → IsReadLocked whole grip locked → ByNonce whole (GivesNoneFor whole locked) id → GivesNoneFor whole locked (ask_key grip (way_of kept.options.mode)) → HasNoEntry whole request)
         → ExplainsHere (OldPassphrase rules kept.options grip id (record key { is_clear = clear })) (λ opened. OpensRead whole grip opened.key)
     old_passphrase true key id is_read unmet = returned rules kept request whole (λ opened. OpensRead whole grip opened.key) _ (is_clear is_read refl)

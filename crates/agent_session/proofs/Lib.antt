@@ -16,6 +16,7 @@ mod ExactEnds
 mod ExactFiles
 mod ExactHave
 mod ExactKeys
+mod ExactLong
 mod ExactParts
 mod ExactPrompts
 mod ExactReads
@@ -29,7 +30,9 @@ mod KeyCourses
 mod KeyExplained
 mod KeyParts
 mod KeyRequests
+mod KeyWorks
 mod LineFaults
+mod LongLines
 mod Opens
 mod OwnCache
 mod OwnFacts
@@ -38,7 +41,7 @@ mod OwnLines
 mod OwnParts
 pub mod OwnSessions
 mod OwnTrust
-mod PromptCourses
+mod PromptWorks
 mod Prompted
 mod RefusedCourses
 mod Refusing
@@ -50,7 +53,8 @@ mod Talking
 mod TrustDenied
 mod TrustEnds
 mod TrustExplained
-mod TurnCourses
+mod TrustGone
+mod Works
 mod Uncaused
 mod WorkedExact
 mod WorkedExamples

@@ -12,5 +12,5 @@ use Rattle.agent_session.proofs.CacheCourses.{cache_course}
 use Rattle.agent_session.proofs.KeyCourses.{key_course}
 
 pub request_course : {rules : Rules} {kept now : Kept} (request : Request) {events : List (Event FurtherEvent)} {went : Went} → RequestExchange rules kept request events now went → Course request events
-request_course {rules} {kept} request (cache exchange) = cache_course rules kept.options _ request _ _ exchange
-request_course {rules} {kept} request (keys exchange) = key_course request rules kept.options kept.wraps _ refl exchange
+request_course {rules} {kept} request (cache exchange) = cache_course rules kept.options _ _ _ request exchange
+request_course {rules} {kept} request (keys exchange) = key_course request rules kept.options kept.wraps refl exchange

@@ -1,59 +1,86 @@
 -- Worked examples: exchanges in which a cause stands, and their answers.
 use Rattle.std.specs.List.{AllByRecursion}
-use Rattle.std.proofs.Common.{◌≡◌, ◌++◌, ℕ, true, false, List, [], ◌∷◌, codes, Option, Some, None, refl, sym, subst}
+use Rattle.std.proofs.Common.{◌≡◌, ◌<◌, ◌⊎◌, ◌∙◌, ◌++◌, ℕ, Bool, true, false, List, [], ◌∷◌, length, codes, Option, Some, None, Ok, refl, sym, ap, subst, inl, inr}
 use Rattle.arrayvec.specs.ArrayVec.{ArrayVec}
-use Rattle.agent_ask.specs.SessionEvents.{Sent, Inquiry, cache_turn}
+use Rattle.agent_ask.specs.Further.{Replaced}
+use Rattle.agent_ask.specs.SessionEvents.{Received, Sent, Inquiry, cache_turn}
 use Rattle.agent_ask.specs.ClientParts as client
 use Rattle.agent_ask.specs.PartExchanges as exchanges
 use Rattle.agent_commands.specs.Exchanges.{Exchange as CacheExchange}
 use Rattle.agent_commands.specs.Parts.{limit_line}
 use Rattle.agent_commands.specs.Passphrases.{ask}
-use Rattle.agent_commands.specs.Requests.{GetFields, get_passphrase}
+use Rattle.agent_commands.specs.Requests.{GetFields, get_passphrase, request_of}
+use Rattle.agent_commands.specs.Talks as talks
 use Rattle.agent_commands.specs.declared.request.CacheCommand.TheVariants.{PresetPassphrase}
 use Rattle.agent_commands.specs.declared.request.Request.TheVariants.{Cache, Key as OnKeys}
 use Rattle.agent_commands.specs.declared.went.SessionEnd.TheVariants as ends
 use Rattle.agent_commands.specs.declared.went.Went.{Went}
 use Rattle.agent_commands.specs.declared.went.Went.TheVariants.{On, End}
 use Rattle.agent_ports.specs.declared.grip.Grip.{Grip}
+use Rattle.agent_ports.specs.declared.keys.KeyDone.TheVariants as key_done
+use Rattle.agent_ports.specs.declared.keys.KeyRead.{KeyRead}
 use Rattle.agent_ports.specs.declared.keys.KeyRead.TheVariants as key_read
+use Rattle.assuan_line.specs.declared.reader.Took.TheVariants as took
 use Rattle.assuan_server.specs.Inquiries.{TooLong}
-use Rattle.assuan_server.specs.Written.{failed}
+use Rattle.assuan_server.specs.Written.{failed, greeting}
 use Rattle.session_client.specs.declared.code.Code.TheVariants as code
 use Rattle.assuan_server.specs.declared.errors.Origin.TheVariants.{Agent}
+use Rattle.assuan_text.specs.LineEnds.{line_of}
 use Rattle.assuan_text.specs.Words.{command_of}
 use Rattle.cache_policy.specs.Turns.{Empty}
 use Rattle.cache_policy.specs.declared.life.Life.{Life}
 use Rattle.cache_policy.specs.declared.secret.TheConstants.{MAX_SECRET_LEN}
-use Rattle.key_commands.specs.Events.{Event, read}
-use Rattle.key_commands.specs.Exchanges.{Exchange, KeyInfoReplies}
+use Rattle.key_commands.specs.Events.{Event, called, read}
+use Rattle.key_commands.specs.Exchanges.{Exchange, KeyInfoReplies, PasswdReplies}
 use Rattle.key_commands.specs.Exchanges as key_exchanges
+use Rattle.key_commands.specs.Files.{FileSays}
+use Rattle.key_commands.specs.KeyParts.{file_in}
 use Rattle.key_commands.specs.KeyParts as key_parts
+use Rattle.key_commands.specs.Passphrases.{old_by}
 use Rattle.agent_ask.specs.Parts as chain
 use Rattle.agent_ask.specs.TurnParts as turning
 use Rattle.key_commands.specs.Requests.{key_request_of}
 use Rattle.session_client.specs.declared.refusal.Refusal.TheVariants as refusals
 use Rattle.key_commands.specs.declared.request.KeyRequest.TheVariants as on
 use Rattle.key_commands.specs.declared.went.KeyWent.TheVariants as key_went
+use Rattle.key_commands.specs.declared.wrapping.TheConstants.{MAX_LIST_LEN}
 use Rattle.key_lines.specs.Canon.{Canon}
 use Rattle.session_client.specs.Asking.{Asked}
 use Rattle.session_client.specs.declared.unheard.Gone.TheVariants as gone
 use Rattle.session_client.specs.declared.unheard.Unheard.TheVariants as unheard
 use Rattle.session_options.specs.declared.rules.Rules.{Rules}
+use Rattle.sexp_keys.specs.Key.{Key}
+use Rattle.sexp_keys.specs.Lists.{key_list_of}
 use Rattle.agent_origin.specs.DoorSessions.{DoorExchange}
 use Rattle.agent_origin.specs.Doors.{allowed}
 use Rattle.agent_origin.specs.Names.{command_named}
 use Rattle.agent_origin.specs.Requests.{trust_request_of}
-use Rattle.agent_origin.specs.SessionExchanges.{cache, keys}
+use Rattle.agent_origin.specs.SessionExchanges.{RequestExchange, cache, keys}
 use Rattle.agent_origin.specs.declared.door.Door.{Door}
 use Rattle.agent_origin.specs.declared.kept.Kept.{Kept}
 use Rattle.agent_origin.specs.declared.names.TrustCommandName.TheVariants as name
 use Rattle.agent_origin.specs.declared.request.TrustRequest.TheVariants.{Bad}
-use Rattle.agent_session.specs.Causes.{here, LacksKeys, empty}
+use Rattle.agent_session.specs.Causes.{Has, here, later, LacksKeys, empty, IsRead, opens, said}
+use Rattle.agent_session.specs.Causes as causes
 use Rattle.agent_session.specs.Completeness.{Remembers, HasError}
-use Rattle.agent_session.specs.Exactly.{on_trust}
+use Rattle.agent_session.specs.Exactly.{on_trust, clear, long, HasLongList, EndsTooLong, at_inquiry}
 use Rattle.agent_session.proofs.Exact.{cause_answered}
 use Rattle.agent_session.proofs.ExactDoors.{door_cause}
 use Rattle.agent_session.proofs.ExactEnds.{end_told}
+use Rattle.agent_session.proofs.ExactFiles.{one_says}
+use Rattle.agent_session.proofs.KeyExplained.{exchange_caused}
+use Rattle.agent_session.proofs.LongLines.{session_long, long_session}
+
+one_of_two : {event first second : Event} → Has event (first ∷ second ∷ []) → (event ≡ first) ⊎ (event ≡ second)
+one_of_two here = inl refl
+one_of_two (later here) = inr refl
+one_of_two (later (later none)) = elim none [ ]
+
+found_recalls : (grip : Grip) (answer : KeyRead) {file : List ℕ} → file_in answer ≡ Some file → Remembers (read grip answer)
+found_recalls grip (key_read.Found bytes) found wants = wants
+found_recalls grip key_read.Absent found wants = wants
+found_recalls grip key_read.Failed found wants = wants
+found_recalls grip key_read.NoMemory found wants = absurd (cc found)
 
 module _ (one_canon : (file : List ℕ) (a b : Option (List ℕ)) → Canon file a → Canon file b → a ≡ b) (rules : Rules) (kept : Kept) where
   -- GET_PASSPHRASE of the cache alone, which has nothing
@@ -80,14 +107,14 @@ module _ (one_canon : (file : List ℕ) (a b : Option (List ℕ)) → Canon file
     abbrev allowing : Rules
     allowing = record rules { allow_preset = true }
 
-    abbrev long : List Event
-    long = Sent limit_line ∷ Inquiry (codes "PASSPHRASE") [] MAX_SECRET_LEN (Asked TooLong) ∷ []
+    abbrev long_lines : List Event
+    long_lines = Sent limit_line ∷ Inquiry (codes "PASSPHRASE") [] MAX_SECRET_LEN (Asked TooLong) ∷ []
 
-    long_exchange : CacheExchange allowing kept.options (Cache (PresetPassphrase id life None)) (long ++ Sent (failed code.LineTooLong) ∷ []) kept.options (End ends.TooLong)
+    long_exchange : CacheExchange allowing kept.options (Cache (PresetPassphrase id life None)) (long_lines ++ Sent (failed code.LineTooLong) ∷ []) kept.options (End ends.TooLong)
     long_exchange =
-        exchanges.refused long None (refusals.Client (unheard.Gone gone.TooLong)) (chain.stops (chain.goes_on chain.returns (chain.stops (chain.goes_on client.written (client.not_given refl))))) turning.unheld
+        exchanges.refused long_lines None (refusals.Client (unheard.Gone gone.TooLong)) (chain.stops (chain.goes_on chain.returns (chain.stops (chain.goes_on client.written (client.not_given refl))))) turning.unheld
 
-    long_line : HasError code.LineTooLong Agent (long ++ Sent (failed code.LineTooLong) ∷ [])
+    long_line : HasError code.LineTooLong Agent (long_lines ++ Sent (failed code.LineTooLong) ∷ [])
     long_line = end_told {rules = allowing} {kept = kept} {request = Cache (PresetPassphrase id life None)} (cache long_exchange) refl
 
   -- KEYINFO of a key that isn't there
@@ -111,3 +138,70 @@ module _ (one_canon : (file : List ℕ) (a b : Option (List ℕ)) → Canon file
 
     out_of_form : {went : Went} → DoorExchange door rules kept line malformed kept went → HasError code.Parameter Agent malformed
     out_of_form exchanged = door_cause rules kept one_canon line door exchanged ((λ none. none), tt) code.Parameter (on_trust allows named is)
+
+  -- PASSWD of a clear key whose list is too long
+  module _ (line : ArrayVec ℕ) (grip : Grip) (old new : Option (List ℕ)) (is : key_request_of line.items ≡ on.Passwd grip old new false) (answer : KeyRead) (file : List ℕ) (found : file_in answer ≡ Some file) (key : Key) (says : FileSays file (Ok key))
+      (clear_one : key.is_clear ≡ true) (much : MAX_LIST_LEN < length (key_list_of key)) where
+    abbrev too_long_key : List Event
+    too_long_key = read grip answer ∷ Sent (failed code.BadSecKey) ∷ []
+
+    open_clear : (clear : Bool) → clear ≡ true → old_by rules kept.options grip old key clear None [] (Ok (record { key = key; by = None })) None
+    open_clear true same = chain.returns
+    open_clear false same = absurd (cc same)
+
+    long_run : Exchange rules kept.options kept.wraps (on.Passwd grip old new false) too_long_key kept.wraps key_went.On
+    unfolding PasswdReplies
+    long_run =
+        key_exchanges.refused (read grip answer ∷ []) None (refusals.Agent code.BadSecKey)
+        (chain.goes_on (key_parts.is_key found says) (chain.goes_on {first = []} (open_clear key.is_clear clear_one) (chain.stops (chain.stops (key_parts.long much))))) turning.unheld
+
+    same_answer : {other : KeyRead} → Has (read grip other) too_long_key → other ≡ answer
+    same_answer has = elim (one_of_two has) [ inl same ↦ cc same | inr same ↦ absurd (cc same) ]
+
+    same_key : {other : Key} → IsRead too_long_key grip (Ok other) → other ≡ key
+    same_key {other} (causes.read {file = bytes} found_too says_too has) =
+        let bytes_is : Some bytes ≡ Some file = sym found_too ∙ ap file_in (same_answer has) ∙ found in
+        let bytes_same : bytes ≡ file = cc in
+        let one : Ok other ≡ Ok key = one_says one_canon file (Ok other) (Ok key) (subst (λ b. FileSays b (Ok other)) bytes_same says_too) says in
+        cc one
+
+    all_long : HasLongList too_long_key grip
+    all_long other (causes.is_clear is_read clear_too) = subst (λ k. MAX_LIST_LEN < length (key_list_of k)) (sym (same_key is_read)) much
+    all_long other (opens {locked} is_locked to) =
+        let shut = is_locked.protection.protected in
+        let open_key : locked.key.is_clear ≡ true = ap (λ (k : Key). k.is_clear) (same_key is_locked.key) ∙ clear_one in
+        absurd (cc (shut, open_key))
+
+    bad_secret_key : HasError code.BadSecKey Agent too_long_key
+    bad_secret_key =
+        cause_answered one_canon rules kept (OnKeys line) (keys (subst (λ a. Exchange rules kept.options kept.wraps a too_long_key kept.wraps key_went.On) (sym is) long_run)) (found_recalls grip answer found, ((λ none. none), tt))
+        code.BadSecKey (inr (long (ap (λ a. Some a) is) (clear (causes.read found says here) (λ other is_read. ap (λ (k : Key). k.is_clear) (same_key is_read) ∙ clear_one)) all_long))
+
+  -- ---- sessions
+
+  -- whose first line is too long
+  abbrev at_once : List Event
+  at_once = Sent (line_of greeting) ∷ Received took.TooLong ∷ Sent (failed code.LineTooLong) ∷ []
+
+  ends_at_once : EndsTooLong at_once ends.TooLong
+  ends_at_once = long_session (session_long rules) {before = kept} (talks.greeted talks.too_long)
+
+  told_at_once : HasError code.LineTooLong Agent at_once
+  told_at_once = ends_at_once.told refl
+
+  -- whose client sends such a line in place of a passphrase
+  module _ (line : List ℕ) (id : List ℕ) (life : Life) (is : request_of line ≡ Cache (PresetPassphrase id life None)) where
+    abbrev in_session : List Event
+    in_session = Sent (line_of greeting) ∷ Received (took.Line line) ∷ (long_lines id life ++ Sent (failed code.LineTooLong) ∷ [])
+
+    ends_so : EndsTooLong in_session ends.TooLong
+    ends_so =
+        long_session (session_long (allowing id life)) {before = kept}
+        (talks.greeted (talks.over line (talks.whole (exchange_caused (allowing id life) kept line (λ grip file has. never_replaced has)
+        (subst (λ r. RequestExchange (allowing id life) kept r (long_lines id life ++ Sent (failed code.LineTooLong) ∷ []) kept (End ends.TooLong)) (sym is) (cache (long_exchange id life)))))))
+      where
+        never_replaced : {grip : Grip} {file : List ℕ} → Has (called (Replaced grip file key_done.Absent)) (long_lines id life ++ Sent (failed code.LineTooLong) ∷ []) → ⊥
+        never_replaced (later (later (later none))) = elim none [ ]
+
+    in_time : (ends.TooLong ≡ ends.TooLong) ⊎ (ends.TooLong ≡ ends.WriteFault)
+    in_time = ends_so.ends (at_inquiry (said refl (later (later (later here)))))

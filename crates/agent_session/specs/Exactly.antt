@@ -1,14 +1,33 @@
 -- The codes that a request is answered by exactly where their cause stands. The codes and their causes are this project's own.
-use Rattle.std.specs.Prelude.{◌≡◌, ◌<◌, ◌⊎◌, ℕ, true, false, List, ◌∷◌, length, Some, None}
+use Rattle.std.specs.Prelude.{◌≡◌, ◌<◌, ◌⊎◌, ℕ, true, false, List, ◌∷◌, length, Option, Some, None, Ok}
+use Rattle.agent_ask.specs.Events.{Called, GetPin}
+use Rattle.agent_ask.specs.Further.{Prompt}
+use Rattle.agent_ask.specs.declared.prompter.Outcome.TheVariants.{Pin}
+use Rattle.agent_ask.specs.SessionEvents.{Received, Further, cache_turn}
 use Rattle.agent_commands.specs.Requests.{request_of}
 use Rattle.agent_commands.specs.declared.request.Request.{Request}
+use Rattle.agent_commands.specs.declared.went.SessionEnd.{SessionEnd}
+use Rattle.agent_commands.specs.declared.went.SessionEnd.TheVariants.{TooLong, WriteFault}
 use Rattle.agent_ports.specs.declared.grip.Grip.{Grip}
 use Rattle.arrayvec.specs.ArrayVec.{ArrayVec}
 use Rattle.session_client.specs.declared.code.Code.{Code}
 use Rattle.session_client.specs.declared.code.Code.TheVariants as code
+use Rattle.assuan_line.specs.declared.reader.Took.TheVariants as took
 use Rattle.assuan_server.specs.declared.errors.Origin.TheVariants.{Agent}
 use Rattle.assuan_text.specs.Words.{command_of}
+use Rattle.cache_policy.specs.Turns.{Given, Done}
+use Rattle.cache_policy.specs.declared.grant.Grant.{Grant}
+use Rattle.cache_policy.specs.declared.mark.Way.{Way}
 use Rattle.key_commands.specs.Events.{Event}
+use Rattle.key_commands.specs.Files.{IsWithList}
+use Rattle.key_commands.specs.Passphrases.{OpensBy, ask_nonce, ask_key, put_key}
+use Rattle.key_commands.specs.declared.request.KeyRequest.TheVariants as on
+use Rattle.key_commands.specs.declared.wrapping.TheConstants.{MAX_LIST_LEN}
+use Rattle.key_lines.specs.Canon.{is_canonical}
+use Rattle.secret_file.specs.Opens.{LockedKey}
+use Rattle.sexp_canonical.specs.Spelling.{most_bytes}
+use Rattle.sexp_keys.specs.Key.{Key}
+use Rattle.sexp_keys.specs.Lists.{key_list_of}
 use Rattle.session_client.specs.declared.unheard.Gone.TheVariants as gone
 use Rattle.session_client.specs.declared.unheard.Unheard.TheVariants as unheard
 use Rattle.session_options.specs.declared.rules.Rules.{Rules}
@@ -24,25 +43,55 @@ use Rattle.agent_origin.specs.declared.names.TrustCommandName.{TrustCommandName}
 use Rattle.agent_origin.specs.declared.request.TrustPurpose.{TrustPurpose}
 use Rattle.agent_origin.specs.declared.request.TrustRequest.{TrustRequest}
 use Rattle.agent_origin.specs.declared.request.TrustRequest.TheVariants.{MarkTrusted, Bad}
-use Rattle.agent_session.specs.Causes.{IsCaused, IsFaulty, IsSaid}
+use Rattle.agent_session.specs.Causes.{Has, IsCaused, IsFaulty, IsSaid, IsRead, IsReadOf, IsReadLocked, IsDrawn, IsListOf, OpensRead, on_keys}
+use Rattle.agent_session.specs.Completeness.{HasError}
 use Rattle.agent_session.specs.DoorCauses.{IsReadTrust, IsNotTrusted}
 
 -- ---- a request of any session
 
+-- a key's file, and what it says once it is opened, whatever that is
+module _ (events : List Event) (grip : Grip) where
+  -- this passphrase opens the key, as its file was read
+  abbrev pub OpensIt : List ℕ → Type 0
+  OpensIt pass = (locked : LockedKey) → IsReadLocked events grip locked → OpensBy locked pass
+
+  -- The key was opened, for a PASSWD with this nonce: it is clear; or a passphrase that opens it was cached, or was typed, or the client gave it, and it was kept.
+  pub data IsOpened (nonce : Option (List ℕ)) : Type 0 where
+    clear : {key : Key} → IsRead events grip (Ok key) → ((other : Key) → IsRead events grip (Ok other) → other.is_clear ≡ true) → IsOpened nonce
+    by_nonce : {id : List ℕ} {grant : Grant} → nonce ≡ Some id → OpensIt grant.entry.secret → Has (cache_turn (ask_nonce id) (Given grant)) events → IsOpened nonce
+    cached : {grant : Grant} (way : Way) → OpensIt grant.entry.secret → Has (cache_turn (ask_key grip way) (Given grant)) events → IsOpened nonce
+    typed : {error pin : List ℕ} → OpensIt pin → Has (Further (Prompt (Called (GetPin error (Pin pin))))) events → IsOpened nonce
+    given : {pass : List ℕ} → OpensIt pass → Has (cache_turn (put_key grip pass) Done) events → IsOpened nonce
+
+  -- the list of the key that it opens to is too long
+  abbrev pub HasLongList : Type 0
+  HasLongList = (key : Key) → OpensRead events grip key → MAX_LIST_LEN < length (key_list_of key)
+
+  -- the file is in the extended format, and too long with the list of that key in it, which is protected by this count
+  abbrev pub HasLongFile : ℕ → Type 0
+  HasLongFile count = (file : List ℕ) (key : Key) (pass list : List ℕ) → IsReadOf events grip file → OpensRead events grip key → IsListOf events key pass count list
+      → (is_canonical file ≡ false) × ((changed : List ℕ) → IsWithList file list changed → most_bytes < length changed)
+
 module _ (events : List Event) (rules : Rules) (kept : Kept) (request : Request) where
+  -- PASSWD, whose key was opened and has too long a list; or whose new file is too long, once the bytes for it were drawn
+  pub data IsLong : Type 0 where
+    long : {grip : Grip} {old new : Option (List ℕ)} → on_keys request ≡ Some (on.Passwd grip old new false) → IsOpened events grip old → HasLongList events grip → IsLong
+    long_file : {grip : Grip} {old new : Option (List ℕ)} {drawn : List ℕ} → on_keys request ≡ Some (on.Passwd grip old new false) → IsDrawn events 20 drawn
+        → HasLongFile events grip kept.options.s2k_count → IsLong
+
   -- what an error line with this code is caused by
   abbrev CausedBy : Code → Type 0
   CausedBy why = IsCaused events rules kept request why Agent
 
-  -- The cause of each of these codes: it is what causes the error line, and wherever it stands in the exchange the answer is that line. Of a bad key it is
-  -- the fault alone: that a list is too long is seen only once a passphrase opened the key.
+  -- The cause of each of these codes: it is what causes the error line, and wherever it stands in the exchange the answer is that line. Of a bad key it is a
+  -- fault of the key, or a length, where it was seen.
   abbrev pub ExactCause : Code → Type 0
   ExactCause code.NoData = CausedBy code.NoData
   ExactCause code.NoSecKey = CausedBy code.NoSecKey
   ExactCause code.FileExists = CausedBy code.FileExists
   ExactCause code.Checksum = CausedBy code.Checksum
   ExactCause code.InvSexp = CausedBy code.InvSexp
-  ExactCause code.BadSecKey = IsFaulty events rules kept request code.BadSecKey
+  ExactCause code.BadSecKey = IsFaulty events rules kept request code.BadSecKey ⊎ IsLong
   ExactCause code.UnknownCommand = CausedBy code.UnknownCommand
   ExactCause code.UnknownOption = CausedBy code.UnknownOption
   ExactCause code.Parameter = CausedBy code.Parameter
@@ -79,3 +128,17 @@ pub data ExactCauseAtDoor (door : Door) (rules : Rules) (before : Kept) (line : 
       → ExactCauseAtDoor door rules before line events why
   any : {why : Code} → allowed door line ≡ true → door_command_named (command_of line) ≡ None → ExactCause events rules before (request_of line) why
       → ExactCauseAtDoor door rules before line events why
+
+-- ---- a line that is too long
+
+-- a line of the client's was too long: the session's next read came to it, or an inquiry did
+pub data WasTooLong (events : List Event) : Type 0 where
+  at_read : Has (Received took.TooLong) events → WasTooLong events
+  at_inquiry : IsSaid events (unheard.Gone gone.TooLong) → WasTooLong events
+
+-- A session in which a line was too long ends by that, unless a write failed. Its client is told so exactly where it ends by that.
+pub record EndsTooLong (events : List Event) (end : SessionEnd) : Type 0 where
+  pub ends : WasTooLong events → (end ≡ TooLong) ⊎ (end ≡ WriteFault)
+  pub was : end ≡ TooLong → WasTooLong events
+  pub told : end ≡ TooLong → HasError code.LineTooLong Agent events
+  pub told_alone : HasError code.LineTooLong Agent events → end ≡ TooLong

@@ -4,17 +4,24 @@ ghost use Rattle.session_client.specs.declared.code.Code.{Code};
 ghost use Rattle.session_client.specs.declared.code.Code.TheVariants.{LineTooLong};
 ghost use Rattle.assuan_server.specs.declared.errors.Origin.TheVariants.{Agent};
 ghost use Rattle.agent_commands.specs.Requests.{request_of};
+ghost use Rattle.agent_commands.specs.declared.went.SessionEnd.{SessionEnd as Ends};
 ghost use Rattle.agent_commands.specs.declared.went.SessionEnd.TheVariants.{TooLong};
 ghost use Rattle.agent_commands.specs.declared.went.Went.{Went};
 ghost use Rattle.agent_commands.specs.declared.went.Went.TheVariants.{End};
-ghost use Rattle.agent_origin.specs.DoorSessions.{DoorExchange};
+ghost use Rattle.agent_origin.specs.DoorSessions.{DoorExchange, ServesDoor};
+ghost use Rattle.agent_origin.specs.FurtherStates.{FurtherWorld};
 ghost use Rattle.agent_origin.specs.SessionExchanges.{SessionExchange};
+ghost use Rattle.agent_origin.specs.Sessions.{Surroundings};
 ghost use Rattle.agent_origin.specs.declared.door.Door.{Door};
 ghost use Rattle.agent_origin.specs.declared.kept.Kept.{Kept};
 ghost use Rattle.agent_session.specs.Completeness.{HasError, Remembers};
-ghost use Rattle.agent_session.specs.Exactly.{ExactCause, ExactCauseAtDoor};
+ghost use Rattle.agent_session.specs.Exactly.{EndsTooLong, ExactCause, ExactCauseAtDoor};
+ghost use Rattle.agent_session.specs.Sessions.{ServesRules};
 ghost use Rattle.key_commands.specs.Events.{Event};
 ghost use Rattle.session_options.specs.declared.rules.Rules.{Rules};
+
+use agent_ask::Prompter;
+use cache_policy::Desk;
 
 /// Where the cause of one of these codes stands in an exchange, the request is answered by the
 /// error line of that code, unless memory was wanted: so each of them is answered exactly where its
@@ -47,4 +54,18 @@ pub fn a_line_that_ends_a_session_is_answered()
     ensures { (rules : Rules) (kept now : Kept) (line : List ℕ) (events : List Event)
         → SessionExchange rules kept line events now (End TooLong)
         → HasError LineTooLong Agent events }
+{}
+
+/// A session in which a line of its client's was too long, whether that was to be a request or the
+/// answer to an inquiry, ends by that, unless a write failed; no other session does. Its client is
+/// told `Line too long` exactly where it ends so. The same of a session that came in by a door.
+pub fn a_line_that_is_too_long_ends_its_session<D: Desk, P: Prompter>()
+    ensures session { (rules : Rules)
+        (before after : Surroundings (FurtherWorld D.turned P.prompted)) (end : Ends)
+        → (served : ServesRules D.turned P.prompted rules before end after)
+        → EndsTooLong served.events end }
+    ensures door { (door : Door) (rules : Rules)
+        (before after : Surroundings (FurtherWorld D.turned P.prompted)) (end : Ends)
+        → (served : ServesDoor D.turned P.prompted door rules before end after)
+        → EndsTooLong served.events end }
 {}

@@ -1,0 +1,103 @@
+-- Parts of requests on keys that are work of the one form, where each of their events is fit.
+use Rattle.std.proofs.Common.{◌==◌, ℕ, Bool, true, false, List, length, codes, Option, Result, refl}
+use Rattle.std.specs.Prelude.{not}
+use Rattle.agent_ask.specs.Events.{PromptEvent}
+use Rattle.agent_ask.specs.Further.{Prompt}
+use Rattle.agent_ask.specs.SessionEvents.{Sent, Cut, Inquiry, Further, cache_turn}
+use Rattle.agent_ports.specs.declared.grip.Grip.{Grip}
+use Rattle.session_client.specs.declared.code.Code.TheVariants as code
+use Rattle.cache_policy.specs.Turns.{Turn}
+use Rattle.cache_policy.specs.declared.mark.Way.{Way}
+use Rattle.cache_policy.specs.declared.secret.TheConstants.{MAX_SECRET_LEN}
+use Rattle.secret_file.specs.Opens.{LockedKey}
+use Rattle.session_client.specs.declared.refusal.Refusal.{Refusal}
+use Rattle.session_client.specs.declared.refusal.Refusal.TheVariants.{Agent}
+use Rattle.session_options.specs.OptionValues.{OptionValues}
+use Rattle.session_options.specs.declared.options.PinMode.{PinMode}
+use Rattle.session_options.specs.declared.options.PinMode.TheVariants as mode
+use Rattle.session_options.specs.declared.rules.Rules.{Rules}
+use Rattle.sexp_keys.specs.Key.{Key}
+use Rattle.key_commands.specs.Events.{Event, out_of_memory}
+use Rattle.key_commands.specs.Lines.{limit_line}
+use Rattle.key_commands.specs.Parts.{Part, AsksClient}
+use Rattle.key_commands.specs.Passphrases.{PromptsOld, PromptsNew, ClientOld, UncachedOld, OpensLocked, ClientNew, ask_nonce, ask_key, seat_for, put_key, way_of}
+use Rattle.key_commands.specs.Passphrases as passphrases
+use Rattle.agent_session.proofs.PromptWorks.{pin_works, pin_comes}
+use Rattle.agent_session.proofs.Works as work
+use Rattle.agent_session.proofs.Works.{Works, WorksSo, Keeps, keeps_works, bind, returned, refuses_by, is_needed, or_otherwise, is_wanted, turns_of}
+
+-- each event of such a part is fit, but that a passphrase is put for a key
+pub record FitsKeys (Fits : Event → Type 0) : Type 0 where
+  pub memory : Fits out_of_memory
+  pub cut : (text : List ℕ) → Fits (Cut text)
+  pub limits : (most : ℕ) → Fits (Sent (limit_line most))
+  pub says : (word params : List ℕ) (limit : ℕ) (inquired : _) → Fits (Inquiry word params limit inquired)
+  pub calls : (event : PromptEvent) → Fits (Further (Prompt event))
+  pub nonces : (id : List ℕ) (turn : Turn) → Fits (cache_turn (ask_nonce id) turn)
+  pub keys : (grip : Grip) (way : Way) (turn : Turn) → Fits (cache_turn (ask_key grip way) turn)
+  pub seats_for : (grip : Grip) (turn : Turn) → Fits (cache_turn (seat_for grip) turn)
+
+module _ {Fits : Event → Type 0} (fits : FitsKeys Fits) where
+  abbrev Here : {A : Type 0} → Part A → Type 0
+  Here = WorksSo Fits
+
+  -- it is work
+  so : {A : Type 0} {part : Part A} → Keeps Fits part → Here part
+  so keeps = keeps_works Fits keeps
+
+  asks_client : (word : List ℕ) (most : ℕ) → Here (AsksClient word most)
+  asks_client word most = work.asks_key_client Fits fits.says fits.cut word most (fits.limits most)
+
+  pub looks_nonce : (id : Option (List ℕ)) → Here (passphrases.LooksForNonce id)
+  looks_nonce id = work.looks_for_nonce Fits (λ named. turns_of Fits refl (fits.nonces named)) id
+
+  -- ---- prompts
+
+  module _ (rules : Rules) (options : OptionValues) (grip : Grip) where
+    prompts_old_of : {locked : LockedKey} {before after : Option ℕ} {events : List Event} {result : Result _ Refusal} → PromptsOld rules options grip locked before events result after → Works Fits events result
+    prompts_old_of (passphrases.opens_by spec is prompt to) = pin_works Fits fits.calls fits.says prompt.asks refl prompt.in_session
+    prompts_old_of (passphrases.refused {answer} spec is prompt refusal) = pin_works Fits fits.calls fits.says prompt.asks (pin_comes answer refusal) prompt.in_session
+
+    prompts_new_of : {before after : Option ℕ} {events : List Event} {result : Result (List ℕ) Refusal} → PromptsNew rules options grip before events result after → Works Fits events result
+    prompts_new_of (passphrases.given spec is prompt) = pin_works Fits fits.calls fits.says prompt.asks refl prompt.in_session
+    prompts_new_of (passphrases.refused {answer} spec is prompt refusal) = pin_works Fits fits.calls fits.says prompt.asks (pin_comes answer refusal) prompt.in_session
+
+    -- ---- passphrases
+
+    module _ (stores : (pass : List ℕ) (turn : Turn) → Fits (cache_turn (put_key grip pass) turn)) (locked : LockedKey) where
+      client_old : Here (ClientOld rules options grip locked)
+      unfolding ClientOld
+      client_old =
+          bind Fits (asks_client (codes "PASSPHRASE") MAX_SECRET_LEN) (λ pass. bind Fits (so (work.tries Fits fits.memory)) (λ tried. bind Fits (is_needed Fits code.BadPass tried)
+          (λ opened. bind Fits (so (work.changes Fits (turns_of Fits refl (stores pass)))) (λ kept_so. returned Fits opened))))
+
+      uncached_old : (way : PinMode) → Here (UncachedOld rules options grip way locked)
+      uncached_old mode.Ask = bind Fits (work.takes_seat Fits grip (turns_of Fits refl (fits.seats_for grip))) (λ seated. record { of = prompts_old_of })
+      uncached_old mode.Cancel = refuses_by Fits (Agent code.Cancelled)
+      uncached_old mode.Error = refuses_by Fits (Agent code.NoPinentry)
+      uncached_old mode.Loopback = client_old
+
+      opens_locked : (id : Option (List ℕ)) → Here (OpensLocked rules options grip id locked)
+      unfolding OpensLocked
+      opens_locked id =
+          bind Fits (looks_nonce id) (λ by_nonce. bind Fits (work.tries_found Fits fits.memory locked by_nonce) (λ first. or_otherwise Fits first
+          (bind Fits (work.asks Fits (turns_of Fits refl (fits.keys grip _))) (λ cached. bind Fits (work.tries_found Fits fits.memory locked cached) (λ second. or_otherwise Fits second (uncached_old options.mode))))))
+
+    module _ (stores : (pass : List ℕ) (turn : Turn) → Fits (cache_turn (put_key grip pass) turn)) where
+      pub old_here : (id : Option (List ℕ)) (key : Key) (clear : Bool) → Here (passphrases.old_by rules options grip id key clear)
+      old_here id key true = returned Fits _
+      old_here id key false = bind Fits (so (work.locks Fits fits.memory)) (λ locked. opens_locked stores locked id)
+
+      pub verified_here : (key : Key) (clear : Bool) → Here (passphrases.verified_by rules options grip key clear)
+      verified_here key true = returned Fits _
+      verified_here key false = bind Fits (so (work.locks Fits fits.memory)) (λ locked. uncached_old stores locked options.mode)
+
+    client_new : Here ClientNew
+    unfolding ClientNew
+    client_new = bind Fits (asks_client (codes "NEW_PASSPHRASE") MAX_SECRET_LEN) (λ pass. bind Fits (is_wanted Fits code.BadPass (not (length pass == 0))) (λ some. returned Fits pass))
+
+    pub new_here : (way : PinMode) → Here (passphrases.new_by rules options grip way)
+    new_here mode.Ask = bind Fits (work.takes_seat Fits grip (turns_of Fits refl (fits.seats_for grip))) (λ seated. record { of = prompts_new_of })
+    new_here mode.Cancel = refuses_by Fits (Agent code.Cancelled)
+    new_here mode.Error = refuses_by Fits (Agent code.NoPinentry)
+    new_here mode.Loopback = client_new

@@ -1,0 +1,439 @@
+-- The one form of what is done for a request: each event goes on, but a last one by which the request is refused or its client is gone. It is so of nothing, of a
+-- part and what follows on its value, and of the smallest parts of a request.
+use Rattle.std.specs.List.{AllByRecursion}
+use Rattle.std.proofs.Common.{◌≡◌, ◌≢◌, ℕ, Bool, true, false, List, [], ◌∷◌, ◌++◌, Option, Some, None, Result, Ok, Err, refl, sym, ap, ◌∙◌, subst, append_assoc, append-nil}
+use Rattle.agent_ask.specs.ClientParts.{Writes, Inquires, AsksClient}
+use Rattle.agent_ask.specs.ClientParts as client
+use Rattle.agent_ask.specs.Events.{Called, Shut}
+use Rattle.agent_ask.specs.Further.{Listed, Replaced, Dice, Draw, Prompt}
+use Rattle.agent_ask.specs.Interrupts.{Interrupts}
+use Rattle.agent_ask.specs.Interrupts as turns
+use Rattle.agent_ask.specs.Parts.{◌>>=◌, Follows, goes_on, stops, Returns, returns, Refuses, needed, or_else, unless, wanted}
+use Rattle.agent_ask.specs.Parts as chain
+use Rattle.agent_ask.specs.SessionEvents.{Received, Sent, Cut, Inquiry, CacheTurn, Further, cache_turn}
+use Rattle.agent_ask.specs.TurnParts.{Asks, Seats, Changes, Peeks, Closes}
+use Rattle.agent_ask.specs.TurnParts as taken
+use Rattle.agent_ports.specs.declared.grip.Grip.{Grip}
+use Rattle.agent_ports.specs.declared.keys.KeyDone.{KeyDone}
+use Rattle.agent_ports.specs.declared.keys.KeyDone.TheVariants as key_done
+use Rattle.agent_ports.specs.declared.keys.KeyNames.{KeyNames}
+use Rattle.agent_ports.specs.declared.keys.KeyNames.TheVariants as key_names
+use Rattle.agent_ports.specs.declared.keys.KeyRead.{KeyRead}
+use Rattle.agent_ports.specs.declared.keys.KeyRead.TheVariants as key_read
+use Rattle.assuan_server.specs.Clients.{session_lines}
+use Rattle.assuan_server.specs.Inquiries.{Outcome, IsAtEnd}
+use Rattle.assuan_server.specs.Inquiries as outcomes
+use Rattle.cache_policy.specs.Turns.{Turn, closes}
+use Rattle.cache_policy.specs.declared.mark.MarkStep.{MarkStep}
+use Rattle.cache_policy.specs.declared.mark.MarkStep.TheVariants.{Peek}
+use Rattle.cache_policy.specs.declared.mode.Mode.{Mode}
+use Rattle.secret_file.specs.Opens.{LockedKey}
+use Rattle.session_client.specs.Asking.{Asked, said_by}
+use Rattle.session_client.specs.declared.code.Code.{Code}
+use Rattle.session_client.specs.declared.code.Code.TheVariants as code
+use Rattle.session_client.specs.declared.refusal.Refusal.{Refusal}
+use Rattle.session_client.specs.declared.refusal.Refusal.TheVariants.{Agent, Client}
+use Rattle.session_client.specs.declared.unheard.Gone.{Gone}
+use Rattle.session_client.specs.declared.unheard.Gone.TheVariants as gone
+use Rattle.session_client.specs.declared.unheard.Unheard.{Unheard}
+use Rattle.session_client.specs.declared.unheard.Unheard.TheVariants as unheard
+use Rattle.sexp_keys.specs.Key.{Key}
+use Rattle.key_commands.specs.Events.{Event, called, read, out_of_memory}
+use Rattle.key_commands.specs.Files.{Rewrites}
+use Rattle.key_commands.specs.Files as files
+use Rattle.key_commands.specs.KeyParts.{Tells, tells, ReadsFile, Replaces, Removes, Protects, IsShort, ListsGrips, ReadsListed, max_key_data, AsksKeyData, Unwraps, NamesKey, LooksOver, WrapsKey, file_in, grips_in, change_fault}
+use Rattle.key_commands.specs.KeyParts as parts
+use Rattle.key_commands.specs.Lines.{limit_line}
+use Rattle.key_commands.specs.Parts.{Part, Finds, Draws, read_fault}
+use Rattle.key_commands.specs.Parts as small
+use Rattle.key_commands.specs.Passphrases.{LooksForNonce, TakesSeat, Locks, Tries, TriesFound, ask_nonce, seat_for}
+use Rattle.key_commands.specs.Passphrases as passphrases
+use Rattle.key_commands.proofs.EachEvent.{each_append}
+use Rattle.agent_session.specs.Refusals.{turn_refuses, change_refuses, refuses, shuts}
+
+-- ---- single events
+
+abbrev pub gone_said : Result (List ℕ) Unheard → Option Gone
+gone_said (Err (unheard.Gone how)) = Some how
+gone_said _ = None
+
+-- how the client is gone by an event, where it is
+abbrev pub loses : Event → Option Gone
+loses (Cut text) = Some gone.WriteFault
+loses (Inquiry word params limit inquired) = gone_said (said_by session_lines inquired)
+loses _ = None
+
+-- by such an event the request isn't refused, and by one that refuses it the client isn't gone
+pub lost_goes : (event : Event) {how : Gone} → loses event ≡ Some how → refuses event ≡ None
+lost_goes (Cut text) is = refl
+lost_goes (Inquiry word params limit inquired) is = refl
+lost_goes (Received took) is = refl
+lost_goes (Sent text) is = refl
+lost_goes (CacheTurn taken) is = absurd (cc is)
+lost_goes (Further what) is = absurd (cc is)
+
+-- a turn of a step that gives no ticket back refuses its request by its outcome alone
+pub by_turn : (asked : MarkStep) (turn : Turn) {said : Option Code} → closes asked ≡ None → turn_refuses None turn ≡ said → turn_refuses (closes asked) turn ≡ said
+by_turn asked turn no_close is = ap (λ c. turn_refuses c turn) no_close ∙ is
+
+at_end_heard : (outcome : Outcome) → IsAtEnd outcome → gone_said (said_by session_lines (Asked outcome)) ≡ None
+at_end_heard (outcomes.Data bytes) at_end = refl
+at_end_heard outcomes.TooMuch at_end = refl
+at_end_heard outcomes.Cancelled at_end = absurd at_end
+at_end_heard outcomes.Unexpected at_end = absurd at_end
+at_end_heard outcomes.Ended at_end = absurd at_end
+at_end_heard outcomes.TooLong at_end = absurd at_end
+at_end_heard outcomes.Spent at_end = absurd at_end
+at_end_heard outcomes.ReadFault at_end = absurd at_end
+
+-- ---- the form
+
+-- `Fits` is what is so of each event
+module _ (Fits : Event → Type 0) where
+  abbrev pub GoesOn : Event → Type 0
+  GoesOn event = Fits event × (refuses event ≡ None) × (loses event ≡ None)
+
+  -- what a part ends with, by what it comes to
+  pub data WorkEnd {A : Type 0} : List Event → Result A Refusal → Type 0 where
+    no_more : {result : Result A Refusal} → WorkEnd [] result
+    refused : {event : Event} {why : Code} → Fits event → refuses event ≡ Some why → WorkEnd (event ∷ shuts event) (Err (Agent why))
+    lost : {event : Event} {last : List Event} {how : Gone} → Fits event → loses event ≡ Some how → AllByRecursion GoesOn last → WorkEnd (event ∷ last) (Err (Client (unheard.Gone how)))
+
+  pub record Works {A : Type 0} (events : List Event) (result : Result A Refusal) : Type 0 where
+    pub work : List Event
+    pub last : List Event
+    pub is : events ≡ work ++ last
+    pub each : AllByRecursion GoesOn work
+    pub end : WorkEnd last result
+
+  pub works : {A : Type 0} {events : List Event} {result : Result A Refusal} → AllByRecursion GoesOn events → Works events result
+  works {events} each = record { work = events; last = []; is = sym (append-nil events); each = each; end = no_more }
+
+  ok_last : {A : Type 0} {last : List Event} {value : A} → WorkEnd last (Ok value) → last ≡ []
+  ok_last no_more = refl
+
+  err_last : {A B : Type 0} {last : List Event} {why : Refusal} → WorkEnd {A = A} last (Err why) → WorkEnd {A = B} last (Err why)
+  err_last no_more = no_more
+  err_last (refused fits is) = refused fits is
+  err_last (lost fits is each) = lost fits is each
+
+  pub ok_works : {A : Type 0} {events : List Event} {value : A} → Works events (Ok value) → AllByRecursion GoesOn events
+  ok_works does = subst (AllByRecursion GoesOn) (sym (does.is ∙ ap (λ l. does.work ++ l) (ok_last does.end) ∙ append-nil does.work)) does.each
+
+  pub err_works : {A B : Type 0} {events : List Event} {why : Refusal} → Works {A = A} events (Err why) → Works {A = B} events (Err why)
+  err_works does = record { work = does.work; last = does.last; is = does.is; each = does.each; end = err_last does.end }
+
+  -- behind other work
+  pub behind_work : {A : Type 0} {result : Result A Refusal} {events : List Event} (first : List Event) → AllByRecursion GoesOn first → Works events result → Works (first ++ events) result
+  behind_work first each does = record {
+    work = first ++ does.work;
+    last = does.last;
+    is = ap (λ e. first ++ e) does.is ∙ sym (append_assoc first does.work does.last);
+    each = each_append GoesOn first does.work each does.each;
+    end = does.end;
+  }
+
+  -- one event alone, which goes on, or refuses its request, also behind one that goes on
+  pub one_works : {A : Type 0} {result : Result A Refusal} {event : Event} → Fits event → refuses event ≡ None → loses event ≡ None → Works (event ∷ []) result
+  one_works fits goes heard = works ((fits, goes, heard), tt)
+
+  pub refused_by : {A : Type 0} {event : Event} {why : Code} → Fits event → refuses event ≡ Some why → shuts event ≡ [] → Works {A = A} (event ∷ []) (Err (Agent why))
+  refused_by {event} fits is alone = record { work = []; last = event ∷ shuts event; is = ap (λ e. event ∷ e) (sym alone); each = tt; end = refused fits is }
+
+  pub refused_second : {A : Type 0} {first event : Event} {why : Code} → GoesOn first → Fits event → refuses event ≡ Some why → shuts event ≡ [] → Works {A = A} (first ∷ event ∷ []) (Err (Agent why))
+  refused_second {first} goes fits is alone = behind_work (first ∷ []) (goes, tt) (refused_by fits is alone)
+
+  -- all events are so, where the end of a prompt is
+  pub each_fits : {A : Type 0} {events : List Event} {result : Result A Refusal} → Fits (Further (Prompt (Called Shut))) → Works events result → AllByRecursion Fits events
+  each_fits shut does = subst (AllByRecursion Fits) (sym does.is) (each_append Fits does.work does.last (all_fit does.work does.each) (last_fits does.end))
+    where
+      all_fit : (events : List Event) → AllByRecursion GoesOn events → AllByRecursion Fits events
+      all_fit [] each = tt
+      all_fit (event ∷ more) each = (each.0.0, all_fit more each.1)
+
+      shut_fits : (event : Event) → AllByRecursion Fits (shuts event)
+      shut_fits (Further (Prompt event)) = (shut, tt)
+      shut_fits (Further _) = tt
+      shut_fits (Received took) = tt
+      shut_fits (Sent text) = tt
+      shut_fits (Cut text) = tt
+      shut_fits (CacheTurn taken) = tt
+      shut_fits (Inquiry word params limit inquired) = tt
+
+      last_fits : {B : Type 0} {last : List Event} {came : Result B Refusal} → WorkEnd last came → AllByRecursion Fits last
+      last_fits no_more = tt
+      last_fits (refused {event} fits is) = (fits, shut_fits event)
+      last_fits (lost {last = behind} fits is each) = (fits, all_fit behind each)
+
+  -- ---- parts
+
+  pub record WorksSo {A : Type 0} (part : Part A) : Type 0 where
+    pub of : {before after : Option ℕ} {events : List Event} {result : Result A Refusal} → part before events result after → Works events result
+
+  -- one that leaves the ticket, too
+  abbrev pub Kept : {A : Type 0} → Option ℕ → List Event → Result A Refusal → Option ℕ → Type 0
+  Kept before events result after = Works events result × (after ≡ before)
+
+  abbrev pub Keeps : {A : Type 0} → Part A → Type 0
+  Keeps {A} part = (before : Option ℕ) (events : List Event) (result : Result A Refusal) (after : Option ℕ) → part before events result after → Kept before events result after
+
+  pub keeps_works : {A : Type 0} {part : Part A} → Keeps part → WorksSo part
+  keeps_works keeps = record { of = λ {before} {after} {events} {result} does. (keeps before events result after does).0 }
+
+  -- a part, and then what follows on its value
+  module _ {A B : Type 0} {part : Part A} {next : A → Part B} (first : WorksSo part) (then : (value : A) → WorksSo (next value)) where
+    bind_of : {before after : Option ℕ} {events : List Event} {result : Result B Refusal} → Follows part next before events result after → Works events result
+    bind_of (goes_on {first = some} {value} does next_does) = behind_work some (ok_works (first.of does)) ((then value).of next_does)
+    bind_of (stops does) = err_works (first.of does)
+
+    pub bind : WorksSo (part >>= next)
+    bind = record { of = bind_of }
+
+  module _ {A : Type 0} where
+    returning : {value : A} → Keeps (Returns value)
+    returning _ _ _ _ returns = (works tt, refl)
+
+    pub returned : (value : A) → WorksSo (Returns value)
+    returned value = keeps_works returning
+
+    refusing : {why : Refusal} → Keeps (Refuses {A = A} why)
+    refusing _ _ _ _ chain.refuses = (works tt, refl)
+
+    pub refuses_by : (why : Refusal) → WorksSo (Refuses {A = A} why)
+    refuses_by why = keeps_works refusing
+
+    pub is_needed : (why : Code) (value : Option A) → WorksSo (needed why value)
+    is_needed why None = refuses_by (Agent why)
+    is_needed why (Some value) = returned value
+
+    pub or_otherwise : (value : Option A) {other : Part A} → WorksSo other → WorksSo (or_else value other)
+    or_otherwise None other = other
+    or_otherwise (Some value) other = returned value
+
+  pub is_unless : (so : Bool) {other : Part (Unit {0})} → WorksSo other → WorksSo (unless so other)
+  is_unless true other = returned tt
+  is_unless false other = other
+
+  pub is_wanted : (why : Code) (so : Bool) → WorksSo (wanted why so)
+  is_wanted why true = returned tt
+  is_wanted why false = refuses_by (Agent why)
+
+  -- ---- turns at the desk
+
+  -- of a step that gives no ticket back
+  pub record Turns (step : MarkStep) : Type 0 where
+    pub no_close : closes step ≡ None
+    pub fits : (turn : Turn) → Fits (cache_turn step turn)
+
+  pub turns_of : {step : MarkStep} → closes step ≡ None → ((turn : Turn) → Fits (cache_turn step turn)) → Turns step
+  turns_of no_close fits = record { no_close = no_close; fits = fits }
+
+  module _ {step : MarkStep} (each : Turns step) where
+    goes_turn : {A : Type 0} {result : Result A Refusal} (turn : Turn) → turn_refuses None turn ≡ None → Works (cache_turn step turn ∷ []) result
+    goes_turn turn is = one_works (each.fits turn) (by_turn step turn each.no_close is) refl
+
+    interrupted_turn : {A : Type 0} {turn : Turn} {why : Code} → Interrupts turn why → Works {A = A} (cache_turn step turn ∷ []) (Err (Agent why))
+    interrupted_turn turns.refused = refused_by (each.fits _) (by_turn step _ each.no_close refl) refl
+    interrupted_turn turns.stopping = goes_turn _ refl
+    interrupted_turn turns.late = goes_turn _ refl
+
+    asks_of : {before after : Option ℕ} {events : List Event} {result : Result (Option (List ℕ)) Refusal} → Asks step before events result after → Works events result
+    asks_of taken.given = goes_turn _ refl
+    asks_of taken.empty = goes_turn _ refl
+    asks_of taken.opened = goes_turn _ refl
+    asks_of (taken.interrupted why) = interrupted_turn why
+
+    pub asks : WorksSo (Asks step)
+    asks = record { of = asks_of }
+
+    seats_of : {before after : Option ℕ} {events : List Event} {result : Result (Unit {0}) Refusal} → Seats step before events result after → Works events result
+    seats_of taken.opened = goes_turn _ refl
+    seats_of (taken.interrupted why) = interrupted_turn why
+
+    pub seats : WorksSo (Seats step)
+    seats = record { of = seats_of }
+
+    pub changes : Keeps (Changes step)
+    changes _ _ _ _ taken.done = (goes_turn _ refl, refl)
+    changes _ _ _ _ (taken.interrupted why) = (interrupted_turn why, refl)
+
+  pub peeks : {id : List ℕ} {mode : Mode} → Turns (Peek id mode) → Keeps (Peeks id mode)
+  peeks each _ _ _ _ taken.peeked = (goes_turn each _ refl, refl)
+  peeks each _ _ _ _ (taken.interrupted why) = (interrupted_turn each why, refl)
+
+  module _ (each : (id : List ℕ) → Turns (ask_nonce id)) where
+    pub looks_for_nonce : (id : Option (List ℕ)) → WorksSo (LooksForNonce id)
+    looks_for_nonce None = returned None
+    looks_for_nonce (Some id) = asks (each id)
+
+    pub looks_over : {id : Option (List ℕ)} → Keeps (LooksOver id)
+    looks_over _ _ _ _ parts.no_nonce = (works tt, refl)
+    looks_over _ _ _ _ (parts.given {nonce}) = (goes_turn (each nonce) _ refl, refl)
+    looks_over _ _ _ _ (parts.empty {nonce}) = (goes_turn (each nonce) _ refl, refl)
+    looks_over _ _ _ _ (parts.stopping {nonce}) = (goes_turn (each nonce) _ refl, refl)
+    looks_over _ _ _ _ (parts.no_memory {nonce}) = (interrupted_turn (each nonce) turns.refused, refl)
+
+  takes_seat_of : (grip : Grip) → Turns (seat_for grip) → (before : Option ℕ) (events : List Event) (result : Result (Unit {0}) Refusal) (after : Option ℕ) → TakesSeat grip before events result after → Works events result
+  takes_seat_of grip each None events result after does = (seats each).of does
+  takes_seat_of grip each (Some ticket) events result after does = (returned tt).of does
+
+  pub takes_seat : (grip : Grip) → Turns (seat_for grip) → WorksSo (TakesSeat grip)
+  takes_seat grip each = record { of = λ {before} {after} {events} {result} does. takes_seat_of grip each before events result after does }
+
+  -- ---- the client
+
+  module _ (cut : (text : List ℕ) → Fits (Cut text)) where
+    cut_works : {A : Type 0} (text : List ℕ) → Works {A = A} (Cut text ∷ []) (Err (Client (unheard.Gone gone.WriteFault)))
+    cut_works text = record { work = []; last = _; is = refl; each = tt; end = lost (cut text) refl tt }
+
+    pub writes : {text : List ℕ} → Fits (Sent text) → Keeps (Writes text)
+    writes fits _ _ _ _ client.written = (one_works fits refl refl, refl)
+    writes fits _ _ _ _ (client.cut unsent is) = (cut_works _, refl)
+
+    pub key_writes : {text : List ℕ} → Fits (Sent text) → Keeps (small.Writes text)
+    key_writes fits _ _ _ _ small.written = (one_works fits refl refl, refl)
+    key_writes fits _ _ _ _ (small.cut unsent is) = (cut_works _, refl)
+
+  module _ (asked : (word params : List ℕ) (limit : ℕ) (inquired : _) → Fits (Inquiry word params limit inquired)) where
+    given_works : {A : Type 0} {result : Result A Refusal} {word params bytes : List ℕ} {limit : ℕ} (inquired : _) → said_by session_lines inquired ≡ Ok bytes → Works (Inquiry word params limit inquired ∷ []) result
+    given_works inquired is = one_works (asked _ _ _ inquired) refl (ap gone_said is)
+
+    unheard_works : {A : Type 0} {word params : List ℕ} {limit : ℕ} (inquired : _) (why : Unheard) → said_by session_lines inquired ≡ Err why → Works {A = A} (Inquiry word params limit inquired ∷ []) (Err (Client why))
+    unheard_works inquired unheard.Cancelled is = one_works (asked _ _ _ inquired) refl (ap gone_said is)
+    unheard_works inquired unheard.TooMuch is = one_works (asked _ _ _ inquired) refl (ap gone_said is)
+    unheard_works inquired unheard.Unexpected is = one_works (asked _ _ _ inquired) refl (ap gone_said is)
+    unheard_works inquired (unheard.Gone how) is = record { work = []; last = _; is = refl; each = tt; end = lost (asked _ _ _ inquired) (ap gone_said is) tt }
+
+    pub inquires : {word : List ℕ} {limit : ℕ} → Keeps (Inquires session_lines word limit)
+    inquires _ _ _ _ (client.given {inquired} is) = (given_works inquired is, refl)
+    inquires _ _ _ _ (client.not_given {why} {inquired} is) = (unheard_works inquired why is, refl)
+
+    pub asks_client : ((text : List ℕ) → Fits (Cut text)) → (told word : List ℕ) (limit : ℕ) → Fits (Sent told) → WorksSo (AsksClient session_lines told word limit)
+    asks_client cut told word limit fits = bind (keeps_works (writes cut fits)) (λ wrote. keeps_works inquires)
+
+    -- the same over the parts of requests on keys
+    key_inquires : {word : List ℕ} {limit : ℕ} → Keeps (small.Inquires word limit)
+    key_inquires _ _ _ _ (small.given {inquired} is) = (given_works inquired is, refl)
+    key_inquires _ _ _ _ (small.not_given {why} {inquired} is) = (unheard_works inquired why is, refl)
+
+    pub asks_key_client : ((text : List ℕ) → Fits (Cut text)) → (word : List ℕ) (limit : ℕ) → Fits (Sent (limit_line limit)) → WorksSo (small.AsksClient word limit)
+    asks_key_client cut word limit fits = bind (keeps_works (key_writes cut fits)) (λ told. keeps_works key_inquires)
+
+    pub asks_key_data : Fits out_of_memory → Keeps AsksKeyData
+    asks_key_data memory _ _ _ _ (parts.asked inquires_so) = ((key_inquires _ _ _ _ inquires_so).0, refl)
+    asks_key_data memory _ _ _ _ (parts.no_memory {outcome} at_end) = (refused_second (asked _ _ _ (Asked outcome), refl, at_end_heard outcome at_end) memory refl refl, refl)
+
+  -- ---- the keys and the dice
+
+  module _ (memory : Fits out_of_memory) where
+    pub no_memory : {A : Type 0} → Works {A = A} (out_of_memory ∷ []) (Err (Agent code.NoMemory))
+    no_memory = refused_by memory refl refl
+
+    pub draws : {count : ℕ} → ((draw : Draw) → Fits (Further (Dice draw))) → Keeps (Draws count)
+    draws dice _ _ _ _ (small.drawn long) = (one_works (dice _) refl refl, refl)
+    draws dice _ _ _ _ small.faulted = (refused_by (dice _) refl refl, refl)
+
+    module _ {grip : Grip} (reads : (answer : KeyRead) → Fits (read grip answer)) where
+      pub finds : Keeps (Finds grip)
+      finds _ _ _ _ small.found = (one_works (reads _) refl refl, refl)
+      finds _ _ _ _ small.absent = (one_works (reads _) refl refl, refl)
+      finds _ _ _ _ small.faulted = (refused_by (reads _) refl refl, refl)
+      finds _ _ _ _ small.no_memory = (refused_by (reads _) refl refl, refl)
+
+      found_read : (answer : KeyRead) {file : List ℕ} → file_in answer ≡ Some file → GoesOn (read grip answer)
+      found_read (key_read.Found bytes) is = (reads _, refl, refl)
+      found_read key_read.Absent is = absurd (cc is)
+      found_read key_read.Failed is = absurd (cc is)
+      found_read key_read.NoMemory is = absurd (cc is)
+
+      unread : {A : Type 0} (answer : KeyRead) {why : Code} → read_fault answer ≡ Some why → Works {A = A} (read grip answer ∷ []) (Err (Agent why))
+      unread (key_read.Found bytes) is = absurd (cc is)
+      unread key_read.Absent is = one_works (reads _) refl refl
+      unread key_read.Failed is = refused_by (reads _) is refl
+      unread key_read.NoMemory is = refused_by (reads _) is refl
+
+      pub reads_file : Keeps (ReadsFile grip)
+      reads_file _ _ _ _ (parts.is_key {answer} is says) = (works (found_read answer is, tt), refl)
+      reads_file _ _ _ _ (parts.faulty {answer} is says) = (works (found_read answer is, tt), refl)
+      reads_file _ _ _ _ (parts.no_memory {answer} is) = (refused_second (found_read answer is) memory refl refl, refl)
+      reads_file _ _ _ _ (parts.unread {answer} is) = (unread answer is, refl)
+
+      pub reads_listed : Keeps (ReadsListed grip)
+      reads_listed _ _ _ _ (parts.is_key {answer} is says) = (works (found_read answer is, tt), refl)
+      reads_listed _ _ _ _ (parts.faulty {answer} is says) = (works (found_read answer is, tt), refl)
+      reads_listed _ _ _ _ parts.absent = (one_works (reads _) refl refl, refl)
+      reads_listed _ _ _ _ (parts.no_memory {answer} is) = (refused_second (found_read answer is) memory refl refl, refl)
+      reads_listed _ _ _ _ (parts.unread {answer} other is) = (unread answer is, refl)
+
+    listed_names : ((answer : KeyNames) → Fits (called (Listed answer))) → (answer : KeyNames) {grips : List Grip} → grips_in answer ≡ Some grips → GoesOn (called (Listed answer))
+    listed_names names (key_names.Names grips) is = (names _, refl, refl)
+    listed_names names key_names.Failed is = absurd (cc is)
+    listed_names names key_names.NoMemory is = absurd (cc is)
+
+    pub lists : ((answer : KeyNames) → Fits (called (Listed answer))) → Keeps ListsGrips
+    lists names _ _ _ _ (parts.listed {answer} is) = (works (listed_names names answer is, tt), refl)
+    lists names _ _ _ _ parts.faulted = (refused_by (names _) refl refl, refl)
+    lists names _ _ _ _ parts.no_memory = (refused_by (names _) refl refl, refl)
+
+    -- a change that isn't done
+    pub unchanged : {A : Type 0} (answer : KeyDone) {why : Code} (event : KeyDone → Event) → ((given : KeyDone) → given ≢ key_done.Done → Fits (event given))
+        → ((given : KeyDone) → refuses (event given) ≡ change_refuses given) → ((given : KeyDone) → loses (event given) ≡ None) → ((given : KeyDone) → shuts (event given) ≡ [])
+        → change_fault answer ≡ Some why → Works {A = A} (event answer ∷ []) (Err (Agent why))
+    unchanged key_done.Done event fits same heard alone is = absurd (cc is)
+    unchanged key_done.Absent event fits same heard alone is = one_works (fits key_done.Absent (λ e. absurd (cc e))) (same key_done.Absent) (heard key_done.Absent)
+    unchanged key_done.Failed event fits same heard alone is = refused_by (fits key_done.Failed (λ e. absurd (cc e))) (same key_done.Failed ∙ is) (alone key_done.Failed)
+    unchanged key_done.NoMemory event fits same heard alone is = refused_by (fits key_done.NoMemory (λ e. absurd (cc e))) (same key_done.NoMemory ∙ is) (alone key_done.NoMemory)
+
+    pub not_replaced : {A : Type 0} {grip : Grip} {file : List ℕ} (answer : KeyDone) {why : Code} → ((given : KeyDone) → given ≢ key_done.Done → Fits (called (Replaced grip file given)))
+        → change_fault answer ≡ Some why → Works {A = A} (called (Replaced grip file answer) ∷ []) (Err (Agent why))
+    not_replaced answer fits is = unchanged answer _ fits (λ given. refl) (λ given. refl) (λ given. refl) is
+
+    pub replaces : {grip : Grip} {file : List ℕ} → ((answer : KeyDone) → Fits (called (Replaced grip file answer))) → Keeps (Replaces grip file)
+    replaces fits _ _ _ _ parts.done = (one_works (fits _) refl refl, refl)
+    replaces fits _ _ _ _ (parts.not_done {answer} is) = (not_replaced answer (λ given other. fits given) is, refl)
+
+    -- ---- parts that only want memory
+
+    pub told : {bytes : List ℕ} → Keeps (Tells bytes)
+    told _ _ _ _ (tells is) = (works tt, refl)
+
+    pub protects : {key : Key} {pass salt iv : List ℕ} {count : ℕ} → Keeps (Protects key pass salt iv count)
+    protects _ _ _ _ parts.made = (works tt, refl)
+    protects _ _ _ _ parts.no_memory = (no_memory, refl)
+
+    pub is_short : {key : Key} → Keeps (IsShort key)
+    is_short _ _ _ _ (parts.short few) = (works tt, refl)
+    is_short _ _ _ _ (parts.long many) = (works tt, refl)
+
+    pub rewrites : {file list : List ℕ} → Keeps (Rewrites file list)
+    rewrites _ _ _ _ (files.canonical_file is) = (works tt, refl)
+    rewrites _ _ _ _ (files.extended_file other with_list few) = (works tt, refl)
+    rewrites _ _ _ _ (files.too_long new_file other with_list many) = (works tt, refl)
+    rewrites _ _ _ _ files.no_memory = (no_memory, refl)
+
+    pub names_key : {key : Key} → Keeps (NamesKey key)
+    names_key _ _ _ _ (parts.named is) = (works tt, refl)
+    names_key _ _ _ _ parts.no_memory = (no_memory, refl)
+
+    pub wraps_key : {wrap : List ℕ} {key : Key} → Keeps (WrapsKey wrap key)
+    wraps_key _ _ _ _ parts.is_wrapped = (works tt, refl)
+    wraps_key _ _ _ _ parts.no_memory = (no_memory, refl)
+
+    pub unwraps : {wrap wrapped : List ℕ} → Keeps (Unwraps wrap wrapped)
+    unwraps _ _ _ _ (parts.is_key says) = (works tt, refl)
+    unwraps _ _ _ _ (parts.refused says) = (works tt, refl)
+    unwraps _ _ _ _ parts.no_memory = (no_memory, refl)
+
+    pub locks : {key : Key} → Keeps (Locks key)
+    locks _ _ _ _ (passphrases.is_locked same locked) = (works tt, refl)
+    locks _ _ _ _ (passphrases.has_fault is) = (works tt, refl)
+    locks _ _ _ _ passphrases.no_memory = (no_memory, refl)
+
+    pub tries : {locked : LockedKey} {pass : List ℕ} → Keeps (Tries locked pass)
+    tries _ _ _ _ (passphrases.opens to) = (works tt, refl)
+    tries _ _ _ _ (passphrases.stays closed) = (works tt, refl)
+    tries _ _ _ _ passphrases.no_memory = (no_memory, refl)
+
+    pub tries_found : (locked : LockedKey) (pass : Option (List ℕ)) → WorksSo (TriesFound locked pass)
+    tries_found locked None = returned None
+    tries_found locked (Some pass) = keeps_works tries
