@@ -25,7 +25,7 @@ use Rattle.agent_commands.specs.declared.request.Request.{Request}
 use Rattle.agent_commands.specs.declared.request.Request.TheVariants.{Key}
 use Rattle.agent_commands.specs.declared.went.Went.{Went}
 use Rattle.agent_commands.proofs.Beside.{answers_beside}
-use Rattle.key_commands.specs.Exchanges.{Exchange as KeyExchange}
+use Rattle.key_commands.specs.Exchanges.{KeyExchange}
 use Rattle.key_commands.specs.KeyEnds.{KeyEnds, DoesAtKeys, prompt}
 use Rattle.key_commands.specs.KeyEnds as at_keys
 use Rattle.key_commands.specs.Requests.{key_request_of}

@@ -3,7 +3,7 @@ use Rattle.std.proofs.Common.{◌≡◌, ℕ, Bool, true, false, cond, IsSome, L
 use Rattle.std.specs.Str.{str_eq_ignore_ascii_case}
 use Rattle.agent_commands.specs.Names.{commands as cache_commands, prompt_commands, command_named as cache_command_named}
 use Rattle.assuan_text.specs.Rows.{found_in_any_case}
-use Rattle.key_commands.specs.Names.{commands as key_commands, command_named as key_command_named}
+use Rattle.key_commands.specs.Names.{commands_on_keys as key_commands, key_command_named}
 use Rattle.agent_origin.specs.Doors.{cache_rules, key_rules, trust_rules, rule_named}
 use Rattle.agent_origin.specs.TrustNames.{commands_on_trust, trust_command_named}
 use Rattle.agent_origin.specs.declared.door.Rule.{Rule}

@@ -18,14 +18,14 @@ use Rattle.session_client.specs.declared.code.Code.TheVariants.{UnknownCommand}
 use Rattle.assuan_text.specs.Options.{options_of, arguments_of, has_option}
 use Rattle.assuan_text.specs.Rows.{found_in_any_case}
 use Rattle.assuan_text.specs.Words.{command_of, rest_of, words}
-use Rattle.key_commands.specs.Exchanges.{Exchange, answered, refused, KeyReply, Replies, HaveKeyReplies, KeyInfoReplies}
+use Rattle.key_commands.specs.Exchanges.{KeyExchange, answered, refused, KeyReply, KeyReplies, HaveKeyReplies, KeyInfoReplies}
 use Rattle.key_commands.specs.KeyParts.{HasOne, is_key, faulty, no_memory as no_key_memory, unread}
-use Rattle.key_commands.specs.Names.{commands, command_named}
+use Rattle.key_commands.specs.Names.{commands_on_keys, key_command_named}
 use Rattle.agent_ask.specs.Parts.{goes_on, stops, returns, refuses}
 use Rattle.key_commands.specs.Parts.{Finds, found, absent, faulted, no_memory}
 use Rattle.agent_ask.specs.TurnParts.{peeked, interrupted, Closes, unheld, closed}
 use Rattle.assuan_server.specs.Written.{refusal_line}
-use Rattle.key_commands.specs.Requests.{either, some_grips, first_grip, request_by, key_request_of}
+use Rattle.key_commands.specs.Requests.{key_or_bad, some_grips, first_grip, key_request_by, key_request_of}
 use Rattle.session_client.specs.Fields.{◌>>=◌, in_form}
 use Rattle.key_commands.specs.declared.names.KeyCommandName.{KeyCommandName}
 use Rattle.key_commands.specs.declared.names.KeyCommandName.TheVariants as name
@@ -96,7 +96,7 @@ module _ (agent : Rules) (options : OptionValues) (wraps : WrapKeys) where
   IsOuterKey _ = ⊥
 
   replies_leave : (request : KeyRequest) → IsOuterKey request → (held after : Option ℕ) (events : List (EventWith FurtherEvent)) (result : Result KeyReply Refusal)
-      → Replies agent options wraps request held events result after → Leaves held after events
+      → KeyReplies agent options wraps request held events result after → Leaves held after events
   replies_leave (HaveKey grips) outer held after events result does = have_leaves grips held after events result does
   replies_leave (KeyInfo grip) outer held after events result does = info_leaves grip held after events result does
   replies_leave (Bad code) outer held after events result refuses = (no_turns, refl)
@@ -107,7 +107,7 @@ module _ (agent : Rules) (options : OptionValues) (wraps : WrapKeys) where
   replies_leave (Passwd grip old new verify) outer held after events result does = absurd outer
   replies_leave (DeleteKey grip force) outer held after events result does = absurd outer
 
-  exchange_leaves : (request : KeyRequest) → IsOuterKey request → {events : List (EventWith FurtherEvent)} {after : WrapKeys} {went : KeyWent} → Exchange agent options wraps request events after went
+  exchange_leaves : (request : KeyRequest) → IsOuterKey request → {events : List (EventWith FurtherEvent)} {after : WrapKeys} {went : KeyWent} → KeyExchange agent options wraps request events after went
       → LeavesCache events
   exchange_leaves request outer (answered events held reply {back} does gives) =
       let leaves = replies_leave request outer None held events _ does in
@@ -158,23 +158,23 @@ key_rule name.HaveKey = Always
 key_rule name.KeyInfo = OneKey
 key_rule _ = Never
 
-rule_of_key : (word : List ℕ) (name : KeyCommandName) → cache_command_named word ≡ None → command_named word ≡ Some name → rule_named word ≡ Some (key_rule name)
-unfolding cache_command_named command_named rule_named
+rule_of_key : (word : List ℕ) (name : KeyCommandName) → cache_command_named word ≡ None → key_command_named word ≡ Some name → rule_named word ≡ Some (key_rule name)
+unfolding cache_command_named key_command_named rule_named
 rule_of_key word name other is = found_behind cache_rule word (cache_commands ++ prompt_commands) (key_rules ++ trust_rules) (found_joined word cache_commands prompt_commands ∙ other)
-    ∙ found_mapped key_rule word commands trust_rules name is
+    ∙ found_mapped key_rule word commands_on_keys trust_rules name is
 
-have_outer : (agent : Rules) (options : OptionValues) (wraps : WrapKeys) (read : Result (List Grip) Code) → IsOuterKey agent options wraps (either (read >>= λ grips. Ok (HaveKey grips)))
+have_outer : (agent : Rules) (options : OptionValues) (wraps : WrapKeys) (read : Result (List Grip) Code) → IsOuterKey agent options wraps (key_or_bad (read >>= λ grips. Ok (HaveKey grips)))
 have_outer agent options wraps (Ok grips) = tt
 have_outer agent options wraps (Err code) = tt
 
 info_outer : (agent : Rules) (options : OptionValues) (wraps : WrapKeys) (read : Result Grip Code) (lists : Bool) → not lists ≡ true
-    → IsOuterKey agent options wraps (either (cond lists (Ok ListKeys) (read >>= λ grip. Ok (KeyInfo grip))))
+    → IsOuterKey agent options wraps (key_or_bad (cond lists (Ok ListKeys) (read >>= λ grip. Ok (KeyInfo grip))))
 info_outer agent options wraps read true one = cc one
 info_outer agent options wraps (Ok grip) false one = tt
 info_outer agent options wraps (Err code) false one = tt
 
 module _ (agent : Rules) (options : OptionValues) (wraps : WrapKeys) (line : List ℕ) where
-  passes_outer : (name : KeyCommandName) → passes (key_rule name) line ≡ true → IsOuterKey agent options wraps (request_by (Some name) line)
+  passes_outer : (name : KeyCommandName) → passes (key_rule name) line ≡ true → IsOuterKey agent options wraps (key_request_by (Some name) line)
   passes_outer name.HaveKey is = have_outer agent options wraps (some_grips (arguments_of (words (rest_of line))))
   passes_outer name.KeyInfo is =
       info_outer agent options wraps (in_form (first_grip (arguments_of (words (rest_of line))))) (has_option (codes "--list") (options_of (words (rest_of line)))) is
@@ -184,14 +184,14 @@ module _ (agent : Rules) (options : OptionValues) (wraps : WrapKeys) (line : Lis
   passes_outer name.Passwd is = cc is
   passes_outer name.DeleteKey is = cc is
 
-  named_outer : (found : Option KeyCommandName) → command_named (command_of line) ≡ found → cache_command_named (command_of line) ≡ None → allowed Outer line ≡ true
-      → IsOuterKey agent options wraps (request_by found line)
+  named_outer : (found : Option KeyCommandName) → key_command_named (command_of line) ≡ found → cache_command_named (command_of line) ≡ None → allowed Outer line ≡ true
+      → IsOuterKey agent options wraps (key_request_by found line)
   named_outer None is other allows = tt
   named_outer (Some name) is other allows =
       passes_outer name (subst (λ (rule : Option Rule). passes_by rule line ≡ true) (rule_of_key (command_of line) name other is) allows)
 
   pub key_leaves : {events : List (EventWith FurtherEvent)} {after : WrapKeys} {went : KeyWent} → allowed Outer line ≡ true → (handed : ArrayVec ℕ) → request_of line ≡ Key handed
-      → Exchange agent options wraps (key_request_of line) events after went → LeavesCache events
+      → KeyExchange agent options wraps (key_request_of line) events after went → LeavesCache events
   unfolding key_request_of
   key_leaves allows handed key exchanged =
-      exchange_leaves agent options wraps (request_by (command_named (command_of line)) line) (named_outer (command_named (command_of line)) refl (other_command line handed key) allows) exchanged
+      exchange_leaves agent options wraps (key_request_by (key_command_named (command_of line)) line) (named_outer (key_command_named (command_of line)) refl (other_command line handed key) allows) exchanged

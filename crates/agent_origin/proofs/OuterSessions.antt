@@ -8,7 +8,7 @@ use Rattle.agent_commands.specs.declared.request.Request.{Request}
 use Rattle.agent_commands.specs.declared.went.SessionEnd.{SessionEnd}
 use Rattle.agent_commands.specs.declared.went.Went.{Went}
 use Rattle.key_commands.specs.Events.{Event}
-use Rattle.key_commands.specs.Exchanges.{Exchange as KeyExchange}
+use Rattle.key_commands.specs.Exchanges.{KeyExchange}
 use Rattle.key_commands.specs.Requests.{key_request_of}
 use Rattle.session_options.specs.declared.rules.Rules.{Rules}
 use Rattle.agent_origin.specs.DoorSessions.{AllowedExchange, helped, trusts, any, DoorExchange, forbidden, is_allowed}

@@ -11,7 +11,7 @@ use Rattle.agent_commands.specs.declared.request.Request.{Request}
 use Rattle.agent_commands.specs.declared.request.Request.TheVariants.{Key}
 use Rattle.agent_commands.specs.declared.went.Went.{Went}
 use Rattle.agent_commands.specs.declared.went.Went.TheVariants.{On, End}
-use Rattle.key_commands.specs.Exchanges.{Exchange as KeyExchange}
+use Rattle.key_commands.specs.Exchanges.{KeyExchange}
 use Rattle.key_commands.specs.Requests.{key_request_of, ends_description}
 use Rattle.key_commands.specs.declared.went.KeyWent.{KeyWent}
 use Rattle.key_commands.specs.declared.went.KeyWent.TheVariants as key
