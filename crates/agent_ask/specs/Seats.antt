@@ -1,5 +1,6 @@
 -- How a request comes by the ticket of a prompt. This is the project's own.
-use Rattle.std.specs.Prelude.{ℕ, List, Option, Some, None, Result, Ok, Err}
+use Rattle.std.specs.Prelude.{◌≡◌, ℕ, List, Option, Some, None, Result, Ok, Err}
+use Rattle.cache_policy.specs.Desks.{AtDesk}
 use Rattle.cache_policy.specs.declared.mark.MarkStep.{MarkStep}
 use Rattle.cache_policy.specs.declared.mark.MarkStep.TheVariants.{Close}
 use Rattle.cache_policy.specs.Turns.{Turn, Open}
@@ -7,6 +8,7 @@ use Rattle.session_client.specs.declared.code.Code.{Code}
 use Rattle.session_client.specs.declared.refusal.Refusal.{Refusal}
 use Rattle.session_client.specs.declared.refusal.Refusal.TheVariants.{Agent}
 use Rattle.agent_ask.specs.Interrupts.{Interrupts}
+use Rattle.agent_ask.specs.Prompters.{AtPrompter, IsShut}
 
 -- what a turn that wants the seat gives: a ticket, or why the request is refused
 pub data Gives : Turn → Result ℕ Refusal → Type 0 where
@@ -28,3 +30,8 @@ pub data TakesTicket {D : Type 0} (turned : D → MarkStep → Turn → D → Ty
 pub data GivesTicket {D : Type 0} (turned : D → MarkStep → Turn → D → Type 0) (keep : Option (List ℕ)) : Option ℕ → D → D → Type 0 where
   unheld : {desk : D} → GivesTicket turned keep None desk desk
   given : {ticket : ℕ} {desk now : D} (turn : Turn) → turned desk (Close ticket keep) turn now → GivesTicket turned keep (Some ticket) desk now
+
+-- Between the parts of a request that holds this ticket: no other is out, and no prompt is open.
+pub record IsReady (desk : AtDesk) (prompter : AtPrompter) (ticket : Option ℕ) : Type 0 where
+  pub out : desk.out ≡ ticket
+  pub shut : IsShut prompter

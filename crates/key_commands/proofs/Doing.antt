@@ -22,9 +22,9 @@ use Rattle.session_client.specs.declared.refusal.Refusal.TheVariants.{Agent}
 use Rattle.key_commands.specs.Events.{Event, called, out_of_memory}
 use Rattle.key_commands.specs.KeyEnds.{KeyEnds, DoesAtKeys, keys as does_keys, dice as does_dice, no_memory}
 use Rattle.key_commands.specs.KeyParts.{change_fault}
-use Rattle.key_commands.specs.Partial.{DoesBesideKeys, no_memory as no_memory_beside, LeavesKeys}
+use Rattle.key_commands.specs.Partial.{DoesKeyPart, DoesBesideKeys, no_memory as no_memory_beside, LeavesKeys}
 use Rattle.key_commands.specs.Parts.{Part}
-use Rattle.key_commands.specs.States.{KeyWorld, key_state, DoesKeyPart}
+use Rattle.key_commands.specs.States.{KeyWorld, key_state}
 use Rattle.key_commands.specs.Steps.{DoesAlone, nothing, memory, KeysLead, none, calls, wants_memory, DoesKeyCalls, DoesDrawing, DoesDrawings, no_draw, one_draw, IsChanged}
 
 -- ---- calls of the keys, one after another

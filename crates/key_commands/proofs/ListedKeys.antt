@@ -17,7 +17,8 @@ use Rattle.key_commands.specs.KeyParts.{file_in, ReadsListed, faulty, no_memory,
 use Rattle.key_commands.specs.Parts.{Finds}
 use Rattle.agent_ask.specs.Parts.{returns, refuses}
 use Rattle.agent_ask.proofs.PartsDone.{part_then, part_stops}
-use Rattle.key_commands.specs.States.{KeyState, DoesKeyPart}
+use Rattle.key_commands.specs.Partial.{DoesKeyPart}
+use Rattle.key_commands.specs.States.{KeyState}
 use Rattle.key_commands.specs.Steps.{DoesKeyCalls, unlisted}
 use Rattle.session_client.specs.declared.refusal.Refusal.{Refusal}
 use Rattle.session_client.specs.declared.refusal.Refusal.TheVariants.{Agent}

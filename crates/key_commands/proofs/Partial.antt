@@ -16,9 +16,9 @@ use Rattle.session_client.specs.declared.refusal.Refusal.{Refusal}
 use Rattle.key_commands.specs.Exchanges.{KeyReply}
 use Rattle.key_commands.specs.KeyEnds.{KeyEnds, DoesAtKeys, prompt, keys, dice, no_memory}
 use Rattle.key_commands.specs.Parts.{Part}
-use Rattle.key_commands.specs.Partial.{NoCall, DoesBesideKeys, prompt as prompt_beside, no_memory as no_memory_beside, LeavesKeys, DoesAtPrompter, DoesAtDesk, DoesAtClient}
+use Rattle.key_commands.specs.Partial.{DoesKeyPart, NoCall, DoesBesideKeys, prompt as prompt_beside, no_memory as no_memory_beside, LeavesKeys, DoesAtPrompter, DoesAtDesk, DoesAtClient}
 use Rattle.key_commands.specs.Replies.{CarriesOut}
-use Rattle.key_commands.specs.States.{KeyState, key_state, DoesKeyPart}
+use Rattle.key_commands.specs.States.{KeyState, key_state}
 use Rattle.key_commands.specs.declared.reply.Reply.{Reply}
 use Rattle.key_commands.specs.declared.wrap_keys.WrapKeys.{WrapKeys}
 

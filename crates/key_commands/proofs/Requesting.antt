@@ -26,7 +26,8 @@ use Rattle.assuan_server.specs.Written.{ok}
 use Rattle.key_commands.specs.Parts.{Part, key_went_after, key_gone}
 use Rattle.key_commands.specs.Passphrases.{put_key, old_by, verified_by}
 use Rattle.key_commands.specs.Replies.{CarriesOut}
-use Rattle.key_commands.specs.States.{KeyState, DoesKeyPart}
+use Rattle.key_commands.specs.Partial.{DoesKeyPart}
+use Rattle.key_commands.specs.States.{KeyState}
 use Rattle.key_commands.specs.Steps.{TakesTurn, TakesTurns}
 use Rattle.key_commands.specs.declared.reply.Reply.TheVariants as replies
 use Rattle.key_commands.specs.declared.wrap_keys.WrapKeys.{WrapKeys}

@@ -32,9 +32,9 @@ worked_key = sexp_of (list_of (leaf (codes "private-key") ∷ list_of (leaf (cod
 abbrev worked_list : List ℕ
 worked_list = codes "(11:private-key(3:ecc(1:q1:Q)(1:d1:D)))"
 
-worked-spelling : spelling_of worked_key ≡ worked_list
+worked_spelling : spelling_of worked_key ≡ worked_list
 unfolding numeral
-worked-spelling = refl
+worked_spelling = refl
 
 abbrev worked_lines : KeyFile
 worked_lines = record { before = codes "Created: x" ++ lf; tree = worked_key; after = [] }
@@ -42,10 +42,10 @@ worked_lines = record { before = codes "Created: x" ++ lf; tree = worked_key; af
 -- It has these lines, as the examples of key_lines show.
 module _ (worked-has : IsKeyFile worked worked_lines) where
   -- so it says what the canonical file of its key says: a clear key
-  worked-says : FileSays worked (Ok (record { algorithm = Ecc; is_clear = true; public = q ∷ []; private = d ∷ []; further = [] }))
-  worked-says = canonical (inr (record { extended = refl; key = worked_lines; has = worked-has; spelled = sym worked-spelling })) (record {
+  worked_says : FileSays worked (Ok (record { algorithm = Ecc; is_clear = true; public = q ∷ []; private = d ∷ []; further = [] }))
+  worked_says = canonical (inr (record { extended = refl; key = worked_lines; has = worked-has; spelled = sym worked_spelling })) (record {
     tree = worked_key;
-    read = record { spelled = sym worked-spelling; shallow = lit≤ tt; short = lit≤ tt };
+    read = record { spelled = sym worked_spelling; shallow = lit≤ tt; short = lit≤ tt };
     is = record { parts = refl; formed = record { public = refl; private = refl; further = refl } };
   })
 
@@ -74,9 +74,9 @@ abbrev locked_list : List ℕ
 locked_list =
     codes "(21:protected-private-key(3:ecc(1:q1:Q)(9:protected20:openpgp-s2k3-ocb-aes((4:sha18:saltsalt5:65536)12:vectorvector)6:sealed)))"
 
-locked-spelling : spelling_of locked_key ≡ locked_list
+locked_spelling : spelling_of locked_key ≡ locked_list
 unfolding numeral
-locked-spelling = refl
+locked_spelling = refl
 
 abbrev rewritten : List ℕ
 rewritten =
@@ -84,11 +84,11 @@ rewritten =
     ++ codes "Key: (protected-private-key (ecc (q Q) (protected openpgp-s2k3-ocb-aes ((sha1 saltsalt #3635353336#) vectorvector) sealed)))" ++ lf
 
 -- the line before the key stays
-rewritten-extended : (held : Option ℕ) → IsKeyFile worked worked_lines → Rewrites worked locked_list held [] (Ok rewritten) held
+rewritten_extended : (held : Option ℕ) → IsKeyFile worked worked_lines → Rewrites worked locked_list held [] (Ok rewritten) held
 unfolding is_token_byte is_token_start is_token_mark
-rewritten-extended held worked-has =
-    extended_file refl (record { old = worked_lines; tree = locked_key; has = worked-has; spelled = sym locked-spelling; parts = refl }) (lit≤ tt)
+rewritten_extended held worked-has =
+    extended_file refl (record { old = worked_lines; tree = locked_key; has = worked-has; spelled = sym locked_spelling; parts = refl }) (lit≤ tt)
 
 -- and over a canonical file the list itself is written
-rewritten-canonical : (held : Option ℕ) → Rewrites worked_list locked_list held [] (Ok locked_list) held
-rewritten-canonical held = canonical_file refl
+rewritten_canonical : (held : Option ℕ) → Rewrites worked_list locked_list held [] (Ok locked_list) held
+rewritten_canonical held = canonical_file refl

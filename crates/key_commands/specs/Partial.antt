@@ -1,4 +1,4 @@
--- Private: parts of a request that have nothing to do with some ends of its session, whatever these are.
+-- Private: parts of a request on keys that were done, and those that have nothing to do with some ends of its session.
 use Rattle.std.specs.Prelude.{ℕ, Option, Result}
 use Rattle.agent_ask.specs.Doing.{DoesCall}
 use Rattle.agent_ask.specs.Events.{Call, PromptEvent}
@@ -9,7 +9,14 @@ use Rattle.assuan_server.specs.Connections.{Connection}
 use Rattle.cache_policy.specs.declared.mark.MarkStep.{MarkStep}
 use Rattle.cache_policy.specs.Turns.{Turn}
 use Rattle.session_client.specs.declared.refusal.Refusal.{Refusal}
+use Rattle.key_commands.specs.KeyEnds.{DoesAtKeys}
 use Rattle.key_commands.specs.Parts.{Part}
+use Rattle.key_commands.specs.States.{KeyState}
+
+-- a part of a request was done
+abbrev pub DoesKeyPart : {D P : Type 0} (turned : D → MarkStep → Turn → D → Type 0) (prompted : P → Call → P → Type 0) {A : Type 0} → Part A → Option ℕ → KeyState turned prompted → Result A Refusal → Option ℕ
+    → KeyState turned prompted → Type 0
+DoesKeyPart turned prompted = DoesPart connection_views turned (DoesAtKeys prompted)
 
 -- no prompter is called
 abbrev pub NoCall : Unit {0} → Call → Unit {0} → Type 0

@@ -30,14 +30,14 @@ IsReply (replies.Data bytes) text = IsDataAnswer bytes text
 IsReply (replies.Nonce nonce) text = text ≡ nonce_line (hex_text nonce) ++ ok
 
 -- how the session goes on after it
-abbrev pub went_of : Reply → KeyWent
-went_of answer = On
+abbrev pub key_goes_on : Reply → KeyWent
+key_goes_on answer = On
 
 -- the reply of a request was written, or its refusal, and the session goes on so
 abbrev pub RespondsTo : Connection → Result Reply Refusal → KeyWent → Connection → Type 0
-RespondsTo = RespondsBy connection_views IsReply went_of refusal_line key_went_after
+RespondsTo = RespondsBy connection_views IsReply key_goes_on refusal_line key_went_after
 
 -- all was done for a request but its reply, whatever text that is written by
 abbrev pub CarriesOut : {D P : Type 0} (turned : D → MarkStep → Turn → D → Type 0) (prompted : P → Call → P → Type 0) → Part KeyReply → WrapKeys → KeyState turned prompted
     → Result Reply Refusal → WrapKeys → Option ℕ → KeyState turned prompted → Type 0
-CarriesOut turned prompted = CarriesBy connection_views IsReply went_of turned (DoesAtKeys prompted)
+CarriesOut turned prompted = CarriesBy connection_views IsReply key_goes_on turned (DoesAtKeys prompted)

@@ -1,9 +1,8 @@
 -- How a session stands at some state of its code before and after a request on keys, and how events lead from one to the other.
-use Rattle.std.specs.Prelude.{ℕ, List, Option, Result}
+use Rattle.std.specs.Prelude.{List}
 use Rattle.agent_ask.specs.Answering.{AnswersBy}
 use Rattle.agent_ask.specs.Events.{Call}
 use Rattle.agent_ask.specs.Further.{world_with}
-use Rattle.agent_ask.specs.PartStates.{DoesPart}
 use Rattle.agent_ask.specs.States.{AnyState}
 use Rattle.agent_ask.specs.Worlds.{AnyWorld}
 use Rattle.agent_ports.specs.KeyFiles.{KeyFiles}
@@ -12,10 +11,9 @@ use Rattle.assuan_server.specs.Clients.{connection_views, session_lines}
 use Rattle.assuan_server.specs.Connections.{Connection}
 use Rattle.cache_policy.specs.declared.mark.MarkStep.{MarkStep}
 use Rattle.cache_policy.specs.Turns.{Turn}
-use Rattle.session_client.specs.declared.refusal.Refusal.{Refusal}
 use Rattle.key_commands.specs.Events.{Event}
 use Rattle.key_commands.specs.KeyEnds.{DoesAtKeys}
-use Rattle.key_commands.specs.Parts.{Part, key_went_after, key_gone}
+use Rattle.key_commands.specs.Parts.{key_went_after, key_gone}
 use Rattle.key_commands.specs.declared.went.KeyWent.{KeyWent}
 use Rattle.key_commands.specs.declared.wrap_keys.WrapKeys.{WrapKeys}
 
@@ -30,10 +28,6 @@ module _ {D P : Type 0} (turned : D → MarkStep → Turn → D → Type 0) (pro
 
   abbrev pub key_state : Connection → D → P → KeyFiles → Side → KeyState
   key_state conn desk prompter keys dice = record { conn = conn; desk = desk; ends = record { prompter = prompter; keys = keys; dice = dice } }
-
-  -- a part of a request was done
-  abbrev pub DoesKeyPart : {A : Type 0} → Part A → Option ℕ → KeyState → Result A Refusal → Option ℕ → KeyState → Type 0
-  DoesKeyPart = DoesPart connection_views turned (DoesAtKeys prompted)
 
   -- a request was answered, whole or in part
   abbrev pub AnswersKey : (List Event → WrapKeys → KeyWent → Type 0) → KeyState → KeyWent → WrapKeys → KeyState → Type 0

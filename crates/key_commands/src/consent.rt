@@ -2,6 +2,7 @@
 
 ghost use Rattle.std.specs.Prelude.{◌≡◌, None, Some};
 ghost use Rattle.agent_ask.specs.Prompters.{IsShut};
+ghost use Rattle.agent_ask.specs.Seats.{IsReady};
 ghost use Rattle.assuan_server.specs.Connections.{IsOpen};
 ghost use Rattle.key_commands.specs.KeyParts.{Agrees, Consents};
 ghost use Rattle.key_commands.specs.Partial.{LeavesKeys, DoesAtPrompter};
@@ -27,13 +28,11 @@ pub(crate) fn consent<L: Link, D: Desk, P: Prompter>(
 ) -> Result<(), Refusal>
     requires open { IsOpen conn.old }
     requires none { held.old ≡ None }
-    requires out { (D.at desk.old).out ≡ held.old }
-    requires shut { IsShut (P.at prompter.old) }
+    requires ready { IsReady (D.at desk.old) (P.at prompter.old) held.old }
     ensures consents { LeavesKeys D.turned P.prompted
         (Consents asking.now.rules.now asking.now.options.now force asking.now.grip.now)
         held.old conn.old desk.old prompter.old result held.new conn.new desk.new prompter.new }
-    ensures out { (D.at desk.new).out ≡ held.new }
-    ensures shut { IsShut (P.at prompter.new) }
+    ensures ready { IsReady (D.at desk.new) (P.at prompter.new) held.new }
 {
     if force {
         return Ok(());

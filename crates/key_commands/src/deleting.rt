@@ -1,7 +1,7 @@
 //! DELETE_KEY.
 
 ghost use Rattle.std.specs.Prelude.{◌≡◌, None, Ok};
-ghost use Rattle.agent_ask.specs.Prompters.{IsShut};
+ghost use Rattle.agent_ask.specs.Seats.{IsReady};
 ghost use Rattle.agent_ports.specs.Sides.{Side};
 ghost use Rattle.assuan_server.specs.Connections.{IsOpen};
 ghost use Rattle.key_commands.specs.Exchanges.{DeleteKeyReplies};
@@ -32,16 +32,14 @@ pub(crate) fn delete_key<L: Link, D: Desk, P: Prompter, K: Keys>(
 ) -> Result<Reply, Refusal>
     requires open { IsOpen conn.old }
     requires none { held.old ≡ None }
-    requires out { (D.at desk.old).out ≡ held.old }
-    requires shut { IsShut (P.at prompter.old) }
+    requires ready { IsReady (D.at desk.old) (P.at prompter.old) held.old }
     ensures carries { (wraps : Wraps) (dice : Side) → CarriesOut D.turned P.prompted
         (DeleteKeyReplies asking.now.rules.now asking.now.options.now wraps force
         asking.now.grip.now) wraps
         (key_state D.turned P.prompted conn.old desk.old prompter.old (K.keys keys.old) dice)
         result wraps held.new
         (key_state D.turned P.prompted conn.new desk.new prompter.new (K.keys keys.new) dice) }
-    ensures out { (D.at desk.new).out ≡ held.new }
-    ensures shut { IsShut (P.at prompter.new) }
+    ensures ready { IsReady (D.at desk.new) (P.at prompter.new) held.new }
 {
     let (alloc, grip) = (asking.alloc, asking.grip);
     if !has_file(alloc, grip, keys)? {

@@ -1,7 +1,7 @@
 //! EXPORT_KEY: a clear key, wrapped under the session's key.
 
 ghost use Rattle.std.specs.Prelude.{◌≡◌, None};
-ghost use Rattle.agent_ask.specs.Prompters.{IsShut};
+ghost use Rattle.agent_ask.specs.Seats.{IsReady};
 ghost use Rattle.agent_ports.specs.Sides.{Side};
 ghost use Rattle.assuan_server.specs.Connections.{IsOpen};
 ghost use Rattle.key_commands.specs.Exchanges.{ExportKeyReplies};
@@ -43,16 +43,14 @@ pub(crate) fn export_key<L: Link, D: Desk, P: Prompter, K: Keys>(
 ) -> Result<Reply, Refusal>
     requires free { held.old ≡ None }
     requires open { IsOpen conn.old }
-    requires out { (D.at desk.old).out ≡ held.old }
-    requires shut { IsShut (P.at prompter.old) }
+    requires ready { IsReady (D.at desk.old) (P.at prompter.old) held.old }
     ensures carries { (dice : Side)
         → CarriesOut D.turned P.prompted (ExportKeyReplies asking.now.rules.now
         asking.now.options.now wraps.now asking.now.grip.now nonce) wraps.now
         (key_state D.turned P.prompted conn.old desk.old prompter.old (K.keys keys.old) dice)
         result wraps.now held.new
         (key_state D.turned P.prompted conn.new desk.new prompter.new (K.keys keys.new) dice) }
-    ensures out { (D.at desk.new).out ≡ held.new }
-    ensures shut { IsShut (P.at prompter.new) }
+    ensures ready { IsReady (D.at desk.new) (P.at prompter.new) held.new }
 {
     let Some(wrap) = wraps.key(Direction::Export) else {
         return Err(Refusal::Agent(Code::Parameter));

@@ -1,13 +1,13 @@
 //! IMPORT_KEY.
 
 ghost use Rattle.std.specs.Prelude.{◌≡◌, ◌≤◌, length, take, drop, None};
-ghost use Rattle.agent_ask.specs.Prompters.{IsShut};
+ghost use Rattle.agent_ask.specs.Seats.{IsReady};
 ghost use Rattle.assuan_server.specs.Connections.{Connection, IsOpen};
 ghost use Rattle.sexp_keys.specs.Lists.{key_list_of};
 ghost use Rattle.key_commands.specs.Exchanges.{FoundOrNew, ImportKeyReplies, StoresKey};
-ghost use Rattle.key_commands.specs.Partial.{NoCall, LeavesKeys};
+ghost use Rattle.key_commands.specs.Partial.{DoesKeyPart, NoCall, LeavesKeys};
 ghost use Rattle.key_commands.specs.Replies.{CarriesOut};
-ghost use Rattle.key_commands.specs.States.{DoesKeyPart, key_state};
+ghost use Rattle.key_commands.specs.States.{key_state};
 ghost use Rattle.key_commands.specs.Trials.{IsUsable};
 ghost use Rattle.key_commands.specs.declared.wrapping.TheConstants.{MAX_LIST_LEN};
 
@@ -47,16 +47,14 @@ pub(crate) fn import_key<L: Link, D: Desk, P: Prompter, K: Keys, R: Dice>(
 ) -> Result<Reply, Refusal>
     requires free { held.old ≡ None }
     requires open { IsOpen conn.old }
-    requires out { (D.at desk.old).out ≡ held.old }
-    requires shut { IsShut (P.at prompter.old) }
+    requires ready { IsReady (D.at desk.old) (P.at prompter.old) held.old }
     ensures carries { CarriesOut D.turned P.prompted
         (ImportKeyReplies rules.now options.now wraps.now force nonce.now) wraps.now
         (key_state D.turned P.prompted conn.old desk.old prompter.old
         (K.keys keys.old) (R.draws dice.old)) result wraps.now held.new
         (key_state D.turned P.prompted conn.new desk.new prompter.new (K.keys keys.new)
         (R.draws dice.new)) }
-    ensures out { (D.at desk.new).out ≡ held.new }
-    ensures shut { IsShut (P.at prompter.new) }
+    ensures ready { IsReady (D.at desk.new) (P.at prompter.new) held.new }
 {
     let Some(wrap) = &wraps.import else {
         return Err(Refusal::Agent(Code::Parameter));
@@ -86,13 +84,11 @@ fn found_or_new<L: Link, D: Desk, P: Prompter>(
     prompter: &mut P,
 ) -> Result<Secret, Refusal>
     requires open { IsOpen conn.old }
-    requires out { (D.at desk.old).out ≡ held.old }
-    requires shut { IsShut (P.at prompter.old) }
+    requires ready { IsReady (D.at desk.old) (P.at prompter.old) held.old }
     ensures does { LeavesKeys D.turned P.prompted
         (FoundOrNew asking.now.rules.now asking.now.options.now nonce.now asking.now.grip.now)
         held.old conn.old desk.old prompter.old result held.new conn.new desk.new prompter.new }
-    ensures out { (D.at desk.new).out ≡ held.new }
-    ensures shut { IsShut (P.at prompter.new) }
+    ensures ready { IsReady (D.at desk.new) (P.at prompter.new) held.new }
 {
     match look_over(nonce, held, desk)? {
         Some(pass) => Ok(pass),

@@ -9,9 +9,9 @@ ghost use Rattle.key_commands.specs.KeyParts.{HasOne, TellsListed, WritesInfo, W
 ghost use Rattle.key_commands.specs.Lines.{info_line};
 ghost use Rattle.agent_ask.specs.ClientParts.{Writes};
 ghost use Rattle.agent_ask.specs.PartStates.{DoesWithClient};
-ghost use Rattle.key_commands.specs.Partial.{NoCall, DoesAtDesk};
+ghost use Rattle.key_commands.specs.Partial.{DoesKeyPart, NoCall, DoesAtDesk};
 ghost use Rattle.key_commands.specs.Replies.{CarriesOut};
-ghost use Rattle.key_commands.specs.States.{DoesKeyPart, key_state};
+ghost use Rattle.key_commands.specs.States.{key_state};
 ghost use Rattle.key_commands.specs.Steps.{DoesKeyCalls};
 ghost use Rattle.key_commands.specs.declared.wrap_keys.WrapKeys.{WrapKeys};
 ghost use Rattle.session_options.specs.OptionValues.{OptionValues};

@@ -2,7 +2,7 @@
 
 ghost use Rattle.std.specs.Prelude.{◌≡◌};
 ghost use Rattle.agent_ask.specs.PartStates.{DoesWithClient};
-ghost use Rattle.agent_ask.specs.Prompters.{IsShut};
+ghost use Rattle.agent_ask.specs.Seats.{IsReady};
 ghost use Rattle.assuan_server.specs.Clients.{connection_views};
 ghost use Rattle.assuan_server.specs.Connections.{IsOpen};
 ghost use Rattle.session_options.specs.declared.options.PinMode.TheVariants as pin_mode;
@@ -32,13 +32,11 @@ pub(crate) fn new_passphrase<L: Link, D: Desk, P: Prompter>(
     prompter: &mut P,
 ) -> Result<Secret, Refusal>
     requires open { IsOpen conn.old }
-    requires out { (D.at desk.old).out ≡ held.old }
-    requires shut { IsShut (P.at prompter.old) }
+    requires ready { IsReady (D.at desk.old) (P.at prompter.old) held.old }
     ensures does { LeavesKeys D.turned P.prompted
         (NewPassphrase asking.now.rules.now asking.now.options.now asking.now.grip.now)
         held.old conn.old desk.old prompter.old result held.new conn.new desk.new prompter.new }
-    ensures out { (D.at desk.new).out ≡ held.new }
-    ensures shut { IsShut (P.at prompter.new) }
+    ensures ready { IsReady (D.at desk.new) (P.at prompter.new) held.new }
 {
     match asking.options.mode() {
         PinMode::Ask => new_by_user(asking, held, conn, desk, prompter),
@@ -58,13 +56,11 @@ pub(crate) fn renewed_passphrase<L: Link, D: Desk, P: Prompter>(
     prompter: &mut P,
 ) -> Result<Secret, Refusal>
     requires open { IsOpen conn.old }
-    requires out { (D.at desk.old).out ≡ held.old }
-    requires shut { IsShut (P.at prompter.old) }
+    requires ready { IsReady (D.at desk.old) (P.at prompter.old) held.old }
     ensures does { LeavesKeys D.turned P.prompted
         (RenewsPassphrase asking.now.rules.now asking.now.options.now asking.now.grip.now nonce)
         held.old conn.old desk.old prompter.old result held.new conn.new desk.new prompter.new }
-    ensures out { (D.at desk.new).out ≡ held.new }
-    ensures shut { IsShut (P.at prompter.new) }
+    ensures ready { IsReady (D.at desk.new) (P.at prompter.new) held.new }
 {
     match look_for_nonce(nonce, held, desk)? {
         Some(pass) => Ok(pass),
@@ -81,13 +77,11 @@ fn new_by_user<L: Link, D: Desk, P: Prompter>(
     prompter: &mut P,
 ) -> Result<Secret, Refusal>
     requires open { IsOpen conn.old }
-    requires out { (D.at desk.old).out ≡ held.old }
-    requires shut { IsShut (P.at prompter.old) }
+    requires ready { IsReady (D.at desk.old) (P.at prompter.old) held.old }
     ensures does { LeavesKeys D.turned P.prompted
         (new_by asking.now.rules.now asking.now.options.now asking.now.grip.now pin_mode.Ask)
         held.old conn.old desk.old prompter.old result held.new conn.new desk.new prompter.new }
-    ensures out { (D.at desk.new).out ≡ held.new }
-    ensures shut { IsShut (P.at prompter.new) }
+    ensures ready { IsReady (D.at desk.new) (P.at prompter.new) held.new }
 {
     take_seat(asking.grip, held, desk)?;
     prompt_new(asking, held, conn, prompter)

@@ -1,7 +1,7 @@
 //! The old passphrase of a key: from the cache, the user, or the client itself.
 
 ghost use Rattle.std.specs.Prelude.{◌≡◌, IfOk, None};
-ghost use Rattle.agent_ask.specs.Prompters.{IsShut};
+ghost use Rattle.agent_ask.specs.Seats.{IsReady};
 ghost use Rattle.assuan_server.specs.Connections.{IsOpen};
 ghost use Rattle.secret_file.specs.Opens.{FitsFile};
 ghost use Rattle.session_options.specs.declared.options.PinMode.TheVariants as pin_mode;
@@ -41,13 +41,11 @@ pub(crate) fn old_passphrase<L: Link, D: Desk, P: Prompter>(
     requires fits { FitsFile key }
     requires free { held.old ≡ None }
     requires open { IsOpen conn.old }
-    requires out { (D.at desk.old).out ≡ held.old }
-    requires shut { IsShut (P.at prompter.old) }
+    requires ready { IsReady (D.at desk.old) (P.at prompter.old) held.old }
     ensures does { LeavesKeys D.turned P.prompted
         (OldPassphrase asking.now.rules.now asking.now.options.now asking.now.grip.now nonce key)
         held.old conn.old desk.old prompter.old result held.new conn.new desk.new prompter.new }
-    ensures out { (D.at desk.new).out ≡ held.new }
-    ensures shut { IsShut (P.at prompter.new) }
+    ensures ready { IsReady (D.at desk.new) (P.at prompter.new) held.new }
     ensures usable { IfOk result (λ opened. IsUsable opened.key) }
 {
     if key.is_clear() {
@@ -68,13 +66,11 @@ pub(crate) fn verified_passphrase<L: Link, D: Desk, P: Prompter>(
 ) -> Result<OpenedKey, Refusal>
     requires fits { FitsFile key }
     requires open { IsOpen conn.old }
-    requires out { (D.at desk.old).out ≡ held.old }
-    requires shut { IsShut (P.at prompter.old) }
+    requires ready { IsReady (D.at desk.old) (P.at prompter.old) held.old }
     ensures does { LeavesKeys D.turned P.prompted
         (VerifiesPassphrase asking.now.rules.now asking.now.options.now asking.now.grip.now key)
         held.old conn.old desk.old prompter.old result held.new conn.new desk.new prompter.new }
-    ensures out { (D.at desk.new).out ≡ held.new }
-    ensures shut { IsShut (P.at prompter.new) }
+    ensures ready { IsReady (D.at desk.new) (P.at prompter.new) held.new }
     ensures usable { IfOk result (λ opened. IsUsable opened.key) }
 {
     if key.is_clear() {
@@ -97,13 +93,11 @@ fn open_locked<L: Link, D: Desk, P: Prompter>(
 ) -> Result<OpenedKey, Refusal>
     requires free { held.old ≡ None }
     requires open { IsOpen conn.old }
-    requires out { (D.at desk.old).out ≡ held.old }
-    requires shut { IsShut (P.at prompter.old) }
+    requires ready { IsReady (D.at desk.old) (P.at prompter.old) held.old }
     ensures does { LeavesKeys D.turned P.prompted (OpensLocked asking.now.rules.now
         asking.now.options.now asking.now.grip.now nonce locked.now)
         held.old conn.old desk.old prompter.old result held.new conn.new desk.new prompter.new }
-    ensures out { (D.at desk.new).out ≡ held.new }
-    ensures shut { IsShut (P.at prompter.new) }
+    ensures ready { IsReady (D.at desk.new) (P.at prompter.new) held.new }
     ensures usable { IfOk result (λ opened. IsUsable opened.key) }
 {
     let found = look_for_nonce(nonce, held, desk)?;
@@ -124,13 +118,11 @@ fn open_cached<L: Link, D: Desk, P: Prompter>(
 ) -> Result<OpenedKey, Refusal>
     requires free { held.old ≡ None }
     requires open { IsOpen conn.old }
-    requires out { (D.at desk.old).out ≡ held.old }
-    requires shut { IsShut (P.at prompter.old) }
+    requires ready { IsReady (D.at desk.old) (P.at prompter.old) held.old }
     ensures does { LeavesKeys D.turned P.prompted
         (CachedOld asking.now.rules.now asking.now.options.now asking.now.grip.now locked.now)
         held.old conn.old desk.old prompter.old result held.new conn.new desk.new prompter.new }
-    ensures out { (D.at desk.new).out ≡ held.new }
-    ensures shut { IsShut (P.at prompter.new) }
+    ensures ready { IsReady (D.at desk.new) (P.at prompter.new) held.new }
     ensures usable { IfOk result (λ opened. IsUsable opened.key) }
 {
     let way = way_of(asking.options.mode());
@@ -161,13 +153,11 @@ fn open_uncached<L: Link, D: Desk, P: Prompter>(
     prompter: &mut P,
 ) -> Result<OpenedKey, Refusal>
     requires open { IsOpen conn.old }
-    requires out { (D.at desk.old).out ≡ held.old }
-    requires shut { IsShut (P.at prompter.old) }
+    requires ready { IsReady (D.at desk.old) (P.at prompter.old) held.old }
     ensures does { LeavesKeys D.turned P.prompted (UncachedOld asking.now.rules.now
         asking.now.options.now asking.now.grip.now asking.now.options.now.mode locked.now)
         held.old conn.old desk.old prompter.old result held.new conn.new desk.new prompter.new }
-    ensures out { (D.at desk.new).out ≡ held.new }
-    ensures shut { IsShut (P.at prompter.new) }
+    ensures ready { IsReady (D.at desk.new) (P.at prompter.new) held.new }
     ensures usable { IfOk result (λ opened. IsUsable opened.key) }
 {
     match asking.options.mode() {
@@ -188,13 +178,11 @@ fn open_by_user<L: Link, D: Desk, P: Prompter>(
     prompter: &mut P,
 ) -> Result<OpenedKey, Refusal>
     requires open { IsOpen conn.old }
-    requires out { (D.at desk.old).out ≡ held.old }
-    requires shut { IsShut (P.at prompter.old) }
+    requires ready { IsReady (D.at desk.old) (P.at prompter.old) held.old }
     ensures does { LeavesKeys D.turned P.prompted (UncachedOld asking.now.rules.now
         asking.now.options.now asking.now.grip.now pin_mode.Ask locked.now)
         held.old conn.old desk.old prompter.old result held.new conn.new desk.new prompter.new }
-    ensures out { (D.at desk.new).out ≡ held.new }
-    ensures shut { IsShut (P.at prompter.new) }
+    ensures ready { IsReady (D.at desk.new) (P.at prompter.new) held.new }
     ensures usable { IfOk result (λ opened. IsUsable opened.key) }
 {
     take_seat(asking.grip, held, desk)?;

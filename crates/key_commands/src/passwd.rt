@@ -1,16 +1,16 @@
 //! PASSWD: a key's passphrase is changed, or only asked for and tried.
 
 ghost use Rattle.std.specs.Prelude.{◌≡◌, ◌≤◌, None, length};
-ghost use Rattle.agent_ask.specs.Prompters.{IsShut};
+ghost use Rattle.agent_ask.specs.Seats.{IsReady};
 ghost use Rattle.agent_ports.specs.Sides.{Side};
 ghost use Rattle.assuan_server.specs.Connections.{Connection, IsOpen};
 ghost use Rattle.sexp_keys.specs.Lists.{key_list_of};
 ghost use Rattle.key_commands.specs.Exchanges.{VerifyReplies, PasswdReplies, ChangesOpened};
 ghost use Rattle.key_commands.specs.Exchanges.{RewritesFile};
 ghost use Rattle.key_commands.specs.Files.{IsSomeKey};
-ghost use Rattle.key_commands.specs.Partial.{NoCall};
+ghost use Rattle.key_commands.specs.Partial.{DoesKeyPart, NoCall};
 ghost use Rattle.key_commands.specs.Replies.{CarriesOut};
-ghost use Rattle.key_commands.specs.States.{DoesKeyPart, key_state};
+ghost use Rattle.key_commands.specs.States.{key_state};
 ghost use Rattle.key_commands.specs.Trials.{IsUsable};
 ghost use Rattle.key_commands.specs.declared.wrap_keys.WrapKeys.{WrapKeys as Wraps};
 ghost use Rattle.key_commands.specs.declared.wrapping.TheConstants.{MAX_LIST_LEN};
@@ -42,15 +42,13 @@ pub(crate) fn verify_key<L: Link, D: Desk, P: Prompter, K: Keys>(
 ) -> Result<Reply, Refusal>
     requires free { held.old ≡ None }
     requires open { IsOpen conn.old }
-    requires out { (D.at desk.old).out ≡ held.old }
-    requires shut { IsShut (P.at prompter.old) }
+    requires ready { IsReady (D.at desk.old) (P.at prompter.old) held.old }
     ensures carries { (wraps : Wraps) (dice : Side) → CarriesOut D.turned P.prompted
         (VerifyReplies asking.now.rules.now asking.now.options.now wraps asking.now.grip.now) wraps
         (key_state D.turned P.prompted conn.old desk.old prompter.old (K.keys keys.old) dice)
         result wraps held.new
         (key_state D.turned P.prompted conn.new desk.new prompter.new (K.keys keys.new) dice) }
-    ensures out { (D.at desk.new).out ≡ held.new }
-    ensures shut { IsShut (P.at prompter.new) }
+    ensures ready { IsReady (D.at desk.new) (P.at prompter.new) held.new }
 {
     let file = read_file(asking.alloc, asking.grip, keys)?;
     let opened = verified_passphrase(asking, file.key, held, conn, desk, prompter)?;
@@ -72,16 +70,14 @@ pub(crate) fn change_passphrase<L: Link, D: Desk, P: Prompter, K: Keys, R: Dice>
 ) -> Result<Reply, Refusal>
     requires free { held.old ≡ None }
     requires open { IsOpen conn.old }
-    requires out { (D.at desk.old).out ≡ held.old }
-    requires shut { IsShut (P.at prompter.old) }
+    requires ready { IsReady (D.at desk.old) (P.at prompter.old) held.old }
     ensures carries { (wraps : Wraps) → CarriesOut D.turned P.prompted
         (PasswdReplies asking.now.rules.now asking.now.options.now wraps asking.now.grip.now
         nonce new_nonce) wraps (key_state D.turned P.prompted conn.old desk.old prompter.old
         (K.keys keys.old) (R.draws dice.old)) result wraps held.new
         (key_state D.turned P.prompted conn.new desk.new prompter.new (K.keys keys.new)
         (R.draws dice.new)) }
-    ensures out { (D.at desk.new).out ≡ held.new }
-    ensures shut { IsShut (P.at prompter.new) }
+    ensures ready { IsReady (D.at desk.new) (P.at prompter.new) held.new }
 {
     let file = read_file(asking.alloc, asking.grip, keys)?;
     let opened = old_passphrase(asking, nonce, file.key, held, conn, desk, prompter)?;
@@ -116,16 +112,14 @@ fn change_opened<L: Link, D: Desk, P: Prompter, K: Keys, R: Dice>(
     requires file { IsSomeKey file.now }
     requires usable { IsUsable key.now }
     requires open { IsOpen conn.old }
-    requires out { (D.at desk.old).out ≡ held.old }
-    requires shut { IsShut (P.at prompter.old) }
+    requires ready { IsReady (D.at desk.old) (P.at prompter.old) held.old }
     ensures does { DoesKeyPart D.turned P.prompted
         (ChangesOpened asking.now.rules.now asking.now.options.now asking.now.grip.now nonce
         file.now key.now) held.old (key_state D.turned P.prompted conn.old desk.old prompter.old
         (K.keys keys.old) (R.draws dice.old)) result held.new
         (key_state D.turned P.prompted conn.new desk.new prompter.new (K.keys keys.new)
         (R.draws dice.new)) }
-    ensures out { (D.at desk.new).out ≡ held.new }
-    ensures shut { IsShut (P.at prompter.new) }
+    ensures ready { IsReady (D.at desk.new) (P.at prompter.new) held.new }
 {
     check_len(key)?;
     let pass = renewed_passphrase(asking, nonce, held, conn, desk, prompter)?;

@@ -2,6 +2,7 @@
 
 ghost use Rattle.std.specs.Prelude.{◌≡◌, None};
 ghost use Rattle.agent_ask.specs.Prompters.{IsShut};
+ghost use Rattle.agent_ask.specs.Seats.{IsReady};
 ghost use Rattle.assuan_server.specs.Connections.{IsOpen};
 ghost use Rattle.key_commands.specs.Exchanges.{KeyExchange, KeyReplies};
 ghost use Rattle.key_commands.specs.Replies.{CarriesOut};
@@ -79,16 +80,14 @@ fn carry_out<L: Link, D: Desk, P: Prompter, K: Keys, R: Dice>(
 ) -> Result<Reply, Refusal>
     requires free { held.old ≡ None }
     requires open { IsOpen conn.old }
-    requires out { (D.at desk.old).out ≡ held.old }
-    requires shut { IsShut (P.at prompter.old) }
+    requires ready { IsReady (D.at desk.old) (P.at prompter.old) held.old }
     ensures carries { CarriesOut D.turned P.prompted
         (KeyReplies rules.now options.now wraps.old command.now) wraps.old
         (key_state D.turned P.prompted conn.old desk.old prompter.old
         (K.keys keys.old) (R.draws dice.old)) result wraps.new held.new
         (key_state D.turned P.prompted conn.new desk.new prompter.new (K.keys keys.new)
         (R.draws dice.new)) }
-    ensures out { (D.at desk.new).out ≡ held.new }
-    ensures shut { IsShut (P.at prompter.new) }
+    ensures ready { IsReady (D.at desk.new) (P.at prompter.new) held.new }
 {
     match command {
         KeyRequest::HaveKey { grips } => {

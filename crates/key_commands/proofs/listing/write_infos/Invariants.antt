@@ -2,8 +2,8 @@ use Rattle.std.proofs.Common.{◌≡◌, ℕ, Option, Result, drop}
 use Rattle.agent_ports.specs.Sides.{Side}
 use Rattle.assuan_server.specs.Connections.{IsOpen}
 use Rattle.key_commands.specs.KeyParts.{WritesInfos}
-use Rattle.key_commands.specs.Partial.{NoCall}
-use Rattle.key_commands.specs.States.{DoesKeyPart, KeyState, key_state}
+use Rattle.key_commands.specs.Partial.{DoesKeyPart, NoCall}
+use Rattle.key_commands.specs.States.{KeyState, key_state}
 use Rattle.session_client.specs.declared.refusal.Refusal.{Refusal}
 use Rattle.key_commands.proofs.listing.write_infos.Given as goal
 

@@ -4,12 +4,12 @@ use Rattle.agent_ask.proofs.Replying.{answers}
 use Rattle.assuan_server.specs.Clients.{connection_views}
 use Rattle.key_commands.specs.Exchanges.{KeyReplies}
 use Rattle.key_commands.specs.Parts.{key_went_after, key_gone}
-use Rattle.key_commands.specs.Replies.{IsReply, went_of}
+use Rattle.key_commands.specs.Replies.{IsReply, key_goes_on}
 use Rattle.key_commands.proofs.Requesting.{gone_as_it_went}
 use Rattle.key_commands.proofs.run.run_key.Goals as goal
 
 pub returns-clause-answers : goal.returns-clause-answers
 returns-clause-answers g c =
     answers connection_views _ _ key_went_after key_gone gone_as_it_went refusal_line (KeyReplies c.args.rules.now c.args.options.now c.args.wraps.now c.args.command.now) c.args.wraps.now _
-    c.carry_out-reply.new.held c.carry_out-reply.new.conn c.respond.new.conn c.carry_out-reply.new.desk c.close.new.desk _ IsReply went_of (λ answer. refl)
+    c.carry_out-reply.new.held c.carry_out-reply.new.conn c.respond.new.conn c.carry_out-reply.new.desk c.close.new.desk _ IsReply key_goes_on (λ answer. refl)
     c.carry_out-reply.ensures.carries c.close.ensures.given c.respond.ensures
