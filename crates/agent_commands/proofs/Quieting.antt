@@ -76,8 +76,8 @@ pub quiet_begun : (line word rest : List ℕ) (command : Option CommandName) (ge
     → quiet_of (request_of line) ≡ option_and_then quiet_fields get
 unfolding request_of
 quiet_begun line word rest command get begun =
-    let named : command ≡ command_named (command_of line) = begun.command_is ∙ ap command_named begun.word_is in
-    rw (sym named) (quiet_by command line get (rw begun.rest_is at begun.get_is))
+    let named : command ≡ command_named (command_of line) = begun.command_is ∙ ap command_named begun.cut.word_is in
+    rw (sym named) (quiet_by command line get (rw begun.cut.rest_is at begun.get_is))
 
 -- a request that is quiet is a GET_PASSPHRASE with these fields
 module _ (P : Request → Type 0) (request : QuietRequest)

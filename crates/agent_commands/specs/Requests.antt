@@ -138,14 +138,18 @@ ReadsGet (Some name.GetPassphrase) rest get =
     get_of (options_of (words rest)) (arguments_of (words rest)) ≡ in_form (option_map get_passphrase get)
 ReadsGet _ rest get = get ≡ None
 
--- a line, as far as it is read: its first word, what comes after it, the command of this name, and what it says where it is a GET_PASSPHRASE
-pub record BeginsRequest (line word rest : List ℕ) (command : Option CommandName) (get : Option GetFields) : Type 0 where
+-- a line that is cut into its first word and what comes after it
+pub record IsCut (line word rest : List ℕ) : Type 0 where
   pub word_is : word ≡ command_of line
   pub rest_is : rest ≡ rest_of line
-  pub command_is : command ≡ command_named word
-  pub get_is : ReadsGet command rest get
   pub line_within : length line ≤ MAX_LINE_LEN
   pub rest_within : length rest ≤ MAX_LINE_LEN
+
+-- and read so far: the command of this name, and what it says where it is a GET_PASSPHRASE
+pub record BeginsRequest (line word rest : List ℕ) (command : Option CommandName) (get : Option GetFields) : Type 0 where
+  pub cut : IsCut line word rest
+  pub command_is : command ≡ command_named word
+  pub get_is : ReadsGet command rest get
 
 unfoldable pub request_of : List ℕ → Request
 request_of line = request_by (command_named (command_of line)) line

@@ -9,6 +9,7 @@
 
 mod command;
 mod confirmation;
+mod cut_line;
 mod fields;
 mod found;
 mod get_line;
@@ -22,6 +23,7 @@ mod response;
 mod went;
 
 pub use command::{run_cache, run_quiet};
+pub use cut_line::CutLine;
 pub use fields::MAX_REPEAT;
 pub use line_request::LineRequest;
 pub use names::{COMMANDS, CommandName, KEY_COMMANDS, PROMPT_COMMANDS, commands_are_as_defined};

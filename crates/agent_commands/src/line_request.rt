@@ -5,9 +5,8 @@ ghost use Rattle.agent_commands.specs.Requests.{request_of};
 use crate::get_line::GetLine;
 use crate::names::{CommandName, command_named};
 use crate::read::{read_command, read_other};
-use crate::{QuietRequest, Request};
+use crate::{CutLine, QuietRequest, Request};
 use assuan_line::Line;
-use assuan_text::command_and_rest;
 use std::marker::Model;
 
 /// A line that is read but for what is long: its command is found, and a GET_PASSPHRASE has its
@@ -39,15 +38,21 @@ impl<'a> LineRequest<'a> {
     pub fn of(line: &'a Line) -> LineRequest<'a>
         ensures { result ≡ request_of line.now }
     {
-        let line = line.bytes();
-        let (word, rest) = command_and_rest(line);
+        LineRequest::of_cut(&CutLine::of(line))
+    }
+
+    /// Reads one that is cut into its first word and what comes after it.
+    pub fn of_cut(line: &CutLine<'a>) -> LineRequest<'a>
+        ensures { result ≡ request_of line.now }
+    {
+        let (word, rest) = (line.word(), line.rest());
         let command = command_named(word);
         let get = match command {
             Some(CommandName::GetPassphrase) => GetLine::of(rest),
             _ => None,
         };
         LineRequest {
-            line,
+            line: line.bytes(),
             word,
             rest,
             command,

@@ -1,10 +1,12 @@
 //! A request of any session, answered.
 
-ghost use Rattle.std.specs.Prelude.{◌≡◌, None};
+ghost use Rattle.std.specs.Prelude.{◌≡◌, ℕ, List, None};
 ghost use Rattle.agent_ask.specs.Prompters.{IsShut};
 ghost use Rattle.agent_ports.specs.TrustFiles.{TrustState};
 ghost use Rattle.assuan_server.specs.Connections.{IsOpen};
 ghost use Rattle.assuan_server.specs.Written.{failed};
+ghost use Rattle.assuan_text.specs.Words.{command_of};
+ghost use Rattle.agent_commands.specs.Requests.{request_of};
 ghost use Rattle.agent_commands.specs.States.{AnswersRequest};
 ghost use Rattle.key_commands.specs.States.{KeyWorld, key_state};
 ghost use Rattle.agent_origin.specs.FurtherStates.{FurtherWorld, further_state};
@@ -14,12 +16,12 @@ ghost use Rattle.agent_origin.specs.Serving.{SaysText};
 
 use crate::Kept;
 use agent_ask::{Prompter, unless_cut};
-use agent_commands::{LineRequest, Request, SessionEnd, Went, run_cache, run_quiet};
+use agent_commands::{CutLine, LineRequest, Request, SessionEnd, Went, run_cache, run_quiet};
 use agent_ports::{Dice, Keys, Link};
 use assuan_line::Line;
 use assuan_server::{Code, Conn, Origin};
 use cache_policy::Desk;
-use key_commands::{KeyWent, ends_description, read_key, run_key};
+use key_commands::{KeyWent, is_described, read_key_cut, run_key};
 use session_options::{Options, Rules};
 use std::alloc::Global;
 use wiping::wipe_stack;
@@ -53,12 +55,49 @@ pub fn answer<L: Link, D: Desk, P: Prompter, K: Keys, R: Dice>(
     ensures free { (D.at desk.new).out ≡ None }
     ensures shut { IsShut (P.at prompter.new) }
 {
-    let request = LineRequest::of(line);
+    answer_cut(
+        alloc,
+        &CutLine::of(line),
+        rules,
+        kept,
+        conn,
+        desk,
+        prompter,
+        keys,
+        dice,
+    )
+}
+
+/// Answers one that is cut into its first word and what comes after it.
+pub(crate) fn answer_cut<L: Link, D: Desk, P: Prompter, K: Keys, R: Dice>(
+    alloc: Global,
+    line: &CutLine<'_>,
+    rules: &Rules,
+    kept: &mut Kept,
+    conn: &mut Conn<'_, L>,
+    desk: &mut D,
+    prompter: &mut P,
+    keys: &mut K,
+    dice: &mut R,
+) -> Went
+    requires open { IsOpen conn.old }
+    requires free { (D.at desk.old).out ≡ None }
+    requires shut { IsShut (P.at prompter.old) }
+    ensures answers { (trust : TrustState) → AnswersRequest {w = FurtherWorld D.turned P.prompted}
+        (λ before. SessionExchange rules.now before line.now) kept.old
+        (further_state D.turned P.prompted conn.old desk.old prompter.old
+        (K.keys keys.old) (R.draws dice.old) trust) result kept.new
+        (further_state D.turned P.prompted conn.new desk.new prompter.new (K.keys keys.new)
+        (R.draws dice.new) trust) }
+    ensures free { (D.at desk.new).out ≡ None }
+    ensures shut { IsShut (P.at prompter.new) }
+{
+    let request = LineRequest::of_cut(line);
     match request.quiet() {
         Some(quiet) => run_quiet(&quiet, conn, desk),
         None => {
             let went = answer_whole(
-                alloc, &request, rules, kept, conn, desk, prompter, keys, dice,
+                alloc, line, &request, rules, kept, conn, desk, prompter, keys, dice,
             );
             wipe_stack();
             went
@@ -71,6 +110,7 @@ pub fn answer<L: Link, D: Desk, P: Prompter, K: Keys, R: Dice>(
 #[inline(never)]
 fn answer_whole<L: Link, D: Desk, P: Prompter, K: Keys, R: Dice>(
     alloc: Global,
+    line: &CutLine<'_>,
     request: &LineRequest<'_>,
     rules: &Rules,
     kept: &mut Kept,
@@ -80,6 +120,7 @@ fn answer_whole<L: Link, D: Desk, P: Prompter, K: Keys, R: Dice>(
     keys: &mut K,
     dice: &mut R,
 ) -> Went
+    requires read { request.now ≡ request_of line.now }
     requires open { IsOpen conn.old }
     requires free { (D.at desk.old).out ≡ None }
     requires shut { IsShut (P.at prompter.old) }
@@ -96,9 +137,8 @@ fn answer_whole<L: Link, D: Desk, P: Prompter, K: Keys, R: Dice>(
         Request::Cache(command) => {
             run_cache(&command, rules, &mut kept.options, conn, desk, prompter)
         }
-        Request::Key(line) => {
-            let line: &[u8] = &line;
-            let request = read_key(line);
+        Request::Key(_) => {
+            let request = read_key_cut(line.word(), line.rest());
             let went = run_key(
                 alloc,
                 &request,
@@ -111,7 +151,7 @@ fn answer_whole<L: Link, D: Desk, P: Prompter, K: Keys, R: Dice>(
                 keys,
                 dice,
             );
-            end_description(line, &mut kept.options);
+            end_description(line.word(), &mut kept.options);
             went_after_key(went)
         }
         Request::Bad(code) => refuse(code, conn),
@@ -119,10 +159,12 @@ fn answer_whole<L: Link, D: Desk, P: Prompter, K: Keys, R: Dice>(
 }
 
 /// Ends the description of prompts behind a line with a command on keys, where that one may prompt.
-fn end_description(line: &[u8], options: &mut Options)
-    ensures { options.new ≡ described_after line.now options.old }
+#[tactic(auto, unfolding(key_commands::specs::Requests::ends_description))]
+fn end_description(word: &[u8], options: &mut Options)
+    ensures { (line : List ℕ) → word.now ≡ command_of line
+        → options.new ≡ described_after line options.old }
 {
-    if ends_description(line) {
+    if is_described(word) {
         options.end_description();
     }
 }

@@ -5,9 +5,9 @@ ghost use Rattle.agent_origin.specs.Doors.{rules, rule_named, is_about_the_agent
 ghost use Rattle.agent_origin.specs.Doors.{passes, allowed};
 ghost use Rattle.agent_origin.specs.declared.door.TheConstants.{RULES};
 
-use agent_commands::{CacheCommand, Request, read_request};
+use agent_commands::{CacheCommand, CutLine, LineRequest, Request};
 use assuan_line::Line;
-use assuan_text::{arguments, command_and_rest, found_in_any_case, has_option, next_word};
+use assuan_text::{arguments, found_in_any_case, has_option, next_word};
 use session_options::name_and_value;
 
 /// The option that says how a session wants its prompts.
@@ -79,11 +79,17 @@ const RULES: [(&[u8], Rule); 22] = [
 pub fn allowed(door: Door, line: &Line) -> bool
     ensures { result ≡ allowed door line.now }
 {
+    allows(door, &CutLine::of(line))
+}
+
+/// The same of one that is cut into its first word and what comes after it.
+pub(crate) fn allows(door: Door, line: &CutLine<'_>) -> bool
+    ensures { result ≡ allowed door line.now }
+{
     if door == Door::Home {
         return true;
     }
-    let (word, _) = command_and_rest(line.bytes());
-    match rule_named(word) {
+    match rule_named(line.word()) {
         Some(rule) => passes(rule, line),
         None => true,
     }
@@ -103,15 +109,15 @@ fn rule_named(word: &[u8]) -> Option<Rule>
 }
 
 /// Whether a line with a command of this rule is allowed at the outer door.
-fn passes(rule: Rule, line: &Line) -> bool
+fn passes(rule: Rule, line: &CutLine<'_>) -> bool
     ensures { result ≡ passes rule line.now }
 {
-    let (_, rest) = command_and_rest(line.bytes());
+    let rest = line.rest();
     match rule {
         Rule::Always => true,
         Rule::NotTheMode => name_and_value(rest).0 != PINENTRY_MODE,
         Rule::AboutTheAgent => is_about_the_agent(arguments(rest)),
-        Rule::Uncached => leaves_cache(&read_request(line)),
+        Rule::Uncached => leaves_cache(&LineRequest::of_cut(line).whole()),
         Rule::OneKey => !has_option(rest, b"--list"),
         Rule::Never => false,
     }

@@ -9,15 +9,16 @@ ghost use Rattle.agent_origin.specs.FurtherStates.{surroundings};
 ghost use Rattle.agent_origin.specs.TrustRequests.{trust_request_of};
 ghost use Rattle.agent_origin.specs.Serving.{SaysText};
 
-use crate::answering::{answer, refuse};
-use crate::door::{Door, allowed};
-use crate::{Answers, Kept, TRUST_COMMANDS, read_trust, run_trust, serve};
+use crate::answering::{answer_cut, refuse};
+use crate::door::{Door, allows};
+use crate::trust::read_trust_cut;
+use crate::{Answers, Kept, TRUST_COMMANDS, run_trust, serve};
 use agent_ask::{Prompter, unless_cut};
-use agent_commands::{SessionEnd, Went, write_help};
+use agent_commands::{CutLine, SessionEnd, Went, write_help};
 use agent_ports::{Dice, Keys, Link, TrustFile};
 use assuan_line::Line;
 use assuan_server::{Code, Conn};
-use assuan_text::{command_and_rest, found_in_any_case};
+use assuan_text::found_in_any_case;
 use cache_policy::Desk;
 use session_options::{Options, Rules};
 use std::alloc::Global;
@@ -65,15 +66,15 @@ impl Answers for Door {
         dice: &mut R,
         trust: &mut T,
     ) -> Went {
-        if !allowed(*self, line) {
+        let line = CutLine::of(line);
+        if !allows(*self, &line) {
             return refuse(Code::Forbidden, conn);
         }
-        let (word, _) = command_and_rest(line.bytes());
-        match door_command_named(word) {
+        match door_command_named(line.word()) {
             Some(DoorCommand::Help) => help(conn),
             Some(DoorCommand::Trust) => answer_trust(
                 alloc,
-                line,
+                &line,
                 rules,
                 &kept.options,
                 conn,
@@ -81,7 +82,7 @@ impl Answers for Door {
                 prompter,
                 trust,
             ),
-            None => answer(alloc, line, rules, kept, conn, desk, prompter, keys, dice),
+            None => answer_cut(alloc, &line, rules, kept, conn, desk, prompter, keys, dice),
         }
     }
 }
@@ -99,7 +100,7 @@ fn help<L: Link>(conn: &mut Conn<'_, L>) -> Went
 #[inline(never)]
 fn answer_trust<L: Link, D: Desk, P: Prompter, T: TrustFile>(
     alloc: Global,
-    line: &Line,
+    line: &CutLine<'_>,
     rules: &Rules,
     options: &Options,
     conn: &mut Conn<'_, L>,
@@ -116,7 +117,7 @@ fn answer_trust<L: Link, D: Desk, P: Prompter, T: TrustFile>(
     ensures free { (D.at desk.new).out ≡ None }
     ensures shut { IsShut (P.at prompter.new) }
 {
-    let request = read_trust(line);
+    let request = read_trust_cut(line);
     run_trust(alloc, &request, rules, options, conn, desk, prompter, trust)
 }
 

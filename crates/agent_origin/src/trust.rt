@@ -12,5 +12,6 @@ mod run;
 
 pub use names::{TRUST_COMMANDS, TrustCommandName, trust_commands_are_as_defined};
 pub use read::read_trust;
+pub(crate) use read::read_trust_cut;
 pub use request::{MAX_NAME_LEN, OwnerName, TrustPurpose, TrustRequest};
 pub use run::run_trust;

@@ -1,12 +1,13 @@
-ghost use Rattle.std.specs.Prelude.{◌≡◌};
+ghost use Rattle.std.specs.Prelude.{◌≡◌, ℕ, List};
 ghost use Rattle.std.specs.Option.{option_map};
 ghost use Rattle.assuan_text.specs.Options.{options_of, arguments_of};
-ghost use Rattle.assuan_text.specs.Words.{words};
+ghost use Rattle.assuan_text.specs.Words.{command_of, rest_of, words};
+ghost use Rattle.key_commands.specs.Names.{key_command_named};
 ghost use Rattle.key_commands.specs.Requests.{grip, first_grip, some_grips, nonce, have_of};
 ghost use Rattle.session_client.specs.Fields.{in_form};
 ghost use Rattle.key_commands.specs.Requests.{key_info_of, wrap_of, import_of, export_of, passwd_of};
 ghost use Rattle.key_commands.specs.Requests.{delete_of, key_asked_by, key_request_of};
-ghost use Rattle.key_commands.specs.Requests.{ends_description};
+ghost use Rattle.key_commands.specs.Requests.{ends_description, is_described};
 
 use crate::names::{KeyCommandName, command_named};
 use crate::{Direction, Grips, KeyRequest};
@@ -20,11 +21,18 @@ const CACHE_NONCE: &[u8] = b"--cache-nonce";
 const PASSWD_NONCE: &[u8] = b"--passwd-nonce";
 
 /// Reads a line whose word is a command on keys. Another line is refused as an unknown command.
-#[tactic(auto, unfolding(crate::specs::Requests::key_request_of))]
 pub fn read_key(line: &[u8]) -> KeyRequest
     ensures { result ≡ key_request_of line.now }
 {
     let (word, rest) = command_and_rest(line);
+    read_key_cut(word, rest)
+}
+
+/// Reads one that is cut into its first word and what comes after it.
+pub fn read_key_cut(word: &[u8], rest: &[u8]) -> KeyRequest
+    ensures { (line : List ℕ) → word.now ≡ command_of line → rest.now ≡ rest_of line
+        → result ≡ key_request_of line }
+{
     let Some(name) = command_named(word) else {
         return KeyRequest::Bad(Code::UnknownCommand);
     };
@@ -41,6 +49,13 @@ pub fn ends_description(line: &[u8]) -> bool
     ensures { result ≡ ends_description line.now }
 {
     let (word, _) = command_and_rest(line);
+    is_described(word)
+}
+
+/// The same of the line's first word.
+pub fn is_described(word: &[u8]) -> bool
+    ensures { result ≡ is_described (command_named word.now) }
+{
     matches!(
         command_named(word),
         Some(

@@ -9,23 +9,30 @@ ghost use Rattle.agent_origin.specs.TrustRequests.{trust_asked_by, trust_request
 
 use super::names::{TrustCommandName, trust_command_named};
 use super::{OwnerName, TrustPurpose, TrustRequest};
+use agent_commands::CutLine;
 use agent_ports::Grip;
 use assuan_escape::unescape;
 use assuan_line::Line;
 use assuan_server::Code;
-use assuan_text::{arguments, command_and_rest, next_word};
+use assuan_text::{arguments, next_word};
 
 /// Reads a line whose word is a command on the trust list. Another line is refused as an unknown
 /// command.
-#[tactic(auto, unfolding(crate::specs::TrustRequests::trust_request_of))]
 pub fn read_trust(line: &Line) -> TrustRequest
     ensures { result ≡ trust_request_of line.now }
 {
-    let (word, rest) = command_and_rest(line.bytes());
-    let Some(name) = trust_command_named(word) else {
+    read_trust_cut(&CutLine::of(line))
+}
+
+/// Reads one that is cut into its first word and what comes after it.
+#[tactic(auto, unfolding(crate::specs::TrustRequests::trust_request_of))]
+pub(crate) fn read_trust_cut(line: &CutLine<'_>) -> TrustRequest
+    ensures { result ≡ trust_request_of line.now }
+{
+    let Some(name) = trust_command_named(line.word()) else {
         return TrustRequest::Bad(Code::UnknownCommand);
     };
-    match read_command(name, rest) {
+    match read_command(name, line.rest()) {
         Ok(request) => request,
         Err(code) => TrustRequest::Bad(code),
     }

@@ -1,12 +1,16 @@
-use Rattle.std.proofs.Common.{◌∙◌, sym, subst, [], None}
+use Rattle.std.proofs.Common.{◌≡◌, ◌∙◌, sym, ap, subst, [], None}
 use Rattle.agent_ask.specs.PartExchanges.{refused}
 use Rattle.agent_ask.specs.Parts.{refuses}
 use Rattle.agent_ask.specs.TurnParts.{unheld}
+use Rattle.assuan_text.specs.Words.{command_of, rest_of}
+use Rattle.agent_commands.specs.Requests.{request_of}
 use Rattle.agent_commands.specs.States.{AnswersRequest}
+use Rattle.agent_commands.specs.declared.request.Request.TheVariants.{Key}
 use Rattle.key_commands.specs.States.{KeyWorld, key_state}
 use Rattle.session_client.specs.declared.refusal.Refusal.TheVariants.{Agent}
 use Rattle.agent_origin.specs.SessionExchanges.{RequestExchange, cache}
 use Rattle.agent_origin.proofs.Beside.{cached_beside, keyed_beside}
+use Rattle.agent_origin.proofs.OuterKeys.{handed_line}
 use Rattle.agent_origin.proofs.Serving.{text_answers}
 use Rattle.agent_origin.proofs.answering.answer_whole.Goals as goal
 
@@ -21,8 +25,12 @@ returns-in-Cache-clause-answers g c =
 
 pub returns-in-Key-clause-answers : goal.returns-in-Key-clause-answers
 returns-in-Key-clause-answers g c =
-    rw (c.went_after_key.ensures, c.end_description.ensures, c.deref-line.ensures.0, sym c.whole.ensures ∙ c.in-Key.is)
-    (keyed_beside g.D.Desk.turned g.P.Prompter.prompted c.args.rules.now c.args.kept.now.options (rw (c.read_key-request.ensures, c.deref-line.ensures.0) at c.run_key-went.ensures.answers))
+    let is : request_of c.args.line.now ≡ Key c.in-Key.field-0 = sym c.requires.read ∙ sym c.whole.ensures ∙ c.in-Key.is in
+    let same : c.in-Key.field-0.items ≡ c.args.line.now = handed_line c.args.line.now c.in-Key.field-0 is in
+    let word = c.word.ensures ∙ ap command_of (sym same) in
+    let rest = c.rest.ensures.rest ∙ ap rest_of (sym same) in
+    rw (c.went_after_key.ensures, c.end_description.ensures c.in-Key.field-0.items (c.word-in-Key.ensures ∙ ap command_of (sym same)), sym c.whole.ensures ∙ c.in-Key.is)
+    (keyed_beside g.D.Desk.turned g.P.Prompter.prompted c.args.rules.now c.args.kept.now.options (rw (c.read_key_cut-request.ensures c.in-Key.field-0.items word rest) at c.run_key-went.ensures.answers))
 
 pub returns-in-Bad-clause-answers : goal.returns-in-Bad-clause-answers
 returns-in-Bad-clause-answers g c =
