@@ -18,7 +18,8 @@ use Rattle.session_client.specs.declared.code.Code.TheVariants.{UnknownCommand}
 use Rattle.assuan_text.specs.Options.{options_of, arguments_of, has_option}
 use Rattle.assuan_text.specs.Rows.{found_in_any_case}
 use Rattle.assuan_text.specs.Words.{command_of, rest_of, words}
-use Rattle.key_commands.specs.Exchanges.{KeyExchange, answered, refused, KeyReply, KeyReplies, HaveKeyReplies, KeyInfoReplies}
+use Rattle.key_commands.specs.Exchanges.{KeyExchange, KeyReply, KeyReplies, HaveKeyReplies, KeyInfoReplies}
+use Rattle.agent_ask.specs.PartExchanges.{answered, refused}
 use Rattle.key_commands.specs.KeyParts.{HasOne, is_key, faulty, no_memory as no_key_memory, unread}
 use Rattle.key_commands.specs.Names.{commands_on_keys, key_command_named}
 use Rattle.agent_ask.specs.Parts.{goes_on, stops, returns, refuses}

@@ -54,7 +54,7 @@ pub fn ends_description(line: &[u8]) -> bool
 
 /// The same of the line's first word.
 pub fn is_described(word: &[u8]) -> bool
-    ensures { result ≡ is_described (command_named word.now) }
+    ensures { result ≡ is_described (key_command_named word.now) }
 {
     matches!(
         command_named(word),
