@@ -29,7 +29,7 @@ use Rattle.key_commands.specs.Files as files
 use Rattle.key_commands.specs.KeyParts.{Tells, tells, ReadsFile, Replaces, Removes, KeepsNew, Protects, IsShort, HasOne, TellsKeyInfo, ListsGrips, ReadsListed, WritesInfo, TellsListed, WritesInfos}
 use Rattle.key_commands.specs.KeyParts.{max_key_data, AsksKeyData, Unwraps, ReceivesKey, NamesKey, IsFree, LooksOver, WrapsKey, Agrees}
 use Rattle.key_commands.specs.KeyParts as parts
-use Rattle.key_commands.specs.Lines.{grip_text}
+use Rattle.key_commands.specs.Lines.{grip_text, IsNotice, of_limit, of_key}
 use Rattle.assuan_server.specs.Written.{limit_line}
 use Rattle.key_commands.specs.Parts.{Part, Finds, Draws}
 use Rattle.agent_ask.specs.Parts.{◌>>=◌, Follows, goes_on, stops, Returns, returns, Refuses, needed, or_else, unless, wanted}
@@ -52,13 +52,17 @@ each_append Is (event ∷ first) more each each_more = (each.0, each_append Is f
 
 -- what is done beside the desk and the prompter
 abbrev pub IsStill : Event → Type 0
-IsStill (Sent text) = ⊤
+IsStill (Sent text) = IsNotice text
 IsStill (Cut text) = ⊤
 IsStill (Inquiry word params limit inquired) = ⊤
 IsStill (Further (Keys call)) = ⊤
 IsStill (Further (Dice draw)) = ⊤
 IsStill (Further NoMemory) = ⊤
 IsStill _ = ⊥
+
+-- what is told of a key is a notice
+told_info : (grip : Grip) (key : Key) {before after : Option ℕ} {events : List Event} {line : List ℕ} → TellsKeyInfo grip key before events (Ok line) after → IsNotice line
+told_info grip key (goes_on {value = cached} peeks returns) = of_key grip cached key.is_clear
 
 module _ (Is : Event → Type 0) where
   abbrev pub All : List Event → Type 0
@@ -171,16 +175,16 @@ module _ (Is : Event → Type 0) where
     one : (event : Event) → IsStill event → All (event ∷ [])
     one event is = (still event is, tt)
 
-    writes_of : (text : List ℕ) (before : Option ℕ) (events : List Event) (result : Result (Unit {0}) Refusal) (after : Option ℕ) → Writes text before events result after → All events
-    writes_of text before events result after client.written = one _ tt
-    writes_of text before events result after (client.cut unsent is) = one _ tt
+    writes_of : (text : List ℕ) → IsNotice text → (before : Option ℕ) (events : List Event) (result : Result (Unit {0}) Refusal) (after : Option ℕ) → Writes text before events result after → All events
+    writes_of text noted before events result after client.written = one _ noted
+    writes_of text noted before events result after (client.cut unsent is) = one _ tt
 
     inquires_of : (word : List ℕ) (most : ℕ) (before : Option ℕ) (events : List Event) (result : Result (List ℕ) Refusal) (after : Option ℕ) → Inquires session_lines word most before events result after → All events
     inquires_of word most before events result after (client.given is) = one _ tt
     inquires_of word most before events result after (client.not_given is) = one _ tt
 
     asks_secret : (word : List ℕ) → EachSo (AsksSecret word)
-    asks_secret word = each_bind (record { of = writes_of (limit_line MAX_SECRET_LEN) }) (λ told. record { of = inquires_of word MAX_SECRET_LEN })
+    asks_secret word = each_bind (record { of = writes_of (limit_line MAX_SECRET_LEN) (of_limit MAX_SECRET_LEN) }) (λ told. record { of = inquires_of word MAX_SECRET_LEN })
 
     finds_of : (grip : Grip) (before : Option ℕ) (events : List Event) (result : Result Bool Refusal) (after : Option ℕ) → Finds grip before events result after → All events
     finds_of grip before events result after small.found = one _ tt
@@ -270,7 +274,7 @@ module _ (Is : Event → Type 0) where
     unwraps_of wrap wrapped before events result after parts.no_memory = one _ tt
 
     pub receives_key : (wrap : List ℕ) → EachSo (ReceivesKey wrap)
-    receives_key wrap = each_bind (record { of = writes_of (limit_line max_key_data) }) (λ told_so. each_bind (record { of = asks_key_data_of }) (λ wrapped. record { of = unwraps_of wrap wrapped }))
+    receives_key wrap = each_bind (record { of = writes_of (limit_line max_key_data) (of_limit max_key_data) }) (λ told_so. each_bind (record { of = asks_key_data_of }) (λ wrapped. record { of = unwraps_of wrap wrapped }))
 
     pub is_free : (force : Bool) (grip : Grip) → EachSo (IsFree force grip)
     is_free true grip = each_returned tt
@@ -312,9 +316,14 @@ module _ (Is : Event → Type 0) where
       pub tells_info : (grip : Grip) (key : Key) → EachSo (TellsKeyInfo grip key)
       tells_info grip key = each_bind (record { of = peeks_of grip (peeked grip) }) (λ cached. each_returned _)
 
+      writes_info_of : (grip : Grip) (key : Key) (before : Option ℕ) (events : List Event) (result : Result (Unit {0}) Refusal) (after : Option ℕ) → WritesInfo grip (Some key) before events result after → All events
+      writes_info_of grip key before events result after (stops does) = (tells_info grip key).of before events _ after does
+      writes_info_of grip key before events result after (goes_on {first} {events = more} {value = line} {mid} does writes) =
+          each_append Is first more ((tells_info grip key).of before first (Ok line) mid does) (writes_of line (told_info grip key does) mid more result after writes)
+
       writes_info : (grip : Grip) (key : Option Key) → EachSo (WritesInfo grip key)
       writes_info grip None = each_returned tt
-      writes_info grip (Some key) = each_bind (tells_info grip key) (λ line. record { of = writes_of line })
+      writes_info grip (Some key) = record { of = writes_info_of grip key }
 
       pub writes_infos : (grips : List Grip) → EachSo (WritesInfos grips)
       writes_infos [] = each_returned tt

@@ -15,6 +15,7 @@ use Rattle.key_commands.specs.Events.{Event}
 use Rattle.key_commands.specs.Exchanges.{KeyExchange, HaveKeyReplies, KeyInfoReplies, ListKeysReplies, KeyWrapReplies, ImportKeyReplies, ExportKeyReplies, PasswdReplies, VerifyReplies}
 use Rattle.key_commands.specs.Exchanges.{DeleteKeyReplies, KeyReplies, wrap_key, FoundOrNew, RenewsPassphrase, ChangesOpened}
 use Rattle.agent_ask.specs.PartExchanges as exchange
+use Rattle.key_commands.specs.Lines.{IsNotice}
 use Rattle.key_commands.specs.KeyParts.{Consents}
 use Rattle.agent_ask.specs.TurnParts.{Closes}
 use Rattle.assuan_server.specs.Written.{refusal_line}
@@ -35,25 +36,42 @@ IsBesideTrust (Received took) = ⊥
 IsBesideTrust (Further (Trust call)) = ⊥
 IsBesideTrust _ = ⊤
 
-still_beside : (event : Event) → IsStill event → IsBesideTrust event
-still_beside (Sent text) still = tt
-still_beside (Cut text) still = tt
-still_beside (Inquiry word params limit inquired) still = tt
-still_beside (Further (Keys call)) still = tt
-still_beside (Further (Dice draw)) still = tt
-still_beside (Further NoMemory) still = tt
-still_beside (Further (Prompt event)) still = absurd still
-still_beside (Further (Trust call)) still = absurd still
-still_beside (CacheTurn taken) still = absurd still
-still_beside (Received took) still = absurd still
+-- the same up to its reply: what is written then answers nothing
+abbrev pub IsKeyWork : Event → Type 0
+IsKeyWork (Sent text) = IsNotice text
+IsKeyWork event = IsBesideTrust event
 
-module _ (Is : Event → Type 0) (every : (event : Event) → IsBesideTrust event → Is event) where
+still_works : (event : Event) → IsStill event → IsKeyWork event
+still_works (Sent text) noted = noted
+still_works (Cut text) still = tt
+still_works (Inquiry word params limit inquired) still = tt
+still_works (Further (Keys call)) still = tt
+still_works (Further (Dice draw)) still = tt
+still_works (Further NoMemory) still = tt
+still_works (Further (Prompt event)) still = absurd still
+still_works (Further (Trust call)) still = absurd still
+still_works (CacheTurn taken) still = absurd still
+still_works (Received took) still = absurd still
+
+works_beside : (event : Event) → IsKeyWork event → IsBesideTrust event
+works_beside (Sent text) work = tt
+works_beside (Cut text) work = work
+works_beside (Inquiry word params limit inquired) work = work
+works_beside (CacheTurn taken) work = work
+works_beside (Further (Keys call)) work = work
+works_beside (Further (Dice draw)) work = work
+works_beside (Further NoMemory) work = work
+works_beside (Further (Prompt event)) work = work
+works_beside (Further (Trust call)) work = work
+works_beside (Received took) work = work
+
+pub said_last_so : (Is : Event → Type 0) → ((event : Event) → IsBesideTrust event → Is event) → (line : Option (List ℕ)) → All Is (said_last line)
+said_last_so Is every None = tt
+said_last_so Is every (Some text) = (every (Sent text) tt, tt)
+
+module _ (Is : Event → Type 0) (every : (event : Event) → IsKeyWork event → Is event) where
   still : (event : Event) → IsStill event → Is event
-  still event is = every event (still_beside event is)
-
-  pub said_last_so : (line : Option (List ℕ)) → All Is (said_last line)
-  said_last_so None = tt
-  said_last_so (Some text) = (every (Sent text) tt, tt)
+  still event is = every event (still_works event is)
 
   module _ (rules : Rules) (options : OptionValues) (grip : Grip) where
     each_uncached : (locked : LockedKey) (way : PinMode) → EachSo Is (UncachedOld rules options grip way locked)
@@ -153,7 +171,8 @@ module _ (Is : Event → Type 0) (every : (event : Event) → IsBesideTrust even
         each_bind Is (finds Is still grip) (λ there. each_bind Is (each_wanted Is code.NoSecKey there) (λ some. each_bind Is (each_consented rules options grip force)
         (λ agreed. each_bind Is (removes Is still grip) (λ removed. each_bind Is (each_changes Is (λ turn. every _ tt)) (λ cleared. each_returned Is _)))))
 
-    replies : (asked : KeyRequest) → EachSo Is (KeyReplies rules options wraps asked)
+    -- all that is done for a request up to its reply
+    pub replies : (asked : KeyRequest) → EachSo Is (KeyReplies rules options wraps asked)
     replies (on.HaveKey grips) = have_key grips
     replies (on.KeyInfo grip) = key_info grip
     replies on.ListKeys = list_keys
@@ -165,12 +184,16 @@ module _ (Is : Event → Type 0) (every : (event : Event) → IsBesideTrust even
     replies (on.DeleteKey grip force) = delete_key force grip
     replies (on.Bad why) = each_refused Is (Agent why)
 
-    ends_so : (events back last : List Event) {held : Option ℕ} → All Is events → Closes None held back (Ok tt) None → All Is last → All Is (events ++ (back ++ last))
-    ends_so events back last each closes each_last =
-        each_append Is events (back ++ last) each
-        (each_append Is back last ((each_closes Is None (λ number turn. every _ tt)).of _ back (Ok tt) None closes) each_last)
+-- all that is done for a request
+module _ (Is : Event → Type 0) (every : (event : Event) → IsBesideTrust event → Is event) (rules : Rules) (options : OptionValues) (wraps : WrapKeys) where
+  ends_so : (events back last : List Event) {held : Option ℕ} → All Is events → Closes None held back (Ok tt) None → All Is last → All Is (events ++ (back ++ last))
+  ends_so events back last each closes each_last =
+      each_append Is events (back ++ last) each
+      (each_append Is back last ((each_closes Is None (λ number turn. every _ tt)).of _ back (Ok tt) None closes) each_last)
 
-    -- all that is done for a request
-    pub each_exchange : (asked : KeyRequest) {events : List Event} {after : WrapKeys} {went : KeyWent} → KeyExchange rules options wraps asked events after went → All Is events
-    each_exchange asked (exchange.answered events held reply {back} does closes) = ends_so events back _ ((replies asked).of None events (Ok reply) held does) closes (every _ tt, tt)
-    each_exchange asked (exchange.refused events held why {back} does closes) = ends_so events back _ ((replies asked).of None events (Err why) held does) closes (said_last_so (refusal_line why))
+  each_work : (asked : KeyRequest) → EachSo Is (KeyReplies rules options wraps asked)
+  each_work = replies Is (λ event work. every event (works_beside event work)) rules options wraps
+
+  pub each_exchange : (asked : KeyRequest) {events : List Event} {after : WrapKeys} {went : KeyWent} → KeyExchange rules options wraps asked events after went → All Is events
+  each_exchange asked (exchange.answered events held reply {back} does closes) = ends_so events back _ ((each_work asked).of None events (Ok reply) held does) closes (every _ tt, tt)
+  each_exchange asked (exchange.refused events held why {back} does closes) = ends_so events back _ ((each_work asked).of None events (Err why) held does) closes (said_last_so Is every (refusal_line why))

@@ -1,7 +1,8 @@
 -- What a line with a command on keys asks for, or the fault for which it is refused (GnuPG manual, "Agent's Assuan protocol"). Which fault a
 -- refusal has, and which words are passed over, is this project's own.
-use Rattle.std.specs.Prelude.{ℕ, ◌==◌, nat_le, nat_lt, ◌&&◌, Bool, true, false, List, [], ◌∷◌, length, codes, ok_or, Option, Some, None, Result, Ok, Err, if◌then◌else◌}
+use Rattle.std.specs.Prelude.{ℕ, ◌==◌, nat_le, nat_lt, ◌&&◌, Bool, true, false, List, [], ◌∷◌, length, codes, Option, Some, None, Result, Ok, Err, if◌then◌else◌}
 use Rattle.agent_ports.specs.declared.grip.Grip.{Grip}
+use Rattle.session_client.specs.Fields.{◌>>=◌, in_form}
 use Rattle.session_client.specs.declared.code.Code.{Code}
 use Rattle.session_client.specs.declared.code.Code.TheVariants.{NotSupported, UnknownCommand, Parameter}
 use Rattle.assuan_text.specs.Options.{options_of, arguments_of, has_option, last_value}
@@ -17,16 +18,6 @@ use Rattle.key_commands.specs.declared.request.Direction.{Direction}
 use Rattle.key_commands.specs.declared.request.Direction.TheVariants.{Import, Export}
 use Rattle.key_commands.specs.declared.request.KeyRequest.{KeyRequest}
 use Rattle.key_commands.specs.declared.request.KeyRequest.TheVariants.{HaveKey, KeyInfo, ListKeys, KeyWrap, ImportKey, ExportKey, Passwd, DeleteKey, Bad}
-
-infixl 10 ◌>>=◌
--- what is read, and then what follows it; or else the first fault
-abbrev pub ◌>>=◌ : {A B : Type 0} → Result A Code → (A → Result B Code) → Result B Code
-(Ok value) >>= next = next value
-(Err code) >>= next = Err code
-
--- a field that has to be there, and to be in form
-abbrev pub needed : {A : Type 0} → Option A → Result A Code
-needed field = ok_or field Parameter
 
 abbrev pub grip_of_bytes : Result (List ℕ) FromHexError → Option Grip
 grip_of_bytes (Ok bytes) = Some (record { 0 = bytes })
@@ -45,7 +36,7 @@ first_grip (word ∷ more) = grip word
 abbrev pub all_grips : List (List ℕ) → Result (List Grip) Code
 all_grips [] = Ok []
 all_grips (word ∷ more) = do
-  first ← needed (grip word)
+  first ← in_form (grip word)
   others ← all_grips more
   Ok (first ∷ others)
 
@@ -73,7 +64,7 @@ have_of arguments = do
 abbrev pub key_info_of : List (List ℕ) → List (List ℕ) → Result KeyRequest Code
 key_info_of options arguments =
     if has_option (codes "--list") options then Ok ListKeys
-    else (needed (first_grip arguments) >>= λ grip. Ok (KeyInfo grip))
+    else (in_form (first_grip arguments) >>= λ grip. Ok (KeyInfo grip))
 
 -- one of two, and not both
 abbrev pub direction : Bool → Bool → Option Direction
@@ -84,34 +75,34 @@ direction _ _ = None
 -- KEYWRAP_KEY --import|--export
 abbrev pub wrap_of : List (List ℕ) → Result KeyRequest Code
 wrap_of options = do
-  way ← needed (direction (has_option (codes "--import") options) (has_option (codes "--export") options))
+  way ← in_form (direction (has_option (codes "--import") options) (has_option (codes "--export") options))
   Ok (KeyWrap way)
 
 -- IMPORT_KEY [--force] [NONCE]
 abbrev pub import_of : List (List ℕ) → List (List ℕ) → Result KeyRequest Code
 import_of options arguments = do
-  nonce ← needed (nonce (first_word arguments))
+  nonce ← in_form (nonce (first_word arguments))
   Ok (ImportKey (has_option (codes "--force") options) nonce)
 
 -- EXPORT_KEY [--cache-nonce=NONCE] GRIP
 abbrev pub export_of : List (List ℕ) → List (List ℕ) → Result KeyRequest Code
 export_of options arguments = do
-  grip ← needed (first_grip arguments)
-  nonce ← needed (nonce (last_value (codes "--cache-nonce") options))
+  grip ← in_form (first_grip arguments)
+  nonce ← in_form (nonce (last_value (codes "--cache-nonce") options))
   Ok (ExportKey grip nonce)
 
 -- PASSWD [--cache-nonce=NONCE] [--passwd-nonce=NONCE] [--verify] GRIP
 abbrev pub passwd_of : List (List ℕ) → List (List ℕ) → Result KeyRequest Code
 passwd_of options arguments = do
-  grip ← needed (first_grip arguments)
-  old ← needed (nonce (last_value (codes "--cache-nonce") options))
-  new ← needed (nonce (last_value (codes "--passwd-nonce") options))
+  grip ← in_form (first_grip arguments)
+  old ← in_form (nonce (last_value (codes "--cache-nonce") options))
+  new ← in_form (nonce (last_value (codes "--passwd-nonce") options))
   Ok (Passwd grip old new (has_option (codes "--verify") options))
 
 -- DELETE_KEY [--force|--stub-only] GRIP. A stub alone is never deleted.
 abbrev pub delete_of : List (List ℕ) → List (List ℕ) → Result KeyRequest Code
 delete_of options arguments = do
-  grip ← needed (first_grip arguments)
+  grip ← in_form (first_grip arguments)
   (if has_option (codes "--stub-only") options then Err NotSupported else Ok (DeleteKey grip (has_option (codes "--force") options)))
 
 -- a command, and what comes after it
