@@ -1,18 +1,12 @@
 -- Requests on the cache and on the session: their work, and what ends them.
-use Rattle.std.proofs.Common.{◌≡◌, ℕ, Bool, true, false, List, [], codes, Option, Some, None, Result, Ok, Err, refl, sym, ap, subst}
-use Rattle.arrayvec.specs.ArrayVec.{ArrayVec}
+use Rattle.std.proofs.Common.{◌≡◌, ℕ, Bool, true, false, List, [], Option, Some, None, Result, Ok, Err, refl, sym, ap, subst}
 use Rattle.agent_ask.specs.PartExchanges.{AnyExchange}
 use Rattle.agent_ask.specs.PartExchanges as exchange
 use Rattle.agent_ask.specs.Parts.{◌>>=◌, goes_on, stops, Returns, returns, or_else}
-use Rattle.agent_ask.specs.SessionEvents.{Inquiry}
 use Rattle.agent_ask.specs.TurnParts.{Closes}
 use Rattle.agent_ask.specs.TurnParts as taken
 use Rattle.assuan_server.specs.Written.{refusal_line}
-use Rattle.cache_policy.specs.Turns.{closes}
-use Rattle.cache_policy.specs.declared.life.Life.{Life}
-use Rattle.cache_policy.specs.declared.mark.MarkStep.{MarkStep}
-use Rattle.cache_policy.specs.declared.mark.MarkStep.TheVariants.{Seat}
-use Rattle.cache_policy.specs.declared.mode.Mode.TheVariants.{Any, User}
+use Rattle.cache_policy.specs.declared.mode.Mode.TheVariants.{User}
 use Rattle.cache_policy.specs.declared.secret.TheConstants.{MAX_SECRET_LEN}
 use Rattle.session_client.specs.Refusals.{gone_by}
 use Rattle.session_client.specs.declared.code.Code.TheVariants as code
@@ -30,9 +24,8 @@ use Rattle.agent_commands.specs.Answers.{ok, IsInfo}
 use Rattle.agent_commands.specs.Endings.{went_after, end_of}
 use Rattle.agent_commands.specs.Exchanges.{Exchange, CacheReply, Replies, TellsPassphrase, TellsInfo, confirms_by, option_replies, reply}
 use Rattle.agent_commands.specs.Exchanges as told
-use Rattle.agent_commands.specs.Parts.{Part, AsksPassphrase, limit_line}
-use Rattle.agent_commands.specs.Passphrases.{LooksFor, WantsPrompt, KeepsUnder, Uncached, WithoutPrompt, PromptsAny, Prompts, ByCache, passphrase_by, as_wanted, ask, ask_or_open}
-use Rattle.agent_commands.specs.Passphrases as passphrases
+use Rattle.agent_commands.specs.Parts.{Part}
+use Rattle.agent_commands.specs.Passphrases.{Prompts, passphrase_by, as_wanted}
 use Rattle.agent_commands.specs.Requests.{GetFields}
 use Rattle.agent_commands.specs.declared.request.CacheCommand.{CacheCommand}
 use Rattle.agent_commands.specs.declared.request.CacheCommand.TheVariants.{Nop, Reset, Bye, Help, SetOption, GetInfo, GetPassphrase, PresetPassphrase, ClearPassphrase, GetConfirmation, ReloadAgent, KillAgent, SetKeyDesc}
@@ -46,12 +39,11 @@ use Rattle.agent_commands.specs.declared.went.Went.TheVariants.{End}
 use Rattle.key_commands.specs.Events.{Event}
 use Rattle.agent_session.specs.Causes.{IsSaid}
 use Rattle.agent_session.specs.Completeness.{EndsInOk}
-use Rattle.agent_session.specs.Refusals.{IsAllowed, IsWorkStep, limit, MayStore, preset, given, Course}
-use Rattle.agent_session.proofs.Courses.{Ends, ends_with, EndsSo, working_ends, ends_working, bind_ends, made, closed, RepliesOk, ok_returns, ok_refuses, ok_then, reply_ends_in_ok, ok_course, err_course, ends_gone, said_before, answer_heard}
-use Rattle.agent_session.proofs.PromptWorks.{pin_works, pin_comes, agrees_to}
+use Rattle.agent_session.specs.Refusals.{IsAllowed, limit, MayStore, preset, given, Course}
+use Rattle.agent_session.proofs.CacheWorks.{FitsCache, wants_prompt, changes, by_cache, without_prompt, prompts_any, confirmed, presets, tells_info}
+use Rattle.agent_session.proofs.Courses.{Ends, ends_with, EndsSo, working_ends, ends_working, bind_ends, made, closed, RepliesOk, ok_returns, ok_refuses, ok_then, reply_ends_in_ok, ok_course, err_course, ends_said, gone_only, said_before, answer_heard}
 use Rattle.agent_session.proofs.Replying.{IsReply, reply_ok, reply_closing, reply_help, reply_cache, reply_passphrase}
-use Rattle.agent_session.proofs.Works as work
-use Rattle.agent_session.proofs.Works.{Works, works, WorksSo, keeps_works, bind, returned, refuses_by, is_needed, or_otherwise, is_wanted, turns_of}
+use Rattle.agent_session.proofs.Works.{works, WorksSo, bind, returned, refuses_by}
 
 module _ (request : Request) where
   abbrev Fits : Event → Type 0
@@ -60,48 +52,19 @@ module _ (request : Request) where
   abbrev Here : {A : Type 0} → Part A → Type 0
   Here = WorksSo Fits
 
-  own : (asked : MarkStep) → closes asked ≡ None → IsWorkStep request asked → work.Turns Fits asked
-  own asked no_close allowed = turns_of Fits no_close (λ turn. allowed)
-
-  says : (word params : List ℕ) (most : ℕ) (inquired : _) → Fits (Inquiry word params most inquired)
-  says word params most inquired = tt
-
-  asks_passphrase : Here AsksPassphrase
-  asks_passphrase = work.asks_client Fits says (λ text. tt) limit_line (codes "PASSPHRASE") MAX_SECRET_LEN (limit MAX_SECRET_LEN)
-
-  -- ---- passphrases
-
-  looks_for : (id : Option (List ℕ)) → Here (LooksFor id)
-  looks_for None = returned Fits None
-  looks_for (Some id) = record { of = λ {before} {after} {events} {result} does. (work.asks Fits (own (ask id) refl tt)).of does.asks }
-
-  wants_prompt : (id : Option (List ℕ)) → Here (WantsPrompt id)
-  wants_prompt None = bind Fits (work.seats Fits (own (Seat None None) refl tt)) (λ seated. returned Fits None)
-  wants_prompt (Some id) = work.asks Fits (own (ask_or_open id) refl tt)
-
-  changes : (step : MarkStep) → closes step ≡ None → IsWorkStep request step → Here (taken.Changes step)
-  changes step no_close allowed = keeps_works Fits (work.changes Fits (own step no_close allowed))
-
-  module _ (id : Option (List ℕ)) (stores : (named : List ℕ) → id ≡ Some named → MayStore request named User) where
-    keeps_under : (named : Option (List ℕ)) (secret : List ℕ) → id ≡ named → Here (KeepsUnder named secret)
-    keeps_under None secret same = returned Fits tt
-    keeps_under (Some named) secret same = changes _ refl (stores named same)
-
-    uncached : (way : PinMode) → Here (Uncached id way)
-    uncached mode.Ask = refuses_by Fits (Agent code.NoPinentry)
-    uncached mode.Cancel = refuses_by Fits (Agent code.Cancelled)
-    uncached mode.Error = refuses_by Fits (Agent code.NoPinentry)
-    uncached mode.Loopback = bind Fits asks_passphrase (λ secret. bind Fits (keeps_under id secret refl) (λ kept. returned Fits secret))
-
-    without_prompt : (way : PinMode) → Here (WithoutPrompt id way)
-    without_prompt way = bind Fits (looks_for id) (λ cached. or_otherwise Fits cached (uncached way))
+  fits : FitsCache Fits
+  fits = record {
+    cut = λ text. tt;
+    limits = limit MAX_SECRET_LEN;
+    clients = λ inquired. tt;
+    notes = λ pid inquired. tt;
+    calls = λ event. tt;
+    asks = λ id turn. tt;
+    opens = λ id turn. tt;
+    seats = λ turn. tt;
+  }
 
   module _ (rules : Rules) (options : OptionValues) where
-    prompts_any_of : {texts : Texts} {check quality : Bool} {repeat : ℕ} {before after : Option ℕ} {events : List Event} {result : Result (List ℕ) Refusal}
-        → PromptsAny rules options texts check quality repeat before events result after → Works Fits events result
-    prompts_any_of (passphrases.given spec is prompt) = pin_works Fits (λ event. tt) says prompt.asks refl prompt.in_session
-    prompts_any_of (passphrases.refused {answer} spec is prompt other refusal) = pin_works Fits (λ event. tt) says prompt.asks (pin_comes answer refusal) prompt.in_session
-
     -- what was given is kept as the ticket is given back
     kept_of : {pin : List ℕ} {before after : Option ℕ} {events : List Event} {result : Result (List ℕ) Refusal} → (Closes (Some pin) >>= λ kept. Returns pin) before events result after
         → Ends request events result after
@@ -111,42 +74,26 @@ module _ (request : Request) where
 
     module _ (fields : GetFields) (stores : (named : List ℕ) → fields.id ≡ Some named → MayStore request named User) where
       prompted : (texts : Texts) (cached : Option (List ℕ)) → EndsSo request (or_else cached (Prompts rules options texts fields.check fields.quality fields.repeat))
-      prompted texts None = bind_ends request (record { of = prompts_any_of }) (λ pin. record { of = kept_of })
+      prompted texts None = bind_ends request (prompts_any fits rules options texts fields.check fields.quality fields.repeat) (λ pin. record { of = kept_of })
       prompted texts (Some secret) = ends_working request (returned Fits secret)
 
-      by_cache : Here (ByCache fields.id)
-      by_cache = bind Fits (looks_for fields.id) (λ cached. is_needed Fits code.NoData cached)
-
       wanted_so : (way : PinMode) (texts : Texts) → EndsSo request (as_wanted rules options fields way texts)
-      wanted_so mode.Ask texts = bind_ends request (wants_prompt fields.id) (λ cached. prompted texts cached)
-      wanted_so mode.Cancel texts = ends_working request (without_prompt fields.id stores mode.Cancel)
-      wanted_so mode.Error texts = ends_working request (without_prompt fields.id stores mode.Error)
-      wanted_so mode.Loopback texts = ends_working request (without_prompt fields.id stores mode.Loopback)
+      wanted_so mode.Ask texts = bind_ends request (wants_prompt fits fields.id) (λ cached. prompted texts cached)
+      wanted_so mode.Cancel texts = ends_working request (without_prompt fits fields.id (λ named secret same turn. stores named same) mode.Cancel)
+      wanted_so mode.Error texts = ends_working request (without_prompt fits fields.id (λ named secret same turn. stores named same) mode.Error)
+      wanted_so mode.Loopback texts = ends_working request (without_prompt fits fields.id (λ named secret same turn. stores named same) mode.Loopback)
 
       passphrase_so : (no_ask : Bool) (texts : Option Texts) → EndsSo request (passphrase_by rules options fields no_ask texts)
-      passphrase_so no_ask None = ends_working request by_cache
-      passphrase_so true (Some texts) = ends_working request by_cache
+      passphrase_so no_ask None = ends_working request (by_cache fits fields.id)
+      passphrase_so true (Some texts) = ends_working request (by_cache fits fields.id)
       passphrase_so false (Some texts) = wanted_so options.mode texts
 
     -- ---- requests
-
-    confirmed : (way : PinMode) (description : ArrayVec ℕ) → Here (confirms_by rules options way description)
-    confirmed mode.Ask description = bind Fits (work.seats Fits (own (Seat None None) refl tt)) (λ seated. agrees_to Fits (λ event. tt) says rules options description.items)
-    confirmed mode.Cancel description = refuses_by Fits (Agent code.Cancelled)
-    confirmed mode.Error description = refuses_by Fits (Agent code.NoPinentry)
-    confirmed mode.Loopback description = refuses_by Fits (Agent code.NoPinentry)
-
-    presets : (id : List ℕ) (life : Life) (secret : Option (List ℕ)) → MayStore request id Any → Here (told.Presets rules id life secret)
-    presets id life secret stores =
-        bind Fits (is_wanted Fits code.NotSupported rules.allow_preset) (λ allowed. bind Fits (or_otherwise Fits secret asks_passphrase) (λ given_so. changes _ refl stores))
 
     tells_of : {plain : Bool} {secret : List ℕ} {before after : Option ℕ} {events : List Event} {result : Result CacheReply Refusal}
         → (TellsPassphrase plain secret >>= λ text. Returns (reply options text)) before events result after → (value : CacheReply) × (result ≡ Ok value) × (events ≡ []) × (after ≡ before)
     tells_of (goes_on (told.tells is) returns) = (_, refl, refl, refl)
     tells_of (stops never) = elim never [ ]
-
-    tells_info_of : {what : Info} {before after : Option ℕ} {events : List Event} {result : Result (List ℕ) Refusal} → TellsInfo rules what before events result after → Works Fits events result
-    tells_info_of (told.tells is) = works Fits tt
 
     option_so : (answer : OptionAnswer) (after : OptionValues) → Here (option_replies answer after)
     option_so option_answer.Set after = returned Fits _
@@ -161,15 +108,15 @@ module _ (request : Request) where
     replies Help is = ends_working request (returned Fits _)
     replies (SetOption text) is = ends_working request (option_so (applied options text.items).answer (applied options text.items).after)
     replies (SetKeyDesc text) is = ends_working request (returned Fits _)
-    replies (GetInfo what) is = ends_working request (bind Fits (record { of = tells_info_of }) (λ text. returned Fits _))
+    replies (GetInfo what) is = ends_working request (bind Fits (tells_info fits rules options what) (λ text. returned Fits _))
     replies (GetPassphrase plain check no_ask repeat quality id texts) is =
         let fields : GetFields = record { plain = plain; check = check; no_ask = no_ask; repeat = repeat; quality = quality; id = id; texts = texts } in
         made request (passphrase_so fields (λ named same. given fields is same) no_ask texts) (λ secret. record { of = tells_of })
-    replies (PresetPassphrase id life secret) is = ends_working request (bind Fits (presets id life secret (preset is)) (λ stored. returned Fits _))
-    replies (ClearPassphrase id way) is = ends_working request (bind Fits (changes _ refl is) (λ changed. returned Fits _))
-    replies (GetConfirmation description) is = ends_working request (bind Fits (confirmed options.mode description) (λ agreed. returned Fits _))
-    replies ReloadAgent is = ends_working request (bind Fits (changes _ refl is) (λ changed. returned Fits _))
-    replies KillAgent is = ends_working request (bind Fits (changes _ refl is) (λ changed. returned Fits _))
+    replies (PresetPassphrase id life secret) is = ends_working request (bind Fits (presets fits rules options id life secret (λ given_so turn. preset is)) (λ stored. returned Fits _))
+    replies (ClearPassphrase id way) is = ends_working request (bind Fits (changes fits _ refl (λ turn. is)) (λ changed. returned Fits _))
+    replies (GetConfirmation description) is = ends_working request (bind Fits (confirmed fits rules options options.mode description) (λ agreed. returned Fits _))
+    replies ReloadAgent is = ends_working request (bind Fits (changes fits _ refl (λ turn. is)) (λ changed. returned Fits _))
+    replies KillAgent is = ends_working request (bind Fits (changes fits _ refl (λ turn. is)) (λ changed. returned Fits _))
 
 -- ---- every reply ends in an OK line
 
@@ -224,9 +171,9 @@ module _ (request : Request) {part : Part CacheReply} (ends : EndsSo request par
 
   part_gone : {before after : OptionValues} {events : List Event} {went : Went} {how : Gone} → AnyExchange refusal_line went_after part before events after went → IsSaid events (unheard.Gone how) → went ≡ End (end_of how)
   part_gone (exchange.answered some held given_reply does closes_so) says_so =
-      absurd (cc (ends_gone request (ends.of does) (said_before some _ (answer_heard (Some given_reply.text) closes_so) says_so)))
+      absurd (cc (gone_only (ends_said request (ends.of does) (said_before some _ (answer_heard (Some given_reply.text) closes_so) says_so))))
   part_gone {how} (exchange.refused some held why does closes_so) says_so =
-      let same : Err why ≡ Err (Client (unheard.Gone how)) = ends_gone request (ends.of does) (said_before some _ (answer_heard (refusal_line why) closes_so) says_so) in
+      let same : Err why ≡ Err (Client (unheard.Gone how)) = gone_only (ends_said request (ends.of does) (said_before some _ (answer_heard (refusal_line why) closes_so) says_so)) in
       let refusal : why ≡ Client (unheard.Gone how) = cc same in
       ap (λ w. went_after (gone_by w)) refusal
 

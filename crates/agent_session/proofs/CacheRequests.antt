@@ -72,17 +72,17 @@ module _ (rules : Rules) (kept : Kept) (whole : List (Event FurtherEvent)) (requ
   -- what is done so comes to a good value, or to a refusal that has its cause
   abbrev EachOf : {A : Type 0} → Part A → (A → Type 0) → Type 0
   EachOf {A} part Good = (before : Option ℕ) (events : List (Event FurtherEvent)) (result : Result A Refusal) (after : Option ℕ) → part before events result after → StandIn events whole
-      → Comes rules kept request whole Good events result
+      → Comes whole (IsCaused whole rules kept request) Good events result
 
   abbrev ExplainsHere : {A : Type 0} → Part A → (A → Type 0) → Type 0
-  ExplainsHere part Good = Explains rules kept request whole part Good
+  ExplainsHere part Good = Explains whole (IsCaused whole rules kept request) part Good
 
   -- a part, and then what follows whatever it came to
   then : {A B : Type 0} {part : Part A} {next : A → Part B} (Good : B → Type 0) → ExplainsHere part Anything → ((value : A) → ExplainsHere (next value) Good) → ExplainsHere (part >>= next) Good
-  then Good first next = bind rules kept request whole Anything Good first (λ value any. next value)
+  then Good first next = bind Anything Good first (λ value any. next value)
 
   done : {A : Type 0} (value : A) → ExplainsHere (Returns value) Anything
-  done value = returned rules kept request whole Anything value tt
+  done value = returned Anything value tt
 
   -- ---- the client
 
@@ -101,7 +101,7 @@ module _ (rules : Rules) (kept : Kept) (whole : List (Event FurtherEvent)) (requ
 
   wants_prompt : (id : Option (List ℕ)) → ExplainsHere (WantsPrompt id) Anything
   wants_prompt None = then Anything (seats rules kept request whole _ refl) (λ seated. done None)
-  wants_prompt (Some id) = whatever rules kept request whole _ (looks rules kept request whole (ask_or_open id) refl)
+  wants_prompt (Some id) = whatever _ (looks rules kept request whole (ask_or_open id) refl)
 
   by_client_itself : (id : Option (List ℕ)) → ExplainsHere (ByClient id) Anything
   by_client_itself None = then Anything asks_passphrase (λ secret. then Anything (done tt) (λ any. done secret))
@@ -116,13 +116,13 @@ module _ (rules : Rules) (kept : Kept) (whole : List (Event FurtherEvent)) (requ
 
     by_user : (id : Option (List ℕ)) → ExplainsHere (ByUser rules kept.options texts check quality repeat id) Anything
     by_user id =
-        then Anything (wants_prompt id) (λ cached. or_otherwise rules kept request whole Anything cached _ (λ some is. tt)
-        (λ none. then Anything (record { of = prompts_any_of }) (λ pin. then Anything (closes_explained rules kept request whole (Some pin)) (λ closed. done pin))))
+        then Anything (wants_prompt id) (λ cached. or_otherwise Anything cached _ (λ some is. tt)
+        (λ none. then Anything (record { of = prompts_any_of }) (λ pin. then Anything (closes_explained (Some pin)) (λ closed. done pin))))
 
   -- ---- replies
 
   answered : {given : CacheReply} → IsReply given.text → IsLast given.went → ExplainsHere (Returns given) Answers
-  answered {given} reply last = returned rules kept request whole Answers given (reply, last)
+  answered {given} reply last = returned Answers given (reply, last)
 
   tells_of : (plain : Bool) (secret : List ℕ) → EachOf (TellsPassphrase plain secret) IsReply
   tells_of plain secret before events result after (tells answer) stands = record { silent = tt; explained = reply_passphrase plain secret _ answer }
@@ -138,7 +138,7 @@ module _ (rules : Rules) (kept : Kept) (whole : List (Event FurtherEvent)) (requ
     HasNone = HasNoEntry whole request × (is_quiet fields.no_ask fields.texts ≡ true → Caused rules kept request whole code.NoData)
 
     looks_of : (id : List ℕ) → fields.id ≡ Some id → {before after : Option ℕ} {events : List (Event FurtherEvent)} {result : Result (Option (List ℕ)) Refusal} → taken.Asks (ask id) before events result after
-        → after ≡ before → StandIn events whole → Comes rules kept request whole (Either rules kept request whole Anything HasNone) events result
+        → after ≡ before → StandIn events whole → Comes whole (IsCaused whole rules kept request) (Either rules kept request whole Anything HasNone) events result
     looks_of id same taken.given keeps stands = record { silent = (tt, tt); explained = tt }
     looks_of id same taken.empty keeps stands =
         record { silent = (tt, tt); explained = (passphrase fields id is_get same (none_given Empty tt (has_first stands)), λ quiet. empty fields id is_get quiet same (has_first stands)) }
@@ -146,20 +146,20 @@ module _ (rules : Rules) (kept : Kept) (whole : List (Event FurtherEvent)) (requ
     looks_of id same (taken.interrupted why) keeps stands = record { silent = (tt, tt); explained = interrupts rules kept request whole (ask id) refl why stands }
 
     looks_for : (id : Option (List ℕ)) → fields.id ≡ id → ExplainsHere (LooksFor id) (Either rules kept request whole Anything HasNone)
-    looks_for None same = returned rules kept request whole _ None (without_id fields is_get same, λ quiet. no_id fields is_get quiet same)
+    looks_for None same = returned _ None (without_id fields is_get same, λ quiet. no_id fields is_get quiet same)
     looks_for (Some id) same = record { of = λ before events result after looked stands. looks_of id same looked.asks looked.keeps stands }
 
     by_cache : is_quiet fields.no_ask fields.texts ≡ true → ExplainsHere (ByCache fields.id) Anything
-    by_cache quiet = bind rules kept request whole _ Anything (looks_for fields.id refl) (λ cached so. if_needed rules kept request whole Anything HasNone code.NoData cached so (λ none. none.1 quiet))
+    by_cache quiet = bind _ Anything (looks_for fields.id refl) (λ cached so. if_needed rules kept request whole Anything HasNone code.NoData cached so (λ none. none.1 quiet))
 
     without_prompt : (way : PinMode) → (HasNoEntry whole request → ExplainsHere (Uncached fields.id way) Anything) → ExplainsHere (WithoutPrompt fields.id way) Anything
     without_prompt way other =
-        bind rules kept request whole _ Anything (looks_for fields.id refl) (λ cached so. or_else_explained rules kept request whole Anything HasNone cached _ so (λ none. other none.0))
+        bind _ Anything (looks_for fields.id refl) (λ cached so. or_else_explained rules kept request whole Anything HasNone cached _ so (λ none. other none.0))
 
     as_client_wants : (way : PinMode) → kept.options.mode ≡ way → (texts : Texts) → ExplainsHere (as_wanted rules kept.options fields way texts) Anything
     as_client_wants mode.Ask same texts = by_user texts fields.check fields.quality fields.repeat fields.id
-    as_client_wants mode.Cancel same texts = without_prompt mode.Cancel (λ unmet. refused rules kept request whole Anything (Agent code.Cancelled) (by_mode same unmet))
-    as_client_wants mode.Error same texts = without_prompt mode.Error (λ unmet. refused rules kept request whole Anything (Agent code.NoPinentry) (inl (by_mode same unmet)))
+    as_client_wants mode.Cancel same texts = without_prompt mode.Cancel (λ unmet. refused Anything (Agent code.Cancelled) (by_mode same unmet))
+    as_client_wants mode.Error same texts = without_prompt mode.Error (λ unmet. refused Anything (Agent code.NoPinentry) (inl (by_mode same unmet)))
     as_client_wants mode.Loopback same texts = without_prompt mode.Loopback (λ unmet. by_client_itself fields.id)
 
     -- the fields say whether the cache alone is asked
@@ -171,15 +171,15 @@ module _ (rules : Rules) (kept : Kept) (whole : List (Event FurtherEvent)) (requ
   option_said : (text : ArrayVec ℕ) → request ≡ Cache (command.SetOption text) → (answer : OptionAnswer) → (applied kept.options text.items).answer ≡ answer → (after : OptionValues)
       → ExplainsHere (option_replies answer after) Answers
   option_said text is_option option_answer.Set is after = answered reply_ok tt
-  option_said text is_option option_answer.Unknown is after = refused rules kept request whole Answers (Agent code.UnknownOption) (option is_option is)
-  option_said text is_option option_answer.Parameter is after = refused rules kept request whole Answers (Agent code.Parameter) (IsMalformed.option (option is_option is))
-  option_said text is_option option_answer.NotSupported is after = refused rules kept request whole Answers (Agent code.NotSupported) (IsUnsupported.option (option is_option is))
+  option_said text is_option option_answer.Unknown is after = refused Answers (Agent code.UnknownOption) (option is_option is)
+  option_said text is_option option_answer.Parameter is after = refused Answers (Agent code.Parameter) (IsMalformed.option (option is_option is))
+  option_said text is_option option_answer.NotSupported is after = refused Answers (Agent code.NotSupported) (IsUnsupported.option (option is_option is))
 
   confirms : (description : ArrayVec ℕ) → request ≡ Cache (command.GetConfirmation description) → (way : PinMode) → kept.options.mode ≡ way → ExplainsHere (confirms_by rules kept.options way description) Anything
   confirms description is mode.Ask same = then Anything (seats rules kept request whole _ refl) (λ seated. agrees rules kept request whole description.items)
-  confirms description is mode.Cancel same = refused rules kept request whole Anything (Agent code.Cancelled) (by_mode same (HasNoEntry.of_consent (confirmation is)))
-  confirms description is mode.Error same = refused rules kept request whole Anything (Agent code.NoPinentry) (inl (by_mode same (HasNoEntry.of_consent (confirmation is))))
-  confirms description is mode.Loopback same = refused rules kept request whole Anything (Agent code.NoPinentry) (inl (IsUnprompted.of_consent (confirmation is) same))
+  confirms description is mode.Cancel same = refused Anything (Agent code.Cancelled) (by_mode same (HasNoEntry.of_consent (confirmation is)))
+  confirms description is mode.Error same = refused Anything (Agent code.NoPinentry) (inl (by_mode same (HasNoEntry.of_consent (confirmation is))))
+  confirms description is mode.Loopback same = refused Anything (Agent code.NoPinentry) (inl (IsUnprompted.of_consent (confirmation is) same))
 
   changed : {step : MarkStep} → closes step ≡ None → {given : CacheReply} → IsReply given.text → IsLast given.went → ExplainsHere (ChangeReplies step given) Answers
   changed keeps reply last = then Answers (changes rules kept request whole _ keeps) (λ made. answered reply last)
@@ -191,13 +191,13 @@ module _ (rules : Rules) (kept : Kept) (whole : List (Event FurtherEvent)) (requ
   replies command.Help is = answered reply_help tt
   replies (command.SetOption text) is = option_said text is (applied kept.options text.items).answer refl _
   replies (command.SetKeyDesc text) is = answered reply_ok tt
-  replies (command.GetInfo what) is = bind rules kept request whole IsReply Answers (record { of = tells_info_of what }) (λ text reply. answered reply tt)
+  replies (command.GetInfo what) is = bind IsReply Answers (record { of = tells_info_of what }) (λ text reply. answered reply tt)
   replies (command.GetPassphrase plain check no_ask repeat quality id texts) is =
       let fields : GetFields = record { plain = plain; check = check; no_ask = no_ask; repeat = repeat; quality = quality; id = id; texts = texts } in
-      then Answers (found fields is no_ask texts (λ quiet. quiet)) (λ secret. bind rules kept request whole IsReply Answers (record { of = tells_of plain secret }) (λ text reply. answered reply tt))
+      then Answers (found fields is no_ask texts (λ quiet. quiet)) (λ secret. bind IsReply Answers (record { of = tells_of plain secret }) (λ text reply. answered reply tt))
   replies (command.PresetPassphrase id life secret) is =
-      then Answers (bind rules kept request whole _ Anything (is_wanted rules kept request whole code.NotSupported rules.allow_preset (λ none. preset is none)) (λ allowed so. then Anything
-      (or_otherwise rules kept request whole Anything secret AsksPassphrase (λ some is. tt) (λ none. asks_passphrase)) (λ given. changes rules kept request whole _ refl))) (λ stored. answered reply_ok tt)
+      then Answers (bind _ Anything (is_wanted code.NotSupported rules.allow_preset (λ none. preset is none)) (λ allowed so. then Anything
+      (or_otherwise Anything secret AsksPassphrase (λ some is. tt) (λ none. asks_passphrase)) (λ given. changes rules kept request whole _ refl))) (λ stored. answered reply_ok tt)
   replies (command.ClearPassphrase id cleared) is = changed refl reply_ok tt
   replies (command.GetConfirmation description) is = then Answers (confirms description is kept.options.mode refl) (λ agreed. answered reply_ok tt)
   replies command.ReloadAgent is = changed refl reply_ok tt
@@ -215,22 +215,22 @@ module _ (rules : Rules) (kept : Kept) (whole : List (Event FurtherEvent)) (requ
   unheard_explained (unheard.Gone gone.ReadFault) is = silent tt is
   unheard_explained (unheard.Gone gone.WriteFault) is = silent tt tt
 
-  client_explained : (why : Unheard) → ClientSays rules kept request whole why → Here (said_last (refusal_line (Client why))) (went_after (gone_of why))
+  client_explained : (why : Unheard) → ClientSays whole why → Here (said_last (refusal_line (Client why))) (went_after (gone_of why))
   client_explained why cut = silent tt tt
   client_explained why (client_said is) = unheard_explained why is
 
-  pub refusal_explained : (why : Refusal) → CausedRefusal rules kept request whole why → Here (said_last (refusal_line why)) (went_after (gone_by why))
+  pub refusal_explained : (why : Refusal) → CausedRefusal whole (IsCaused whole rules kept request) why → Here (said_last (refusal_line why)) (went_after (gone_by why))
   refusal_explained (Agent why) caused = failed [] why origin.Agent tt caused tt
   refusal_explained (Pinentry why) caused = failed [] why origin.Pinentry tt caused tt
   refusal_explained (Client why) says = client_explained why says
 
   -- the parts of a request are done, its ticket is given back, and then this is written
   pub in_exchange : {A : Type 0} {part : Part A} {Good : A → Type 0} → ExplainsHere part Good → {events back last : List (Event FurtherEvent)} {result : Result A Refusal} {held : Option ℕ} {went : Went}
-      → part None events result held → taken.Closes None held back (Ok tt) None → (IsExplained rules kept request whole Good result → Here last went) → StandIn (events ++ (back ++ last)) whole
+      → part None events result held → taken.Closes None held back (Ok tt) None → (IsExplained whole (IsCaused whole rules kept request) Good result → Here last went) → StandIn (events ++ (back ++ last)) whole
       → Here (events ++ (back ++ last)) went
   in_exchange {Good} explains {events} {back} {last} {result} {held} does closes ends stands =
-      let first : Comes rules kept request whole Good events result = explains.of None events result held does (stand_left events _ stands) in
-      let close : Comes rules kept request whole Anything back (Ok tt) = closes_of rules kept request whole None held back (Ok tt) None closes (stand_left back last (stand_right events _ stands)) in
+      let first : Comes whole (IsCaused whole rules kept request) Good events result = explains.of None events result held does (stand_left events _ stands) in
+      let close : Comes whole (IsCaused whole rules kept request) Anything back (Ok tt) = closes_of None held back (Ok tt) None closes (stand_left back last (stand_right events _ stands)) in
       after_these _ _ events first.silent (after_these _ _ back close.silent (ends first.explained))
 
   exchange_explained : {part : Part CacheReply} → ExplainsHere part Answers → {events : List (Event FurtherEvent)} {after : OptionValues} {went : Went}
@@ -243,5 +243,5 @@ module _ (rules : Rules) (kept : Kept) (whole : List (Event FurtherEvent)) where
       → Exchange rules kept.options request events after went → StandIn events whole → Explained whole (IsCaused whole rules kept request) events went
   cache_explained (Cache asked) after line_caused exchanged stands = exchange_explained rules kept whole (Cache asked) (replies rules kept whole (Cache asked) asked refl) exchanged stands
   cache_explained (Bad why) after line_caused exchanged stands =
-      exchange_explained rules kept whole (Bad why) (refused rules kept (Bad why) whole Answers (Agent why) (line_caused why (inl refl))) exchanged stands
+      exchange_explained rules kept whole (Bad why) (refused Answers (Agent why) (line_caused why (inl refl))) exchanged stands
   cache_explained (Key line) after line_caused exchanged stands = absurd exchanged

@@ -1,7 +1,7 @@
 -- How a request ends, once its work is done: what its last part does, and the course that this makes of its exchange. So a client that is gone ends it.
 use Rattle.std.specs.List.{AllByRecursion}
 use Rattle.std.specs.Option.{option_map}
-use Rattle.std.proofs.Common.{◌≡◌, ℕ, List, [], ◌∷◌, ◌++◌, Option, Some, None, Result, Ok, Err, refl, sym, ap, ◌∙◌, subst, append_assoc, append-nil, inl, inr}
+use Rattle.std.proofs.Common.{◌≡◌, ℕ, List, [], ◌∷◌, ◌++◌, Option, Some, None, Result, Ok, Err, refl, sym, ap, ◌∙◌, subst, append_assoc, append-nil, inl, inr, ◌⊎◌}
 use Rattle.agent_ask.specs.Further.{Prompt, Keys, Dice, Trust, NoMemory, Replaced, Removed}
 use Rattle.agent_ask.specs.Interrupts.{Interrupts}
 use Rattle.agent_ask.specs.Parts.{◌>>=◌, Follows, goes_on, stops, Returns, returns, Refuses}
@@ -21,6 +21,7 @@ use Rattle.session_client.specs.declared.code.Code.TheVariants as code
 use Rattle.session_client.specs.declared.refusal.Refusal.{Refusal}
 use Rattle.session_client.specs.declared.refusal.Refusal.TheVariants.{Agent, Pinentry, Client}
 use Rattle.session_client.specs.declared.unheard.Gone.{Gone}
+use Rattle.session_client.specs.declared.unheard.Unheard.{Unheard}
 use Rattle.session_client.specs.declared.unheard.Unheard.TheVariants as unheard
 use Rattle.agent_commands.specs.declared.request.Request.{Request}
 use Rattle.key_commands.specs.Events.{Event}
@@ -35,7 +36,7 @@ use Rattle.agent_session.specs.Refusals as course
 use Rattle.agent_session.proofs.Explained.{has_split}
 use Rattle.agent_session.proofs.Replying.{IsReply, begins}
 use Rattle.agent_session.proofs.Standing.{each_has}
-use Rattle.agent_session.proofs.Works.{gone_said, loses, lost_goes, GoesOn, WorkEnd, no_more, refused, lost, Works, ok_works, err_works, WorksSo}
+use Rattle.agent_session.proofs.Works.{unsaid, unheard_by, lost_goes, GoesOn, WorkEnd, no_more, refused, lost, forgot, Works, ok_works, err_works, WorksSo}
 
 -- ---- answers
 
@@ -53,14 +54,14 @@ held_back : {held : Option ℕ} {back : List Event} (last : List Event) → Clos
 held_back last taken.unheld = no_ticket
 held_back last (taken.closed turn) = with_ticket turn
 
--- ---- a client that is gone
+-- ---- what the client said
 
 abbrev pub IsHeard : Event → Type 0
-IsHeard event = loses event ≡ None
+IsHeard event = unheard_by event ≡ None
 
 -- none is among such events
-pub heard_so : {how : Gone} (events : List Event) → AllByRecursion IsHeard events → IsSaid events (unheard.Gone how) → ⊥
-heard_so events each (says_so says has) = let goes : gone_said _ ≡ None = each_has IsHeard events each has in let gone_so = ap gone_said says in cc (goes, gone_so)
+pub heard_so : {why : Unheard} (events : List Event) → AllByRecursion IsHeard events → IsSaid events why → ⊥
+heard_so events each (says_so says has) = let goes : unsaid _ ≡ None = each_has IsHeard events each has in let gone_so = ap unsaid says in cc (goes, gone_so)
 
 back_heard : {held : Option ℕ} {back : List Event} → Closes None held back (Ok tt) None → AllByRecursion IsHeard back
 back_heard taken.unheld = tt
@@ -71,7 +72,7 @@ last_heard None = tt
 last_heard (Some line) = (refl, tt)
 
 -- it is none in what stands behind these
-pub said_before : {how : Gone} (events more : List Event) → AllByRecursion IsHeard more → IsSaid (events ++ more) (unheard.Gone how) → IsSaid events (unheard.Gone how)
+pub said_before : {why : Unheard} (events more : List Event) → AllByRecursion IsHeard more → IsSaid (events ++ more) why → IsSaid events why
 said_before events more each (says_so says has) = elim (has_split events more has) [ inl before ↦ says_so says before | inr behind ↦ absurd (heard_so more each (says_so says behind)) ]
 
 pub answer_heard : {held : Option ℕ} {back : List Event} (line : Option (List ℕ)) → Closes None held back (Ok tt) None → AllByRecursion IsHeard (back ++ said_last line)
@@ -98,25 +99,35 @@ refused_heard (Sent text) is = refl
 refused_heard (CacheTurn taken) is = refl
 refused_heard (Further what) is = refl
 
+-- what a part comes to, whose client said so: that, unless it was too much, and there was no memory for it
+abbrev pub ComesTo : {A : Type 0} → Unheard → Result A Refusal → Type 0
+ComesTo why result = (result ≡ Err (Client why)) ⊎ ((why ≡ unheard.TooMuch) × (result ≡ Err (Agent code.NoMemory)))
+
+pub gone_only : {A : Type 0} {how : Gone} {result : Result A Refusal} → ComesTo (unheard.Gone how) result → result ≡ Err (Client (unheard.Gone how))
+gone_only (inl is) = is
+gone_only (inr forgot_so) = absurd (cc (forgot_so.0))
+
 module _ (Fits : Event → Type 0) where
   all_heard : (events : List Event) → AllByRecursion (GoesOn Fits) events → AllByRecursion IsHeard events
   all_heard [] each = tt
   all_heard (event ∷ more) each = (each.0.2, all_heard more each.1)
 
-  work_gone : {A : Type 0} {last : List Event} {result : Result A Refusal} {how : Gone} → WorkEnd Fits last result → IsSaid last (unheard.Gone how) → result ≡ Err (Client (unheard.Gone how))
-  work_gone no_more says = absurd (heard_so [] tt says)
-  work_gone (refused {event} fits is) says = absurd (heard_so (event ∷ shuts event) (refused_heard event is, shut_heard event) says)
-  work_gone {how} (lost {how = other} fits is each) (says_so says here) = let both : Some how ≡ Some other = sym (ap gone_said says) ∙ is in ap (λ h. Err (Client (unheard.Gone h))) (sym (cc both))
-  work_gone (lost {last = more} fits is each) (says_so says (later has)) = absurd (heard_so more (all_heard more each) (says_so says has))
+  work_said : {A : Type 0} {last : List Event} {result : Result A Refusal} {why : Unheard} → WorkEnd Fits last result → IsSaid last why → ComesTo why result
+  work_said no_more says = absurd (heard_so [] tt says)
+  work_said (refused {event} fits is) says = absurd (heard_so (event ∷ shuts event) (refused_heard event is, shut_heard event) says)
+  work_said {why} (lost {why = other} fits is each) (says_so says here) = let both : Some why ≡ Some other = sym (ap unsaid says) ∙ is in inl (ap (λ w. Err (Client w)) (sym (cc both)))
+  work_said (lost {last = more} fits is each) (says_so says (later has)) = absurd (heard_so more (all_heard more each) (says_so says has))
+  work_said {why} (forgot fits is memory) (says_so says here) = let both : Some why ≡ Some unheard.TooMuch = sym (ap unsaid says) ∙ is in inr (cc both, refl)
+  work_said (forgot fits is memory) (says_so says (later (later has))) = elim has [ ]
 
-  gone_behind : {how : Gone} (work last : List Event) → AllByRecursion (GoesOn Fits) work → IsSaid (work ++ last) (unheard.Gone how) → IsSaid last (unheard.Gone how)
-  gone_behind work last each (says_so says has) = elim (has_split work last has) [
+  said_behind : {why : Unheard} (work last : List Event) → AllByRecursion (GoesOn Fits) work → IsSaid (work ++ last) why → IsSaid last why
+  said_behind work last each (says_so says has) = elim (has_split work last has) [
     | inl first ↦ absurd (heard_so work (all_heard work each) (says_so says first))
     | inr behind_it ↦ says_so says behind_it
   ]
 
-  pub works_gone : {A : Type 0} {events : List Event} {result : Result A Refusal} {how : Gone} → Works Fits events result → IsSaid events (unheard.Gone how) → result ≡ Err (Client (unheard.Gone how))
-  works_gone {how} does says = work_gone does.end (gone_behind does.work does.last does.each (subst (λ e. IsSaid e (unheard.Gone how)) does.is says))
+  pub works_said : {A : Type 0} {events : List Event} {result : Result A Refusal} {why : Unheard} → Works Fits events result → IsSaid events why → ComesTo why result
+  works_said {why} does says = work_said does.end (said_behind does.work does.last does.each (subst (λ e. IsSaid e why) does.is says))
 
 module _ (request : Request) where
   abbrev Fine : Event → Type 0
@@ -193,6 +204,7 @@ module _ (request : Request) where
   err_end (working no_more) = working no_more
   err_end (working (refused allowed is)) = working (refused allowed is)
   err_end (working (lost allowed is each)) = working (lost allowed is each)
+  err_end (working (forgot allowed is memory)) = working (forgot allowed is memory)
   err_end (unwrapped turn) = unwrapped turn
   err_end (unput why) = unput why
   err_end (uncleared why) = uncleared why
@@ -244,12 +256,19 @@ module _ (request : Request) where
       → Course request ((work ++ last) ++ (back ++ said_last (refusal_line why)))
   err_course_at _ _ _ each (working no_more) closes_so = course_at _ _ _ each (last_end (refusal_last _) closes_so)
   err_course_at _ _ _ each (working (refused allowed is)) closes_so = course_at _ _ _ each (course.refused allowed is (held_back _ closes_so))
-  err_course_at work _ back each (working (lost {event} {last} {how} allowed is each_last)) closes_so = record {
+  err_course_at work _ back each (working (lost {event} {last} {why} allowed is each_last)) closes_so = record {
     work = work ++ event ∷ last;
     last = _;
     is = refl;
     each = each_append (IsWork request) work (event ∷ last) (are_work work each) ((allowed, lost_goes event is), are_work last each_last);
-    end = last_end (refusal_last (Client (unheard.Gone how))) closes_so;
+    end = last_end (refusal_last (Client why)) closes_so;
+  }
+  err_course_at work _ back each (working (forgot {event} allowed is memory)) closes_so = record {
+    work = work ++ event ∷ [];
+    last = _;
+    is = append_assoc work (event ∷ Further NoMemory ∷ []) (back ++ said_last (refusal_line (Agent code.NoMemory))) ∙ sym (append_assoc work (event ∷ []) (Further NoMemory ∷ (back ++ said_last (refusal_line (Agent code.NoMemory)))));
+    each = each_append (IsWork request) work (event ∷ []) (are_work work each) ((allowed, lost_goes event is), tt);
+    end = course.refused {event = Further NoMemory} memory refl (held_back _ closes_so);
   }
   err_course_at _ _ _ each (unwrapped turn) taken.unheld = course_at _ _ _ each (course.unanswered turn)
   err_course_at _ _ _ each (unput why) taken.unheld = course_at _ _ _ each (course.stored (interrupted why))
@@ -262,21 +281,21 @@ module _ (request : Request) where
     pub err_course : {why : Refusal} → Ends {A = A} events (Err why) held → Closes None held back (Ok tt) None → Course request (events ++ (back ++ said_last (refusal_line why)))
     err_course {why} ends closes_so = subst (λ e. Course request (e ++ (back ++ said_last (refusal_line why)))) (sym ends.is) (err_course_at ends.work ends.last back ends.each ends.end closes_so)
 
-  -- ---- a client that is gone ends its request
+  -- ---- what its client said ends a request
 
-  end_gone : {A : Type 0} {last : List Event} {result : Result A Refusal} {held : Option ℕ} {how : Gone} → RequestEnd last result held → IsSaid last (unheard.Gone how) → result ≡ Err (Client (unheard.Gone how))
-  end_gone (working end) says = work_gone (IsAllowed request) end says
-  end_gone (closed turn) says = absurd (heard_so _ (refl, tt) says)
-  end_gone (unwrapped turn) says = absurd (heard_so _ (refl, (refl, tt)) says)
-  end_gone (kept turn) says = absurd (heard_so _ (refl, (refl, tt)) says)
-  end_gone put says = absurd (heard_so _ (refl, (refl, tt)) says)
-  end_gone (unput why) says = absurd (heard_so _ (refl, (refl, tt)) says)
-  end_gone cleared says = absurd (heard_so _ (refl, (refl, tt)) says)
-  end_gone (uncleared why) says = absurd (heard_so _ (refl, (refl, tt)) says)
+  end_said : {A : Type 0} {last : List Event} {result : Result A Refusal} {held : Option ℕ} {why : Unheard} → RequestEnd last result held → IsSaid last why → ComesTo why result
+  end_said (working end) says = work_said (IsAllowed request) end says
+  end_said (closed turn) says = absurd (heard_so _ (refl, tt) says)
+  end_said (unwrapped turn) says = absurd (heard_so _ (refl, (refl, tt)) says)
+  end_said (kept turn) says = absurd (heard_so _ (refl, (refl, tt)) says)
+  end_said put says = absurd (heard_so _ (refl, (refl, tt)) says)
+  end_said (unput why) says = absurd (heard_so _ (refl, (refl, tt)) says)
+  end_said cleared says = absurd (heard_so _ (refl, (refl, tt)) says)
+  end_said (uncleared why) says = absurd (heard_so _ (refl, (refl, tt)) says)
 
-  pub ends_gone : {A : Type 0} {events : List Event} {result : Result A Refusal} {held : Option ℕ} {how : Gone} → Ends events result held → IsSaid events (unheard.Gone how)
-      → result ≡ Err (Client (unheard.Gone how))
-  ends_gone {how} ends says = end_gone ends.end (gone_behind (IsAllowed request) ends.work ends.last ends.each (subst (λ e. IsSaid e (unheard.Gone how)) ends.is says))
+  pub ends_said : {A : Type 0} {events : List Event} {result : Result A Refusal} {held : Option ℕ} {why : Unheard} → Ends events result held → IsSaid events why
+      → ComesTo why result
+  ends_said {why} ends says = end_said ends.end (said_behind (IsAllowed request) ends.work ends.last ends.each (subst (λ e. IsSaid e why) ends.is says))
 
 -- ---- every reply ends in an OK line
 

@@ -46,7 +46,7 @@ use Rattle.agent_session.proofs.ExactCache.{option_due, cache_due, cache_answere
 use Rattle.agent_session.proofs.ExactHave.{have_answered}
 use Rattle.agent_session.proofs.ExactKeys.{by_said, NoFault, due_of, deciding_of, keys_answered}
 use Rattle.agent_session.proofs.ExactLong.{long_answered}
-use Rattle.agent_session.proofs.ExactPrompts.{Deciding, SaidDecides, IsDecided}
+use Rattle.agent_session.proofs.ExactParts.{Deciding, SaidDecides, IsDecided}
 use Rattle.agent_session.proofs.ExactReads.{SentRefuses, IsUnlockable, FileRefuses, faulty, owes, read_refuses, by_file}
 
 -- what the client said decides its request

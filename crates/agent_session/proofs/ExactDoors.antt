@@ -39,9 +39,9 @@ use Rattle.agent_session.specs.DoorCauses.{read_trust}
 use Rattle.agent_session.specs.Exactly.{IsReadAgain, read_again, too_long, ExactTrustCause, ExactCauseAtDoor, forbidden, on_trust, any}
 use Rattle.agent_session.proofs.DoorAnswering.{is_word, no_command, door_is_session}
 use Rattle.agent_session.proofs.Exact.{said_decides, cause_answered}
-use Rattle.agent_session.proofs.ExactKeys.{by_said, said_free, decided_before}
-use Rattle.agent_session.proofs.ExactTrust.{SaysBy, ByLong, marked_long, due_trust, said_error, trust_answered}
-use Rattle.agent_session.proofs.ExactParts.{NoneOwed}
+use Rattle.agent_session.proofs.ExactKeys.{by_said}
+use Rattle.agent_session.proofs.ExactTrust.{ByLong, marked_long, due_trust, trust_answered}
+use Rattle.agent_session.proofs.ExactParts.{NoneOwed, SaysTo, said_free, decided_before, said_error}
 use Rattle.agent_session.proofs.Standing.{each_left}
 use Rattle.agent_session.proofs.TrustDenied.{denial_is_said}
 
@@ -78,7 +78,7 @@ module _ (rules : Rules) (before : Kept) where
   module _ (fingerprint : Grip) (purpose : TrustPurpose) (name : ArrayVec ℕ) (file : List ℕ) (none : trust file fingerprint.0 ≡ None)
       (many : MAX_TRUST_FILE_LEN < length (with_entry file fingerprint.0 (flag_of purpose))) where
     long_said : (events : List Event) (line : Option (List ℕ)) (result : _) → Marked rules before.options fingerprint purpose name.items None events result None
-        → AllByRecursion Remembers events → IsReadAgain file (events ++ said_last line) → SaysBy refusal_line NoneOwed result code.TooMuch
+        → AllByRecursion Remembers events → IsReadAgain file (events ++ said_last line) → SaysTo NoneOwed result code.TooMuch
     long_said [] line result does remembers again = absurd (none_again line again)
     long_said (first ∷ more) line result does remembers (read_again (read_trust is has)) =
         marked_long fingerprint purpose rules before.options name.items None (first ∷ more) result None does remembers code.TooMuch first more refl
@@ -88,7 +88,7 @@ module _ (rules : Rules) (before : Kept) where
         → HasError code.TooMuch Agent events
     long_answered (trusts.answered events does) remembers again = absurd (long_said events (Some _) (Ok tt) does (each_left Remembers events _ remembers) again)
     long_answered (trusts.refused events why does) remembers again =
-        said_error events (refusal_line why) code.TooMuch (long_said events (refusal_line why) (Err why) does (each_left Remembers events _ remembers) again)
+        said_error events [] (refusal_line why) code.TooMuch (long_said events (refusal_line why) (Err why) does (each_left Remembers events _ remembers) again)
 
   trust_cause : (request : TrustRequest) {events : List Event} {went : Went} → TrustExchange rules before.options request events went → AllByRecursion Remembers events → (why : Code)
       → ExactTrustCause events request why → HasError why Agent events

@@ -26,7 +26,7 @@ use Rattle.key_commands.specs.declared.went.KeyWent.{KeyWent}
 use Rattle.key_commands.specs.declared.wrap_keys.WrapKeys.{WrapKeys}
 use Rattle.agent_session.specs.Causes.{AreUnread}
 use Rattle.agent_session.specs.Completeness.{HasError}
-use Rattle.agent_session.proofs.ExactKeys.{said_error}
+use Rattle.agent_session.proofs.ExactParts.{said_error}
 
 unread : Grip → Event
 unread grip = Further (Keys (Read grip key_read.Absent))

@@ -1,44 +1,38 @@
 -- Requests on keys: what decides one is what it is refused by.
 use Rattle.std.specs.List.{AllByRecursion}
-use Rattle.std.proofs.Common.{◌≡◌, ◌⊎◌, ℕ, Bool, true, false, List, [], ◌∷◌, ◌++◌, Option, Some, None, Result, Ok, Err, refl, sym, subst, inl, inr}
-use Rattle.std.specs.Prelude.{take, drop}
-use Rattle.agent_ask.specs.SessionEvents.{Sent, said_last}
+use Rattle.std.proofs.Common.{◌≡◌, ◌⊎◌, ℕ, Bool, true, false, List, [], Option, Some, None, Result, refl, subst, inl, inr}
+use Rattle.std.specs.Prelude.{drop}
+use Rattle.agent_ask.specs.Parts.{◌>>=◌, Follows, goes_on, stops, needed}
+use Rattle.agent_ask.specs.Parts as chain
 use Rattle.agent_ports.specs.declared.grip.Grip.{Grip}
 use Rattle.assuan_server.specs.Written.{failed, refusal_line}
+use Rattle.assuan_server.specs.declared.errors.Origin.TheVariants.{Agent as OfAgent}
+use Rattle.cache_policy.specs.Turns.{closes}
+use Rattle.cache_policy.specs.declared.mark.MarkStep.{MarkStep}
+use Rattle.key_lines.specs.Canon.{Canon}
 use Rattle.session_client.specs.declared.code.Code.{Code}
 use Rattle.session_client.specs.declared.code.Code.TheVariants as code
-use Rattle.assuan_server.specs.declared.errors.Origin.TheVariants.{Agent as OfAgent}
-use Rattle.key_lines.specs.Canon.{Canon}
+use Rattle.session_client.specs.declared.refusal.Refusal.{Refusal}
+use Rattle.session_client.specs.declared.refusal.Refusal.TheVariants as refusals
 use Rattle.session_options.specs.OptionValues.{OptionValues}
 use Rattle.session_options.specs.declared.rules.Rules.{Rules}
 use Rattle.sexp_keys.specs.Key.{Key}
 use Rattle.key_commands.specs.Events.{Event}
 use Rattle.key_commands.specs.Exchanges.{Exchange, answered, refused, Replies, HaveKeyReplies, KeyInfoReplies, ListKeysReplies, KeyWrapReplies, ImportKeyReplies, ExportKeyReplies, PasswdReplies, VerifyReplies, DeleteKeyReplies}
-use Rattle.key_commands.specs.Exchanges.{wrap_key, StoresKey, FoundOrNew, RenewsPassphrase, RewritesFile, ChangesOpened}
-use Rattle.key_commands.specs.KeyParts.{HasOne, ReadsListed, TellsListed, WritesInfos}
-use Rattle.key_commands.specs.KeyParts as parts
-use Rattle.key_commands.specs.Parts.{Part, Finds, refusal_events}
-use Rattle.agent_ask.specs.Parts.{◌>>=◌, Follows, goes_on, stops, Returns, needed, unless}
-use Rattle.agent_ask.specs.Parts as chain
-use Rattle.key_commands.specs.Parts as small
+use Rattle.key_commands.specs.Exchanges.{wrap_key, StoresKey, FoundOrNew, RewritesFile, ChangesOpened}
+use Rattle.key_commands.specs.Parts.{Part}
 use Rattle.key_commands.specs.Passphrases.{OldPassphrase, VerifiesPassphrase}
-use Rattle.session_client.specs.declared.refusal.Refusal.{Refusal}
-use Rattle.session_client.specs.declared.refusal.Refusal.TheVariants as refusals
 use Rattle.key_commands.specs.declared.request.Direction.{Direction}
 use Rattle.key_commands.specs.declared.request.KeyRequest.{KeyRequest}
 use Rattle.key_commands.specs.declared.request.KeyRequest.TheVariants as on
 use Rattle.key_commands.specs.declared.went.KeyWent.{KeyWent}
 use Rattle.key_commands.specs.declared.wrap_keys.WrapKeys.{WrapKeys}
-use Rattle.key_commands.proofs.EachEvent.{each_append}
-use Rattle.agent_session.specs.Causes.{here}
 use Rattle.agent_session.specs.Completeness.{Remembers, HasError}
-use Rattle.agent_session.proofs.Explained.{has_split}
-use Rattle.agent_session.proofs.ExactParts.{NoneDue, NoneOwed, SaysTo, Heeds, NeverDecides, by_never, bind, undue, is_needed, refuses_due, otherwise, returns_never, refuses_never, changes_never, closes_never, draws_never}
-use Rattle.agent_session.proofs.ExactParts.{tells_never, replaces_never, protects_never, is_short_never, rewrites_never, keeps_new_never, names_key_never, wraps_key_never, looks_over_never, nonce_never, lists_never}
-use Rattle.agent_session.proofs.ExactParts.{tells_info, writes_info, uncached_old, opens_locked, new_passphrase, consents}
-use Rattle.agent_session.proofs.ExactPrompts.{Deciding, IsDecided, IsFree, never_decided}
+use Rattle.agent_session.proofs.ExactParts.{Deciding, IsDecided, never_decided, NoneDue, NoneOwed, SaysTo, Heeds, bind, undue, is_needed, refuses_due, IsSaidAlone, free, said_alone, fits_keys, never_ok, error_said}
 use Rattle.agent_session.proofs.ExactReads.{SentRefuses, IsUnlockable, by_file, reads_file, locks, by_absence, IsLacking, finds, is_there, removes, by_import, receives_key, is_free}
-use Rattle.agent_session.proofs.Standing.{each_left, has_right}
+use Rattle.agent_session.proofs.KeyWorks.{looks_nonce, uncached_old, opens_locked, new_here, consents, tells_info, writes_infos, has_one}
+use Rattle.agent_session.proofs.Works as work
+use Rattle.agent_session.proofs.Works.{WorksSo, Keeps, keeps_works, returned, or_otherwise, turns_of}
 
 -- nothing but what the client said, and the bytes of a key that it sent
 abbrev pub by_said : Option (List ℕ) → Deciding
@@ -65,111 +59,88 @@ deciding_of wraps _ = by_said wraps.import
 
 -- ---- parts of several requests
 
-module _ (deciding : Deciding) (rules : Rules) (options : OptionValues) where
-  closing : {A : Type 0} {part : Part A} → NeverDecides deciding part → Heeds deciding NoneDue part NoneOwed
-  closing never = by_never deciding NoneOwed never
+module _ (deciding : Deciding) where
+  abbrev Alone : Event → Type 0
+  Alone = IsSaidAlone deciding
 
-  old_passphrase : (grip : Grip) (nonce : Option (List ℕ)) (clear : Bool) (key : Key)
-      → Heeds deciding (IsUnlockable (record key { is_clear = clear })) (OldPassphrase rules options grip nonce (record key { is_clear = clear })) NoneOwed
-  old_passphrase grip nonce true key = undue deciding (λ why due. absurd (let e = due.closed in cc)) (closing (returns_never deciding _))
-  old_passphrase grip nonce false key = bind deciding NoneOwed (locks deciding (record key { is_clear = false })) (λ locked. opens_locked deciding rules options grip nonce locked)
+  alone : {A : Type 0} {part : Part A} → WorksSo Alone part → Heeds deciding NoneDue part NoneOwed
+  alone parts_work = said_alone deciding NoneOwed parts_work
 
-  verifies_passphrase : (grip : Grip) (clear : Bool) (key : Key)
-      → Heeds deciding (IsUnlockable (record key { is_clear = clear })) (VerifiesPassphrase rules options grip (record key { is_clear = clear })) NoneOwed
-  verifies_passphrase grip true key = undue deciding (λ why due. absurd (let e = due.closed in cc)) (closing (returns_never deciding _))
-  verifies_passphrase grip false key = bind deciding NoneOwed (locks deciding (record key { is_clear = false })) (λ locked. uncached_old deciding rules options grip options.mode locked)
+  so : {A : Type 0} {part : Part A} → Keeps Alone part → WorksSo Alone part
+  so keeps = keeps_works Alone keeps
 
-  found_or_new : (nonce : Option (List ℕ)) (grip : Grip) → Heeds deciding NoneDue (FoundOrNew rules options nonce grip) NoneOwed
-  found_or_new nonce grip = bind deciding NoneOwed (closing (looks_over_never deciding nonce)) (λ found. otherwise deciding found (new_passphrase deciding rules options grip))
+  -- such a turn of the cache decides nothing
+  turns : (step : MarkStep) → closes step ≡ None → work.Turns Alone step
+  turns step no_close = turns_of Alone no_close (λ turn. free deciding)
 
-  stores_key : (count : ℕ) (key : Key) (grip : Grip) (pass : List ℕ) → Heeds deciding NoneDue (StoresKey count key grip pass) NoneOwed
-  stores_key count key grip pass =
-      bind deciding NoneOwed (closing (draws_never deciding 32))
-      (λ drawn. bind deciding NoneOwed (closing (protects_never deciding key pass (take 8 drawn) (take 12 (drop 8 drawn)) count))
-      (λ file. bind deciding NoneOwed (closing (changes_never deciding _))
-      (λ cached. bind deciding NoneOwed (closing (replaces_never deciding grip file))
-      (λ replaced. bind deciding NoneOwed (closing (keeps_new_never deciding grip pass)) (λ kept. closing (returns_never deciding (drop 20 drawn)))))))
+  module _ (rules : Rules) (options : OptionValues) (grip : Grip) where
+    old_passphrase : (nonce : Option (List ℕ)) (clear : Bool) (key : Key)
+        → Heeds deciding (IsUnlockable (record key { is_clear = clear })) (OldPassphrase rules options grip nonce (record key { is_clear = clear })) NoneOwed
+    old_passphrase nonce true key = undue deciding (λ why due. absurd (let e = due.closed in cc)) (alone (returned Alone _))
+    old_passphrase nonce false key =
+        bind deciding NoneOwed (locks deciding (record key { is_clear = false })) (λ locked. alone (opens_locked (fits_keys deciding) rules options grip (λ pass turn. free deciding) locked nonce))
 
-  renews : (grip : Grip) (nonce : Option (List ℕ)) → Heeds deciding NoneDue (RenewsPassphrase rules options grip nonce) NoneOwed
-  renews grip nonce = bind deciding NoneOwed (closing (nonce_never deciding nonce)) (λ found. otherwise deciding found (new_passphrase deciding rules options grip))
+    verifies_passphrase : (clear : Bool) (key : Key)
+        → Heeds deciding (IsUnlockable (record key { is_clear = clear })) (VerifiesPassphrase rules options grip (record key { is_clear = clear })) NoneOwed
+    verifies_passphrase true key = undue deciding (λ why due. absurd (let e = due.closed in cc)) (alone (returned Alone _))
+    verifies_passphrase false key =
+        bind deciding NoneOwed (locks deciding (record key { is_clear = false })) (λ locked. alone (uncached_old (fits_keys deciding) rules options grip (λ pass turn. free deciding) locked options.mode))
 
-  rewrites_file : (grip : Grip) (file : List ℕ) (key : Key) (pass : List ℕ) → Heeds deciding NoneDue (RewritesFile rules options grip file key pass) NoneOwed
-  unfolding RewritesFile
-  rewrites_file grip file key pass =
-      bind deciding NoneOwed (closing (draws_never deciding 20))
-      (λ drawn. bind deciding NoneOwed (closing (protects_never deciding key pass (take 8 drawn) (drop 8 drawn) options.s2k_count))
-      (λ list. bind deciding NoneOwed (closing (rewrites_never deciding file list))
-      (λ new. bind deciding NoneOwed (closing (replaces_never deciding grip new)) (λ replaced. closing (keeps_new_never deciding grip pass)))))
+    found_or_new : (nonce : Option (List ℕ)) → Heeds deciding NoneDue (FoundOrNew rules options nonce grip) NoneOwed
+    found_or_new nonce =
+        alone (work.bind Alone (so (work.looks_over Alone (λ named. turns _ refl))) (λ found. or_otherwise Alone found (new_here (fits_keys deciding) rules options grip options.mode)))
 
-  changes_opened : (grip : Grip) (nonce : Option (List ℕ)) (file : List ℕ) (key : Key) → Heeds deciding NoneDue (ChangesOpened rules options grip nonce file key) NoneOwed
-  changes_opened grip nonce file key =
-      bind deciding NoneOwed (closing (is_short_never deciding key)) (λ short. bind deciding NoneOwed (renews grip nonce) (λ pass. rewrites_file grip file key pass))
+    stores_key : (count : ℕ) (key : Key) (pass : List ℕ) → Heeds deciding NoneDue (StoresKey count key grip pass) NoneOwed
+    stores_key count key pass =
+        alone (work.bind Alone (so (work.draws Alone (free deciding) (λ draw. free deciding))) (λ drawn. work.bind Alone (so (work.protects Alone (free deciding)))
+        (λ file. work.bind Alone (so (work.changes Alone (turns _ refl))) (λ cached. work.bind Alone (so (work.replaces Alone (free deciding) (λ answer. free deciding)))
+        (λ replaced. work.bind Alone (work.keeps_new Alone grip pass (turns _ refl) (λ ticket turn. free deciding)) (λ kept. returned Alone (drop 20 drawn)))))))
+
+    rewrites_file : (file : List ℕ) (key : Key) (pass : List ℕ) → WorksSo Alone (RewritesFile rules options grip file key pass)
+    unfolding RewritesFile
+    rewrites_file file key pass =
+        work.bind Alone (so (work.draws Alone (free deciding) (λ draw. free deciding))) (λ drawn. work.bind Alone (so (work.protects Alone (free deciding)))
+        (λ list. work.bind Alone (so (work.rewrites Alone (free deciding))) (λ new. work.bind Alone (so (work.replaces Alone (free deciding) (λ answer. free deciding)))
+        (λ replaced. work.keeps_new Alone grip pass (turns _ refl) (λ ticket turn. free deciding)))))
+
+    changes_opened : (nonce : Option (List ℕ)) (file : List ℕ) (key : Key) → Heeds deciding NoneDue (ChangesOpened rules options grip nonce file key) NoneOwed
+    changes_opened nonce file key =
+        alone (work.bind Alone (so (work.is_short Alone (free deciding)))
+        (λ short. work.bind Alone (work.bind Alone (looks_nonce (fits_keys deciding) nonce) (λ found. or_otherwise Alone found (new_here (fits_keys deciding) rules options grip options.mode)))
+        (λ pass. rewrites_file file key pass)))
 
 -- ---- requests
 
-module _ (wrap : Option (List ℕ)) where
-  abbrev BySaid : Deciding
-  BySaid = by_said wrap
-
-  nothing : {A : Type 0} {part : Part A} → NeverDecides BySaid part → Heeds BySaid NoneDue part NoneOwed
-  nothing never = by_never BySaid NoneOwed never
-
-  finds_of : (grip : Grip) (before : Option ℕ) (events : List Event) (result : Result Bool Refusal) (after : Option ℕ) → Finds grip before events result after → AllByRecursion (IsFree BySaid) events
-  finds_of grip before events result after small.found = ((λ why none. none), tt)
-  finds_of grip before events result after small.absent = ((λ why none. none), tt)
-  finds_of grip before events result after small.faulted = ((λ why none. none), tt)
-  finds_of grip before events result after small.no_memory = ((λ why none. none), tt)
-
-  has_unless : (there : Bool) {other : Part (Unit {0})} → Heeds BySaid NoneDue other NoneOwed → Heeds BySaid NoneDue (unless there other) NoneOwed
-  has_unless true other = nothing (returns_never BySaid tt)
-  has_unless false other = other
-
-  has_one : (grips : List Grip) → Heeds BySaid NoneDue (HasOne grips) NoneOwed
-  has_one [] = nothing (refuses_never BySaid _)
-  has_one (grip ∷ more) = bind BySaid NoneOwed (nothing (record { of = finds_of grip })) (λ there. has_unless there (has_one more))
-
-  reads_listed_of : (grip : Grip) (before : Option ℕ) (events : List Event) (result : Result (Option Key) Refusal) (after : Option ℕ) → ReadsListed grip before events result after
-      → AllByRecursion (IsFree BySaid) events
-  reads_listed_of grip before events result after (parts.is_key is says) = ((λ why none. none), tt)
-  reads_listed_of grip before events result after (parts.faulty is says) = ((λ why none. none), tt)
-  reads_listed_of grip before events result after parts.absent = ((λ why none. none), tt)
-  reads_listed_of grip before events result after (parts.no_memory is) = ((λ why none. none), ((λ why none. none), tt))
-  reads_listed_of grip before events result after (parts.unread other is) = ((λ why none. none), tt)
-
-  tells_listed : (grip : Grip) → Heeds BySaid NoneDue (TellsListed grip) NoneOwed
-  tells_listed grip = bind BySaid NoneOwed (nothing (record { of = reads_listed_of grip })) (λ key. writes_info BySaid grip key)
-
-  writes_infos : (grips : List Grip) → Heeds BySaid NoneDue (WritesInfos grips) NoneOwed
-  writes_infos [] = nothing (returns_never BySaid tt)
-  writes_infos (grip ∷ more) = bind BySaid NoneOwed (tells_listed grip) (λ told. writes_infos more)
-
 module _ (one_canon : (file : List ℕ) (a b : Option (List ℕ)) → Canon file a → Canon file b → a ≡ b) (rules : Rules) (options : OptionValues) where
   module _ (wraps : WrapKeys) where
-    have_key : (grips : List Grip) → Heeds (by_said wraps.import) NoneDue (HaveKeyReplies rules options wraps grips) NoneOwed
-    unfolding HaveKeyReplies
-    have_key grips = bind (by_said wraps.import) NoneOwed (has_one wraps.import grips) (λ one. nothing wraps.import (returns_never (by_said wraps.import) _))
+    abbrev BySaid : Deciding
+    BySaid = by_said wraps.import
 
-    list_keys : Heeds (by_said wraps.import) NoneDue (ListKeysReplies rules options wraps) NoneOwed
+    abbrev ByFile : Deciding
+    ByFile = by_file wraps.import IsUnlockable
+
+    have_key : (grips : List Grip) → Heeds BySaid NoneDue (HaveKeyReplies rules options wraps grips) NoneOwed
+    unfolding HaveKeyReplies
+    have_key grips = alone BySaid (work.bind (Alone BySaid) (has_one (fits_keys BySaid) (λ grip answer. free BySaid) grips) (λ one. returned (Alone BySaid) _))
+
+    list_keys : Heeds BySaid NoneDue (ListKeysReplies rules options wraps) NoneOwed
     unfolding ListKeysReplies
     list_keys =
-        bind (by_said wraps.import) NoneOwed (nothing wraps.import (lists_never (by_said wraps.import)))
-        (λ grips. bind (by_said wraps.import) NoneOwed (writes_infos wraps.import grips) (λ written. nothing wraps.import (returns_never (by_said wraps.import) _)))
+        alone BySaid (work.bind (Alone BySaid) (so BySaid (work.lists (Alone BySaid) (free BySaid) (λ answer. free BySaid)))
+        (λ grips. work.bind (Alone BySaid) (writes_infos (fits_keys BySaid) (λ grip answer. free BySaid) grips) (λ written. returned (Alone BySaid) _)))
 
-    key_wrap : (way : Direction) → Heeds (by_said wraps.import) NoneDue (KeyWrapReplies rules options wraps way) NoneOwed
+    key_wrap : (way : Direction) → Heeds BySaid NoneDue (KeyWrapReplies rules options wraps way) NoneOwed
     unfolding KeyWrapReplies
     key_wrap way =
-        bind (by_said wraps.import) NoneOwed (otherwise (by_said wraps.import) (wrap_key way wraps) (nothing wraps.import (draws_never (by_said wraps.import) 16)))
-        (λ key. bind (by_said wraps.import) NoneOwed (nothing wraps.import (tells_never (by_said wraps.import) key)) (λ text. nothing wraps.import (returns_never (by_said wraps.import) _)))
+        alone BySaid (work.bind (Alone BySaid) (or_otherwise (Alone BySaid) (wrap_key way wraps) (so BySaid (work.draws (Alone BySaid) (free BySaid) (λ draw. free BySaid))))
+        (λ key. work.bind (Alone BySaid) (so BySaid (work.told (Alone BySaid) (free BySaid))) (λ text. returned (Alone BySaid) _)))
 
     key_info : (grip : Grip) → Heeds (by_file wraps.import NoFault) NoneDue (KeyInfoReplies rules options wraps grip) NoneOwed
     unfolding KeyInfoReplies
     key_info grip =
         let d = by_file wraps.import NoFault in
         bind d (λ file why. ⊥) (reads_file one_canon wraps.import NoFault grip)
-        (λ file. bind d NoneOwed (tells_info d grip file.key) (λ line. by_never d NoneOwed (returns_never d _)))
-
-    abbrev ByFile : Deciding
-    ByFile = by_file wraps.import IsUnlockable
+        (λ file. alone d (work.bind (Alone d) (tells_info (fits_keys d) grip file.key) (λ line. returned (Alone d) _)))
 
     export_key : (grip : Grip) (nonce : Option (List ℕ)) → Heeds ByFile (λ why. (wraps.export ≡ None) × (code.Parameter ≡ why)) (ExportKeyReplies rules options wraps grip nonce) NoneOwed
     unfolding ExportKeyReplies
@@ -177,23 +148,23 @@ module _ (one_canon : (file : List ℕ) (a b : Option (List ℕ)) → Canon file
         bind ByFile NoneOwed (is_needed ByFile code.Parameter wraps.export)
         (λ wrap. bind ByFile (λ file why. IsUnlockable file.key why) (reads_file one_canon wraps.import IsUnlockable grip)
         (λ file. bind ByFile NoneOwed (old_passphrase ByFile rules options grip nonce file.key.is_clear file.key)
-        (λ opened. bind ByFile NoneOwed (by_never ByFile NoneOwed (closes_never ByFile opened.by))
-        (λ closed. bind ByFile NoneOwed (by_never ByFile NoneOwed (wraps_key_never ByFile wrap opened.key))
-        (λ wrapped. bind ByFile NoneOwed (by_never ByFile NoneOwed (tells_never ByFile wrapped)) (λ text. by_never ByFile NoneOwed (returns_never ByFile _)))))))
+        (λ opened. alone ByFile (work.bind (Alone ByFile) (work.closes_ticket (Alone ByFile) (λ ticket turn. free ByFile))
+        (λ closed. work.bind (Alone ByFile) (so ByFile (work.wraps_key (Alone ByFile) (free ByFile)))
+        (λ wrapped. work.bind (Alone ByFile) (so ByFile (work.told (Alone ByFile) (free ByFile))) (λ text. returned (Alone ByFile) _)))))))
 
     passwd : (grip : Grip) (nonce new_nonce : Option (List ℕ)) → Heeds ByFile NoneDue (PasswdReplies rules options wraps grip nonce new_nonce) NoneOwed
     unfolding PasswdReplies
     passwd grip nonce new_nonce =
         bind ByFile (λ file why. IsUnlockable file.key why) (reads_file one_canon wraps.import IsUnlockable grip)
         (λ file. bind ByFile NoneOwed (old_passphrase ByFile rules options grip nonce file.key.is_clear file.key)
-        (λ opened. bind ByFile NoneOwed (changes_opened ByFile rules options grip new_nonce file.bytes opened.key) (λ changed. by_never ByFile NoneOwed (returns_never ByFile _))))
+        (λ opened. bind ByFile NoneOwed (changes_opened ByFile rules options grip new_nonce file.bytes opened.key) (λ changed. alone ByFile (returned (Alone ByFile) _))))
 
     verify : (grip : Grip) → Heeds ByFile NoneDue (VerifyReplies rules options wraps grip) NoneOwed
     unfolding VerifyReplies
     verify grip =
         bind ByFile (λ file why. IsUnlockable file.key why) (reads_file one_canon wraps.import IsUnlockable grip)
         (λ file. bind ByFile NoneOwed (verifies_passphrase ByFile rules options grip file.key.is_clear file.key)
-        (λ opened. bind ByFile NoneOwed (by_never ByFile NoneOwed (closes_never ByFile opened.by)) (λ closed. by_never ByFile NoneOwed (returns_never ByFile _))))
+        (λ opened. alone ByFile (work.bind (Alone ByFile) (work.closes_ticket (Alone ByFile) (λ ticket turn. free ByFile)) (λ closed. returned (Alone ByFile) _))))
 
     delete_key : (force : Bool) (grip : Grip) → Heeds (by_absence wraps.import) NoneDue (DeleteKeyReplies rules options wraps force grip) NoneOwed
     unfolding DeleteKeyReplies
@@ -201,9 +172,9 @@ module _ (one_canon : (file : List ℕ) (a b : Option (List ℕ)) → Canon file
         let d = by_absence wraps.import in
         bind d IsLacking (finds wraps.import grip)
         (λ there. bind d NoneOwed (is_there wraps.import there)
-        (λ some. bind d NoneOwed (consents d rules options grip options.mode force)
+        (λ some. bind d NoneOwed (alone d (consents (fits_keys d) rules options grip options.mode force))
         (λ agreed. bind d NoneOwed (removes wraps.import grip)
-        (λ removed. bind d NoneOwed (by_never d NoneOwed (changes_never d _)) (λ cleared. by_never d NoneOwed (returns_never d _))))))
+        (λ removed. alone d (work.bind (Alone d) (so d (work.changes (Alone d) (turns d _ refl))) (λ cleared. returned (Alone d) _))))))
 
   -- a value that has to be there, and is, or isn't
   module _ {A B : Type 0} (deciding : Deciding) (given : Code) (next : A → Part B) where
@@ -232,10 +203,10 @@ module _ (one_canon : (file : List ℕ) (a b : Option (List ℕ)) → Canon file
         of =
             has_of d code.Parameter _ wrap
             (bind d NoneOwed (receives_key force wrap)
-            (λ key. bind d NoneOwed (by_never d NoneOwed (names_key_never d key))
+            (λ key. bind d NoneOwed (alone d (so d (work.names_key (Alone d) (free d))))
             (λ grip. bind d NoneOwed (is_free wrap force grip)
-            (λ free. bind d NoneOwed (found_or_new d rules options nonce grip)
-            (λ pass. bind d NoneOwed (stores_key d rules options options.s2k_count key grip pass) (λ cache_nonce. by_never d NoneOwed (returns_never d _)))))));
+            (λ unused. bind d NoneOwed (found_or_new d rules options grip nonce)
+            (λ pass. bind d NoneOwed (stores_key d rules options grip options.s2k_count key pass) (λ cache_nonce. alone d (returned (Alone d) _)))))));
       }
 
   replies : (wraps : WrapKeys) (asked : KeyRequest) → Heeds (deciding_of wraps asked) (due_of wraps asked) (Replies rules options wraps asked) NoneOwed
@@ -252,39 +223,11 @@ module _ (one_canon : (file : List ℕ) (a b : Option (List ℕ)) → Canon file
 
 -- ---- the answer
 
-module _ (deciding : Deciding) where
-  pub said_free : (line : Option (List ℕ)) → AllByRecursion (IsFree deciding) (said_last line)
-  said_free None = tt
-  said_free (Some line) = ((λ why none. none), tt)
-
-  -- what decides a request stands before its answer
-  pub decided_before : {why : Code} (events more : List Event) → AllByRecursion (IsFree deciding) more → IsDecided deciding (events ++ more) why → IsDecided deciding events why
-  decided_before {why} events more frees decided =
-      elim (has_split events more decided.has) [
-        | inl has ↦ record { event = decided.event; has = has; decides = decided.decides }
-        | inr has ↦ absurd (never_decided deciding more frees {why = why} (record { event = decided.event; has = has; decides = decided.decides }))
-      ]
-
--- a line that is said last is an error line
-pub said_error : (first back : List Event) (line : Option (List ℕ)) (why : Code) → line ≡ Some (failed why) → HasError why OfAgent (first ++ (back ++ said_last line))
-said_error first back line why is = subst (λ l. HasError why OfAgent (first ++ (back ++ said_last l))) (sym is) (has_right first (has_right back here))
-
 module _ (one_canon : (file : List ℕ) (a b : Option (List ℕ)) → Canon file a → Canon file b → a ≡ b) (rules : Rules) (options : OptionValues) (wraps : WrapKeys) where
   -- a request on keys is answered by the error line of what is due before it, or decides it among its events
   pub keys_answered : (asked : KeyRequest) {events : List Event} {after : WrapKeys} {went : KeyWent} → Exchange rules options wraps asked events after went → AllByRecursion Remembers events → (why : Code)
       → due_of wraps asked why ⊎ IsDecided (deciding_of wraps asked) events why → HasError why OfAgent events
-  keys_answered asked (answered events held reply {back} does closes) remembers why due = absurd ((replies one_canon rules options wraps asked).of None events (Ok reply) held does (each_left Remembers events _ remembers) why before)
-    where
-      frees : AllByRecursion (IsFree (deciding_of wraps asked)) (back ++ Sent reply.text ∷ [])
-      frees = each_append (IsFree (deciding_of wraps asked)) back _ ((closes_never (deciding_of wraps asked) None).of held back (Ok tt) None closes) ((λ code none. none), tt)
-
-      before : due_of wraps asked why ⊎ IsDecided (deciding_of wraps asked) events why
-      before = elim due [ inl is ↦ inl is | inr decided ↦ inr (decided_before (deciding_of wraps asked) events (back ++ Sent reply.text ∷ []) frees decided) ]
-  keys_answered asked (refused events held refusal {back} does closes) remembers why due =
-      said_error events back (refusal_line refusal) why ((replies one_canon rules options wraps asked).of None events (Err refusal) held does (each_left Remembers events _ remembers) why before)
-    where
-      frees : AllByRecursion (IsFree (deciding_of wraps asked)) (back ++ refusal_events refusal)
-      frees = each_append (IsFree (deciding_of wraps asked)) back _ ((closes_never (deciding_of wraps asked) None).of held back (Ok tt) None closes) (said_free (deciding_of wraps asked) (refusal_line refusal))
-
-      before : due_of wraps asked why ⊎ IsDecided (deciding_of wraps asked) events why
-      before = elim due [ inl is ↦ inl is | inr decided ↦ inr (decided_before (deciding_of wraps asked) events (back ++ refusal_events refusal) frees decided) ]
+  keys_answered asked (answered events held reply does closes) remembers why due =
+      absurd (never_ok (deciding_of wraps asked) (replies one_canon rules options wraps asked) why (Some reply.text) closes remembers due does)
+  keys_answered asked (refused events held refusal does closes) remembers why due =
+      error_said (deciding_of wraps asked) (replies one_canon rules options wraps asked) why (refusal_line refusal) closes remembers due refl does

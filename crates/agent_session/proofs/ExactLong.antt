@@ -64,9 +64,7 @@ use Rattle.agent_origin.specs.declared.kept.Kept.{Kept}
 use Rattle.agent_session.specs.Causes.{Has, here, IsRead, read, IsReadOf, read_of, IsDrawn, protected, OpensRead, on_keys, StandIn, changed, changes}
 use Rattle.agent_session.specs.Completeness.{HasError, Remembers}
 use Rattle.agent_session.specs.Exactly.{OpensIt, IsOpened, clear, by_nonce, cached, typed, given, HasLongList, HasLongFile, IsLong, long, long_file}
-use Rattle.agent_session.proofs.ExactKeys.{said_free, decided_before, said_error}
-use Rattle.agent_session.proofs.ExactParts.{NoneOwed, SaysTo, closes_never}
-use Rattle.agent_session.proofs.ExactPrompts.{Deciding, IsDecided, IsFree}
+use Rattle.agent_session.proofs.ExactParts.{Deciding, IsDecided, IsFree, NoneOwed, SaysTo, closes_free, said_free, decided_before, said_error}
 use Rattle.agent_session.proofs.ExactReads.{by_file, reads_file, read_refuses, owes}
 use Rattle.agent_session.proofs.KeyRequests.{old_passphrase}
 use Rattle.agent_session.proofs.KeyWorks.{FitsKeys, looks_nonce, old_here, new_here}
@@ -287,11 +285,15 @@ undrawn_keys = record {
   memory = tt;
   cut = λ text. tt;
   limits = λ most. tt;
-  says = λ word params limit inquired. tt;
+  clients = λ word inquired. tt;
+  notes = λ pid inquired. tt;
   calls = λ event. tt;
   nonces = λ id turn. tt;
   keys = λ grip way turn. tt;
   seats_for = λ grip turn. tt;
+  seats = λ turn. tt;
+  peeks = λ grip turn. tt;
+  infos = λ grip is_cached clear. tt;
 }
 
 undrawn_said : {held : Option ℕ} {back : List Event} (line : Option (List ℕ)) → Closes None held back (Ok tt) None → AllByRecursion IsUndrawn (back ++ said_last line)
@@ -321,7 +323,7 @@ record Behind (more : List Event) : Type 1 where
 behind_of : {held : Option ℕ} {back : List Event} (line : Option (List ℕ)) → Closes None held back (Ok tt) None → Behind (back ++ said_last line)
 behind_of {held} {back} line closes = record {
   vain = λ Vain. back_vain Vain line closes;
-  free = each_append (IsFree ByRead) back (said_last line) ((closes_never ByRead None).of held back (Ok tt) None closes) (said_free ByRead line);
+  free = each_append (IsFree ByRead) back (said_last line) (closes_free ByRead closes) (said_free ByRead line);
   undrawn = undrawn_said line closes;
 }
 

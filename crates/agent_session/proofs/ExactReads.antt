@@ -20,7 +20,6 @@ use Rattle.key_commands.specs.Faults.{fault_code}
 use Rattle.key_commands.specs.Files.{FileSays}
 use Rattle.key_commands.specs.KeyParts.{ReadsFile, Removes, IsFree, AsksKeyData, Unwraps, ReceivesKey, file_in, change_fault, max_key_data}
 use Rattle.key_commands.specs.KeyParts as parts
-use Rattle.key_commands.specs.Lines.{limit_line}
 use Rattle.key_commands.specs.Parts.{Finds, read_fault}
 use Rattle.agent_ask.specs.Parts.{wanted, refuses, returns}
 use Rattle.key_commands.specs.Parts as small
@@ -31,8 +30,8 @@ use Rattle.session_client.specs.declared.refusal.Refusal.{Refusal}
 use Rattle.session_client.specs.declared.refusal.Refusal.TheVariants.{Agent}
 use Rattle.agent_session.specs.Completeness.{Remembers}
 use Rattle.agent_session.proofs.ExactFiles.{one_says, one_locked_fault, no_locked_fault, one_wrapped}
-use Rattle.agent_session.proofs.ExactParts.{NoneDue, NoneOwed, SaysTo, Heeds, by_never, bind, decided_only, inquires_of, returns_never, writes_never}
-use Rattle.agent_session.proofs.ExactPrompts.{Deciding, IsDecided, never_decided}
+use Rattle.agent_session.proofs.ExactParts.{Deciding, IsDecided, never_decided, NoneDue, NoneOwed, SaysTo, Heeds, bind, decided_only, inquires_of, IsSaidAlone, free, said_alone}
+use Rattle.agent_session.proofs.Works as work
 
 -- the line of a code is that of the same code
 same_line : {one other : Code} → one ≡ other → refusal_line (Agent one) ≡ Some (failed other)
@@ -222,7 +221,7 @@ module _ (force : Bool) (wrap : List ℕ) where
 
   pub receives_key : Heeds ByImport NoneDue (ReceivesKey wrap) NoneOwed
   receives_key =
-      bind ByImport NoneOwed (by_never ByImport NoneOwed (writes_never ByImport (limit_line max_key_data)))
+      bind ByImport NoneOwed (said_alone ByImport NoneOwed (work.keeps_works (IsSaidAlone ByImport) (work.key_writes (IsSaidAlone ByImport) (λ text. free ByImport) (free ByImport))))
       (λ told. bind ByImport (λ bytes why. SentRefuses (Some wrap) bytes why) (record { of = asks_key_data_of }) (λ wrapped. record { of = unwraps_of wrapped }))
 
 module _ (wrap : List ℕ) where
@@ -250,5 +249,5 @@ module _ (wrap : List ℕ) where
   is_free_of false before events result after returns remembers why (inr decided) = never_decided Unforced [] tt decided
 
   pub is_free : (force : Bool) (grip : Grip) → Heeds (by_import force (Some wrap)) NoneDue (IsFree force grip) NoneOwed
-  is_free true grip = by_never (by_import true (Some wrap)) NoneOwed (returns_never (by_import true (Some wrap)) tt)
+  is_free true grip = said_alone (by_import true (Some wrap)) NoneOwed (work.returned (IsSaidAlone (by_import true (Some wrap))) tt)
   is_free false grip = bind Unforced IsTaken (record { of = looks_of grip }) (λ there. record { of = is_free_of there })

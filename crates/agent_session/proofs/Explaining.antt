@@ -8,6 +8,7 @@ use Rattle.agent_ports.specs.declared.grip.Grip.{Grip}
 use Rattle.agent_ports.specs.declared.keys.KeyRead.TheVariants as key_read
 use Rattle.session_client.specs.declared.code.Code.{Code}
 use Rattle.session_client.specs.declared.code.Code.TheVariants as code
+use Rattle.assuan_server.specs.declared.errors.Origin.{Origin}
 use Rattle.assuan_server.specs.declared.errors.Origin.TheVariants.{Agent as OfAgent, Pinentry as OfPinentry}
 use Rattle.cache_policy.specs.declared.mode.Mode.TheVariants.{Normal}
 use Rattle.cache_policy.specs.Turns.{Turn, Refused, closes, Given, Empty, Open}
@@ -40,19 +41,17 @@ use Rattle.agent_session.proofs.Standing.{has_first, has_second, stand_left, sta
 abbrev pub Anything : {A : Type 0} → A → Type 0
 Anything value = ⊤
 
-module _ (rules : Rules) (kept : Kept) (request : Request) (whole : List (Event FurtherEvent)) where
-  abbrev pub Caused : Code → Type 0
-  Caused why = IsCaused whole rules kept request why OfAgent
+-- the client said this, or the text that it was to be sent couldn't be written
+pub data ClientSays (whole : List (Event FurtherEvent)) : Unheard → Type 0 where
+  cut : ClientSays whole (unheard.Gone gone.WriteFault)
+  client_said : {why : Unheard} → IsSaid whole why → ClientSays whole why
 
-  -- the client said this, or the text that it was to be sent couldn't be written
-  pub data ClientSays : Unheard → Type 0 where
-    cut : ClientSays (unheard.Gone gone.WriteFault)
-    client_said : {why : Unheard} → IsSaid whole why → ClientSays why
-
+-- what causes a code, of this origin
+module _ (whole : List (Event FurtherEvent)) (Causes : Code → Origin → Type 0) where
   abbrev pub CausedRefusal : Refusal → Type 0
-  CausedRefusal (Agent why) = Caused why
-  CausedRefusal (Pinentry why) = IsCaused whole rules kept request why OfPinentry
-  CausedRefusal (Client why) = ClientSays why
+  CausedRefusal (Agent why) = Causes why OfAgent
+  CausedRefusal (Pinentry why) = Causes why OfPinentry
+  CausedRefusal (Client why) = ClientSays whole why
 
   -- a value that is good, or a refusal that has its cause
   abbrev pub IsExplained : {A : Type 0} → (A → Type 0) → Result A Refusal → Type 0
@@ -67,67 +66,81 @@ module _ (rules : Rules) (kept : Kept) (request : Request) (whole : List (Event 
     pub of : (before : Option ℕ) (events : List (Event FurtherEvent)) (result : Result A Refusal) (after : Option ℕ) → part before events result after → StandIn events whole
         → Comes Good events result
 
+module _ {whole : List (Event FurtherEvent)} {Causes : Code → Origin → Type 0} where
   -- a part, and then what follows on its value
-  module _ {A B : Type 0} {part : Part A} {next : A → Part B} (First : A → Type 0) (Good : B → Type 0) (first : Explains part First)
-      (then : (value : A) → First value → Explains (next value) Good) where
+  module _ {A B : Type 0} {part : Part A} {next : A → Part B} (First : A → Type 0) (Good : B → Type 0) (first : Explains whole Causes part First)
+      (then : (value : A) → First value → Explains whole Causes (next value) Good) where
     bind_of : (before : Option ℕ) (events : List (Event FurtherEvent)) (result : Result B Refusal) (after : Option ℕ) → Follows part next before events result after → StandIn events whole
-        → Comes Good events result
+        → Comes whole Causes Good events result
     bind_of before events result after (goes_on {first = some} {events = more} {value} {mid} does next_does) stands =
-        let one : Comes First some (Ok value) = first.of before some (Ok value) mid does (stand_left some more stands) in
-        let two : Comes Good more result = (then value one.explained).of mid more result after next_does (stand_right some more stands) in
+        let one : Comes whole Causes First some (Ok value) = first.of before some (Ok value) mid does (stand_left some more stands) in
+        let two : Comes whole Causes Good more result = (then value one.explained).of mid more result after next_does (stand_right some more stands) in
         record { silent = each_append AnswersNothing some more one.silent two.silent; explained = two.explained }
     bind_of before events result after (stops {refusal = why} does) stands =
-        let one : Comes First events (Err why) = first.of before events (Err why) after does stands in
+        let one : Comes whole Causes First events (Err why) = first.of before events (Err why) after does stands in
         record { silent = one.silent; explained = one.explained }
 
-    pub bind : Explains (part >>= next) Good
+    pub bind : Explains whole Causes (part >>= next) Good
     bind = record { of = bind_of }
 
   -- a part whatever value it comes to
-  module _ {A : Type 0} {part : Part A} (Good : A → Type 0) (explains : Explains part Good) where
-    any_value : (result : Result A Refusal) → IsExplained Good result → IsExplained Anything result
+  module _ {A : Type 0} {part : Part A} (Good : A → Type 0) (explains : Explains whole Causes part Good) where
+    any_value : (result : Result A Refusal) → IsExplained whole Causes Good result → IsExplained whole Causes Anything result
     any_value (Ok value) good = tt
     any_value (Err why) caused = caused
 
     whatever_of : (before : Option ℕ) (events : List (Event FurtherEvent)) (result : Result A Refusal) (after : Option ℕ) → part before events result after → StandIn events whole
-        → Comes Anything events result
+        → Comes whole Causes Anything events result
     whatever_of before events result after does stands =
-        let comes : Comes Good events result = explains.of before events result after does stands in
+        let comes : Comes whole Causes Good events result = explains.of before events result after does stands in
         record { silent = comes.silent; explained = any_value result comes.explained }
 
-    pub whatever : Explains part Anything
+    pub whatever : Explains whole Causes part Anything
     whatever = record { of = whatever_of }
 
   module _ {A : Type 0} (Good : A → Type 0) where
     returns_of : (value : A) → Good value → (before : Option ℕ) (events : List (Event FurtherEvent)) (result : Result A Refusal) (after : Option ℕ) → Returns value before events result after
-        → StandIn events whole → Comes Good events result
+        → StandIn events whole → Comes whole Causes Good events result
     returns_of value good before events result after returns stands = record { silent = tt; explained = good }
 
-    pub returned : (value : A) → Good value → Explains (Returns value) Good
+    pub returned : (value : A) → Good value → Explains whole Causes (Returns value) Good
     returned value good = record { of = returns_of value good }
 
-    refuses_of : (why : Refusal) → CausedRefusal why → (before : Option ℕ) (events : List (Event FurtherEvent)) (result : Result A Refusal) (after : Option ℕ) → Refuses why before events result after
-        → StandIn events whole → Comes Good events result
+    refuses_of : (why : Refusal) → CausedRefusal whole Causes why → (before : Option ℕ) (events : List (Event FurtherEvent)) (result : Result A Refusal) (after : Option ℕ) → Refuses why before events result after
+        → StandIn events whole → Comes whole Causes Good events result
     refuses_of why caused before events result after refuses stands = record { silent = tt; explained = caused }
 
-    pub refused : (why : Refusal) → CausedRefusal why → Explains (Refuses why) Good
+    pub refused : (why : Refusal) → CausedRefusal whole Causes why → Explains whole Causes (Refuses why) Good
     refused why caused = record { of = refuses_of why caused }
 
-    pub is_needed : (why : Code) (value : Option A) → (value ≡ None → Caused why) → ((some : A) → value ≡ Some some → Good some) → Explains (needed why value) Good
+    pub is_needed : (why : Code) (value : Option A) → (value ≡ None → Causes why OfAgent) → ((some : A) → value ≡ Some some → Good some) → Explains whole Causes (needed why value) Good
     is_needed why None caused good = refused (Agent why) (caused refl)
     is_needed why (Some value) caused good = returned value (good value refl)
 
-    pub or_otherwise : (value : Option A) (other : Part A) → ((some : A) → value ≡ Some some → Good some) → (value ≡ None → Explains other Good) → Explains (or_else value other) Good
+    pub or_otherwise : (value : Option A) (other : Part A) → ((some : A) → value ≡ Some some → Good some) → (value ≡ None → Explains whole Causes other Good) → Explains whole Causes (or_else value other) Good
     or_otherwise None other good explains = explains refl
     or_otherwise (Some value) other good explains = returned value (good value refl)
 
-  pub is_unless : (so : Bool) (other : Part (Unit {0})) → (so ≡ false → Explains other Anything) → Explains (unless so other) Anything
+  pub is_unless : (so : Bool) (other : Part (Unit {0})) → (so ≡ false → Explains whole Causes other Anything) → Explains whole Causes (unless so other) Anything
   is_unless true other explains = returned Anything tt tt
   is_unless false other explains = explains refl
 
-  pub is_wanted : (why : Code) (so : Bool) → (so ≡ false → Caused why) → Explains (wanted why so) (λ done. so ≡ true)
+  pub is_wanted : (why : Code) (so : Bool) → (so ≡ false → Causes why OfAgent) → Explains whole Causes (wanted why so) (λ done. so ≡ true)
   is_wanted why true caused = returned (λ done. true ≡ true) tt refl
   is_wanted why false caused = refused (λ done. false ≡ true) (Agent why) (caused refl)
+
+  module _ (keep : Option (List ℕ)) where
+    pub closes_of : (before : Option ℕ) (events : List (Event FurtherEvent)) (result : Result (Unit {0}) Refusal) (after : Option ℕ) → Closes keep before events result after
+        → StandIn events whole → Comes whole Causes Anything events result
+    closes_of before events result after taken.unheld stands = record { silent = tt; explained = tt }
+    closes_of before events result after (taken.closed turn) stands = record { silent = (tt, tt); explained = tt }
+
+    pub closes_explained : Explains whole Causes (Closes keep) Anything
+    closes_explained = record { of = closes_of }
+
+module _ (rules : Rules) (kept : Kept) (request : Request) (whole : List (Event FurtherEvent)) where
+  abbrev pub Caused : Code → Type 0
+  Caused why = IsCaused whole rules kept request why OfAgent
 
   -- ---- wants of memory
 
@@ -152,70 +165,61 @@ module _ (rules : Rules) (kept : Kept) (request : Request) (whole : List (Event 
 
   module _ (step : MarkStep) (keeps : closes step ≡ None) where
     looks_of : (before : Option ℕ) (events : List (Event FurtherEvent)) (result : Result (Option (List ℕ)) Refusal) (after : Option ℕ) → Asks step before events result after
-        → StandIn events whole → Comes (FoundBy step) events result
+        → StandIn events whole → Comes whole (IsCaused whole rules kept request) (FoundBy step) events result
     looks_of before events result after taken.given stands = record { silent = (tt, tt); explained = found (has_first stands) }
     looks_of before events result after taken.empty stands = record { silent = (tt, tt); explained = found_none (none_given Empty tt (has_first stands)) }
     looks_of before events result after (taken.opened {ticket}) stands = record { silent = (tt, tt); explained = found_none (none_given (Open ticket) tt (has_first stands)) }
     looks_of before events result after (taken.interrupted why) stands = record { silent = (tt, tt); explained = interrupts step keeps why stands }
 
-    pub looks : Explains (Asks step) (FoundBy step)
+    pub looks : Explains whole (IsCaused whole rules kept request) (Asks step) (FoundBy step)
     looks = record { of = looks_of }
 
     seats_of : (before : Option ℕ) (events : List (Event FurtherEvent)) (result : Result (Unit {0}) Refusal) (after : Option ℕ) → Seats step before events result after
-        → StandIn events whole → Comes Anything events result
+        → StandIn events whole → Comes whole (IsCaused whole rules kept request) Anything events result
     seats_of before events result after taken.opened stands = record { silent = (tt, tt); explained = tt }
     seats_of before events result after (taken.interrupted why) stands = record { silent = (tt, tt); explained = interrupts step keeps why stands }
 
-    pub seats : Explains (Seats step) Anything
+    pub seats : Explains whole (IsCaused whole rules kept request) (Seats step) Anything
     seats = record { of = seats_of }
 
     changes_of : (before : Option ℕ) (events : List (Event FurtherEvent)) (result : Result (Unit {0}) Refusal) (after : Option ℕ) → Changes step before events result after
-        → StandIn events whole → Comes Anything events result
+        → StandIn events whole → Comes whole (IsCaused whole rules kept request) Anything events result
     changes_of before events result after taken.done stands = record { silent = (tt, tt); explained = tt }
     changes_of before events result after (taken.interrupted why) stands = record { silent = (tt, tt); explained = interrupts step keeps why stands }
 
-    pub changes : Explains (Changes step) Anything
+    pub changes : Explains whole (IsCaused whole rules kept request) (Changes step) Anything
     changes = record { of = changes_of }
 
   module _ (grip : Grip) where
     peeks_of : (before : Option ℕ) (events : List (Event FurtherEvent)) (result : Result Bool Refusal) (after : Option ℕ) → Peeks (grip_text grip) Normal before events result after
-        → StandIn events whole → Comes Anything events result
+        → StandIn events whole → Comes whole (IsCaused whole rules kept request) Anything events result
     peeks_of before events result after taken.peeked stands = record { silent = (tt, tt); explained = tt }
     peeks_of before events result after (taken.interrupted why) stands = record { silent = (tt, tt); explained = interrupts _ refl why stands }
 
-    pub peeks : Explains (Peeks (grip_text grip) Normal) Anything
+    pub peeks : Explains whole (IsCaused whole rules kept request) (Peeks (grip_text grip) Normal) Anything
     peeks = record { of = peeks_of }
-
-  module _ (keep : Option (List ℕ)) where
-    pub closes_of : (before : Option ℕ) (events : List (Event FurtherEvent)) (result : Result (Unit {0}) Refusal) (after : Option ℕ) → Closes keep before events result after
-        → StandIn events whole → Comes Anything events result
-    closes_of before events result after taken.unheld stands = record { silent = tt; explained = tt }
-    closes_of before events result after (taken.closed turn) stands = record { silent = (tt, tt); explained = tt }
-
-    pub closes_explained : Explains (Closes keep) Anything
-    closes_explained = record { of = closes_of }
 
   -- ---- the client
 
   module _ (text : List ℕ) (status : IsStatus text) where
     writes_of : (before : Option ℕ) (events : List (Event FurtherEvent)) (result : Result (Unit {0}) Refusal) (after : Option ℕ) → Writes text before events result after
-        → StandIn events whole → Comes Anything events result
+        → StandIn events whole → Comes whole (IsCaused whole rules kept request) Anything events result
     writes_of before events result after parts.written stands = record { silent = (status, tt); explained = tt }
     writes_of before events result after (parts.cut unsent is) stands = record { silent = (tt, tt); explained = cut }
 
-    pub writes : Explains (Writes text) Anything
+    pub writes : Explains whole (IsCaused whole rules kept request) (Writes text) Anything
     writes = record { of = writes_of }
 
   module _ (word : List ℕ) (limit : ℕ) where
     pub inquires_of : (before : Option ℕ) (events : List (Event FurtherEvent)) (result : Result (List ℕ) Refusal) (after : Option ℕ) → Inquires word limit before events result after
-        → StandIn events whole → Comes (IsSent whole word limit) events result
+        → StandIn events whole → Comes whole (IsCaused whole rules kept request) (IsSent whole word limit) events result
     inquires_of before events result after (parts.given is) stands = record { silent = (tt, tt); explained = sent is (has_first stands) }
     inquires_of before events result after (parts.not_given is) stands = record { silent = (tt, tt); explained = client_said (said is (has_first stands)) }
 
-    inquires : Explains (Inquires word limit) (IsSent whole word limit)
+    inquires : Explains whole (IsCaused whole rules kept request) (Inquires word limit) (IsSent whole word limit)
     inquires = record { of = inquires_of }
 
-    pub asks_client : limit < 2 ^ 64 → Explains (AsksClient word limit) (IsSent whole word limit)
+    pub asks_client : limit < 2 ^ 64 → Explains whole (IsCaused whole rules kept request) (AsksClient word limit) (IsSent whole word limit)
     asks_client small = bind Anything (IsSent whole word limit) (writes (limit_line limit) (limit_status limit small)) (λ told good. inquires)
 
   -- ---- the keys and the dice
@@ -227,20 +231,20 @@ module _ (rules : Rules) (kept : Kept) (request : Request) (whole : List (Event 
 
   module _ (grip : Grip) where
     finds_of : (before : Option ℕ) (events : List (Event FurtherEvent)) (result : Result Bool Refusal) (after : Option ℕ) → Finds grip before events result after
-        → StandIn events whole → Comes (IsFound grip) events result
+        → StandIn events whole → Comes whole (IsCaused whole rules kept request) (IsFound grip) events result
     finds_of before events result after (parts.found {file}) stands = record { silent = (tt, tt); explained = (file, has_first stands) }
     finds_of before events result after parts.absent stands = record { silent = (tt, tt); explained = has_first stands }
     finds_of before events result after parts.faulted stands = record { silent = (tt, tt); explained = one _ tt (has_first stands) }
     finds_of before events result after parts.no_memory stands = record { silent = (tt, tt); explained = one _ tt (has_first stands) }
 
-    pub finds : Explains (Finds grip) (IsFound grip)
+    pub finds : Explains whole (IsCaused whole rules kept request) (Finds grip) (IsFound grip)
     finds = record { of = finds_of }
 
   module _ (count : ℕ) where
     draws_of : (before : Option ℕ) (events : List (Event FurtherEvent)) (result : Result (List ℕ) Refusal) (after : Option ℕ) → Draws count before events result after
-        → StandIn events whole → Comes (IsDrawn whole count) events result
+        → StandIn events whole → Comes whole (IsCaused whole rules kept request) (IsDrawn whole count) events result
     draws_of before events result after (parts.drawn long) stands = record { silent = (tt, tt); explained = record { long = long; has = has_first stands } }
     draws_of before events result after parts.faulted stands = record { silent = (tt, tt); explained = one (Further (Dice (NotDrawn count))) tt (has_first stands) }
 
-    pub draws : Explains (Draws count) (IsDrawn whole count)
+    pub draws : Explains whole (IsCaused whole rules kept request) (Draws count) (IsDrawn whole count)
     draws = record { of = draws_of }

@@ -3,7 +3,7 @@ use Rattle.std.proofs.Common.{◌≡◌, ℕ, Bool, true, false, List, [], ◌�
 use Rattle.std.specs.Prelude.{not, drop}
 use Rattle.agent_ask.specs.Further.{Keys, Replaced, Removed}
 use Rattle.agent_ask.specs.Parts.{◌>>=◌, goes_on, stops, Returns, returns}
-use Rattle.agent_ask.specs.SessionEvents.{Inquiry, Further}
+use Rattle.agent_ask.specs.SessionEvents.{Further}
 use Rattle.agent_ask.specs.TurnParts.{Changes, Closes}
 use Rattle.agent_ask.specs.TurnParts as taken
 use Rattle.agent_ports.specs.declared.grip.Grip.{Grip}
@@ -13,7 +13,7 @@ use Rattle.session_client.specs.declared.code.Code.{Code}
 use Rattle.session_client.specs.declared.code.Code.TheVariants as code
 use Rattle.cache_policy.specs.Turns.{closes}
 use Rattle.cache_policy.specs.declared.mark.MarkStep.{MarkStep}
-use Rattle.cache_policy.specs.declared.mark.MarkStep.TheVariants.{Clear, Seat}
+use Rattle.cache_policy.specs.declared.mark.MarkStep.TheVariants.{Clear}
 use Rattle.cache_policy.specs.declared.mode.Mode.TheVariants.{Normal, Nonce}
 use Rattle.session_client.specs.Refusals.{gone_by}
 use Rattle.session_client.specs.declared.refusal.Refusal.{Refusal}
@@ -21,8 +21,6 @@ use Rattle.session_client.specs.declared.refusal.Refusal.TheVariants.{Agent, Cli
 use Rattle.session_client.specs.declared.unheard.Gone.{Gone}
 use Rattle.session_client.specs.declared.unheard.Unheard.TheVariants as unheard
 use Rattle.session_options.specs.OptionValues.{OptionValues}
-use Rattle.session_options.specs.declared.options.PinMode.{PinMode}
-use Rattle.session_options.specs.declared.options.PinMode.TheVariants as mode
 use Rattle.session_options.specs.declared.rules.Rules.{Rules}
 use Rattle.sexp_keys.specs.Key.{Key}
 use Rattle.agent_commands.specs.declared.request.Request.{Request}
@@ -44,11 +42,10 @@ use Rattle.assuan_escape.specs.Escapes.{hex_text}
 use Rattle.agent_session.specs.Causes.{on_keys, IsSaid}
 use Rattle.agent_session.specs.Completeness.{EndsInOk}
 use Rattle.agent_session.specs.Completeness as completeness
-use Rattle.agent_session.specs.Refusals.{IsAllowed, IsWorkStep, IsNotice, limit, info, MayStore, exported, changed, imported, Course}
+use Rattle.agent_session.specs.Refusals.{IsAllowed, IsWorkStep, limit, info, MayStore, exported, changed, imported, Course}
 use Rattle.agent_session.proofs.Asides.{info_status, nonce_status, status_aside}
-use Rattle.agent_session.proofs.Courses.{Ends, ends_with, EndsSo, working_ends, ends_working, bind_ends, made, makes, closed, unwrapped, kept, put, unput, cleared, uncleared, RepliesOk, ok_returns, ok_refuses, ok_then, reply_ends_in_ok, ok_course, err_course, ends_gone, said_before, answer_heard}
-use Rattle.agent_session.proofs.KeyWorks.{FitsKeys, looks_nonce, old_here, verified_here, new_here}
-use Rattle.agent_session.proofs.PromptWorks.{agrees_to}
+use Rattle.agent_session.proofs.Courses.{Ends, ends_with, EndsSo, working_ends, ends_working, bind_ends, made, makes, closed, unwrapped, kept, put, unput, cleared, uncleared, RepliesOk, ok_returns, ok_refuses, ok_then, reply_ends_in_ok, ok_course, err_course, ends_said, gone_only, said_before, answer_heard}
+use Rattle.agent_session.proofs.KeyWorks.{FitsKeys, looks_nonce, old_here, verified_here, new_here, consents, tells_info, writes_infos, has_one}
 use Rattle.agent_session.proofs.Replying.{ends_in_ok, reply_keys}
 use Rattle.agent_session.proofs.Works as work
 use Rattle.agent_session.proofs.Works.{Works, works, ok_works, err_works, behind_work, WorksSo, Keeps, keeps_works, bind, returned, refuses_by, is_needed, or_otherwise, is_unless, is_wanted, turns_of}
@@ -68,53 +65,21 @@ module _ (request : Request) where
   own : (asked : MarkStep) → closes asked ≡ None → IsWorkStep request asked → work.Turns Fits asked
   own asked no_close allowed = turns_of Fits no_close (λ turn. allowed)
 
-  says : (word params : List ℕ) (most : ℕ) (inquired : _) → Fits (Inquiry word params most inquired)
-  says word params most inquired = tt
-
   fits : FitsKeys Fits
   fits = record {
     memory = tt;
     cut = λ text. tt;
     limits = limit;
-    says = says;
+    clients = λ word inquired. tt;
+    notes = λ pid inquired. tt;
     calls = λ event. tt;
     nonces = λ id turn. tt;
     keys = λ grip way turn. tt;
     seats_for = λ grip turn. tt;
+    seats = λ turn. tt;
+    peeks = λ grip turn. tt;
+    infos = info;
   }
-
-  consents : (rules : Rules) (options : OptionValues) (grip : Grip) (way : PinMode) (force : Bool) → Here (Consents rules (record options { mode = way }) force grip)
-  consents rules options grip way true = returned Fits tt
-  consents rules options grip mode.Ask false =
-      bind Fits (work.seats Fits (own (Seat None None) refl tt)) (λ seated. agrees_to Fits (λ event. tt) says rules (record options { mode = mode.Ask }) _)
-  consents rules options grip mode.Cancel false = refuses_by Fits (Agent code.Cancelled)
-  consents rules options grip mode.Error false = refuses_by Fits (Agent code.NoPinentry)
-  consents rules options grip mode.Loopback false = refuses_by Fits (Agent code.NoPinentry)
-
-  -- ---- what is known of keys
-
-  tells_info : (grip : Grip) (key : Key) → Here (TellsInfo grip key)
-  tells_info grip key = bind Fits (so (work.peeks Fits (own _ refl tt))) (λ cached. returned Fits _)
-
-  info_notice : (grip : Grip) (key : Key) {before mid : Option ℕ} {events : List Event} {line : List ℕ} → TellsInfo grip key before events (Ok line) mid → IsNotice line
-  info_notice grip key (goes_on looked returns) = info grip _ _
-
-  writes_info_of : (grip : Grip) (key : Option Key) (before : Option ℕ) (events : List Event) (result : Result (Unit {0}) Refusal) (after : Option ℕ) → WritesInfo grip key before events result after → Works Fits events result
-  writes_info_of grip None before events result after returns = works Fits tt
-  writes_info_of grip (Some key) before events result after (goes_on {first} tells_so writes_so) =
-      behind_work Fits first (ok_works Fits ((tells_info grip key).of tells_so)) ((so (work.key_writes Fits (λ text. tt) (info_notice grip key tells_so))).of writes_so)
-  writes_info_of grip (Some key) before events result after (stops tells_so) = err_works Fits ((tells_info grip key).of tells_so)
-
-  tells_listed : (grip : Grip) → Here (TellsListed grip)
-  tells_listed grip = bind Fits (so (work.reads_listed Fits tt (λ answer. tt))) (λ key. record { of = λ {before} {after} {events} {result} does. writes_info_of grip key before events result after does })
-
-  writes_infos : (grips : List Grip) → Here (WritesInfos grips)
-  writes_infos [] = returned Fits tt
-  writes_infos (grip ∷ more) = bind Fits (tells_listed grip) (λ told. writes_infos more)
-
-  has_one : (grips : List Grip) → Here (HasOne grips)
-  has_one [] = refuses_by Fits (Agent code.NoSecKey)
-  has_one (grip ∷ more) = bind Fits (so (work.finds Fits tt (λ answer. tt))) (λ there. is_unless Fits there (has_one more))
 
   reads_file : (grip : Grip) → Here (parts.ReadsFile grip)
   reads_file grip = so (work.reads_file Fits tt (λ answer. tt))
@@ -123,7 +88,7 @@ module _ (request : Request) where
 
   receives_key : (wrap : List ℕ) → Here (ReceivesKey wrap)
   receives_key wrap =
-      bind Fits (so (work.key_writes Fits (λ text. tt) (limit max_key_data))) (λ told. bind Fits (so (work.asks_key_data Fits says tt)) (λ wrapped. so (work.unwraps Fits tt)))
+      bind Fits (so (work.key_writes Fits (λ text. tt) (limit max_key_data))) (λ told. bind Fits (so (work.asks_key_data Fits (λ inquired. tt) tt)) (λ wrapped. so (work.unwraps Fits tt)))
 
   is_free : (force : Bool) (grip : Grip) → Here (IsFree force grip)
   is_free true grip = returned Fits tt
@@ -189,15 +154,15 @@ module _ (request : Request) where
 
     have_key : (grips : List Grip) → EndsHere (HaveKeyReplies rules options wraps grips)
     unfolding HaveKeyReplies
-    have_key grips = ends_working request (bind Fits (has_one grips) (λ one. returned Fits _))
+    have_key grips = ends_working request (bind Fits (has_one fits (λ grip answer. tt) grips) (λ one. returned Fits _))
 
     key_info : (grip : Grip) → EndsHere (KeyInfoReplies rules options wraps grip)
     unfolding KeyInfoReplies
-    key_info grip = ends_working request (bind Fits (reads_file grip) (λ file. bind Fits (tells_info grip file.key) (λ line. returned Fits _)))
+    key_info grip = ends_working request (bind Fits (reads_file grip) (λ file. bind Fits (tells_info fits grip file.key) (λ line. returned Fits _)))
 
     list_keys : EndsHere (ListKeysReplies rules options wraps)
     unfolding ListKeysReplies
-    list_keys = ends_working request (bind Fits (so (work.lists Fits tt (λ answer. tt))) (λ grips. bind Fits (writes_infos grips) (λ written. returned Fits _)))
+    list_keys = ends_working request (bind Fits (so (work.lists Fits tt (λ answer. tt))) (λ grips. bind Fits (writes_infos fits (λ grip answer. tt) grips) (λ written. returned Fits _)))
 
     key_wrap : (way : Direction) → EndsHere (KeyWrapReplies rules options wraps way)
     unfolding KeyWrapReplies
@@ -216,7 +181,7 @@ module _ (request : Request) where
     delete_key : (force : Bool) (grip : Grip) → EndsHere (DeleteKeyReplies rules options wraps force grip)
     unfolding DeleteKeyReplies
     delete_key force grip =
-        bind_ends request (so (work.finds Fits tt (λ answer. tt))) (λ there. bind_ends request (is_wanted Fits code.NoSecKey there) (λ some. bind_ends request (consents rules options grip options.mode force)
+        bind_ends request (so (work.finds Fits tt (λ answer. tt))) (λ there. bind_ends request (is_wanted Fits code.NoSecKey there) (λ some. bind_ends request (consents fits rules options grip options.mode force)
         (λ agreed. record { of = removes_so_of })))
 
     rewrites_file : (grip : Grip) (file : List ℕ) (key : Key) (pass : List ℕ) → EndsHere (RewritesFile rules options grip file key pass)
@@ -334,9 +299,9 @@ module _ (request : Request) (rules : Rules) (options : OptionValues) (wraps : W
     pub key_gone : {events : List Event} {after : WrapKeys} {went : KeyWent} {how : Gone} → Exchange rules options wraps asked events after went → IsSaid events (unheard.Gone how) → went ≡ key_went.Gone how
     key_gone (exchange.answered some held reply does closes_so) says_so =
         let ends = (replies request rules options wraps asked is).of does in
-        absurd (cc (ends_gone request ends (said_before some _ (answer_heard (Some reply.text) closes_so) says_so)))
+        absurd (cc (gone_only (ends_said request ends (said_before some _ (answer_heard (Some reply.text) closes_so) says_so))))
     key_gone {how} (exchange.refused some held why does closes_so) says_so =
         let ends = (replies request rules options wraps asked is).of does in
-        let same : Err why ≡ Err (Client (unheard.Gone how)) = ends_gone request ends (said_before some _ (answer_heard (refusal_line why) closes_so) says_so) in
+        let same : Err why ≡ Err (Client (unheard.Gone how)) = gone_only (ends_said request ends (said_before some _ (answer_heard (refusal_line why) closes_so) says_so)) in
         let refusal : why ≡ Client (unheard.Gone how) = cc same in
         ap (λ w. went_after (gone_by w)) refusal

@@ -46,7 +46,7 @@ use Rattle.key_commands.specs.Passphrases.{ask_nonce, LooksForNonce, TakesSeat, 
 use Rattle.key_commands.specs.Passphrases as passphrases
 use Rattle.session_client.specs.declared.refusal.Refusal.{Refusal}
 use Rattle.session_client.specs.declared.refusal.Refusal.TheVariants.{Client}
-use Rattle.agent_session.specs.Causes.{Has, StandIn, IsSaid, said, IsUnread, IsUnremoved, LacksKeys, on_keys, one, IsRead, read, IsReadOf, read_of, IsReadLocked, OpensRead, opens, IsFaulty, Unlocks, Judges}
+use Rattle.agent_session.specs.Causes.{Has, StandIn, IsCaused, IsSaid, said, IsUnread, IsUnremoved, LacksKeys, on_keys, one, IsRead, read, IsReadOf, read_of, IsReadLocked, OpensRead, opens, IsFaulty, Unlocks, Judges}
 use Rattle.agent_session.specs.Causes.{protection, faulty, HasCall, GivesNone, GivesNoneFor, none_at_all, wrong, ByNonce}
 use Rattle.agent_session.specs.Causes as causes
 use Rattle.agent_session.specs.Completeness.{AnswersNothing}
@@ -70,13 +70,13 @@ module _ (rules : Rules) (kept : Kept) (request : Request) (whole : List (Event 
   CausedHere = Caused rules kept request whole
 
   abbrev CausedRefusalHere : Refusal → Type 0
-  CausedRefusalHere = CausedRefusal rules kept request whole
+  CausedRefusalHere = CausedRefusal whole (IsCaused whole rules kept request)
 
   abbrev ComesHere : {A : Type 0} → (A → Type 0) → List (Event FurtherEvent) → Result A Refusal → Type 0
-  ComesHere = Comes rules kept request whole
+  ComesHere = Comes whole (IsCaused whole rules kept request)
 
   abbrev ExplainsHere : {A : Type 0} → (Option ℕ → List (Event FurtherEvent) → Result A Refusal → Option ℕ → Type 0) → (A → Type 0) → Type 0
-  ExplainsHere = Explains rules kept request whole
+  ExplainsHere = Explains whole (IsCaused whole rules kept request)
 
   -- ---- faults of keys
 
@@ -144,7 +144,7 @@ module _ (rules : Rules) (kept : Kept) (request : Request) (whole : List (Event 
   FoundByNonce (Some nonce) pass = FoundBy rules kept request whole (ask_nonce nonce) pass
 
   pub looks_for_nonce : (nonce : Option (List ℕ)) → ExplainsHere (LooksForNonce nonce) (FoundByNonce nonce)
-  looks_for_nonce None = returned rules kept request whole (FoundByNonce None) None refl
+  looks_for_nonce None = returned (FoundByNonce None) None refl
   looks_for_nonce (Some nonce) = looks rules kept request whole (ask_nonce nonce) refl
 
   none_by : (step : MarkStep) → FoundBy rules kept request whole step None → GivesNone whole step
@@ -169,7 +169,7 @@ module _ (rules : Rules) (kept : Kept) (request : Request) (whole : List (Event 
     takes_seat_of : (before : Option ℕ) (events : List (Event FurtherEvent)) (result : Result (Unit {0}) Refusal) (after : Option ℕ) → TakesSeat grip before events result after
         → StandIn events whole → ComesHere Anything events result
     takes_seat_of None events result after does stands = (seats rules kept request whole _ refl).of None events result after does stands
-    takes_seat_of (Some ticket) events result after does stands = (returned rules kept request whole Anything tt tt).of (Some ticket) events result after does stands
+    takes_seat_of (Some ticket) events result after does stands = (returned Anything tt tt).of (Some ticket) events result after does stands
 
     pub takes_seat : ExplainsHere (TakesSeat grip) Anything
     takes_seat = record { of = takes_seat_of }
@@ -178,7 +178,7 @@ module _ (rules : Rules) (kept : Kept) (request : Request) (whole : List (Event 
     keeps_new_of : (before : Option ℕ) (events : List (Event FurtherEvent)) (result : Result (Unit {0}) Refusal) (after : Option ℕ) → KeepsNew grip pass before events result after
         → StandIn events whole → ComesHere Anything events result
     keeps_new_of None events result after does stands = (changes rules kept request whole _ refl).of None events result after does stands
-    keeps_new_of (Some ticket) events result after does stands = closes_of rules kept request whole (Some pass) (Some ticket) events result after does stands
+    keeps_new_of (Some ticket) events result after does stands = closes_of (Some pass) (Some ticket) events result after does stands
 
     pub keeps_new : ExplainsHere (KeepsNew grip pass) Anything
     keeps_new = record { of = keeps_new_of }
@@ -227,7 +227,7 @@ module _ (rules : Rules) (kept : Kept) (request : Request) (whole : List (Event 
 
     -- one that was found is tried
     pub tries_found : (pass : Option (List ℕ)) → ExplainsHere (TriesFound locked pass) (Either (λ opened. OpensRead whole grip opened.key) (NoneOpens pass))
-    tries_found None = returned rules kept request whole (Either (λ opened. OpensRead whole grip opened.key) (NoneOpens None)) None (λ secret is. absurd (cc is))
+    tries_found None = returned (Either (λ opened. OpensRead whole grip opened.key) (NoneOpens None)) None (λ secret is. absurd (cc is))
     tries_found (Some pass) = record { of = tried_of pass }
 
     -- ---- prompts for passphrases

@@ -63,10 +63,10 @@ module _ (rules : Rules) (kept : Kept) (request : Request) (whole : List (Event 
   CausedHere = Caused rules kept request whole
 
   abbrev ComesHere : {A : Type 0} → (A → Type 0) → List (Event FurtherEvent) → Result A Refusal → Type 0
-  ComesHere = Comes rules kept request whole
+  ComesHere = Comes whole (IsCaused whole rules kept request)
 
   abbrev ExplainsHere : {A : Type 0} → (Option ℕ → List (Event FurtherEvent) → Result A Refusal → Option ℕ → Type 0) → (A → Type 0) → Type 0
-  ExplainsHere = Explains rules kept request whole
+  ExplainsHere = Explains whole (IsCaused whole rules kept request)
 
   -- ---- parts that only want memory
 
@@ -124,7 +124,7 @@ module _ (rules : Rules) (kept : Kept) (request : Request) (whole : List (Event 
   -- ---- what is known of keys
 
   tells_info : (grip : Grip) (key : Key) → ExplainsHere (TellsInfo grip key) IsStatus
-  tells_info grip key = bind rules kept request whole Anything IsStatus (peeks rules kept request whole grip) (λ cached any. returned rules kept request whole IsStatus _ (info_status grip cached key.is_clear))
+  tells_info grip key = bind Anything IsStatus (peeks rules kept request whole grip) (λ cached any. returned IsStatus _ (info_status grip cached key.is_clear))
 
   lists_of : (before : Option ℕ) (events : List (Event FurtherEvent)) (result : Result (List Grip) Refusal) (after : Option ℕ) → ListsGrips before events result after → StandIn events whole
       → ComesHere Anything events result
@@ -154,15 +154,15 @@ module _ (rules : Rules) (kept : Kept) (request : Request) (whole : List (Event 
   reads_listed grip = record { of = reads_listed_of grip }
 
   writes_info : (grip : Grip) (key : Option Key) → ExplainsHere (WritesInfo grip key) Anything
-  writes_info grip None = returned rules kept request whole Anything tt tt
-  writes_info grip (Some key) = bind rules kept request whole IsStatus Anything (tells_info grip key) (λ line status. writes rules kept request whole line status)
+  writes_info grip None = returned Anything tt tt
+  writes_info grip (Some key) = bind IsStatus Anything (tells_info grip key) (λ line status. writes rules kept request whole line status)
 
   tells_listed : (grip : Grip) → ExplainsHere (TellsListed grip) Anything
-  tells_listed grip = bind rules kept request whole Anything Anything (reads_listed grip) (λ key any. writes_info grip key)
+  tells_listed grip = bind Anything Anything (reads_listed grip) (λ key any. writes_info grip key)
 
   writes_infos : (grips : List Grip) → ExplainsHere (WritesInfos grips) Anything
-  writes_infos [] = returned rules kept request whole Anything tt tt
-  writes_infos (grip ∷ more) = bind rules kept request whole Anything Anything (tells_listed grip) (λ told any. writes_infos more)
+  writes_infos [] = returned Anything tt tt
+  writes_infos (grip ∷ more) = bind Anything Anything (tells_listed grip) (λ told any. writes_infos more)
 
   -- one of them is there, or all are absent, those among them that were read earlier
   abbrev unread : Grip → Event FurtherEvent
@@ -218,59 +218,59 @@ module _ (rules : Rules) (kept : Kept) (request : Request) (whole : List (Event 
 
   receives_key : (wrap : List ℕ) → kept.wraps.import ≡ Some wrap → ExplainsHere (ReceivesKey wrap) (λ key. KeyDataSays whole rules kept request (Ok key))
   receives_key wrap drawn =
-      bind rules kept request whole Anything (λ key. KeyDataSays whole rules kept request (Ok key)) (writes rules kept request whole (limit_line max_key_data) (limit_status max_key_data (omega arith)))
-      (λ told any. bind rules kept request whole (IsSent whole (codes "KEYDATA") max_key_data) (λ key. KeyDataSays whole rules kept request (Ok key)) asks_key_data (λ wrapped sent. unwraps wrap wrapped drawn sent))
+      bind Anything (λ key. KeyDataSays whole rules kept request (Ok key)) (writes rules kept request whole (limit_line max_key_data) (limit_status max_key_data (omega arith)))
+      (λ told any. bind (IsSent whole (codes "KEYDATA") max_key_data) (λ key. KeyDataSays whole rules kept request (Ok key)) asks_key_data (λ wrapped sent. unwraps wrap wrapped drawn sent))
 
   is_free : (force : Bool) {key : Key} (grip : Grip) {id : Option (List ℕ)} → on_keys request ≡ Some (on.ImportKey force id) → KeyDataSays whole rules kept request (Ok key) → grip.0 ≡ grip_of key
       → ExplainsHere (IsFree force grip) Anything
-  is_free true grip asked says named = returned rules kept request whole Anything tt tt
-  is_free false grip asked says named = bind rules kept request whole (IsFound rules kept request whole grip) Anything (finds rules kept request whole grip) (λ found so. free found so)
+  is_free true grip asked says named = returned Anything tt tt
+  is_free false grip asked says named = bind (IsFound rules kept request whole grip) Anything (finds rules kept request whole grip) (λ found so. free found so)
     where
       free : (found : Bool) → IsFound rules kept request whole grip found → ExplainsHere (wanted code.FileExists (not found)) Anything
-      free true so = refused rules kept request whole Anything (Agent code.FileExists) (there asked says named so.1)
-      free false so = returned rules kept request whole Anything tt tt
+      free true so = refused Anything (Agent code.FileExists) (there asked says named so.1)
+      free false so = returned Anything tt tt
 
   -- ---- the old passphrase
 
   module _ {A : Type 0} (Good : A → Type 0) (Else : Type 0) where
     pub if_needed : (why : Code) (value : Option A) → Either rules kept request whole Good Else value → (Else → CausedHere why) → ExplainsHere (needed why value) Good
-    if_needed why None otherwise caused = refused rules kept request whole Good (Agent why) (caused otherwise)
-    if_needed why (Some value) good caused = returned rules kept request whole Good value good
+    if_needed why None otherwise caused = refused Good (Agent why) (caused otherwise)
+    if_needed why (Some value) good caused = returned Good value good
 
     pub or_else_explained : (value : Option A) (other : Part A) → Either rules kept request whole Good Else value → (Else → ExplainsHere other Good) → ExplainsHere (or_else value other) Good
     or_else_explained None other otherwise explains = explains otherwise
-    or_else_explained (Some value) other good explains = returned rules kept request whole Good value good
+    or_else_explained (Some value) other good explains = returned Good value good
 
   module _ (grip : Grip) (unlocks : Unlocks request grip) (locked : LockedKey) (is_locked : IsReadLocked whole grip locked) where
     client_old : kept.options.mode ≡ mode.Loopback → ExplainsHere (ClientOld rules kept.options grip locked) (λ opened. OpensRead whole grip opened.key)
     unfolding ClientOld
     client_old loopback =
-        bind rules kept request whole (IsSent whole (codes "PASSPHRASE") MAX_SECRET_LEN) (λ opened. OpensRead whole grip opened.key) (asks_client rules kept request whole (codes "PASSPHRASE") MAX_SECRET_LEN (omega arith))
-        (λ pass sent. bind rules kept request whole (Either rules kept request whole (λ opened. OpensRead whole grip opened.key) (¬ OpensBy locked pass)) (λ opened. OpensRead whole grip opened.key)
+        bind (IsSent whole (codes "PASSPHRASE") MAX_SECRET_LEN) (λ opened. OpensRead whole grip opened.key) (asks_client rules kept request whole (codes "PASSPHRASE") MAX_SECRET_LEN (omega arith))
+        (λ pass sent. bind (Either rules kept request whole (λ opened. OpensRead whole grip opened.key) (¬ OpensBy locked pass)) (λ opened. OpensRead whole grip opened.key)
         (tries rules kept request whole grip unlocks locked is_locked pass)
-        (λ tried so. bind rules kept request whole (λ opened. OpensRead whole grip opened.key) (λ opened. OpensRead whole grip opened.key)
+        (λ tried so. bind (λ opened. OpensRead whole grip opened.key) (λ opened. OpensRead whole grip opened.key)
         (if_needed (λ opened. OpensRead whole grip opened.key) (¬ OpensBy locked pass) code.BadPass tried so (λ closed. stays loopback unlocks is_locked sent closed))
-        (λ opened opens. bind rules kept request whole Anything (λ opened. OpensRead whole grip opened.key) (changes rules kept request whole _ refl)
-        (λ kept_so any. returned rules kept request whole (λ opened. OpensRead whole grip opened.key) opened opens))))
+        (λ opened opens. bind Anything (λ opened. OpensRead whole grip opened.key) (changes rules kept request whole _ refl)
+        (λ kept_so any. returned (λ opened. OpensRead whole grip opened.key) opened opens))))
 
     uncached_old : (way : PinMode) → kept.options.mode ≡ way → HasNoEntry whole request → ExplainsHere (UncachedOld rules kept.options grip way locked) (λ opened. OpensRead whole grip opened.key)
     uncached_old mode.Ask is unmet =
-        bind rules kept request whole Anything (λ opened. OpensRead whole grip opened.key) (takes_seat rules kept request whole grip) (λ seated any. prompts_old rules kept request whole grip unlocks locked is_locked)
-    uncached_old mode.Cancel is unmet = refused rules kept request whole (λ opened. OpensRead whole grip opened.key) (Agent code.Cancelled) (by_mode is unmet)
-    uncached_old mode.Error is unmet = refused rules kept request whole (λ opened. OpensRead whole grip opened.key) (Agent code.NoPinentry) (inl (by_mode is unmet))
+        bind Anything (λ opened. OpensRead whole grip opened.key) (takes_seat rules kept request whole grip) (λ seated any. prompts_old rules kept request whole grip unlocks locked is_locked)
+    uncached_old mode.Cancel is unmet = refused (λ opened. OpensRead whole grip opened.key) (Agent code.Cancelled) (by_mode is unmet)
+    uncached_old mode.Error is unmet = refused (λ opened. OpensRead whole grip opened.key) (Agent code.NoPinentry) (inl (by_mode is unmet))
     uncached_old mode.Loopback is unmet = client_old is
 
     opens_locked : (nonce : Option (List ℕ)) → (ByNonce whole (GivesNoneFor whole locked) nonce → GivesNoneFor whole locked (ask_key grip (way_of kept.options.mode)) → HasNoEntry whole request)
         → ExplainsHere (OpensLocked rules kept.options grip nonce locked) (λ opened. OpensRead whole grip opened.key)
     unfolding OpensLocked
     opens_locked nonce unmet =
-        bind rules kept request whole (FoundByNonce rules kept request whole nonce) (λ opened. OpensRead whole grip opened.key) (looks_for_nonce rules kept request whole nonce)
-        (λ by_nonce by. bind rules kept request whole (Either rules kept request whole (λ opened. OpensRead whole grip opened.key) (NoneOpens rules kept request whole grip unlocks locked is_locked by_nonce))
+        bind (FoundByNonce rules kept request whole nonce) (λ opened. OpensRead whole grip opened.key) (looks_for_nonce rules kept request whole nonce)
+        (λ by_nonce by. bind (Either rules kept request whole (λ opened. OpensRead whole grip opened.key) (NoneOpens rules kept request whole grip unlocks locked is_locked by_nonce))
         (λ opened. OpensRead whole grip opened.key)
         (tries_found rules kept request whole grip unlocks locked is_locked by_nonce)
         (λ first so. or_else_explained (λ opened. OpensRead whole grip opened.key) (NoneOpens rules kept request whole grip unlocks locked is_locked by_nonce) first _ so
-        (λ first_closed. bind rules kept request whole (FoundBy rules kept request whole (ask_key grip (way_of kept.options.mode))) (λ opened. OpensRead whole grip opened.key) (looks rules kept request whole _ refl)
-        (λ cached given. bind rules kept request whole (Either rules kept request whole (λ opened. OpensRead whole grip opened.key) (NoneOpens rules kept request whole grip unlocks locked is_locked cached))
+        (λ first_closed. bind (FoundBy rules kept request whole (ask_key grip (way_of kept.options.mode))) (λ opened. OpensRead whole grip opened.key) (looks rules kept request whole _ refl)
+        (λ cached given. bind (Either rules kept request whole (λ opened. OpensRead whole grip opened.key) (NoneOpens rules kept request whole grip unlocks locked is_locked cached))
         (λ opened. OpensRead whole grip opened.key)
         (tries_found rules kept request whole grip unlocks locked is_locked cached)
         (λ second so. or_else_explained (λ opened. OpensRead whole grip opened.key) (NoneOpens rules kept request whole grip unlocks locked is_locked cached) second _ so
@@ -282,17 +282,17 @@ module _ (rules : Rules) (kept : Kept) (request : Request) (whole : List (Event 
     pub old_passphrase : (clear : Bool) (key : Key) (id : Option (List ℕ)) → IsRead whole grip (Ok (record key { is_clear = clear }))
         → ((locked : LockedKey) → IsReadLocked whole grip locked → ByNonce whole (GivesNoneFor whole locked) id → GivesNoneFor whole locked (ask_key grip (way_of kept.options.mode)) → HasNoEntry whole request)
         → ExplainsHere (OldPassphrase rules kept.options grip id (record key { is_clear = clear })) (λ opened. OpensRead whole grip opened.key)
-    old_passphrase true key id is_read unmet = returned rules kept request whole (λ opened. OpensRead whole grip opened.key) _ (is_clear is_read refl)
+    old_passphrase true key id is_read unmet = returned (λ opened. OpensRead whole grip opened.key) _ (is_clear is_read refl)
     old_passphrase false key id is_read unmet =
-        bind rules kept request whole (IsReadLocked whole grip) (λ opened. OpensRead whole grip opened.key) (locks rules kept request whole grip unlocks (record key { is_clear = false }) is_read refl)
+        bind (IsReadLocked whole grip) (λ opened. OpensRead whole grip opened.key) (locks rules kept request whole grip unlocks (record key { is_clear = false }) is_read refl)
         (λ locked is_locked. opens_locked grip unlocks locked is_locked id (unmet locked is_locked))
 
     verifies_passphrase : (clear : Bool) (key : Key) → IsRead whole grip (Ok (record key { is_clear = clear }))
         → ((locked : LockedKey) → IsReadLocked whole grip locked → HasNoEntry whole request)
         → ExplainsHere (VerifiesPassphrase rules kept.options grip (record key { is_clear = clear })) (λ opened. OpensRead whole grip opened.key)
-    verifies_passphrase true key is_read unmet = returned rules kept request whole (λ opened. OpensRead whole grip opened.key) _ (is_clear is_read refl)
+    verifies_passphrase true key is_read unmet = returned (λ opened. OpensRead whole grip opened.key) _ (is_clear is_read refl)
     verifies_passphrase false key is_read unmet =
-        bind rules kept request whole (IsReadLocked whole grip) (λ opened. OpensRead whole grip opened.key) (locks rules kept request whole grip unlocks (record key { is_clear = false }) is_read refl)
+        bind (IsReadLocked whole grip) (λ opened. OpensRead whole grip opened.key) (locks rules kept request whole grip unlocks (record key { is_clear = false }) is_read refl)
         (λ locked is_locked. uncached_old grip unlocks locked is_locked kept.options.mode refl (unmet locked is_locked))
 
   -- ---- a new passphrase
@@ -301,10 +301,10 @@ module _ (rules : Rules) (kept : Kept) (request : Request) (whole : List (Event 
     client_new : kept.options.mode ≡ mode.Loopback → ExplainsHere ClientNew Anything
     unfolding ClientNew
     client_new loopback =
-        bind rules kept request whole (IsSent whole (codes "NEW_PASSPHRASE") MAX_SECRET_LEN) Anything (asks_client rules kept request whole (codes "NEW_PASSPHRASE") MAX_SECRET_LEN (omega arith))
-        (λ pass sent. bind rules kept request whole (λ done. not (length pass == 0) ≡ true) Anything (is_wanted rules kept request whole code.BadPass (not (length pass == 0))
+        bind (IsSent whole (codes "NEW_PASSPHRASE") MAX_SECRET_LEN) Anything (asks_client rules kept request whole (codes "NEW_PASSPHRASE") MAX_SECRET_LEN (omega arith))
+        (λ pass sent. bind (λ done. not (length pass == 0) ≡ true) Anything (is_wanted code.BadPass (not (length pass == 0))
         (λ none. empty loopback (subst (IsSent whole (codes "NEW_PASSPHRASE") MAX_SECRET_LEN) (is_empty pass none) sent)))
-        (λ some so. returned rules kept request whole Anything pass tt))
+        (λ some so. returned Anything pass tt))
       where
         is_empty : (pass : List ℕ) → not (length pass == 0) ≡ false → pass ≡ []
         is_empty pass none = nil_from_length pass (grind (arith, nat_tests, none))
@@ -314,20 +314,20 @@ module _ (rules : Rules) (kept : Kept) (request : Request) (whole : List (Event 
   abbrev in_mode : PinMode → Kept
   in_mode way = record kept { options = record kept.options { mode = way } }
 
-  new_passphrase : (way : PinMode) → HasNoEntry whole request → Explains rules (in_mode way) request whole (NewPassphrase rules (in_mode way).options grip) Anything
+  new_passphrase : (way : PinMode) → HasNoEntry whole request → Explains whole (IsCaused whole rules (in_mode way) request) (NewPassphrase rules (in_mode way).options grip) Anything
   new_passphrase mode.Ask unmet =
-      bind rules (in_mode mode.Ask) request whole Anything Anything (takes_seat rules (in_mode mode.Ask) request whole grip) (λ seated any. prompts_new rules (in_mode mode.Ask) request whole grip)
-  new_passphrase mode.Cancel unmet = refused rules (in_mode mode.Cancel) request whole Anything (Agent code.Cancelled) (by_mode refl unmet)
-  new_passphrase mode.Error unmet = refused rules (in_mode mode.Error) request whole Anything (Agent code.NoPinentry) (inl (by_mode refl unmet))
+      bind Anything Anything (takes_seat rules (in_mode mode.Ask) request whole grip) (λ seated any. prompts_new rules (in_mode mode.Ask) request whole grip)
+  new_passphrase mode.Cancel unmet = refused Anything (Agent code.Cancelled) (by_mode refl unmet)
+  new_passphrase mode.Error unmet = refused Anything (Agent code.NoPinentry) (inl (by_mode refl unmet))
   new_passphrase mode.Loopback unmet = client_new rules (in_mode mode.Loopback) request whole grip refl
 
-  consents : (way : PinMode) (force : Bool) → on_keys request ≡ Some (on.DeleteKey grip force) → Explains rules (in_mode way) request whole (Consents rules (in_mode way).options force grip) Anything
-  consents way true asked = returned rules (in_mode way) request whole Anything tt tt
+  consents : (way : PinMode) (force : Bool) → on_keys request ≡ Some (on.DeleteKey grip force) → Explains whole (IsCaused whole rules (in_mode way) request) (Consents rules (in_mode way).options force grip) Anything
+  consents way true asked = returned Anything tt tt
   consents mode.Ask false asked =
-      bind rules (in_mode mode.Ask) request whole Anything Anything (seats rules (in_mode mode.Ask) request whole _ refl) (λ seated any. agrees rules (in_mode mode.Ask) request whole _)
-  consents mode.Cancel false asked = refused rules (in_mode mode.Cancel) request whole Anything (Agent code.Cancelled) (by_mode refl (HasNoEntry.of_consent (deletion asked)))
-  consents mode.Error false asked = refused rules (in_mode mode.Error) request whole Anything (Agent code.NoPinentry) (inl (by_mode refl (HasNoEntry.of_consent (deletion asked))))
-  consents mode.Loopback false asked = refused rules (in_mode mode.Loopback) request whole Anything (Agent code.NoPinentry) (inl (IsUnprompted.of_consent (deletion asked) refl))
+      bind Anything Anything (seats rules (in_mode mode.Ask) request whole _ refl) (λ seated any. agrees rules (in_mode mode.Ask) request whole _)
+  consents mode.Cancel false asked = refused Anything (Agent code.Cancelled) (by_mode refl (HasNoEntry.of_consent (deletion asked)))
+  consents mode.Error false asked = refused Anything (Agent code.NoPinentry) (inl (by_mode refl (HasNoEntry.of_consent (deletion asked))))
+  consents mode.Loopback false asked = refused Anything (Agent code.NoPinentry) (inl (IsUnprompted.of_consent (deletion asked) refl))
 
 -- ---- requests
 
@@ -335,162 +335,162 @@ module _ (rules : Rules) (kept : Kept) (request : Request) (whole : List (Event 
   abbrev pub Replied : KeyReply → Type 0
   Replied reply = IsReply reply.text
 
-  replied : (reply : KeyReply) → Replied reply → Explains rules kept request whole (Returns reply) Replied
-  replied reply text = returned rules kept request whole Replied reply text
+  replied : (reply : KeyReply) → Replied reply → Explains whole (IsCaused whole rules kept request) (Returns reply) Replied
+  replied reply text = returned Replied reply text
 
-  have_key : (grips : List Grip) → on_keys request ≡ Some (on.HaveKey grips) → Explains rules kept request whole (HaveKeyReplies rules kept.options kept.wraps grips) Replied
+  have_key : (grips : List Grip) → on_keys request ≡ Some (on.HaveKey grips) → Explains whole (IsCaused whole rules kept request) (HaveKeyReplies rules kept.options kept.wraps grips) Replied
   unfolding HaveKeyReplies
   have_key grips asked =
-      bind rules kept request whole Anything Replied (has_one rules kept request whole grips (λ each. subst (LacksKeys whole) (sym asked) each)) (λ one any. replied _ reply_ok)
+      bind Anything Replied (has_one rules kept request whole grips (λ each. subst (LacksKeys whole) (sym asked) each)) (λ one any. replied _ reply_ok)
 
-  key_info : (grip : Grip) → on_keys request ≡ Some (on.KeyInfo grip) → Explains rules kept request whole (KeyInfoReplies rules kept.options kept.wraps grip) Replied
+  key_info : (grip : Grip) → on_keys request ≡ Some (on.KeyInfo grip) → Explains whole (IsCaused whole rules kept request) (KeyInfoReplies rules kept.options kept.wraps grip) Replied
   unfolding KeyInfoReplies
   key_info grip asked =
-      bind rules kept request whole (λ file. IsReadOf whole grip file.bytes × IsRead whole grip (Ok file.key)) Replied (reads_file rules kept request whole grip (causes.tells asked) (λ absent. subst (LacksKeys whole) (sym asked) absent))
-      (λ file is_read. bind rules kept request whole IsStatus Replied (tells_info rules kept request whole grip file.key) (λ line status. replied _ (reply_status _ status)))
+      bind (λ file. IsReadOf whole grip file.bytes × IsRead whole grip (Ok file.key)) Replied (reads_file rules kept request whole grip (causes.tells asked) (λ absent. subst (LacksKeys whole) (sym asked) absent))
+      (λ file is_read. bind IsStatus Replied (tells_info rules kept request whole grip file.key) (λ line status. replied _ (reply_status _ status)))
 
-  list_keys : Explains rules kept request whole (ListKeysReplies rules kept.options kept.wraps) Replied
+  list_keys : Explains whole (IsCaused whole rules kept request) (ListKeysReplies rules kept.options kept.wraps) Replied
   unfolding ListKeysReplies
   list_keys =
-      bind rules kept request whole Anything Replied (lists rules kept request whole)
-      (λ grips any. bind rules kept request whole Anything Replied (writes_infos rules kept request whole grips) (λ written any. replied _ reply_ok))
+      bind Anything Replied (lists rules kept request whole)
+      (λ grips any. bind Anything Replied (writes_infos rules kept request whole grips) (λ written any. replied _ reply_ok))
 
-  key_wrap : (way : Direction) → Explains rules kept request whole (KeyWrapReplies rules kept.options kept.wraps way) Replied
+  key_wrap : (way : Direction) → Explains whole (IsCaused whole rules kept request) (KeyWrapReplies rules kept.options kept.wraps way) Replied
   unfolding KeyWrapReplies
   key_wrap way =
-      bind rules kept request whole Anything Replied (or_otherwise rules kept request whole Anything (wrap_key way kept.wraps) _ (λ some is. tt)
-      (λ none. whatever rules kept request whole (IsDrawn whole 16) (draws rules kept request whole 16)))
-      (λ key any. bind rules kept request whole IsReply Replied (told rules kept request whole key) (λ text is_reply. replied _ is_reply))
+      bind Anything Replied (or_otherwise Anything (wrap_key way kept.wraps) _ (λ some is. tt)
+      (λ none. whatever (IsDrawn whole 16) (draws rules kept request whole 16)))
+      (λ key any. bind IsReply Replied (told rules kept request whole key) (λ text is_reply. replied _ is_reply))
 
   export_key : (grip : Grip) (nonce : Option (List ℕ)) → on_keys request ≡ Some (on.ExportKey grip nonce)
-      → Explains rules kept request whole (ExportKeyReplies rules kept.options kept.wraps grip nonce) Replied
+      → Explains whole (IsCaused whole rules kept request) (ExportKeyReplies rules kept.options kept.wraps grip nonce) Replied
   unfolding ExportKeyReplies
   export_key grip id asked =
-      bind rules kept request whole Anything Replied (is_needed rules kept request whole Anything code.Parameter kept.wraps.export (λ none. no_export asked none) (λ some is. tt))
-      (λ wrap any. bind rules kept request whole (λ file. IsReadOf whole grip file.bytes × IsRead whole grip (Ok file.key)) Replied
+      bind Anything Replied (is_needed Anything code.Parameter kept.wraps.export (λ none. no_export asked none) (λ some is. tt))
+      (λ wrap any. bind (λ file. IsReadOf whole grip file.bytes × IsRead whole grip (Ok file.key)) Replied
       (reads_file rules kept request whole grip (causes.unlocks (exports asked)) (λ absent. subst (LacksKeys whole) (sym asked) absent))
-      (λ file is_read. bind rules kept request whole (λ opened. OpensRead whole grip opened.key) Replied (old_passphrase rules kept request whole grip (exports asked) file.key.is_clear file.key id is_read.1
+      (λ file is_read. bind (λ opened. OpensRead whole grip opened.key) Replied (old_passphrase rules kept request whole grip (exports asked) file.key.is_clear file.key id is_read.1
       (λ locked is_locked by_nonce by_key. exported _ asked is_locked by_nonce by_key))
-      (λ opened opens. bind rules kept request whole Anything Replied (closes_explained rules kept request whole opened.by)
-      (λ closed any. bind rules kept request whole Anything Replied (wraps_key rules kept request whole wrap opened.key)
-      (λ wrapped any. bind rules kept request whole IsReply Replied (told rules kept request whole wrapped) (λ text is_reply. replied _ is_reply))))))
+      (λ opened opens. bind Anything Replied (closes_explained opened.by)
+      (λ closed any. bind Anything Replied (wraps_key rules kept request whole wrap opened.key)
+      (λ wrapped any. bind IsReply Replied (told rules kept request whole wrapped) (λ text is_reply. replied _ is_reply))))))
 
   verify : (grip : Grip) {old new : Option (List ℕ)} → on_keys request ≡ Some (on.Passwd grip old new true)
-      → Explains rules kept request whole (VerifyReplies rules kept.options kept.wraps grip) Replied
+      → Explains whole (IsCaused whole rules kept request) (VerifyReplies rules kept.options kept.wraps grip) Replied
   unfolding VerifyReplies
   verify grip asked =
-      bind rules kept request whole (λ file. IsReadOf whole grip file.bytes × IsRead whole grip (Ok file.key)) Replied
+      bind (λ file. IsReadOf whole grip file.bytes × IsRead whole grip (Ok file.key)) Replied
       (reads_file rules kept request whole grip (causes.unlocks (causes.changes asked)) (λ absent. subst (LacksKeys whole) (sym asked) absent))
-      (λ file is_read. bind rules kept request whole
+      (λ file is_read. bind
       (λ opened. OpensRead whole grip opened.key) Replied (verifies_passphrase rules kept request whole grip (causes.changes asked) file.key.is_clear file.key is_read.1 (λ locked is_locked. verified asked is_locked))
-      (λ opened opens. bind rules kept request whole Anything Replied (closes_explained rules kept request whole opened.by) (λ closed any. replied _ reply_ok)))
+      (λ opened opens. bind Anything Replied (closes_explained opened.by) (λ closed any. replied _ reply_ok)))
 
-  delete_key : (grip : Grip) (force : Bool) → on_keys request ≡ Some (on.DeleteKey grip force) → Explains rules kept request whole (DeleteKeyReplies rules kept.options kept.wraps force grip) Replied
+  delete_key : (grip : Grip) (force : Bool) → on_keys request ≡ Some (on.DeleteKey grip force) → Explains whole (IsCaused whole rules kept request) (DeleteKeyReplies rules kept.options kept.wraps force grip) Replied
   unfolding DeleteKeyReplies
   delete_key grip force asked =
-      bind rules kept request whole (IsFound rules kept request whole grip) Replied (finds rules kept request whole grip)
-      (λ found so. bind rules kept request whole (λ done. found ≡ true) Replied (is_wanted rules kept request whole code.NoSecKey found (λ none. lacks found none so))
-      (λ some any. bind rules kept request whole Anything Replied (consents rules kept request whole grip kept.options.mode force asked)
-      (λ agreed any. bind rules kept request whole Anything Replied (removes rules kept request whole grip (λ absent. subst (LacksKeys whole) (sym asked) (inr absent)))
-      (λ removed any. bind rules kept request whole Anything Replied (changes rules kept request whole _ refl) (λ cleared any. replied _ reply_ok)))))
+      bind (IsFound rules kept request whole grip) Replied (finds rules kept request whole grip)
+      (λ found so. bind (λ done. found ≡ true) Replied (is_wanted code.NoSecKey found (λ none. lacks found none so))
+      (λ some any. bind Anything Replied (consents rules kept request whole grip kept.options.mode force asked)
+      (λ agreed any. bind Anything Replied (removes rules kept request whole grip (λ absent. subst (LacksKeys whole) (sym asked) (inr absent)))
+      (λ removed any. bind Anything Replied (changes rules kept request whole _ refl) (λ cleared any. replied _ reply_ok)))))
     where
       lacks : (found : Bool) → found ≡ false → IsFound rules kept request whole grip found → LacksKeys whole (on_keys request)
       lacks true none so = absurd (cc none)
       lacks false none so = subst (LacksKeys whole) (sym asked) (inl so)
 
   found_or_new : (grip : Grip) (force : Bool) (nonce : Option (List ℕ)) → on_keys request ≡ Some (on.ImportKey force nonce)
-      → Explains rules kept request whole (FoundOrNew rules kept.options nonce grip) Anything
+      → Explains whole (IsCaused whole rules kept request) (FoundOrNew rules kept.options nonce grip) Anything
   found_or_new grip force id asked =
-      bind rules kept request whole (Overlooked rules kept request whole id) Anything (looks_over rules kept request whole id)
-      (λ found so. or_otherwise rules kept request whole Anything found _ (λ some is. tt)
+      bind (Overlooked rules kept request whole id) Anything (looks_over rules kept request whole id)
+      (λ found so. or_otherwise Anything found _ (λ some is. tt)
       (λ none. new_passphrase rules kept request whole grip kept.options.mode (imported asked (subst (Overlooked rules kept request whole id) none so))))
 
   -- PASSWD of a key
   module _ (grip : Grip) {old new : Option (List ℕ)} (asked : on_keys request ≡ Some (on.Passwd grip old new false)) where
-    renews : Explains rules kept request whole (RenewsPassphrase rules kept.options grip new) Anything
+    renews : Explains whole (IsCaused whole rules kept request) (RenewsPassphrase rules kept.options grip new) Anything
     renews =
-        bind rules kept request whole (FoundByNonce rules kept request whole new) Anything (looks_for_nonce rules kept request whole new)
-        (λ found by. or_otherwise rules kept request whole Anything found _ (λ some is. tt)
+        bind (FoundByNonce rules kept request whole new) Anything (looks_for_nonce rules kept request whole new)
+        (λ found by. or_otherwise Anything found _ (λ some is. tt)
         (λ none. new_passphrase rules kept request whole grip kept.options.mode (renewed asked (nonce_none rules kept request whole new (subst (FoundByNonce rules kept request whole new) none by)))))
 
     module _ (key : Key) (opens : OpensRead whole grip key) where
       is_short_of : (before : Option ℕ) (events : List (Event FurtherEvent)) (result : Result (Unit {0}) Refusal) (after : Option ℕ) → IsShort key before events result after → StandIn events whole
-          → Comes rules kept request whole Anything events result
+          → Comes whole (IsCaused whole rules kept request) Anything events result
       is_short_of before events result after (parts.short few) stands = record { silent = tt; explained = tt }
       is_short_of before events result after (parts.long many) stands = record { silent = tt; explained = long asked opens many }
 
-      is_short : Explains rules kept request whole (IsShort key) Anything
+      is_short : Explains whole (IsCaused whole rules kept request) (IsShort key) Anything
       is_short = record { of = is_short_of }
 
       module _ (file : List ℕ) (is_read : IsReadOf whole grip file) (pass : List ℕ) where
         module _ (list : List ℕ) (is_list : IsListOf whole key pass kept.options.s2k_count list) where
           rewrites_of : (before : Option ℕ) (events : List (Event FurtherEvent)) (result : Result (List ℕ) Refusal) (after : Option ℕ) → Rewrites file list before events result after
-              → StandIn events whole → Comes rules kept request whole Anything events result
+              → StandIn events whole → Comes whole (IsCaused whole rules kept request) Anything events result
           rewrites_of before events result after (files.canonical_file is) stands = record { silent = tt; explained = tt }
           rewrites_of before events result after (files.extended_file other with_list few) stands = record { silent = tt; explained = tt }
           rewrites_of before events result after (files.too_long new_file other with_list many) stands =
               record { silent = tt; explained = long_file pass asked is_read other opens is_list with_list many }
           rewrites_of before events result after files.no_memory stands = record { silent = (tt, tt); explained = out_of_memory_first rules kept request whole stands }
 
-          rewrites : Explains rules kept request whole (Rewrites file list) Anything
+          rewrites : Explains whole (IsCaused whole rules kept request) (Rewrites file list) Anything
           rewrites = record { of = rewrites_of }
 
   -- ---- key files that are replaced
 
   module _ (never_absent : (grip : Grip) (file : List ℕ) → Has (Further (Keys (Replaced grip file key_done.Absent))) whole → ⊥) where
-    stores_key : (count : ℕ) (key : Key) (grip : Grip) (pass : List ℕ) → Explains rules kept request whole (StoresKey count key grip pass) Anything
+    stores_key : (count : ℕ) (key : Key) (grip : Grip) (pass : List ℕ) → Explains whole (IsCaused whole rules kept request) (StoresKey count key grip pass) Anything
     stores_key count key grip pass =
-        bind rules kept request whole (IsDrawn whole 32) Anything (draws rules kept request whole 32)
-        (λ drawn is_drawn. bind rules kept request whole (IsProtected rules kept request whole key pass (take 8 drawn) (take 12 (drop 8 drawn)) count) Anything
+        bind (IsDrawn whole 32) Anything (draws rules kept request whole 32)
+        (λ drawn is_drawn. bind (IsProtected rules kept request whole key pass (take 8 drawn) (take 12 (drop 8 drawn)) count) Anything
         (protects rules kept request whole key pass (take 8 drawn) (take 12 (drop 8 drawn)) count)
-        (λ file is_protected. bind rules kept request whole Anything Anything (changes rules kept request whole _ refl)
-        (λ cached any. bind rules kept request whole Anything Anything (replaces rules kept request whole never_absent grip file)
-        (λ replaced any. bind rules kept request whole Anything Anything (keeps_new rules kept request whole grip pass)
-        (λ kept_so any. returned rules kept request whole Anything (drop 20 drawn) tt)))))
+        (λ file is_protected. bind Anything Anything (changes rules kept request whole _ refl)
+        (λ cached any. bind Anything Anything (replaces rules kept request whole never_absent grip file)
+        (λ replaced any. bind Anything Anything (keeps_new rules kept request whole grip pass)
+        (λ kept_so any. returned Anything (drop 20 drawn) tt)))))
 
     import_key : (force : Bool) (nonce : Option (List ℕ)) → on_keys request ≡ Some (on.ImportKey force nonce)
-        → Explains rules kept request whole (ImportKeyReplies rules kept.options kept.wraps force nonce) Replied
+        → Explains whole (IsCaused whole rules kept request) (ImportKeyReplies rules kept.options kept.wraps force nonce) Replied
     unfolding ImportKeyReplies
     import_key force id asked =
-        bind rules kept request whole (λ wrap. kept.wraps.import ≡ Some wrap) Replied (is_needed rules kept request whole (λ wrap. kept.wraps.import ≡ Some wrap) code.Parameter kept.wraps.import
+        bind (λ wrap. kept.wraps.import ≡ Some wrap) Replied (is_needed (λ wrap. kept.wraps.import ≡ Some wrap) code.Parameter kept.wraps.import
         (λ none. no_import asked none) (λ some is. is))
-        (λ wrap drawn. bind rules kept request whole (λ key. KeyDataSays whole rules kept request (Ok key)) Replied (receives_key rules kept request whole wrap drawn)
-        (λ key says. bind rules kept request whole (λ grip. grip.0 ≡ grip_of key) Replied (names_key rules kept request whole key)
-        (λ grip named. bind rules kept request whole Anything Replied (is_free rules kept request whole force grip asked says named)
-        (λ free any. bind rules kept request whole Anything Replied (found_or_new grip force id asked)
-        (λ pass any. bind rules kept request whole Anything Replied (stores_key kept.options.s2k_count key grip pass)
+        (λ wrap drawn. bind (λ key. KeyDataSays whole rules kept request (Ok key)) Replied (receives_key rules kept request whole wrap drawn)
+        (λ key says. bind (λ grip. grip.0 ≡ grip_of key) Replied (names_key rules kept request whole key)
+        (λ grip named. bind Anything Replied (is_free rules kept request whole force grip asked says named)
+        (λ free any. bind Anything Replied (found_or_new grip force id asked)
+        (λ pass any. bind Anything Replied (stores_key kept.options.s2k_count key grip pass)
         (λ cache_nonce any. replied _ (reply_nonce _)))))))
 
     module _ (grip : Grip) {old new : Option (List ℕ)} (asked : on_keys request ≡ Some (on.Passwd grip old new false)) (file : List ℕ) (is_read : IsReadOf whole grip file) (key : Key)
         (opens : OpensRead whole grip key) where
-      rewrites_file : (pass : List ℕ) → Explains rules kept request whole (RewritesFile rules kept.options grip file key pass) Anything
+      rewrites_file : (pass : List ℕ) → Explains whole (IsCaused whole rules kept request) (RewritesFile rules kept.options grip file key pass) Anything
       unfolding RewritesFile
       rewrites_file pass =
-          bind rules kept request whole (IsDrawn whole 20) Anything (draws rules kept request whole 20)
-          (λ drawn is_drawn. bind rules kept request whole (IsProtected rules kept request whole key pass (take 8 drawn) (drop 8 drawn) kept.options.s2k_count) Anything
+          bind (IsDrawn whole 20) Anything (draws rules kept request whole 20)
+          (λ drawn is_drawn. bind (IsProtected rules kept request whole key pass (take 8 drawn) (drop 8 drawn) kept.options.s2k_count) Anything
           (protects rules kept request whole key pass (take 8 drawn) (drop 8 drawn) kept.options.s2k_count)
-          (λ list is_protected. bind rules kept request whole Anything Anything (rewrites grip asked key opens file is_read pass list (protected is_drawn is_protected))
-          (λ new_file any. bind rules kept request whole Anything Anything (replaces rules kept request whole never_absent grip new_file)
+          (λ list is_protected. bind Anything Anything (rewrites grip asked key opens file is_read pass list (protected is_drawn is_protected))
+          (λ new_file any. bind Anything Anything (replaces rules kept request whole never_absent grip new_file)
           (λ replaced any. keeps_new rules kept request whole grip pass))))
 
-      changes_opened : Explains rules kept request whole (ChangesOpened rules kept.options grip new file key) Anything
+      changes_opened : Explains whole (IsCaused whole rules kept request) (ChangesOpened rules kept.options grip new file key) Anything
       changes_opened =
-          bind rules kept request whole Anything Anything (is_short grip asked key opens)
-          (λ short any. bind rules kept request whole Anything Anything (renews grip asked) (λ pass any. rewrites_file pass))
+          bind Anything Anything (is_short grip asked key opens)
+          (λ short any. bind Anything Anything (renews grip asked) (λ pass any. rewrites_file pass))
 
     passwd : (grip : Grip) (nonce new_nonce : Option (List ℕ)) → on_keys request ≡ Some (on.Passwd grip nonce new_nonce false)
-        → Explains rules kept request whole (PasswdReplies rules kept.options kept.wraps grip nonce new_nonce) Replied
+        → Explains whole (IsCaused whole rules kept request) (PasswdReplies rules kept.options kept.wraps grip nonce new_nonce) Replied
     unfolding PasswdReplies
     passwd grip id new_id asked =
-        bind rules kept request whole (λ file. IsReadOf whole grip file.bytes × IsRead whole grip (Ok file.key)) Replied
+        bind (λ file. IsReadOf whole grip file.bytes × IsRead whole grip (Ok file.key)) Replied
         (reads_file rules kept request whole grip (causes.unlocks (causes.changes asked)) (λ absent. subst (LacksKeys whole) (sym asked) absent))
-        (λ file is_read. bind rules kept request whole (λ opened. OpensRead whole grip opened.key) Replied (old_passphrase rules kept request whole grip (causes.changes asked) file.key.is_clear file.key id is_read.1
+        (λ file is_read. bind (λ opened. OpensRead whole grip opened.key) Replied (old_passphrase rules kept request whole grip (causes.changes asked) file.key.is_clear file.key id is_read.1
         (λ locked is_locked by_nonce by_key. changed _ asked is_locked by_nonce by_key))
-        (λ opened opens. bind rules kept request whole Anything Replied (changes_opened grip asked file.bytes is_read.0 opened.key opens) (λ changed_so any. replied _ reply_ok)))
+        (λ opened opens. bind Anything Replied (changes_opened grip asked file.bytes is_read.0 opened.key opens) (λ changed_so any. replied _ reply_ok)))
 
     -- a request on keys, whose line may be refused
     module _ (line_caused : (why : Code) → IsRefusedBy request why → IsCaused whole rules kept request why OfAgent) where
-      pub replies : (asked : KeyRequest) → on_keys request ≡ Some asked → Explains rules kept request whole (Replies rules kept.options kept.wraps asked) Replied
+      pub replies : (asked : KeyRequest) → on_keys request ≡ Some asked → Explains whole (IsCaused whole rules kept request) (Replies rules kept.options kept.wraps asked) Replied
       replies (on.HaveKey grips) is = have_key grips is
       replies (on.KeyInfo grip) is = key_info grip is
       replies on.ListKeys is = list_keys
@@ -500,4 +500,4 @@ module _ (rules : Rules) (kept : Kept) (request : Request) (whole : List (Event 
       replies (on.Passwd grip old new true) is = verify grip is
       replies (on.Passwd grip old new false) is = passwd grip old new is
       replies (on.DeleteKey grip force) is = delete_key grip force is
-      replies (on.Bad why) is = refused rules kept request whole Replied (Agent why) (line_caused why (inr is))
+      replies (on.Bad why) is = refused Replied (Agent why) (line_caused why (inr is))

@@ -4,6 +4,7 @@ pub mod AtOnce
 mod CacheCourses
 mod CacheOpens
 mod CacheRequests
+mod CacheWorks
 mod Completing
 mod Counting
 mod Courses
@@ -18,7 +19,6 @@ mod ExactHave
 mod ExactKeys
 mod ExactLong
 mod ExactParts
-mod ExactPrompts
 mod ExactReads
 mod ExactTrust
 mod Explained

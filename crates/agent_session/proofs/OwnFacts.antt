@@ -1,14 +1,12 @@
 -- What was done for a request stays so, whatever is done then; and the parts of requests on keys by which nothing is handed to the cache and the ticket stays.
 use Rattle.std.specs.List.{AllByRecursion}
-use Rattle.std.proofs.Common.{◌≡◌, ℕ, Bool, List, [], ◌++◌, Option, Some, None, Result, Ok, refl, ap, ◌∙◌, append_assoc}
+use Rattle.std.proofs.Common.{◌≡◌, ℕ, List, ◌++◌, Option, Some, None, Result, Ok, refl, ap, ◌∙◌, append_assoc}
 use Rattle.agent_ask.specs.Further.{FurtherEvent}
 use Rattle.agent_ports.specs.declared.grip.Grip.{Grip}
 use Rattle.secret_file.specs.Opens.{LockedKey, IsLocked}
 use Rattle.sexp_keys.specs.Key.{Key}
 use Rattle.agent_commands.specs.Events.{Event}
 use Rattle.agent_commands.specs.declared.request.Request.{Request}
-use Rattle.key_commands.specs.Files.{Rewrites}
-use Rattle.key_commands.specs.Files as files
 use Rattle.key_commands.specs.KeyParts.{Tells, tells, ReadsFile, Replaces, Protects, IsShort, AsksKeyData, Unwraps, NamesKey, LooksOver, WrapsKey}
 use Rattle.key_commands.specs.KeyParts as parts
 use Rattle.key_commands.specs.Parts.{Writes, Inquires, Finds, Draws}
@@ -65,13 +63,6 @@ module _ (id : List ℕ) where
   nonce_of before events result after turning.opened fits = absurd fits.0
   nonce_of before events result after (turning.interrupted why) fits = (((λ hands. elim hands [ ]), tt), refl)
 
-pub writes_quiet : (text : List ℕ) → Quiet (Writes text)
-writes_quiet text = record { of = writes_of }
-  where
-    writes_of : (before : Option ℕ) (events : List (Event FurtherEvent)) (result : Result (Unit {0}) Refusal) (after : Option ℕ) → Writes text before events result after → Fit events → AllByRecursion IsQuiet events × (after ≡ before)
-    writes_of before events result after small.written fits = ((tt, tt), refl)
-    writes_of before events result after (small.cut unsent is) fits = ((tt, tt), refl)
-
 inquires_of : (word : List ℕ) (limit : ℕ) (prior : List (Event FurtherEvent)) (before : Option ℕ) (events : List (Event FurtherEvent)) (result : Result (List ℕ) Refusal) (after : Option ℕ)
     → Inquires word limit before events result after → Fit events → AllByRecursion IsQuiet events × (after ≡ before) × HoldsOf (λ pass. IsSent (prior ++ events) word limit pass) result
 inquires_of word limit prior before events result after (small.given is) fits = ((tt, tt), refl, sent is (has_right prior here))
@@ -79,24 +70,6 @@ inquires_of word limit prior before events result after (small.not_given is) fit
 
 pub inquires_quiet : (word : List ℕ) (limit : ℕ) → QuietWith (Inquires word limit) (λ pass prior. IsSent prior word limit pass)
 inquires_quiet word limit = record { of = inquires_of word limit }
-
-key_data_of : (before : Option ℕ) (events : List (Event FurtherEvent)) (result : Result (List ℕ) Refusal) (after : Option ℕ) → AsksKeyData before events result after → Fit events
-    → AllByRecursion IsQuiet events × (after ≡ before)
-key_data_of before events result after (parts.asked inquires) fits = let so = inquires_of _ _ [] before events result before inquires fits in (so.0, refl)
-key_data_of before events result after (parts.no_memory at_end) fits = ((tt, (tt, tt)), refl)
-
-pub key_data_quiet : Quiet AsksKeyData
-key_data_quiet = record { of = key_data_of }
-
-finds_of : (grip : Grip) (before : Option ℕ) (events : List (Event FurtherEvent)) (result : Result Bool Refusal) (after : Option ℕ) → Finds grip before events result after → Fit events
-    → AllByRecursion IsQuiet events × (after ≡ before)
-finds_of grip before events result after small.found fits = ((tt, tt), refl)
-finds_of grip before events result after small.absent fits = ((tt, tt), refl)
-finds_of grip before events result after small.faulted fits = ((tt, tt), refl)
-finds_of grip before events result after small.no_memory fits = ((tt, tt), refl)
-
-pub finds_quiet : (grip : Grip) → Quiet (Finds grip)
-finds_quiet grip = record { of = finds_of grip }
 
 draws_of : (count : ℕ) (prior : List (Event FurtherEvent)) (before : Option ℕ) (events : List (Event FurtherEvent)) (result : Result (List ℕ) Refusal) (after : Option ℕ) → Draws count before events result after → Fit events
     → AllByRecursion IsQuiet events × (after ≡ before) × HoldsOf (λ bytes. IsDrawn (prior ++ events) count bytes) result
@@ -116,64 +89,6 @@ reads_file_of grip prior before events result after (parts.unread is) fits = ((t
 pub reads_file_quiet : (grip : Grip) → QuietWith (ReadsFile grip) (λ file prior. IsRead prior grip (Ok file.key))
 reads_file_quiet grip = record { of = reads_file_of grip }
 
-tells_of : (bytes : List ℕ) (before : Option ℕ) (events : List (Event FurtherEvent)) (result : Result (List ℕ) Refusal) (after : Option ℕ) → Tells bytes before events result after → Fit events
-    → AllByRecursion IsQuiet events × (after ≡ before)
-tells_of bytes before events result after (tells is) fits = (tt, refl)
-
-pub tells_quiet : (bytes : List ℕ) → Quiet (Tells bytes)
-tells_quiet bytes = record { of = tells_of bytes }
-
-protects_of : (key : Key) (pass salt iv : List ℕ) (count : ℕ) (before : Option ℕ) (events : List (Event FurtherEvent)) (result : Result (List ℕ) Refusal) (after : Option ℕ)
-    → Protects key pass salt iv count before events result after → Fit events → AllByRecursion IsQuiet events × (after ≡ before)
-protects_of key pass salt iv count before events result after parts.made fits = (tt, refl)
-protects_of key pass salt iv count before events result after parts.no_memory fits = ((tt, tt), refl)
-
-pub protects_quiet : (key : Key) (pass salt iv : List ℕ) (count : ℕ) → Quiet (Protects key pass salt iv count)
-protects_quiet key pass salt iv count = record { of = protects_of key pass salt iv count }
-
-is_short_of : (key : Key) (before : Option ℕ) (events : List (Event FurtherEvent)) (result : Result (Unit {0}) Refusal) (after : Option ℕ) → IsShort key before events result after → Fit events
-    → AllByRecursion IsQuiet events × (after ≡ before)
-is_short_of key before events result after (parts.short few) fits = (tt, refl)
-is_short_of key before events result after (parts.long many) fits = (tt, refl)
-
-pub is_short_quiet : (key : Key) → Quiet (IsShort key)
-is_short_quiet key = record { of = is_short_of key }
-
-rewrites_of : (file list : List ℕ) (before : Option ℕ) (events : List (Event FurtherEvent)) (result : Result (List ℕ) Refusal) (after : Option ℕ) → Rewrites file list before events result after → Fit events
-    → AllByRecursion IsQuiet events × (after ≡ before)
-rewrites_of file list before events result after (files.canonical_file is) fits = (tt, refl)
-rewrites_of file list before events result after (files.extended_file other with_list few) fits = (tt, refl)
-rewrites_of file list before events result after (files.too_long new_file other with_list many) fits = (tt, refl)
-rewrites_of file list before events result after files.no_memory fits = ((tt, tt), refl)
-
-pub rewrites_quiet : (file list : List ℕ) → Quiet (Rewrites file list)
-rewrites_quiet file list = record { of = rewrites_of file list }
-
-names_key_of : (key : Key) (before : Option ℕ) (events : List (Event FurtherEvent)) (result : Result Grip Refusal) (after : Option ℕ) → NamesKey key before events result after → Fit events
-    → AllByRecursion IsQuiet events × (after ≡ before)
-names_key_of key before events result after (parts.named is) fits = (tt, refl)
-names_key_of key before events result after parts.no_memory fits = ((tt, tt), refl)
-
-pub names_key_quiet : (key : Key) → Quiet (NamesKey key)
-names_key_quiet key = record { of = names_key_of key }
-
-wraps_key_of : (wrap : List ℕ) (key : Key) (before : Option ℕ) (events : List (Event FurtherEvent)) (result : Result (List ℕ) Refusal) (after : Option ℕ) → WrapsKey wrap key before events result after → Fit events
-    → AllByRecursion IsQuiet events × (after ≡ before)
-wraps_key_of wrap key before events result after parts.is_wrapped fits = (tt, refl)
-wraps_key_of wrap key before events result after parts.no_memory fits = ((tt, tt), refl)
-
-pub wraps_key_quiet : (wrap : List ℕ) (key : Key) → Quiet (WrapsKey wrap key)
-wraps_key_quiet wrap key = record { of = wraps_key_of wrap key }
-
-unwraps_of : (wrap wrapped : List ℕ) (before : Option ℕ) (events : List (Event FurtherEvent)) (result : Result Key Refusal) (after : Option ℕ) → Unwraps wrap wrapped before events result after → Fit events
-    → AllByRecursion IsQuiet events × (after ≡ before)
-unwraps_of wrap wrapped before events result after (parts.is_key says) fits = (tt, refl)
-unwraps_of wrap wrapped before events result after (parts.refused says) fits = (tt, refl)
-unwraps_of wrap wrapped before events result after parts.no_memory fits = ((tt, tt), refl)
-
-pub unwraps_quiet : (wrap wrapped : List ℕ) → Quiet (Unwraps wrap wrapped)
-unwraps_quiet wrap wrapped = record { of = unwraps_of wrap wrapped }
-
 locks_of : (key : Key) (prior : List (Event FurtherEvent)) (before : Option ℕ) (events : List (Event FurtherEvent)) (result : Result LockedKey Refusal) (after : Option ℕ) → Locks key before events result after → Fit events
     → AllByRecursion IsQuiet events × (after ≡ before) × HoldsOf (λ locked. (locked.key ≡ key) × IsLocked locked) result
 locks_of key prior before events result after (passphrases.is_locked same locked) fits = (tt, refl, (same, locked))
@@ -182,23 +97,6 @@ locks_of key prior before events result after passphrases.no_memory fits = ((tt,
 
 pub locks_quiet : (key : Key) → QuietWith (Locks key) (λ locked prior. (locked.key ≡ key) × IsLocked locked)
 locks_quiet key = record { of = locks_of key }
-
-tries_of : (locked : LockedKey) (pass : List ℕ) (before : Option ℕ) (events : List (Event FurtherEvent)) (result : Result (Option _) Refusal) (after : Option ℕ) → Tries locked pass before events result after
-    → Fit events → AllByRecursion IsQuiet events × (after ≡ before)
-tries_of locked pass before events result after (passphrases.opens to) fits = (tt, refl)
-tries_of locked pass before events result after (passphrases.stays closed) fits = (tt, refl)
-tries_of locked pass before events result after passphrases.no_memory fits = ((tt, tt), refl)
-
-pub tries_quiet : (locked : LockedKey) (pass : List ℕ) → Quiet (Tries locked pass)
-tries_quiet locked pass = record { of = tries_of locked pass }
-
-replaces_of : (grip : Grip) (file : List ℕ) (before : Option ℕ) (events : List (Event FurtherEvent)) (result : Result (Unit {0}) Refusal) (after : Option ℕ) → Replaces grip file before events result after
-    → Fit events → AllByRecursion IsQuiet events × (after ≡ before)
-replaces_of grip file before events result after parts.done fits = ((tt, tt), refl)
-replaces_of grip file before events result after (parts.not_done is) fits = ((tt, tt), refl)
-
-pub replaces_quiet : (grip : Grip) (file : List ℕ) → Quiet (Replaces grip file)
-replaces_quiet grip file = record { of = replaces_of grip file }
 
 module _ (request : Request) where
   -- what was found under the nonce of a new one

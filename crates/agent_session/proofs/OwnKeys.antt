@@ -1,6 +1,6 @@
 -- What requests on keys hand to the cache is their own.
 use Rattle.std.specs.List.{AllByRecursion}
-use Rattle.std.specs.Prelude.{not, take, drop}
+use Rattle.std.specs.Prelude.{not, drop}
 use Rattle.std.proofs.Common.{◌≡◌, ◌==◌, ℕ, Bool, true, false, List, [], ◌∷◌, ◌++◌, length, codes, Option, Some, None, Result, Ok, Err, refl, sym, ap, subst, append-nil}
 use Rattle.agent_ask.specs.Further.{FurtherEvent}
 use Rattle.agent_ask.specs.SessionEvents.{Received, Sent, Cut, Inquiry, CacheTurn, Further, cache_turn, said_last}
@@ -24,8 +24,7 @@ use Rattle.agent_commands.specs.declared.request.Request.{Request}
 use Rattle.key_commands.specs.Exchanges as exchange
 use Rattle.key_commands.specs.Exchanges.{Exchange, Replies, HaveKeyReplies, KeyInfoReplies, ListKeysReplies, KeyWrapReplies, DeleteKeyReplies, wrap_key}
 use Rattle.key_commands.specs.Exchanges.{RewritesFile, ChangesOpened, StoresKey, FoundOrNew, ExportKeyReplies, PasswdReplies, VerifyReplies, ImportKeyReplies}
-use Rattle.key_commands.specs.KeyParts.{KeepsNew, ReceivesKey, max_key_data, IsFree, Consents}
-use Rattle.key_commands.specs.Lines.{limit_line}
+use Rattle.key_commands.specs.KeyParts.{KeepsNew, ReceivesKey, IsFree, Consents}
 use Rattle.key_commands.specs.Parts.{Part, AsksClient, refusal_events}
 use Rattle.agent_ask.specs.TurnParts.{Asks, Changes, Closes}
 use Rattle.agent_ask.specs.Parts.{or_else}
@@ -50,10 +49,11 @@ use Rattle.agent_session.specs.OwnPassphrases as whose
 use Rattle.agent_session.specs.Refusals.{imported}
 use Rattle.agent_session.proofs.OwnFacts.{sent_more, drawn_more, read_more, locked_more, ticket_more, accepted_more, given_more, FoundNew}
 use Rattle.agent_session.proofs.OwnFacts as quiet
-use Rattle.agent_session.proofs.OwnParts.{IsQuiet, kept_none, Fit, AreOwn, own_then, each_quiet, forget, HoldsOf, OwnSo, own_bind}
+use Rattle.agent_session.proofs.OwnParts.{IsQuiet, kept_none, Fit, AreOwn, own_then, each_quiet, quiet_keeps, HoldsOf, OwnSo, own_bind}
 use Rattle.agent_session.proofs.OwnParts.{own_weaker, own_where, Stays, quiet_with, quietly, quiet_are_own, Anything, own_returned, own_refused, own_needed, own_wanted}
 use Rattle.agent_session.proofs.AtOnce.{FitsTurn}
 use Rattle.agent_session.proofs.Standing.{has_right, each_left}
+use Rattle.agent_session.proofs.Works as work
 
 -- ---- what stays so
 
@@ -113,7 +113,7 @@ module _ (request : Request) where
 
   asks_client : {Pre : List (Event FurtherEvent) → Option ℕ → Type 0} (word : List ℕ) (limit : ℕ) → Stays Pre
       → OwnSo request Pre (AsksClient word limit) (λ pass prior held. Pre prior held × IsSent prior word limit pass)
-  asks_client word limit stays = own_bind request (quietly request stays (quiet.writes_quiet (limit_line limit))) (λ told. quiet_with request stays (quiet.inquires_quiet word limit))
+  asks_client word limit stays = own_bind request (quietly request stays (quiet_keeps (work.key_writes IsQuiet (λ text. tt) tt))) (λ told. quiet_with request stays (quiet.inquires_quiet word limit))
 
   sent_stays : (word pass : List ℕ) (limit : ℕ) → Stays (λ prior held. Unheld prior held × IsSent prior word limit pass)
   sent_stays word pass limit = record { of = λ prior more held so. (so.0, sent_more more so.1) }
@@ -181,7 +181,7 @@ module _ (request : Request) where
       client_old : (way : PinMode) → OwnSo request Unheld (ClientOld rules options grip locked) (λ opened. OpenedAt way opened.by)
       unfolding ClientOld
       client_old way =
-          own_bind request (asks_client (codes "PASSPHRASE") MAX_SECRET_LEN unheld_stays) (λ pass. own_bind request (quietly request (sent_stays _ pass _) (quiet.tries_quiet locked pass))
+          own_bind request (asks_client (codes "PASSPHRASE") MAX_SECRET_LEN unheld_stays) (λ pass. own_bind request (quietly request (sent_stays _ pass _) (quiet_keeps (work.tries IsQuiet tt)))
           (λ tried. own_bind request (own_needed request code.BadPass tried) (λ opened. own_bind request (record { of = put_of pass }) (λ kept. own_returned request opened (unheld_opened way opened.by)))))
 
       uncached_old : (way : PinMode) → OwnSo request (Ready way) (UncachedOld rules options grip way locked) (λ opened. OpenedAt way opened.by)
@@ -224,11 +224,11 @@ module _ (request : Request) where
 
       tries_free : (pass : Option (List ℕ)) → OwnSo request Free (TriesFound locked pass) (λ opened. Free)
       tries_free None = own_returned request None (λ prior held so. so)
-      tries_free (Some pass) = quietly request free_stays (quiet.tries_quiet locked pass)
+      tries_free (Some pass) = quietly request free_stays (quiet_keeps (work.tries IsQuiet tt))
 
       tries_asked : (way : PinMode) (cached : Option (List ℕ)) → OwnSo request (AskedAt way cached) (TriesFound locked cached) (λ opened. AskedAt way opened)
       tries_asked way None = own_returned request None (asked_none way)
-      tries_asked way (Some pass) = own_weaker request (own_where request (asked_free way pass) (quietly request free_stays (quiet.tries_quiet locked pass))) (λ opened prior held so. free so)
+      tries_asked way (Some pass) = own_weaker request (own_where request (asked_free way pass) (quietly request free_stays (quiet_keeps (work.tries IsQuiet tt)))) (λ opened prior held so. free so)
 
       after_asked : (way : PinMode) (second : Option _) → OwnSo request (AskedAt way second) (or_else second (UncachedOld rules options grip way locked)) (λ opened. OpenedAt way opened.by)
       after_asked way None = own_where request (asked_ready way) (uncached_old way)
@@ -351,9 +351,9 @@ module _ (request : Request) where
       rewrites_file : (file : List ℕ) (key : Key) (pass : List ℕ) → OwnSo request (NewAt pass) (RewritesFile rules options grip file key pass) (λ done. Anything)
       unfolding RewritesFile
       rewrites_file file key pass =
-          own_bind request (quietly request (new_stays pass) (forget (quiet.draws_quiet 20))) (λ drawn. own_bind request (quietly request (new_stays pass) (quiet.protects_quiet key pass (take 8 drawn) (drop 8 drawn) options.s2k_count))
-          (λ list. own_bind request (quietly request (new_stays pass) (quiet.rewrites_quiet file list))
-          (λ new_file. own_bind request (quietly request (new_stays pass) (quiet.replaces_quiet grip new_file)) (λ replaced. keeps_new pass))))
+          own_bind request (quietly request (new_stays pass) (quiet_keeps (work.draws IsQuiet tt (λ draw. tt)))) (λ drawn. own_bind request (quietly request (new_stays pass) (quiet_keeps (work.protects IsQuiet tt)))
+          (λ list. own_bind request (quietly request (new_stays pass) (quiet_keeps (work.rewrites IsQuiet tt)))
+          (λ new_file. own_bind request (quietly request (new_stays pass) (quiet_keeps (work.replaces IsQuiet tt (λ answer. tt)))) (λ replaced. keeps_new pass))))
 
       module _ {old new : Option (List ℕ)} (passwd : on_keys request ≡ Some (on.Passwd grip old new false)) where
         renewed_at : (pass : List ℕ) (prior : List (Event FurtherEvent)) (held : Option ℕ) → TicketAt options.mode prior held → IsGivenNew request prior pass → NewAt pass prior held
@@ -369,7 +369,7 @@ module _ (request : Request) where
 
         changes_opened : (file : List ℕ) (key : Key) → OwnSo request (TicketAt options.mode) (ChangesOpened rules options grip new file key) (λ done. Anything)
         changes_opened file key =
-            own_bind request (quietly request (ticket_stays options.mode) (quiet.is_short_quiet key))
+            own_bind request (quietly request (ticket_stays options.mode) (quiet_keeps (work.is_short IsQuiet tt)))
             (λ short. own_bind request (own_bind request (quiet_with request (ticket_stays options.mode) (quiet.new_nonce_quiet request new names_new)) after_new) (λ pass. rewrites_file file key pass))
 
       module _ {force : Bool} {nonce : Option (List ℕ)} (brings_it : on_keys request ≡ Some (on.ImportKey force nonce)) where
@@ -400,20 +400,20 @@ module _ (request : Request) where
 
         stores_key : (count : ℕ) (key : Key) (pass : List ℕ) → OwnSo request (NewAt pass) (StoresKey count key grip pass) (λ done. Anything)
         stores_key count key pass =
-            own_bind request (quiet_with request (new_stays pass) (quiet.draws_quiet 32)) (λ drawn. own_bind request (quietly request (drawn_stays pass drawn) (quiet.protects_quiet key pass (take 8 drawn) (take 12 (drop 8 drawn)) count))
-            (λ file. own_bind request (record { of = nonce_of pass drawn }) (λ cached. own_bind request (quietly request (new_stays pass) (quiet.replaces_quiet grip file))
+            own_bind request (quiet_with request (new_stays pass) (quiet.draws_quiet 32)) (λ drawn. own_bind request (quietly request (drawn_stays pass drawn) (quiet_keeps (work.protects IsQuiet tt)))
+            (λ file. own_bind request (record { of = nonce_of pass drawn }) (λ cached. own_bind request (quietly request (new_stays pass) (quiet_keeps (work.replaces IsQuiet tt (λ answer. tt))))
             (λ replaced. own_bind request (keeps_new pass) (λ kept. own_returned request (drop 20 drawn) (λ prior held so. tt))))))
 
   -- ---- requests
 
   receives_key : (wrap : List ℕ) → OwnSo request Unheld (ReceivesKey wrap) (λ key. Unheld)
   receives_key wrap =
-      own_bind request (quietly request unheld_stays (quiet.writes_quiet (limit_line max_key_data)))
-      (λ told. own_bind request (quietly request unheld_stays quiet.key_data_quiet) (λ wrapped. quietly request unheld_stays (quiet.unwraps_quiet wrap wrapped)))
+      own_bind request (quietly request unheld_stays (quiet_keeps (work.key_writes IsQuiet (λ text. tt) tt)))
+      (λ told. own_bind request (quietly request unheld_stays (quiet_keeps (work.asks_key_data IsQuiet (λ inquired. tt) tt))) (λ wrapped. quietly request unheld_stays (quiet_keeps (work.unwraps IsQuiet tt))))
 
   is_free : (force : Bool) (grip : Grip) → OwnSo request Unheld (IsFree force grip) (λ free. Unheld)
   is_free true grip = own_returned request tt (λ prior held so. so)
-  is_free false grip = own_bind request (quietly request unheld_stays (quiet.finds_quiet grip)) (λ there. own_wanted request code.FileExists (not there))
+  is_free false grip = own_bind request (quietly request unheld_stays (quiet_keeps (work.finds IsQuiet tt (λ answer. tt)))) (λ there. own_wanted request code.FileExists (not there))
 
   module _ (rules : Rules) (options : OptionValues) (wraps : WrapKeys) where
     export_key : (grip : Grip) → Unlocks request grip → (id : Option (List ℕ)) → OwnSo request Unheld (ExportKeyReplies rules options wraps grip id) (λ reply. Anything)
@@ -421,7 +421,7 @@ module _ (request : Request) where
     export_key grip unlocks id =
         own_bind request (own_needed request code.Parameter wraps.export) (λ wrap. own_bind request (quiet_with request unheld_stays (quiet.reads_file_quiet grip))
         (λ file. own_bind request (old_here rules options grip unlocks id file.key file.key.is_clear) (λ opened. own_bind request (closes_own rules options grip unlocks options.mode opened.by)
-        (λ closed. own_bind request (quietly request any_stays (quiet.wraps_key_quiet wrap opened.key)) (λ wrapped. own_bind request (quietly request any_stays (quiet.tells_quiet wrapped))
+        (λ closed. own_bind request (quietly request any_stays (quiet_keeps (work.wraps_key IsQuiet tt))) (λ wrapped. own_bind request (quietly request any_stays (quiet_keeps (work.told IsQuiet tt)))
         (λ text. own_returned request _ (λ prior held so. tt)))))))
 
     verify : (grip : Grip) → Unlocks request grip → OwnSo request Unheld (VerifyReplies rules options wraps grip) (λ reply. Anything)
@@ -441,7 +441,7 @@ module _ (request : Request) where
     import_key : (force : Bool) (nonce : Option (List ℕ)) → on_keys request ≡ Some (on.ImportKey force nonce) → OwnSo request Unheld (ImportKeyReplies rules options wraps force nonce) (λ reply. Anything)
     unfolding ImportKeyReplies
     import_key force nonce is =
-        own_bind request (own_needed request code.Parameter wraps.import) (λ wrap. own_bind request (receives_key wrap) (λ key. own_bind request (quietly request unheld_stays (quiet.names_key_quiet key))
+        own_bind request (own_needed request code.Parameter wraps.import) (λ wrap. own_bind request (receives_key wrap) (λ key. own_bind request (quietly request unheld_stays (quiet_keeps (work.names_key IsQuiet tt)))
         (λ grip. own_bind request (is_free force grip) (λ free_so. own_bind request (found_or_new grip (brought is) rules options is)
         (λ pass. own_bind request (stores_key grip (brought is) rules options is options.s2k_count key pass) (λ cache_nonce. own_returned request _ (λ prior held so. tt)))))))
 

@@ -20,6 +20,7 @@ use Rattle.agent_session.specs.Imports.{HandsNothing}
 use Rattle.agent_session.specs.OwnPassphrases.{StoresOwn, HandsIn}
 use Rattle.agent_session.proofs.AtOnce.{FitsTurn}
 use Rattle.agent_session.proofs.Standing.{each_left, each_right}
+use Rattle.agent_session.proofs.Works.{Keeps, each_fits}
 
 -- it hands no passphrase to the cache
 abbrev pub IsQuiet : Event FurtherEvent → Type 0
@@ -55,6 +56,10 @@ pub record QuietWith {A : Type 0} (part : Part A) (Extra : A → List (Event Fur
 pub record Quiet {A : Type 0} (part : Part A) : Type 0 where
   pub of : (before : Option ℕ) (events : List (Event FurtherEvent)) (result : Result A Refusal) (after : Option ℕ) → part before events result after → Fit events
       → AllByRecursion IsQuiet events × (after ≡ before)
+
+-- work in which nothing is handed in, and that leaves the ticket
+pub quiet_keeps : {A : Type 0} {part : Part A} → Keeps IsQuiet part → Quiet part
+quiet_keeps keeps = record { of = λ before events result after does fits. let so = keeps before events result after does in (each_fits IsQuiet tt so.0, so.1) }
 
 pub forget : {A : Type 0} {part : Part A} {Extra : A → List (Event FurtherEvent) → Type 0} → QuietWith part Extra → Quiet part
 forget quiet = record { of = λ before events result after does fits. let so = quiet.of [] before events result after does fits in (so.0, so.1) }

@@ -1,7 +1,7 @@
 -- Prompts in which each event goes on, but one by which the request is refused or its client is gone, which is the last before the prompter is shut.
 use Rattle.std.specs.List.{AllByRecursion}
 use Rattle.std.specs.Option.{option_map}
-use Rattle.std.proofs.Common.{◌≡◌, ◌≢◌, ℕ, zero, suc, List, [], ◌∷◌, ◌++◌, Option, Some, None, Result, Ok, Err, refl, ap, subst, append_assoc}
+use Rattle.std.proofs.Common.{◌≡◌, ◌≢◌, ℕ, zero, suc, List, [], ◌∙◌, ◌∷◌, ◌++◌, Option, Some, None, Result, Ok, Err, refl, sym, ap, subst, append_assoc}
 use Rattle.agent_ask.specs.Callers.{SaysNote, unheard_of}
 use Rattle.agent_ask.specs.ConsentParts.{AgreesTo, consent_refusal}
 use Rattle.agent_ask.specs.ConsentParts as consenting
@@ -12,7 +12,7 @@ use Rattle.agent_ask.specs.Events.{Call, Start, Confirm, Shut, PromptEvent, Call
 use Rattle.agent_ask.specs.Further.{Prompt}
 use Rattle.agent_ask.specs.Prompts.{AsksPin, AsksBefore, Tries, repeated}
 use Rattle.agent_ask.specs.Prompts as prompts
-use Rattle.agent_ask.specs.SessionEvents.{Further, Inquiry}
+use Rattle.agent_ask.specs.SessionEvents.{Further}
 use Rattle.agent_ask.specs.SessionPrompts.{AnyInSession}
 use Rattle.agent_ask.specs.SessionPrompts as session
 use Rattle.agent_ask.specs.declared.ask.Asked.{Asked}
@@ -33,22 +33,19 @@ use Rattle.session_client.specs.declared.code.Code.{Code}
 use Rattle.session_client.specs.declared.code.Code.TheVariants as code
 use Rattle.session_client.specs.declared.refusal.Refusal.{Refusal}
 use Rattle.session_client.specs.declared.refusal.Refusal.TheVariants.{Agent, Client}
-use Rattle.session_client.specs.declared.unheard.Gone.{Gone}
 use Rattle.session_client.specs.declared.unheard.Unheard.{Unheard}
-use Rattle.session_client.specs.declared.unheard.Unheard.TheVariants as unheard
 use Rattle.session_options.specs.OptionValues.{OptionValues}
 use Rattle.session_options.specs.declared.rules.Rules.{Rules}
 use Rattle.key_commands.specs.Events.{Event}
 use Rattle.key_commands.proofs.EachEvent.{each_append}
 use Rattle.agent_session.specs.Refusals.{call_refuses}
-use Rattle.agent_session.proofs.Works.{gone_said, GoesOn, refused, lost, Works, works, WorksSo}
+use Rattle.agent_session.proofs.Works.{unsaid, GoesOn, refused, lost, Works, works, WorksSo}
 
 -- ---- single events
 
--- a client that is gone ends its prompt
+-- what the client said ends its prompt
 abbrev pub heard_stop : Heard → Option Refusal
-heard_stop (heard_as.Gone how) = Some (Client (unheard.Gone how))
-heard_stop _ = None
+heard_stop heard = option_map Client (unheard_of heard)
 
 -- how an event of a prompt ends it, where it refuses the request or by it the client is gone
 abbrev pub prompt_stops : PromptEvent → Option Refusal
@@ -124,9 +121,9 @@ tries_go (prompts.bad past) = goes tt
 unheard_goes : {spec : PromptSpec} {pid : ℕ} (heard : Heard) → heard ≢ heard_as.Fine → GoesOrStops (Called (Start spec (opened.Pid pid)) ∷ Notified pid heard ∷ []) (heard_stop heard)
 unheard_goes heard_as.Fine other = absurd (other refl)
 unheard_goes (heard_as.Secret secret) other = goes (refl, (refl, tt))
-unheard_goes heard_as.Cancelled other = goes (refl, (refl, tt))
-unheard_goes heard_as.TooMuch other = goes (refl, (refl, tt))
-unheard_goes heard_as.Unexpected other = goes (refl, (refl, tt))
+unheard_goes heard_as.Cancelled other = stops (_ ∷ []) _ (refl, tt) refl
+unheard_goes heard_as.TooMuch other = stops (_ ∷ []) _ (refl, tt) refl
+unheard_goes heard_as.Unexpected other = stops (_ ∷ []) _ (refl, tt) refl
 unheard_goes (heard_as.Gone how) other = stops (_ ∷ []) _ (refl, tt) refl
 
 before_goes : {spec : PromptSpec} {plan : AskPlan} {Rule : List ℕ → Type 0} {events : List PromptEvent} {tests : _} {end : Asked} → AsksBefore spec plan Rule events tests end
@@ -154,22 +151,14 @@ consent_goes (consents.asked consent (prompts.told is)) = after_these (_ ∷ _ �
 
 -- ---- in the session
 
--- a client that says such a note isn't gone, or is
-note_heard : (result : Result (List ℕ) Unheard) (heard : Heard) → SaysNote (without_data result) heard → heard_stop heard ≡ None → gone_said result ≡ None
+-- what the client says by a note
+note_heard : (result : Result (List ℕ) Unheard) (heard : Heard) → SaysNote (without_data result) heard → heard_stop heard ≡ None → unsaid result ≡ None
 note_heard (Ok bytes) heard says goes_on = refl
-note_heard (Err unheard.Cancelled) heard says goes_on = refl
-note_heard (Err unheard.TooMuch) heard says goes_on = refl
-note_heard (Err unheard.Unexpected) heard says goes_on = refl
-note_heard (Err (unheard.Gone how)) heard_as.Fine says goes_on = absurd (cc says)
-note_heard (Err (unheard.Gone how)) (heard_as.Secret secret) says goes_on = absurd (cc says)
-note_heard (Err (unheard.Gone how)) heard_as.Cancelled says goes_on = absurd (cc says)
-note_heard (Err (unheard.Gone how)) heard_as.TooMuch says goes_on = absurd (cc says)
-note_heard (Err (unheard.Gone how)) heard_as.Unexpected says goes_on = absurd (cc says)
-note_heard (Err (unheard.Gone how)) (heard_as.Gone other) says goes_on = absurd (cc goes_on)
+note_heard (Err why) heard says goes_on = let both : Some (Client why) ≡ None = sym (ap (option_map Client) says) ∙ goes_on in absurd (cc both)
 
-note_lost : (result : Result (List ℕ) Unheard) (how : Gone) → SaysNote (without_data result) (heard_as.Gone how) → gone_said result ≡ Some how
-note_lost (Ok bytes) how says = absurd (cc says)
-note_lost (Err why) how says = let same : unheard.Gone how ≡ why = cc says in subst (λ w. gone_said (Err w) ≡ Some how) same refl
+note_lost : (result : Result (List ℕ) Unheard) (heard : Heard) {why : Unheard} → SaysNote (without_data result) heard → unheard_of heard ≡ Some why → unsaid result ≡ Some why
+note_lost (Ok bytes) heard says is = let none : None ≡ Some _ = sym (ap unheard_of says) ∙ is in absurd (cc none)
+note_lost (Err other) heard says is = sym says ∙ is
 
 none_refused : (code : Option Code) → option_map Agent code ≡ None → code ≡ None
 none_refused None is = refl
@@ -184,21 +173,13 @@ refused_so : {A : Type 0} {stop : Refusal} (result : Result A Refusal) → Comes
 refused_so (Ok value) by = absurd (cc by)
 refused_so (Err why) by = ap (λ r. Err r) (by _ refl)
 
-heard_comes : (heard : Heard) {why other : Refusal} → option_map Client (unheard_of heard) ≡ Some why → heard_stop heard ≡ Some other → other ≡ why
-heard_comes (heard_as.Gone how) refusal is = cc (refusal, is)
-heard_comes heard_as.Fine refusal is = absurd (cc is)
-heard_comes (heard_as.Secret secret) refusal is = absurd (cc is)
-heard_comes heard_as.Cancelled refusal is = absurd (cc is)
-heard_comes heard_as.TooMuch refusal is = absurd (cc is)
-heard_comes heard_as.Unexpected refusal is = absurd (cc is)
-
 -- a prompt that gave nothing refuses its request by what ended it
 pub pin_comes : (answer : Asked) {why : Refusal} → pin_refusal answer ≡ Some why → (other : Refusal) → pin_stop answer ≡ Some other → other ≡ why
 pin_comes (asked.Pin pin) refusal other is = absurd (cc is)
 pin_comes asked.Cancelled refusal other is = absurd (cc is)
 pin_comes asked.TimedOut refusal other is = absurd (cc is)
 pin_comes asked.Bad refusal other is = absurd (cc is)
-pin_comes (asked.Heard heard) refusal other is = heard_comes heard refusal is
+pin_comes (asked.Heard heard) refusal other is = cc (refusal, is)
 pin_comes asked.NoPinentry refusal other is = cc (refusal, is)
 pin_comes asked.NoMemory refusal other is = cc (refusal, is)
 
@@ -207,10 +188,10 @@ consent_comes agreed.Yes refusal other is = absurd (cc is)
 consent_comes agreed.No refusal other is = absurd (cc is)
 consent_comes agreed.Cancelled refusal other is = absurd (cc is)
 consent_comes agreed.TimedOut refusal other is = absurd (cc is)
-consent_comes (agreed.Heard heard) refusal other is = heard_comes heard refusal is
+consent_comes (agreed.Heard heard) refusal other is = cc (refusal, is)
 consent_comes agreed.NoPinentry refusal other is = cc (refusal, is)
 
-module _ (Fits : Event → Type 0) (calls : (event : PromptEvent) → Fits (Further (Prompt event))) (asked : (word params : List ℕ) (limit : ℕ) (inquired : _) → Fits (Inquiry word params limit inquired)) where
+module _ (Fits : Event → Type 0) (calls : (event : PromptEvent) → Fits (Further (Prompt event))) (notes : (pid : ℕ) (inquired : _) → Fits (session.note pid inquired)) where
   data Split (rest : List PromptEvent) : List Event → Type 0 where
     split : {more : List Event} (work : List Event) → AllByRecursion (GoesOn Fits) work → AnyInSession session_lines rest more → Split rest (work ++ more)
 
@@ -221,7 +202,7 @@ module _ (Fits : Event → Type 0) (calls : (event : PromptEvent) → Fits (Furt
   split_shown [] rest each in_session = split [] tt in_session
   split_shown (Called call ∷ work) rest each (session.called more) = split_later _ (calls _, none_refused (call_refuses call) each.0, refl) (split_shown work rest each.1 more)
   split_shown (Notified pid heard ∷ work) rest each (session.noted {inquired} says more) =
-      split_later _ (asked _ _ _ inquired, refl, note_heard (said_by session_lines inquired) heard says each.0) (split_shown work rest each.1 more)
+      split_later _ (notes _ inquired, refl, note_heard (said_by session_lines inquired) heard says each.0) (split_shown work rest each.1 more)
   split_shown (OutOfMemory ∷ work) rest each (session.out_of_memory more) = absurd (cc (each.0))
 
   shut_goes : GoesOn Fits (Further (Prompt (Called Shut)))
@@ -239,17 +220,13 @@ module _ (Fits : Event → Type 0) (calls : (event : PromptEvent) → Fits (Furt
         subst (λ w. Works Fits {A = A} (work ++ Further (Prompt (Called call)) ∷ Further (Prompt (Called Shut)) ∷ []) (Err w)) why_is
         (record { work = work; last = _; is = refl; each = each; end = refused (calls _) same })
 
-    note_works : (pid : ℕ) (inquired : _) (work : List Event) {why : Refusal} (heard : Heard) → SaysNote (without_data (said_by session_lines inquired)) heard → heard_stop heard ≡ Some why
-        → AllByRecursion (GoesOn Fits) work → Works Fits {A = A} (work ++ session.note pid inquired ∷ Further (Prompt (Called Shut)) ∷ []) (Err why)
-    note_works pid inquired work (heard_as.Gone how) says is each =
-        let why_is : Client (unheard.Gone how) ≡ _ = cc is in
+    note_works : (pid : ℕ) (inquired : _) (work : List Event) (heard : Heard) {why : Refusal} (said : Option Unheard) → SaysNote (without_data (said_by session_lines inquired)) heard → unheard_of heard ≡ said
+        → option_map Client said ≡ Some why → AllByRecursion (GoesOn Fits) work → Works Fits {A = A} (work ++ session.note pid inquired ∷ Further (Prompt (Called Shut)) ∷ []) (Err why)
+    note_works pid inquired work heard None says same is each = absurd (cc is)
+    note_works pid inquired work heard (Some given) says same is each =
+        let why_is : Client given ≡ _ = cc is in
         subst (λ w. Works Fits {A = A} (work ++ session.note pid inquired ∷ Further (Prompt (Called Shut)) ∷ []) (Err w)) why_is
-        (record { work = work; last = _; is = refl; each = each; end = lost (asked _ _ _ inquired) (note_lost (said_by session_lines inquired) how says) (shut_goes, tt) })
-    note_works pid inquired work heard_as.Fine says is each = absurd (cc is)
-    note_works pid inquired work (heard_as.Secret secret) says is each = absurd (cc is)
-    note_works pid inquired work heard_as.Cancelled says is each = absurd (cc is)
-    note_works pid inquired work heard_as.TooMuch says is each = absurd (cc is)
-    note_works pid inquired work heard_as.Unexpected says is each = absurd (cc is)
+        (record { work = work; last = _; is = refl; each = each; end = lost (notes _ inquired) (note_lost (said_by session_lines inquired) heard says same) (shut_goes, tt) })
 
     stop_works : (event : PromptEvent) {why : Refusal} {shown : List Event} → prompt_stops event ≡ Some why → Split (event ∷ Called Shut ∷ []) shown → Works Fits {A = A} shown (Err why)
     stop_works OutOfMemory is (split work each (session.out_of_memory (session.called session.none))) =
@@ -257,7 +234,7 @@ module _ (Fits : Event → Type 0) (calls : (event : PromptEvent) → Fits (Furt
         subst (λ w. Works Fits {A = A} (work ++ Further (Prompt OutOfMemory) ∷ Further (Prompt (Called Shut)) ∷ []) (Err w)) why_is
         (record { work = work; last = _; is = refl; each = each; end = refused {why = code.NoMemory} (calls _) refl })
     stop_works (Called call) is (split work each (session.called (session.called session.none))) = call_works call work (call_refuses call) refl is each
-    stop_works (Notified pid heard) is (split work each (session.noted {inquired} says (session.called session.none))) = note_works pid inquired work heard says is each
+    stop_works (Notified pid heard) is (split work each (session.noted {inquired} says (session.called session.none))) = note_works pid inquired work heard (unheard_of heard) says refl is each
 
     prompt_works : {events : List PromptEvent} {stop : Option Refusal} {result : Result A Refusal} {shown : List Event} → GoesOrStops events stop → ComesBy stop result
         → AnyInSession session_lines (events ++ Called Shut ∷ []) shown → Works Fits shown result

@@ -1,8 +1,8 @@
 -- What a session does for a request on the trust list has one answer, and each error line in it its cause.
-use Rattle.std.specs.List.{AllByRecursion}
-use Rattle.std.proofs.Common.{◌≡◌, ◌<◌, ℕ, Bool, true, false, List, [], ◌∷◌, ◌++◌, length, Option, Some, None, Result, Ok, Err, refl, sym, subst, inl, inr}
+use Rattle.std.proofs.Common.{◌≡◌, ◌<◌, ℕ, Bool, true, false, List, [], ◌∷◌, length, Option, Some, None, Result, Ok, Err, refl, sym, subst, inl, inr}
 use Rattle.std.specs.Option.{option_map}
 use Rattle.std.specs.Prelude.{⊤, IfSome}
+use Rattle.agent_ask.specs.Callers.{unheard_of}
 use Rattle.agent_ask.specs.Events.{PromptEvent}
 use Rattle.agent_ask.specs.Further.{NoMemory}
 use Rattle.agent_ask.specs.SessionEvents.{Further, cache_turn, said_last}
@@ -39,6 +39,9 @@ use Rattle.key_commands.specs.Requests as requests
 use Rattle.key_commands.specs.Requests.{needed, grip, first_grip}
 use Rattle.key_commands.proofs.EachEvent.{each_append}
 use Rattle.session_client.specs.Asking.{gone_of}
+use Rattle.session_client.specs.declared.refusal.Refusal.{Refusal}
+use Rattle.session_client.specs.declared.refusal.Refusal.TheVariants as refusals
+use Rattle.session_client.specs.declared.refusal.Refusal.TheVariants.{Client}
 use Rattle.session_client.specs.declared.unheard.Gone.TheVariants as gone
 use Rattle.session_client.specs.declared.unheard.Unheard.{Unheard}
 use Rattle.session_client.specs.declared.unheard.Unheard.TheVariants as unheard
@@ -51,8 +54,6 @@ use Rattle.agent_origin.specs.Exchanges.{flag_of, trust_question, fingerprint_qu
 use Rattle.agent_origin.specs.Exchanges as trusts
 use Rattle.agent_ask.specs.ConsentParts.{consent_refusal}
 use Rattle.agent_ask.specs.ConsentParts as consent
-use Rattle.agent_ask.specs.Parts.{◌>>=◌, Follows, Returns, Refuses}
-use Rattle.agent_ask.specs.Parts as chain
 use Rattle.agent_ask.specs.TurnParts.{Seats}
 use Rattle.agent_ask.specs.TurnParts as taken
 use Rattle.agent_origin.specs.Parts.{UnderTicket, Agrees, ReadsFile, AddsEntry, Replaces, refusal_went, trust_called}
@@ -70,15 +71,12 @@ use Rattle.agent_session.specs.Causes.{StandIn, IsSaid, one, called_trust, turne
 use Rattle.agent_session.specs.Completeness.{AnswersNothing}
 use Rattle.agent_session.specs.DoorCauses.{IsReadTrust, read_trust, IsMarked, IsTrustCaused, by_mode, by_client, by_stop, unsaid, denied, denied_mark, inquired, too_long, error, loopback}
 use Rattle.agent_session.proofs.Explained.{Explained, replied, failed, silent, after_these}
+use Rattle.agent_session.proofs.Explaining.{Anything, ClientSays, cut, client_said, CausedRefusal, Comes, Explains, bind, returned, refused}
 use Rattle.agent_session.proofs.KeyParts.{has_call, heard_caused, prompt_silent}
 use Rattle.agent_session.proofs.Prompted as prompted
 use Rattle.agent_session.proofs.Prompted.{ConsentShows, HasHeard, consent_shows}
 use Rattle.agent_session.proofs.Replying.{reply_ok}
-use Rattle.agent_session.proofs.Standing.{has_first, stand_left, stand_right}
-
--- whatever value
-abbrev Anything : {A : Type 0} → A → Type 0
-Anything value = ⊤
+use Rattle.agent_session.proofs.Standing.{has_first, stand_left}
 
 -- `other` is a request of any session, of which nothing is said
 module _ (rules : Rules) (kept : Kept) (other : Request) (request : TrustRequest) (whole : List Event) where
@@ -88,76 +86,16 @@ module _ (rules : Rules) (kept : Kept) (other : Request) (request : TrustRequest
   abbrev Here : List Event → Went → Type 0
   Here = Explained whole Caused
 
-  abbrev Silent : List Event → Type 0
-  Silent events = AllByRecursion AnswersNothing events
+  abbrev ComesHere : {A : Type 0} → (A → Type 0) → List Event → Result A Refusal → Type 0
+  ComesHere = Comes whole Caused
 
-  -- a part whose value is good, and whose refusals have their causes
-  record Explains {A : Type 0} (part : Part A) (Good : A → Type 0) : Type 0 where
-    silent : {before after : Option ℕ} (events : List Event) {result : _} → part before events result after → StandIn events whole → Silent events
-    good : {before after : Option ℕ} (events : List Event) (value : A) → part before events (Ok value) after → StandIn events whole → Good value
-    caused : {before after : Option ℕ} (events : List Event) {why : _} → part before events (Err why) after → StandIn events whole → Here (refusal_events why) (refusal_went why)
+  abbrev ExplainsHere : {A : Type 0} → Part A → (A → Type 0) → Type 0
+  ExplainsHere = Explains whole Caused
 
-  silent_append : (first more : List Event) → Silent first → Silent more → Silent (first ++ more)
-  silent_append first more each others = each_append AnswersNothing first more each others
-
-  -- a part, and then what follows on its value
-  module _ {A B : Type 0} {part : Part A} {next : A → Part B} (First : A → Type 0) (Good : B → Type 0) (first : Explains part First)
-      (then : (value : A) → First value → Explains (next value) Good) where
-    bind_silent : {before after : Option ℕ} (events : List Event) {result : _} → Follows part next before events result after → StandIn events whole → Silent events
-    bind_silent events (chain.goes_on {first = some} {events = more} {value} does next_does) stands =
-        silent_append some more (first.silent some does (stand_left some more stands))
-        ((then value (first.good some value does (stand_left some more stands))).silent more next_does (stand_right some more stands))
-    bind_silent events (chain.stops does) stands = first.silent events does stands
-
-    bind_good : {before after : Option ℕ} (events : List Event) (value : B) → Follows part next before events (Ok value) after → StandIn events whole → Good value
-    bind_good events value (chain.goes_on {first = some} {events = more} {value = mid} does next_does) stands =
-        (then mid (first.good some mid does (stand_left some more stands))).good more value next_does (stand_right some more stands)
-
-    bind_caused : {before after : Option ℕ} (events : List Event) {why : _} → Follows part next before events (Err why) after → StandIn events whole → Here (refusal_events why) (refusal_went why)
-    bind_caused events (chain.goes_on {first = some} {events = more} {value = mid} does next_does) stands =
-        (then mid (first.good some mid does (stand_left some more stands))).caused more next_does (stand_right some more stands)
-    bind_caused events (chain.stops does) stands = first.caused events does stands
-
-    bind : Explains (part >>= next) Good
-    bind = record { silent = bind_silent; good = bind_good; caused = bind_caused }
-
-  -- ---- values and refusals
-
-  module _ {A : Type 0} (Good : A → Type 0) where
-    returned : (value : A) → Good value → Explains (Returns value) Good
-    returned value good = record { silent = is_silent; good = is_good; caused = never }
-      where
-        comes_to : {before after : Option ℕ} {events : List Event} {result : _} → Returns value before events result after → result ≡ Ok value
-        comes_to chain.returns = refl
-
-        never : {before after : Option ℕ} (events : List Event) {why : _} → Returns value before events (Err why) after → StandIn events whole → Here (refusal_events why) (refusal_went why)
-        never events does stands = absurd (cc (comes_to does))
-
-        is_silent : {before after : Option ℕ} (events : List Event) {result : _} → Returns value before events result after → StandIn events whole → Silent events
-        is_silent events chain.returns stands = tt
-
-        is_good : {before after : Option ℕ} (events : List Event) (other : A) → Returns value before events (Ok other) after → StandIn events whole → Good other
-        is_good events other chain.returns stands = good
-
-    refused_by : {why : _} → Here (refusal_events why) (refusal_went why) → Explains (Refuses {A = A} why) Good
-    refused_by {why} explained = record { silent = is_silent; good = never; caused = is_caused }
-      where
-        comes_to : {before after : Option ℕ} {events : List Event} {result : _} → Refuses {A = A} why before events result after → result ≡ Err why
-        comes_to chain.refuses = refl
-
-        never : {before after : Option ℕ} (events : List Event) (value : A) → Refuses {A = A} why before events (Ok value) after → StandIn events whole → Good value
-        never events value does stands = absurd (cc (comes_to does))
-
-        is_silent : {before after : Option ℕ} (events : List Event) {result : _} → Refuses {A = A} why before events result after → StandIn events whole → Silent events
-        is_silent events chain.refuses stands = tt
-
-        is_caused : {before after : Option ℕ} (events : List Event) {other : _} → Refuses {A = A} why before events (Err other) after → StandIn events whole → Here (refusal_events other) (refusal_went other)
-        is_caused events chain.refuses stands = explained
-
-  is_unless : (said : Option Bool) (otherwise : Part (Unit {0})) → (said ≡ Some false → Caused code.NotTrusted Agent) → (said ≡ None → Explains otherwise Anything)
-      → Explains (unless_said said otherwise) Anything
+  is_unless : (said : Option Bool) (otherwise : Part (Unit {0})) → (said ≡ Some false → Caused code.NotTrusted Agent) → (said ≡ None → ExplainsHere otherwise Anything)
+      → ExplainsHere (unless_said said otherwise) Anything
   is_unless (Some true) otherwise denies explains = returned Anything tt tt
-  is_unless (Some false) otherwise denies explains = refused_by Anything (failed [] code.NotTrusted Agent tt (denies refl) tt)
+  is_unless (Some false) otherwise denies explains = refused Anything (refusals.Agent code.NotTrusted) (denies refl)
   is_unless None otherwise denies explains = explains refl
 
   -- ---- the seat
@@ -168,28 +106,18 @@ module _ (rules : Rules) (kept : Kept) (other : Request) (request : TrustRequest
   interrupts step keeps turns.stopping stands = by_stop (turned step keeps (has_first stands))
   interrupts step keeps turns.late stands = turned step keeps (has_first stands)
 
-  seats : Explains (Seats (Seat None None)) Anything
-  seats = record { silent = is_silent; good = λ events value does stands. tt; caused = is_caused }
+  seats_of : (before : Option ℕ) (events : List Event) (result : Result (Unit {0}) Refusal) (after : Option ℕ) → Seats (Seat None None) before events result after → StandIn events whole
+      → ComesHere Anything events result
+  seats_of before events result after taken.opened stands = record { silent = (tt, tt); explained = tt }
+  seats_of before events result after (taken.interrupted why) stands = record { silent = (tt, tt); explained = interrupts (Seat None None) refl why stands }
+
+  under_ticket : {part : Part (Unit {0})} → ExplainsHere part Anything → ExplainsHere (UnderTicket part) Anything
+  under_ticket {part} explains = record { of = under_of }
     where
-      is_silent : {before after : Option ℕ} (events : List Event) {result : _} → Seats (Seat None None) before events result after → StandIn events whole → Silent events
-      is_silent events taken.opened stands = (tt, tt)
-      is_silent events (taken.interrupted why) stands = (tt, tt)
-
-      is_caused : {before after : Option ℕ} (events : List Event) {why : _} → Seats (Seat None None) before events (Err why) after → StandIn events whole → Here (refusal_events why) (refusal_went why)
-      is_caused events (taken.interrupted {code = why} is) stands = failed [] why Agent tt (interrupts (Seat None None) refl is stands) tt
-
-  module _ {A : Type 0} {part : Part A} (Good : A → Type 0) (explains : Explains part Good) where
-    under_ticket : Explains (UnderTicket part) Good
-    under_ticket = record { silent = is_silent; good = is_good; caused = is_caused }
-      where
-        is_silent : {before after : Option ℕ} (events : List Event) {result : _} → UnderTicket part before events result after → StandIn events whole → Silent events
-        is_silent _ (parts.given_back {events} turn does) stands = silent_append events (_ ∷ []) (explains.silent events does (stand_left events _ stands)) (tt, tt)
-
-        is_good : {before after : Option ℕ} (events : List Event) (value : A) → UnderTicket part before events (Ok value) after → StandIn events whole → Good value
-        is_good _ value (parts.given_back {events} turn does) stands = explains.good events value does (stand_left events _ stands)
-
-        is_caused : {before after : Option ℕ} (events : List Event) {why : _} → UnderTicket part before events (Err why) after → StandIn events whole → Here (refusal_events why) (refusal_went why)
-        is_caused _ (parts.given_back {events} turn does) stands = explains.caused events does (stand_left events _ stands)
+      under_of : (before : Option ℕ) (events : List Event) (result : Result (Unit {0}) Refusal) (after : Option ℕ) → UnderTicket part before events result after → StandIn events whole → ComesHere Anything events result
+      under_of before events result after (parts.given_back {events = some} turn does) stands =
+          let comes : ComesHere Anything some result = explains.of _ some result _ does (stand_left some _ stands) in
+          record { silent = each_append AnswersNothing some (_ ∷ []) comes.silent (tt, tt); explained = comes.explained }
 
   -- ---- the user
 
@@ -203,138 +131,128 @@ module _ (rules : Rules) (kept : Kept) (other : Request) (request : TrustRequest
   client_explained (unheard.Gone gone.ReadFault) is = silent tt is
   client_explained (unheard.Gone gone.WriteFault) is = silent tt tt
 
+  refusal_here : (why : Refusal) → CausedRefusal whole Caused why → Here (refusal_events why) (refusal_went why)
+  refusal_here (refusals.Agent why) caused = failed [] why Agent tt caused tt
+  refusal_here (refusals.Pinentry why) caused = failed [] why Pinentry tt caused tt
+  refusal_here (Client why) cut = silent tt tt
+  refusal_here (Client why) (client_said is) = client_explained why is
+
   module _ {prompt : List PromptEvent} {shown : List Event} (shows : AnyInSession session_lines prompt shown) (stands : StandIn shown whole) where
-    heard_refused : (heard : Heard) → HasHeard heard prompt → IfSome (consent_refusal (agreed.Heard heard)) (λ why. Here (refusal_events why) (refusal_went why))
+    abbrev IfRefused : Option Refusal → Type 0
+    IfRefused refusal = IfSome refusal (CausedRefusal whole Caused)
+
+    heard_so : (heard : Heard) (why : Unheard) → unheard_of heard ≡ Some why → HasHeard heard prompt → ClientSays whole why
+    heard_so heard why is has = client_said (heard_caused rules kept other whole shows stands heard why is has)
+
+    heard_refused : (heard : Heard) → HasHeard heard prompt → IfRefused (consent_refusal (agreed.Heard heard))
     heard_refused heard_as.Fine has = tt
     heard_refused (heard_as.Secret secret) has = tt
-    heard_refused heard_as.Cancelled has = client_explained unheard.Cancelled (heard_caused rules kept other whole shows stands heard_as.Cancelled unheard.Cancelled refl has)
-    heard_refused heard_as.TooMuch has = client_explained unheard.TooMuch (heard_caused rules kept other whole shows stands heard_as.TooMuch unheard.TooMuch refl has)
-    heard_refused heard_as.Unexpected has = client_explained unheard.Unexpected (heard_caused rules kept other whole shows stands heard_as.Unexpected unheard.Unexpected refl has)
-    heard_refused (heard_as.Gone how) has = client_explained (unheard.Gone how) (heard_caused rules kept other whole shows stands (heard_as.Gone how) (unheard.Gone how) refl has)
+    heard_refused heard_as.Cancelled has = heard_so heard_as.Cancelled unheard.Cancelled refl has
+    heard_refused heard_as.TooMuch has = heard_so heard_as.TooMuch unheard.TooMuch refl has
+    heard_refused heard_as.Unexpected has = heard_so heard_as.Unexpected unheard.Unexpected refl has
+    heard_refused (heard_as.Gone how) has = heard_so (heard_as.Gone how) (unheard.Gone how) refl has
 
     unopened : prompted.Unopened prompt → Caused code.NoPinentry Agent
     unopened (inl fails) = inr (inl (has_call rules kept other whole shows stands fails))
     unopened (inr broken) = inr (inr (has_call rules kept other whole shows stands broken))
 
-    consent_refused : (answer : Agreed) → ConsentShows answer prompt → IfSome (consent_refusal answer) (λ why. Here (refusal_events why) (refusal_went why))
+    consent_refused : (answer : Agreed) → ConsentShows answer prompt → IfRefused (consent_refusal answer)
     consent_refused agreed.Yes so = tt
-    consent_refused agreed.No so = failed [] code.NotConfirmed Pinentry tt (has_call rules kept other whole shows stands so) tt
-    consent_refused agreed.Cancelled so = failed [] code.Cancelled Pinentry tt (has_call rules kept other whole shows stands so) tt
-    consent_refused agreed.TimedOut so = failed [] code.Timeout Pinentry tt (has_call rules kept other whole shows stands so) tt
-    consent_refused agreed.NoPinentry so = failed [] code.NoPinentry Agent tt (unopened so) tt
+    consent_refused agreed.No so = has_call rules kept other whole shows stands so
+    consent_refused agreed.Cancelled so = has_call rules kept other whole shows stands so
+    consent_refused agreed.TimedOut so = has_call rules kept other whole shows stands so
+    consent_refused agreed.NoPinentry so = unopened so
     consent_refused (agreed.Heard heard) so = heard_refused heard so
 
-  if_some : {X : Type 0} (Is : X → Type 0) {option : Option X} {some : X} → option ≡ Some some → IfSome option Is → Is some
-  if_some Is same is = subst (λ o. IfSome o Is) same is
+  agrees_of : (question : List ℕ) (before : Option ℕ) (events : List Event) (result : Result (Unit {0}) Refusal) (after : Option ℕ) → Agrees rules kept.options question before events result after → StandIn events whole
+      → ComesHere Anything events result
+  agrees_of question before events result after (consent.consents spec is prompt) stands = record { silent = prompt_silent prompt.in_session; explained = tt }
+  agrees_of question before events result after (consent.refused {answer} spec is prompt refusal) stands = record {
+    silent = prompt_silent prompt.in_session;
+    explained = subst (λ o. IfSome o (CausedRefusal whole Caused)) refusal (consent_refused prompt.in_session stands answer (consent_shows prompt.asks));
+  }
 
-  module _ (question : List ℕ) where
-    agrees : Explains (Agrees rules kept.options question) Anything
-    agrees = record { silent = is_silent; good = λ events value does stands. tt; caused = is_caused }
-      where
-        is_silent : {before after : Option ℕ} (events : List Event) {result : _} → Agrees rules kept.options question before events result after → StandIn events whole → Silent events
-        is_silent events (consent.consents spec is prompt) stands = prompt_silent prompt.in_session
-        is_silent events (consent.refused spec is prompt refusal) stands = prompt_silent prompt.in_session
-
-        is_caused : {before after : Option ℕ} (events : List Event) {why : _} → Agrees rules kept.options question before events (Err why) after → StandIn events whole → Here (refusal_events why) (refusal_went why)
-        is_caused events (consent.refused {answer} spec is prompt refusal) stands =
-            if_some (λ why. Here (refusal_events why) (refusal_went why)) refusal (consent_refused prompt.in_session stands answer (consent_shows prompt.asks))
+  agrees : (question : List ℕ) → ExplainsHere (Agrees rules kept.options question) Anything
+  agrees question = record { of = agrees_of question }
 
   -- ---- the trust file
 
-  reads_file : Explains ReadsFile (IsReadTrust whole)
-  reads_file = record { silent = is_silent; good = is_good; caused = is_caused }
-    where
-      is_silent : {before after : Option ℕ} (events : List Event) {result : _} → ReadsFile before events result after → StandIn events whole → Silent events
-      is_silent events (parts.has_read is) stands = (tt, tt)
-      is_silent events parts.faulted stands = (tt, tt)
-      is_silent events parts.no_memory stands = (tt, tt)
+  reads_of : (before : Option ℕ) (events : List Event) (result : Result (List ℕ) Refusal) (after : Option ℕ) → ReadsFile before events result after → StandIn events whole → ComesHere (IsReadTrust whole) events result
+  reads_of before events result after (parts.has_read is) stands = record { silent = (tt, tt); explained = read_trust is (has_first stands) }
+  reads_of before events result after parts.faulted stands = record { silent = (tt, tt); explained = called_trust (Read read.Failed) tt (has_first stands) }
+  reads_of before events result after parts.no_memory stands = record { silent = (tt, tt); explained = one (trust_called (Read read.NoMemory)) tt (has_first stands) }
 
-      is_good : {before after : Option ℕ} (events : List Event) (file : List ℕ) → ReadsFile before events (Ok file) after → StandIn events whole → IsReadTrust whole file
-      is_good events file (parts.has_read is) stands = read_trust is (has_first stands)
-
-      is_caused : {before after : Option ℕ} (events : List Event) {why : _} → ReadsFile before events (Err why) after → StandIn events whole → Here (refusal_events why) (refusal_went why)
-      is_caused events parts.faulted stands = failed [] code.General Agent tt (called_trust (Read read.Failed) tt (has_first stands)) tt
-      is_caused events parts.no_memory stands = failed [] code.NoMemory Agent tt (one (trust_called (Read read.NoMemory)) tt (has_first stands)) tt
+  reads_file : ExplainsHere ReadsFile (IsReadTrust whole)
+  reads_file = record { of = reads_of }
 
   module _ (file : List ℕ) where
-    replaces : Explains (Replaces file) Anything
-    replaces = record { silent = is_silent; good = λ events value does stands. tt; caused = is_caused }
-      where
-        is_silent : {before after : Option ℕ} (events : List Event) {result : _} → Replaces file before events result after → StandIn events whole → Silent events
-        is_silent events parts.replaced stands = (tt, tt)
-        is_silent events parts.faulted stands = (tt, tt)
-        is_silent events parts.no_memory stands = (tt, tt)
-
-        is_caused : {before after : Option ℕ} (events : List Event) {why : _} → Replaces file before events (Err why) after → StandIn events whole → Here (refusal_events why) (refusal_went why)
-        is_caused events parts.faulted stands = failed [] code.General Agent tt (called_trust (Replaced file done.Failed) tt (has_first stands)) tt
-        is_caused events parts.no_memory stands = failed [] code.NoMemory Agent tt (one (trust_called (Replaced file done.NoMemory)) tt (has_first stands)) tt
+    replaces_of : (before : Option ℕ) (events : List Event) (result : Result (Unit {0}) Refusal) (after : Option ℕ) → Replaces file before events result after → StandIn events whole → ComesHere Anything events result
+    replaces_of before events result after parts.replaced stands = record { silent = (tt, tt); explained = tt }
+    replaces_of before events result after parts.faulted stands = record { silent = (tt, tt); explained = called_trust (Replaced file done.Failed) tt (has_first stands) }
+    replaces_of before events result after parts.no_memory stands = record { silent = (tt, tt); explained = one (trust_called (Replaced file done.NoMemory)) tt (has_first stands) }
 
     module _ (fingerprint : Grip) (flag : ℕ) (too_much : MAX_TRUST_FILE_LEN < length (with_entry file fingerprint.0 flag) → Caused code.TooMuch Agent) where
-      adds_entry : Explains (AddsEntry file fingerprint flag) Anything
-      adds_entry = record { silent = is_silent; good = λ events value does stands. tt; caused = is_caused }
-        where
-          is_silent : {before after : Option ℕ} (events : List Event) {result : _} → AddsEntry file fingerprint flag before events result after → StandIn events whole → Silent events
-          is_silent events (parts.added fits) stands = tt
-          is_silent events (parts.too_long long) stands = tt
-          is_silent events parts.no_memory stands = (tt, tt)
-
-          is_caused : {before after : Option ℕ} (events : List Event) {why : _} → AddsEntry file fingerprint flag before events (Err why) after → StandIn events whole → Here (refusal_events why) (refusal_went why)
-          is_caused events (parts.too_long long) stands = failed [] code.TooMuch Agent tt (too_much long) tt
-          is_caused events parts.no_memory stands = failed [] code.NoMemory Agent tt (one (Further NoMemory) tt (has_first stands)) tt
+      adds_of : (before : Option ℕ) (events : List Event) (result : Result (List ℕ) Refusal) (after : Option ℕ) → AddsEntry file fingerprint flag before events result after → StandIn events whole
+          → ComesHere Anything events result
+      adds_of before events result after (parts.added fits) stands = record { silent = tt; explained = tt }
+      adds_of before events result after (parts.too_long long) stands = record { silent = tt; explained = too_much long }
+      adds_of before events result after parts.no_memory stands = record { silent = (tt, tt); explained = one (Further NoMemory) tt (has_first stands) }
 
   -- ---- whole requests
 
   module _ (fingerprint : Grip) (is_request : request ≡ IsTrusted fingerprint) where
-    trusted_now : Explains (TrustedNow fingerprint) Anything
+    trusted_now : ExplainsHere (TrustedNow fingerprint) Anything
     unfolding TrustedNow
     trusted_now =
         bind (IsReadTrust whole) Anything reads_file
         (λ file is_read. is_unless (trust file fingerprint.0) _
         (λ no. denied (record { file = file; request_is = is_request; is_read = is_read; says_so = no }))
-        (λ none. refused_by Anything (failed [] code.NotTrusted Agent tt (unsaid (record { file = file; request_is = is_request; is_read = is_read; says_so = none })) tt)))
+        (λ none. refused Anything (refusals.Agent code.NotTrusted) (unsaid (record { file = file; request_is = is_request; is_read = is_read; says_so = none }))))
 
   module _ (fingerprint : Grip) (purpose : TrustPurpose) (name : ArrayVec ℕ) (is_request : request ≡ MarkTrusted fingerprint purpose name) where
     says : (file : List ℕ) (said : Option Bool) → IsReadTrust whole file → trust file fingerprint.0 ≡ said → IsMarked whole request fingerprint purpose file said
     says file said is_read so = record { name = name; request_is = is_request; is_read = is_read; says_so = so }
 
-    stores : (file : List ℕ) → IsMarked whole request fingerprint purpose file None → Explains (Stores fingerprint purpose file) Anything
+    stores : (file : List ℕ) → IsMarked whole request fingerprint purpose file None → ExplainsHere (Stores fingerprint purpose file) Anything
     unfolding Stores
-    stores file is = bind Anything Anything (adds_entry file fingerprint (flag_of purpose) (λ long. too_long is long)) (λ new good. replaces new)
+    stores file is = bind Anything Anything (record { of = adds_of file fingerprint (flag_of purpose) (λ long. too_long is long) }) (λ new good. record { of = replaces_of new })
 
-    stores_unsaid : Explains (StoresUnsaid fingerprint purpose) Anything
+    stores_unsaid : ExplainsHere (StoresUnsaid fingerprint purpose) Anything
     unfolding StoresUnsaid
     stores_unsaid =
         bind (IsReadTrust whole) Anything reads_file
         (λ file is_read. is_unless (trust file fingerprint.0) _ (λ no. denied_mark (says file (Some false) is_read no)) (λ none. stores file (says file None is_read none)))
 
-    consented : Explains (Consented rules kept.options fingerprint purpose name.items) Anything
+    consented : ExplainsHere (Consented rules kept.options fingerprint purpose name.items) Anything
     unfolding Consented
     consented = bind Anything Anything (agrees (trust_question name.items)) (λ trusted good. bind Anything Anything (agrees (fingerprint_question fingerprint name.items)) (λ right fine. stores_unsaid))
 
     asked : (file : List ℕ) → IsMarked whole request fingerprint purpose file None → (way : PinMode) → kept.options.mode ≡ way
-        → Explains (asked_in rules kept.options fingerprint purpose name.items way) Anything
-    asked file is mode.Ask same = bind Anything Anything seats (λ seated good. under_ticket Anything consented)
-    asked file is mode.Cancel same = refused_by Anything (failed [] code.Cancelled Agent tt (by_mode is same) tt)
-    asked file is mode.Error same = refused_by Anything (failed [] code.NoPinentry Agent tt (inl (error is same)) tt)
-    asked file is mode.Loopback same = refused_by Anything (failed [] code.NoPinentry Agent tt (inl (loopback is same)) tt)
+        → ExplainsHere (asked_in rules kept.options fingerprint purpose name.items way) Anything
+    asked file is mode.Ask same = bind Anything Anything (record { of = seats_of }) (λ seated good. under_ticket consented)
+    asked file is mode.Cancel same = refused Anything (refusals.Agent code.Cancelled) (by_mode is same)
+    asked file is mode.Error same = refused Anything (refusals.Agent code.NoPinentry) (inl (error is same))
+    asked file is mode.Loopback same = refused Anything (refusals.Agent code.NoPinentry) (inl (loopback is same))
 
-    marked : Explains (Marked rules kept.options fingerprint purpose name.items) Anything
+    marked : ExplainsHere (Marked rules kept.options fingerprint purpose name.items) Anything
     unfolding Marked
     marked =
         bind (IsReadTrust whole) Anything reads_file
         (λ file is_read. is_unless (trust file fingerprint.0) _ (λ no. denied_mark (says file (Some false) is_read no)) (λ none. asked file (says file None is_read none) kept.options.mode refl))
 
   module _ (line_caused : (why : Code) → request ≡ Bad why → Caused why Agent) where
-    carried : (asked : TrustRequest) → request ≡ asked → Explains (Carried rules kept.options asked) Anything
+    carried : (asked : TrustRequest) → request ≡ asked → ExplainsHere (Carried rules kept.options asked) Anything
     carried (IsTrusted fingerprint) is = trusted_now fingerprint is
     carried (MarkTrusted fingerprint purpose name) is = marked fingerprint purpose name is
-    carried (Bad why) is = refused_by Anything (failed [] why Agent tt (line_caused why is) tt)
+    carried (Bad why) is = refused Anything (refusals.Agent why) (line_caused why is)
 
     pub trust_explained : {events : List Event} {went : Went} → TrustExchange rules kept.options request events went → StandIn events whole → Here events went
     trust_explained (trusts.answered events does) stands =
-        after_these _ _ events ((carried request refl).silent events does (stand_left events _ stands)) (replied [] ok tt reply_ok tt)
+        let comes : ComesHere Anything events (Ok tt) = (carried request refl).of None events (Ok tt) None does (stand_left events _ stands) in
+        after_these _ _ events comes.silent (replied [] ok tt reply_ok tt)
     trust_explained (trusts.refused events why does) stands =
-        after_these _ _ events ((carried request refl).silent events does (stand_left events _ stands)) ((carried request refl).caused events does (stand_left events _ stands))
+        let comes : ComesHere Anything events (Err why) = (carried request refl).of None events (Err why) None does (stand_left events _ stands) in
+        after_these _ _ events comes.silent (refusal_here why comes.explained)
 
 -- ---- lines that are out of form
 

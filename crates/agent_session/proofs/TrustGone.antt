@@ -31,7 +31,7 @@ use Rattle.agent_origin.specs.declared.request.TrustRequest.TheVariants.{IsTrust
 use Rattle.key_commands.specs.Events.{Event}
 use Rattle.key_commands.specs.Parts.{Part}
 use Rattle.agent_session.specs.Causes.{IsSaid, said}
-use Rattle.agent_session.proofs.Courses.{IsHeard, heard_so, said_before, last_heard, works_gone}
+use Rattle.agent_session.proofs.Courses.{IsHeard, heard_so, said_before, last_heard, works_said, gone_only}
 use Rattle.agent_session.proofs.Explained.{has_split}
 use Rattle.agent_session.proofs.PromptWorks.{agrees_to}
 
@@ -93,7 +93,7 @@ under_of : {part : Part (Unit {0})} → GoneSo part → {how : Gone} {before aft
 under_of gone_so (parts.given_back {events} turn does) says = gone_so.of does (said_before events _ (refl, tt) says)
 
 agrees : (rules : Rules) (options : OptionValues) (question : List ℕ) → GoneSo (parts.Agrees rules options question)
-agrees rules options question = record { of = λ {how} {before} {after} {events} {result} does says. works_gone (λ event. Unit {0}) ((agrees_to (λ event. Unit {0}) (λ event. tt) (λ word params limit inquired. tt) rules options question).of does) says }
+agrees rules options question = record { of = λ {how} {before} {after} {events} {result} does says. gone_only (works_said (λ event. Unit {0}) ((agrees_to (λ event. Unit {0}) (λ event. tt) (λ pid inquired. tt) rules options question).of does) says) }
 
 module _ (fingerprint : Grip) where
   trusted_now : GoneSo (TrustedNow fingerprint)

@@ -1,7 +1,7 @@
 -- The one form of what is done for a request: each event goes on, but a last one by which the request is refused or its client is gone. It is so of nothing, of a
 -- part and what follows on its value, and of the smallest parts of a request.
 use Rattle.std.specs.List.{AllByRecursion}
-use Rattle.std.proofs.Common.{◌≡◌, ◌≢◌, ℕ, Bool, true, false, List, [], ◌∷◌, ◌++◌, Option, Some, None, Result, Ok, Err, refl, sym, ap, ◌∙◌, subst, append_assoc, append-nil}
+use Rattle.std.proofs.Common.{codes, ◌≡◌, ◌≢◌, ℕ, Bool, true, false, List, [], ◌∷◌, ◌++◌, Option, Some, None, Result, Ok, Err, refl, sym, ap, ◌∙◌, subst, append_assoc, append-nil}
 use Rattle.agent_ask.specs.ClientParts.{Writes, Inquires, AsksClient}
 use Rattle.agent_ask.specs.ClientParts as client
 use Rattle.agent_ask.specs.Events.{Called, Shut}
@@ -25,7 +25,7 @@ use Rattle.assuan_server.specs.Inquiries.{Outcome, IsAtEnd}
 use Rattle.assuan_server.specs.Inquiries as outcomes
 use Rattle.cache_policy.specs.Turns.{Turn, closes}
 use Rattle.cache_policy.specs.declared.mark.MarkStep.{MarkStep}
-use Rattle.cache_policy.specs.declared.mark.MarkStep.TheVariants.{Peek}
+use Rattle.cache_policy.specs.declared.mark.MarkStep.TheVariants.{Peek, Close}
 use Rattle.cache_policy.specs.declared.mode.Mode.{Mode}
 use Rattle.secret_file.specs.Opens.{LockedKey}
 use Rattle.session_client.specs.Asking.{Asked, said_by}
@@ -33,7 +33,6 @@ use Rattle.session_client.specs.declared.code.Code.{Code}
 use Rattle.session_client.specs.declared.code.Code.TheVariants as code
 use Rattle.session_client.specs.declared.refusal.Refusal.{Refusal}
 use Rattle.session_client.specs.declared.refusal.Refusal.TheVariants.{Agent, Client}
-use Rattle.session_client.specs.declared.unheard.Gone.{Gone}
 use Rattle.session_client.specs.declared.unheard.Gone.TheVariants as gone
 use Rattle.session_client.specs.declared.unheard.Unheard.{Unheard}
 use Rattle.session_client.specs.declared.unheard.Unheard.TheVariants as unheard
@@ -41,30 +40,30 @@ use Rattle.sexp_keys.specs.Key.{Key}
 use Rattle.key_commands.specs.Events.{Event, called, read, out_of_memory}
 use Rattle.key_commands.specs.Files.{Rewrites}
 use Rattle.key_commands.specs.Files as files
-use Rattle.key_commands.specs.KeyParts.{Tells, tells, ReadsFile, Replaces, Removes, Protects, IsShort, ListsGrips, ReadsListed, max_key_data, AsksKeyData, Unwraps, NamesKey, LooksOver, WrapsKey, file_in, grips_in, change_fault}
+use Rattle.key_commands.specs.KeyParts.{Tells, tells, ReadsFile, Replaces, KeepsNew, Protects, IsShort, ListsGrips, ReadsListed, max_key_data, AsksKeyData, Unwraps, NamesKey, LooksOver, WrapsKey, file_in, grips_in, change_fault}
 use Rattle.key_commands.specs.KeyParts as parts
 use Rattle.key_commands.specs.Lines.{limit_line}
 use Rattle.key_commands.specs.Parts.{Part, Finds, Draws, read_fault}
 use Rattle.key_commands.specs.Parts as small
-use Rattle.key_commands.specs.Passphrases.{LooksForNonce, TakesSeat, Locks, Tries, TriesFound, ask_nonce, seat_for}
+use Rattle.key_commands.specs.Passphrases.{LooksForNonce, TakesSeat, Locks, Tries, TriesFound, ask_nonce, put_key, seat_for}
 use Rattle.key_commands.specs.Passphrases as passphrases
 use Rattle.key_commands.proofs.EachEvent.{each_append}
 use Rattle.agent_session.specs.Refusals.{turn_refuses, change_refuses, refuses, shuts}
 
 -- ---- single events
 
-abbrev pub gone_said : Result (List ℕ) Unheard → Option Gone
-gone_said (Err (unheard.Gone how)) = Some how
-gone_said _ = None
+abbrev pub unsaid : Result (List ℕ) Unheard → Option Unheard
+unsaid (Err why) = Some why
+unsaid (Ok bytes) = None
 
--- how the client is gone by an event, where it is
-abbrev pub loses : Event → Option Gone
-loses (Cut text) = Some gone.WriteFault
-loses (Inquiry word params limit inquired) = gone_said (said_by session_lines inquired)
-loses _ = None
+-- what the client said by an event in place of what it was asked for, or that it is gone
+abbrev pub unheard_by : Event → Option Unheard
+unheard_by (Cut text) = Some (unheard.Gone gone.WriteFault)
+unheard_by (Inquiry word params limit inquired) = unsaid (said_by session_lines inquired)
+unheard_by _ = None
 
--- by such an event the request isn't refused, and by one that refuses it the client isn't gone
-pub lost_goes : (event : Event) {how : Gone} → loses event ≡ Some how → refuses event ≡ None
+-- an event that refuses the request is none of those
+pub lost_goes : (event : Event) {why : Unheard} → unheard_by event ≡ Some why → refuses event ≡ None
 lost_goes (Cut text) is = refl
 lost_goes (Inquiry word params limit inquired) is = refl
 lost_goes (Received took) is = refl
@@ -76,28 +75,20 @@ lost_goes (Further what) is = absurd (cc is)
 pub by_turn : (asked : MarkStep) (turn : Turn) {said : Option Code} → closes asked ≡ None → turn_refuses None turn ≡ said → turn_refuses (closes asked) turn ≡ said
 by_turn asked turn no_close is = ap (λ c. turn_refuses c turn) no_close ∙ is
 
-at_end_heard : (outcome : Outcome) → IsAtEnd outcome → gone_said (said_by session_lines (Asked outcome)) ≡ None
-at_end_heard (outcomes.Data bytes) at_end = refl
-at_end_heard outcomes.TooMuch at_end = refl
-at_end_heard outcomes.Cancelled at_end = absurd at_end
-at_end_heard outcomes.Unexpected at_end = absurd at_end
-at_end_heard outcomes.Ended at_end = absurd at_end
-at_end_heard outcomes.TooLong at_end = absurd at_end
-at_end_heard outcomes.Spent at_end = absurd at_end
-at_end_heard outcomes.ReadFault at_end = absurd at_end
-
 -- ---- the form
 
 -- `Fits` is what is so of each event
 module _ (Fits : Event → Type 0) where
   abbrev pub GoesOn : Event → Type 0
-  GoesOn event = Fits event × (refuses event ≡ None) × (loses event ≡ None)
+  GoesOn event = Fits event × (refuses event ≡ None) × (unheard_by event ≡ None)
 
   -- what a part ends with, by what it comes to
   pub data WorkEnd {A : Type 0} : List Event → Result A Refusal → Type 0 where
     no_more : {result : Result A Refusal} → WorkEnd [] result
     refused : {event : Event} {why : Code} → Fits event → refuses event ≡ Some why → WorkEnd (event ∷ shuts event) (Err (Agent why))
-    lost : {event : Event} {last : List Event} {how : Gone} → Fits event → loses event ≡ Some how → AllByRecursion GoesOn last → WorkEnd (event ∷ last) (Err (Client (unheard.Gone how)))
+    lost : {event : Event} {last : List Event} {why : Unheard} → Fits event → unheard_by event ≡ Some why → AllByRecursion GoesOn last → WorkEnd (event ∷ last) (Err (Client why))
+    -- too much was said, and there was no memory for it
+    forgot : {event : Event} → Fits event → unheard_by event ≡ Some unheard.TooMuch → Fits out_of_memory → WorkEnd (event ∷ out_of_memory ∷ []) (Err (Agent code.NoMemory))
 
   pub record Works {A : Type 0} (events : List Event) (result : Result A Refusal) : Type 0 where
     pub work : List Event
@@ -116,6 +107,7 @@ module _ (Fits : Event → Type 0) where
   err_last no_more = no_more
   err_last (refused fits is) = refused fits is
   err_last (lost fits is each) = lost fits is each
+  err_last (forgot fits is memory) = forgot fits is memory
 
   pub ok_works : {A : Type 0} {events : List Event} {value : A} → Works events (Ok value) → AllByRecursion GoesOn events
   ok_works does = subst (AllByRecursion GoesOn) (sym (does.is ∙ ap (λ l. does.work ++ l) (ok_last does.end) ∙ append-nil does.work)) does.each
@@ -134,7 +126,7 @@ module _ (Fits : Event → Type 0) where
   }
 
   -- one event alone, which goes on, or refuses its request, also behind one that goes on
-  pub one_works : {A : Type 0} {result : Result A Refusal} {event : Event} → Fits event → refuses event ≡ None → loses event ≡ None → Works (event ∷ []) result
+  pub one_works : {A : Type 0} {result : Result A Refusal} {event : Event} → Fits event → refuses event ≡ None → unheard_by event ≡ None → Works (event ∷ []) result
   one_works fits goes heard = works ((fits, goes, heard), tt)
 
   pub refused_by : {A : Type 0} {event : Event} {why : Code} → Fits event → refuses event ≡ Some why → shuts event ≡ [] → Works {A = A} (event ∷ []) (Err (Agent why))
@@ -142,6 +134,15 @@ module _ (Fits : Event → Type 0) where
 
   pub refused_second : {A : Type 0} {first event : Event} {why : Code} → GoesOn first → Fits event → refuses event ≡ Some why → shuts event ≡ [] → Works {A = A} (first ∷ event ∷ []) (Err (Agent why))
   refused_second {first} goes fits is alone = behind_work (first ∷ []) (goes, tt) (refused_by fits is alone)
+
+  pub shuts_fit : Fits (Further (Prompt (Called Shut))) → (event : Event) → AllByRecursion Fits (shuts event)
+  shuts_fit shut (Further (Prompt event)) = (shut, tt)
+  shuts_fit shut (Further _) = tt
+  shuts_fit shut (Received took) = tt
+  shuts_fit shut (Sent text) = tt
+  shuts_fit shut (Cut text) = tt
+  shuts_fit shut (CacheTurn taken) = tt
+  shuts_fit shut (Inquiry word params limit inquired) = tt
 
   -- all events are so, where the end of a prompt is
   pub each_fits : {A : Type 0} {events : List Event} {result : Result A Refusal} → Fits (Further (Prompt (Called Shut))) → Works events result → AllByRecursion Fits events
@@ -151,19 +152,11 @@ module _ (Fits : Event → Type 0) where
       all_fit [] each = tt
       all_fit (event ∷ more) each = (each.0.0, all_fit more each.1)
 
-      shut_fits : (event : Event) → AllByRecursion Fits (shuts event)
-      shut_fits (Further (Prompt event)) = (shut, tt)
-      shut_fits (Further _) = tt
-      shut_fits (Received took) = tt
-      shut_fits (Sent text) = tt
-      shut_fits (Cut text) = tt
-      shut_fits (CacheTurn taken) = tt
-      shut_fits (Inquiry word params limit inquired) = tt
-
       last_fits : {B : Type 0} {last : List Event} {came : Result B Refusal} → WorkEnd last came → AllByRecursion Fits last
       last_fits no_more = tt
-      last_fits (refused {event} fits is) = (fits, shut_fits event)
+      last_fits (refused {event} fits is) = (fits, shuts_fit shut event)
       last_fits (lost {last = behind} fits is each) = (fits, all_fit behind each)
+      last_fits (forgot fits is memory) = (fits, (memory, tt))
 
   -- ---- parts
 
@@ -280,6 +273,22 @@ module _ (Fits : Event → Type 0) where
   pub takes_seat : (grip : Grip) → Turns (seat_for grip) → WorksSo (TakesSeat grip)
   takes_seat grip each = record { of = λ {before} {after} {events} {result} does. takes_seat_of grip each before events result after does }
 
+  closes_of : {keep : Option (List ℕ)} → ((ticket : ℕ) (turn : Turn) → Fits (cache_turn (Close ticket keep) turn)) → {before after : Option ℕ} {events : List Event} {result : Result (Unit {0}) Refusal}
+      → Closes keep before events result after → Works events result
+  closes_of fits taken.unheld = works tt
+  closes_of fits (taken.closed turn) = one_works (fits _ turn) refl refl
+
+  pub closes_ticket : {keep : Option (List ℕ)} → ((ticket : ℕ) (turn : Turn) → Fits (cache_turn (Close ticket keep) turn)) → WorksSo (Closes keep)
+  closes_ticket fits = record { of = closes_of fits }
+
+  keeps_new_of : (grip : Grip) (pass : List ℕ) → Turns (put_key grip pass) → ((ticket : ℕ) (turn : Turn) → Fits (cache_turn (Close ticket (Some pass)) turn))
+      → (before : Option ℕ) (events : List Event) (result : Result (Unit {0}) Refusal) (after : Option ℕ) → KeepsNew grip pass before events result after → Works events result
+  keeps_new_of grip pass puts fits None events result after does = (changes puts None events result after does).0
+  keeps_new_of grip pass puts fits (Some ticket) events result after does = closes_of fits does
+
+  pub keeps_new : (grip : Grip) (pass : List ℕ) → Turns (put_key grip pass) → ((ticket : ℕ) (turn : Turn) → Fits (cache_turn (Close ticket (Some pass)) turn)) → WorksSo (KeepsNew grip pass)
+  keeps_new grip pass puts fits = record { of = λ {before} {after} {events} {result} does. keeps_new_of grip pass puts fits before events result after does }
+
   -- ---- the client
 
   module _ (cut : (text : List ℕ) → Fits (Cut text)) where
@@ -294,34 +303,42 @@ module _ (Fits : Event → Type 0) where
     key_writes fits _ _ _ _ small.written = (one_works fits refl refl, refl)
     key_writes fits _ _ _ _ (small.cut unsent is) = (cut_works _, refl)
 
-  module _ (asked : (word params : List ℕ) (limit : ℕ) (inquired : _) → Fits (Inquiry word params limit inquired)) where
-    given_works : {A : Type 0} {result : Result A Refusal} {word params bytes : List ℕ} {limit : ℕ} (inquired : _) → said_by session_lines inquired ≡ Ok bytes → Works (Inquiry word params limit inquired ∷ []) result
-    given_works inquired is = one_works (asked _ _ _ inquired) refl (ap gone_said is)
+  module _ {word : List ℕ} {limit : ℕ} (asked : (inquired : _) → Fits (Inquiry word [] limit inquired)) where
+    given_works : {A : Type 0} {result : Result A Refusal} {bytes : List ℕ} (inquired : _) → said_by session_lines inquired ≡ Ok bytes → Works (Inquiry word [] limit inquired ∷ []) result
+    given_works inquired is = one_works (asked inquired) refl (ap unsaid is)
 
-    unheard_works : {A : Type 0} {word params : List ℕ} {limit : ℕ} (inquired : _) (why : Unheard) → said_by session_lines inquired ≡ Err why → Works {A = A} (Inquiry word params limit inquired ∷ []) (Err (Client why))
-    unheard_works inquired unheard.Cancelled is = one_works (asked _ _ _ inquired) refl (ap gone_said is)
-    unheard_works inquired unheard.TooMuch is = one_works (asked _ _ _ inquired) refl (ap gone_said is)
-    unheard_works inquired unheard.Unexpected is = one_works (asked _ _ _ inquired) refl (ap gone_said is)
-    unheard_works inquired (unheard.Gone how) is = record { work = []; last = _; is = refl; each = tt; end = lost (asked _ _ _ inquired) (ap gone_said is) tt }
+    unheard_works : {A : Type 0} {why : Unheard} (inquired : _) → said_by session_lines inquired ≡ Err why → Works {A = A} (Inquiry word [] limit inquired ∷ []) (Err (Client why))
+    unheard_works inquired is = record { work = []; last = _; is = refl; each = tt; end = lost (asked inquired) (ap unsaid is) tt }
 
-    pub inquires : {word : List ℕ} {limit : ℕ} → Keeps (Inquires session_lines word limit)
+    pub inquires : Keeps (Inquires session_lines word limit)
     inquires _ _ _ _ (client.given {inquired} is) = (given_works inquired is, refl)
-    inquires _ _ _ _ (client.not_given {why} {inquired} is) = (unheard_works inquired why is, refl)
+    inquires _ _ _ _ (client.not_given {inquired} is) = (unheard_works inquired is, refl)
 
-    pub asks_client : ((text : List ℕ) → Fits (Cut text)) → (told word : List ℕ) (limit : ℕ) → Fits (Sent told) → WorksSo (AsksClient session_lines told word limit)
-    asks_client cut told word limit fits = bind (keeps_works (writes cut fits)) (λ wrote. keeps_works inquires)
+    pub asks_client : ((text : List ℕ) → Fits (Cut text)) → (told : List ℕ) → Fits (Sent told) → WorksSo (AsksClient session_lines told word limit)
+    asks_client cut told fits = bind (keeps_works (writes cut fits)) (λ wrote. keeps_works inquires)
 
     -- the same over the parts of requests on keys
-    key_inquires : {word : List ℕ} {limit : ℕ} → Keeps (small.Inquires word limit)
+    key_inquires : Keeps (small.Inquires word limit)
     key_inquires _ _ _ _ (small.given {inquired} is) = (given_works inquired is, refl)
-    key_inquires _ _ _ _ (small.not_given {why} {inquired} is) = (unheard_works inquired why is, refl)
+    key_inquires _ _ _ _ (small.not_given {inquired} is) = (unheard_works inquired is, refl)
 
-    pub asks_key_client : ((text : List ℕ) → Fits (Cut text)) → (word : List ℕ) (limit : ℕ) → Fits (Sent (limit_line limit)) → WorksSo (small.AsksClient word limit)
-    asks_key_client cut word limit fits = bind (keeps_works (key_writes cut fits)) (λ told. keeps_works key_inquires)
+    pub asks_key_client : ((text : List ℕ) → Fits (Cut text)) → Fits (Sent (limit_line limit)) → WorksSo (small.AsksClient word limit)
+    asks_key_client cut fits = bind (keeps_works (key_writes cut fits)) (λ told. keeps_works key_inquires)
 
-    pub asks_key_data : Fits out_of_memory → Keeps AsksKeyData
-    asks_key_data memory _ _ _ _ (parts.asked inquires_so) = ((key_inquires _ _ _ _ inquires_so).0, refl)
-    asks_key_data memory _ _ _ _ (parts.no_memory {outcome} at_end) = (refused_second (asked _ _ _ (Asked outcome), refl, at_end_heard outcome at_end) memory refl refl, refl)
+  module _ (asked : (inquired : _) → Fits (Inquiry (codes "KEYDATA") [] max_key_data inquired)) (memory : Fits out_of_memory) where
+    at_end_works : {A : Type 0} (outcome : Outcome) → IsAtEnd outcome → Works {A = A} (Inquiry (codes "KEYDATA") [] max_key_data (Asked outcome) ∷ out_of_memory ∷ []) (Err (Agent code.NoMemory))
+    at_end_works (outcomes.Data bytes) at_end = refused_second (asked _, refl, refl) memory refl refl
+    at_end_works outcomes.TooMuch at_end = record { work = []; last = _; is = refl; each = tt; end = forgot (asked _) refl memory }
+    at_end_works outcomes.Cancelled at_end = absurd at_end
+    at_end_works outcomes.Unexpected at_end = absurd at_end
+    at_end_works outcomes.Ended at_end = absurd at_end
+    at_end_works outcomes.TooLong at_end = absurd at_end
+    at_end_works outcomes.Spent at_end = absurd at_end
+    at_end_works outcomes.ReadFault at_end = absurd at_end
+
+    pub asks_key_data : Keeps AsksKeyData
+    asks_key_data _ _ _ _ (parts.asked inquires_so) = ((key_inquires asked _ _ _ _ inquires_so).0, refl)
+    asks_key_data _ _ _ _ (parts.no_memory {outcome} at_end) = (at_end_works outcome at_end, refl)
 
   -- ---- the keys and the dice
 
@@ -377,7 +394,7 @@ module _ (Fits : Event → Type 0) where
 
     -- a change that isn't done
     pub unchanged : {A : Type 0} (answer : KeyDone) {why : Code} (event : KeyDone → Event) → ((given : KeyDone) → given ≢ key_done.Done → Fits (event given))
-        → ((given : KeyDone) → refuses (event given) ≡ change_refuses given) → ((given : KeyDone) → loses (event given) ≡ None) → ((given : KeyDone) → shuts (event given) ≡ [])
+        → ((given : KeyDone) → refuses (event given) ≡ change_refuses given) → ((given : KeyDone) → unheard_by (event given) ≡ None) → ((given : KeyDone) → shuts (event given) ≡ [])
         → change_fault answer ≡ Some why → Works {A = A} (event answer ∷ []) (Err (Agent why))
     unchanged key_done.Done event fits same heard alone is = absurd (cc is)
     unchanged key_done.Absent event fits same heard alone is = one_works (fits key_done.Absent (λ e. absurd (cc e))) (same key_done.Absent) (heard key_done.Absent)
