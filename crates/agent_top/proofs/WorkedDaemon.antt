@@ -1,5 +1,5 @@
--- A worked run of `--daemon`: two sessions, whose marks stand by turns in its one run. The first stores a passphrase, which the second is given; the first clears it, and the second stops
--- the agent. The laws on a daemon and on its sessions hold of it.
+-- A worked run of `--daemon`: two sessions, whose marks stand by turns in its one run. The first stores a passphrase, which the second is given; the first clears it, and the second finds none
+-- and stops the agent. The laws on a daemon and on its sessions hold of it.
 use Rattle.std.specs.Fmt.{digits}
 use Rattle.std.specs.List.{AllByRecursion}
 use Rattle.std.specs.Prelude.{◌≡◌, ◌≤◌, ◌<◌, ◌+◌, ◌*◌, ℕ, zero, suc, min, nat_eq, List, [], ◌∷◌, ◌++◌, length, codes, true, false, Option, Some, None, IfSome, refl, ⊤}
@@ -49,7 +49,7 @@ use Rattle.agent_session.specs.OwnPassphrases.{puts}
 use Rattle.agent_session.specs.Refusals.{AnswersAlone}
 use Rattle.assuan_line.specs.Next.{next_of}
 use Rattle.assuan_line.specs.declared.reader.Took.TheVariants as took
-use Rattle.assuan_server.specs.Written.{greeting}
+use Rattle.assuan_server.specs.Written.{failed, greeting}
 use Rattle.assuan_text.specs.LineEnds.{line_of}
 use Rattle.assuan_text.specs.Words.{command_of}
 use Rattle.cache_policy.proofs.GrowingRuns.{legal-run_with_mark}
@@ -57,7 +57,7 @@ use Rattle.cache_policy.specs.Desks.{MakesMarks, is_of, marked}
 use Rattle.cache_policy.specs.Histories.{History}
 use Rattle.cache_policy.specs.Legal.{IsLegalRun}
 use Rattle.cache_policy.specs.Runs.{joined, moment_before, moment_of}
-use Rattle.cache_policy.specs.Turns.{Turn, Given, Done, Refused, FitsStep, out_after, since_of}
+use Rattle.cache_policy.specs.Turns.{Turn, Given, Empty, Done, Refused, FitsStep, out_after, since_of}
 use Rattle.cache_policy.specs.declared.bounds.TheConstants.{MAX_MOMENT}
 use Rattle.cache_policy.specs.declared.entry.Entry.{Entry}
 use Rattle.cache_policy.specs.declared.grant.Grant.{Grant}
@@ -75,6 +75,7 @@ use Rattle.counted_lock.specs.Passes.{AtCounted, AtPass, IsClosed, mine, numbere
 use Rattle.counted_lock.specs.Turns.{CountedTurn}
 use Rattle.key_commands.specs.Events.{Event}
 use Rattle.pinentry_client.specs.Dialogues.{PinentryDoes}
+use Rattle.session_client.specs.declared.code.Code.TheVariants as code
 use Rattle.session_options.specs.Defaults.{default_rules}
 use Rattle.session_options.specs.declared.rules.RunMode.TheVariants.{Daemon}
 use Rattle.session_options.specs.declared.rules.Rules.{Rules}
@@ -84,7 +85,7 @@ use Rattle.agent_top.proofs.OwnPassphrases.{own_turn, of_session}
 use Rattle.agent_top.proofs.Replays.{first_legal}
 use Rattle.agent_top.proofs.RunLaws.{daemon_lawful, daemon_alone}
 use Rattle.agent_top.proofs.WorkedCommon.{is_prompter, unread, unwritten, uncut, side, launches, keys, dice, clock_at, is_read, lines, get, get_is, preset}
-use Rattle.agent_top.proofs.WorkedCommon.{clear, bye, kill, reads, takes_all, id, pass, told, kept, is_given, is_cleared, is_left, is_stopped, allowing, is_stored}
+use Rattle.agent_top.proofs.WorkedCommon.{clear, bye, kill, reads, takes_all, id, pass, told, kept, is_empty, is_given, is_cleared, is_left, is_stopped, allowing, is_stored}
 use Rattle.agent_top.specs.Cache.{limits_of}
 use Rattle.agent_top.specs.Completeness.{NoFaultOfOne, DaemonEndsWell}
 use Rattle.agent_top.specs.Daemon.{SumsUp, summed, summary_line, worked, looked}
@@ -118,8 +119,14 @@ got = mark_of second (ask id) (answer.Given 0) 0
 abbrev cleared : Mark
 cleared = mark_of first (Clear id User) answer.Done 60
 
+abbrev missed : Mark
+missed = mark_of second (ask id) answer.Empty 60
+
 abbrev ended : Mark
-ended = mark_of second Stop answer.Done 60
+ended = mark_of second Stop answer.Done 120
+
+abbrev log : List Mark
+log = stored ∷ got ∷ cleared ∷ missed ∷ ended ∷ []
 
 abbrev entry : Entry
 entry = record { number = 0; id = id; mode = Any; secret = pass; entered = 0; ttl = None; max = limits.max }
@@ -142,8 +149,11 @@ legal_2 = legal-run_with_mark limits (run_of_log (stored ∷ [])) _ got legal_1 
 legal_3 : IsLegalRun limits (run_of_log (stored ∷ got ∷ cleared ∷ []))
 legal_3 = legal-run_with_mark limits (run_of_log (stored ∷ got ∷ [])) _ cleared legal_2 refl refl (lit≤ tt) (lit≤ tt) (lit< tt)
 
-legal_4 : IsLegalRun limits (run_of_log (stored ∷ got ∷ cleared ∷ ended ∷ []))
-legal_4 = legal-run_with_mark limits (run_of_log (stored ∷ got ∷ cleared ∷ [])) _ ended legal_3 refl refl (lit≤ tt) (lit≤ tt) (lit< tt)
+legal_4 : IsLegalRun limits (run_of_log (stored ∷ got ∷ cleared ∷ missed ∷ []))
+legal_4 = legal-run_with_mark limits (run_of_log (stored ∷ got ∷ cleared ∷ [])) _ missed legal_3 refl refl (lit≤ tt) (lit≤ tt) (lit< tt)
+
+legal_5 : IsLegalRun limits (run_of_log log)
+legal_5 = legal-run_with_mark limits (run_of_log (stored ∷ got ∷ cleared ∷ missed ∷ [])) _ ended legal_4 refl refl (lit≤ tt) (lit≤ tt) (lit< tt)
 
 abbrev world : World
 world = FurtherWorld (CountedTurn (λ (clock : Readings). clock)) PinentryDoes
@@ -248,9 +258,13 @@ next_bye : next_of (lines (bye ∷ [])) ≡ took.Line bye
 unfolding next_of
 next_bye = refl
 
-next_get : next_of (lines (get ∷ kill ∷ [])) ≡ took.Line get
+next_get : next_of (lines (get ∷ get ∷ kill ∷ [])) ≡ took.Line get
 unfolding next_of
 next_get = refl
+
+next_get_again : next_of (lines (get ∷ kill ∷ [])) ≡ took.Line get
+unfolding next_of
+next_get_again = refl
 
 next_kill : next_of (lines (kill ∷ [])) ≡ took.Line kill
 unfolding next_of
@@ -407,12 +421,13 @@ module _ (some : AtCounted) where
   abbrev gets : CountedTurn (λ (clock : Readings). clock) (desk_at (pass_at 1 1 []) second (clock_at 0)) (ask id) (Given grant) (desk_at (pass_at 1 1 (stored ∷ got ∷ [])) second (clock_at 1))
   gets = turn_at second 0 (pass_at 1 1 []) (stored ∷ []) (ask id) (Given grant) got gets_so
 
-  stops_so : IsMarked second 1 (pass_at 1 1 (stored ∷ got ∷ [])) (cleared ∷ []) Stop Done ended
-  stops_so = record {
+  -- and the first has cleared it
+  misses_so : IsMarked second 1 (pass_at 1 1 (stored ∷ got ∷ [])) (cleared ∷ []) (ask id) Empty missed
+  misses_so = record {
     foreign = refl;
     unowned = (refl, tt);
     mine_is = refl;
-    makes = λ called. marked ended (record { by = refl; asked_is = refl; waited = tt; before = history (stored ∷ got ∷ cleared ∷ []); last = refl; shows = refl });
+    makes = λ called. marked missed (record { by = refl; asked_is = refl; waited = tt; before = history (stored ∷ got ∷ cleared ∷ []); last = refl; shows = refl });
     unrefused = λ is. absurd (cc is);
     moment = refl;
     untried = refl;
@@ -421,34 +436,56 @@ module _ (some : AtCounted) where
     legal = legal_4;
   }
 
-  abbrev stops : CountedTurn (λ (clock : Readings). clock) (desk_at (pass_at 1 1 (stored ∷ got ∷ [])) second (clock_at 1)) Stop Done (desk_at (pass_at 1 1 (stored ∷ got ∷ cleared ∷ ended ∷ [])) second (clock_at 2))
-  stops = turn_at second 1 (pass_at 1 1 (stored ∷ got ∷ [])) (cleared ∷ []) Stop Done ended stops_so
+  abbrev misses : CountedTurn (λ (clock : Readings). clock) (desk_at (pass_at 1 1 (stored ∷ got ∷ [])) second (clock_at 1)) (ask id) Empty
+      (desk_at (pass_at 1 1 (stored ∷ got ∷ cleared ∷ missed ∷ [])) second (clock_at 2))
+  misses = turn_at second 1 (pass_at 1 1 (stored ∷ got ∷ [])) (cleared ∷ []) (ask id) Empty missed misses_so
+
+  stops_so : IsMarked second 2 (pass_at 1 1 (stored ∷ got ∷ cleared ∷ missed ∷ [])) [] Stop Done ended
+  stops_so = record {
+    foreign = refl;
+    unowned = tt;
+    mine_is = refl;
+    makes = λ called. marked ended (record { by = refl; asked_is = refl; waited = tt; before = history (stored ∷ got ∷ cleared ∷ missed ∷ []); last = refl; shows = refl });
+    unrefused = λ is. absurd (cc is);
+    moment = refl;
+    untried = refl;
+    fits = tt;
+    unheld = refl;
+    legal = legal_5;
+  }
+
+  abbrev stops : CountedTurn (λ (clock : Readings). clock) (desk_at (pass_at 1 1 (stored ∷ got ∷ cleared ∷ missed ∷ [])) second (clock_at 2)) Stop Done (desk_at (pass_at 1 1 log) second (clock_at 3))
+  stops = turn_at second 2 (pass_at 1 1 (stored ∷ got ∷ cleared ∷ missed ∷ [])) [] Stop Done ended stops_so
 
   abbrev second_events : List Event
   second_events =
-      Sent (line_of greeting) ∷ Received (took.Line get) ∷ cache_turn (ask id) (Given grant) ∷ Sent told ∷ Received (took.Line kill) ∷ cache_turn Stop Done ∷ Sent closing ∷ []
+      Sent (line_of greeting) ∷ Received (took.Line get) ∷ cache_turn (ask id) (Given grant) ∷ Sent told ∷ Received (took.Line get) ∷ cache_turn (ask id) Empty ∷ Sent (failed code.NoData)
+      ∷ Received (took.Line kill) ∷ cache_turn Stop Done ∷ Sent closing ∷ []
 
   second_talk : Session (DoorExchange Home rules) (kept rules) second_events Killed
   second_talk =
-      talks.greeted (talks.goes_on get (talks.whole (own_way get no_get (is_given rules grant refl))) (talks.over kill (talks.whole (own_way kill no_kill (is_stopped rules)))))
+      talks.greeted (talks.goes_on get (talks.whole (own_way get no_get (is_given rules grant refl))) (talks.goes_on get (talks.whole (own_way get no_get (is_empty rules)))
+      (talks.over kill (talks.whole (own_way kill no_kill (is_stopped rules))))))
 
   abbrev second_link : LinkSides
-  second_link = link_of (side (lines (get ∷ kill ∷ []))) (side [])
+  second_link = link_of (side (lines (get ∷ get ∷ kill ∷ []))) (side [])
 
   abbrev second_link_now : LinkSides
-  second_link_now = link_of (side []) (side (line_of greeting ++ told ++ closing))
+  second_link_now = link_of (side []) (side (line_of greeting ++ told ++ failed code.NoData ++ closing))
 
   second_leads : Leads (Does world (supply_of second_link.input.bytes))
       (ends_with second_link.input.bytes (at_pass rules second second_link (pass_at 1 1 []) (clock_at 0) launches keys dice trust_file)) second_events
-      (ends_with (Some []) (at_pass rules second second_link_now (pass_at 1 1 (stored ∷ got ∷ cleared ∷ ended ∷ [])) (clock_at 2) launches keys dice trust_file))
+      (ends_with (Some []) (at_pass rules second second_link_now (pass_at 1 1 log) (clock_at 3) launches keys dice trust_file))
   second_leads =
       one worlds.sent
-      (one (worlds.received {input = Some (lines (kill ∷ []))} {source = Some []} (reads get next_get refl) (takes_all (lines (get ∷ kill ∷ [])) (lit≤ tt)))
+      (one (worlds.received {input = Some (lines (get ∷ kill ∷ []))} {source = Some []} (reads get next_get refl) (takes_all (lines (get ∷ get ∷ kill ∷ [])) (lit≤ tt)))
       (one (worlds.turned gets) (one worlds.sent
+      (one (worlds.received {input = Some (lines (kill ∷ []))} {source = Some []} (reads get next_get_again refl) (inl refl))
+      (one (worlds.turned misses) (one worlds.sent
       (one (worlds.received {input = Some []} {source = Some []} (reads kill next_kill refl) (inl refl))
-      (one (worlds.turned stops) (one worlds.sent none))))))
+      (one (worlds.turned stops) (one worlds.sent none)))))))))
 
-  abbrev second_served : ServesOne host.parts host.trust host.folder rules Home second second_link (pass_at 1 0 []) Killed second_link_now (pass_at 1 1 (stored ∷ got ∷ cleared ∷ ended ∷ []))
+  abbrev second_served : ServesOne host.parts host.trust host.folder rules Home second second_link (pass_at 1 0 []) Killed second_link_now (pass_at 1 1 log)
   second_served = record {
     parts = parts;
     new = record { launcher = refl; dice = refl; keys = refl };
@@ -456,7 +493,7 @@ module _ (some : AtCounted) where
     unused = refl;
     keys_in = tt;
     trust_in = tt;
-    clock_now = clock_at 2;
+    clock_now = clock_at 3;
     launches_now = launches;
     keys_now = keys;
     dice_now = dice;
@@ -474,10 +511,10 @@ module _ (some : AtCounted) where
       input_faults = lit≤ tt;
       output_faults = lit≤ tt;
     };
-    own = got ∷ ended ∷ [];
-    turns = serves.turned gets.turns (serves.turned stops.turns serves.none);
-    adds = record { mine_is = refl; by = (refl, (refl, tt)); given = refl; empty = refl; opened = refl };
-    more = stored ∷ got ∷ cleared ∷ ended ∷ [];
+    own = got ∷ missed ∷ ended ∷ [];
+    turns = serves.turned gets.turns (serves.turned misses.turns (serves.turned stops.turns serves.none));
+    adds = record { mine_is = refl; by = (refl, (refl, (refl, tt))); given = refl; empty = refl; opened = refl };
+    more = log;
     now_is = refl;
   }
 
@@ -500,7 +537,7 @@ module _ (some : AtCounted) where
     unfallen = lit≤ tt;
   }
 
-  abbrev second_works : Works host rules (last_post 0 None) (pass_at 1 0 []) 0 (pass_at 1 1 (stored ∷ got ∷ cleared ∷ ended ∷ [])) 0
+  abbrev second_works : Works host rules (last_post 0 None) (pass_at 1 0 []) 0 (pass_at 1 1 log) 0
   second_works = record {
     last = 0;
     serves = working.one_more working.none (refl, refl) (record {
@@ -515,9 +552,6 @@ module _ (some : AtCounted) where
     ends = working.stopped (refl, refl) refl;
     unfallen = lit≤ tt;
   }
-
-  abbrev log : List Mark
-  log = stored ∷ got ∷ cleared ∷ ended ∷ []
 
   abbrev counted : AtCounted
   counted = record some { limits = limits; passes = 2 }
@@ -535,20 +569,20 @@ module _ (some : AtCounted) where
       rw (not_first, not_second) refl
 
   abbrev tally : Tally
-  tally = record { marks = 4; given = 1; empty = 0; opened = 0; stored = 1; cleared = 1; flushed = 0; stopped = true }
+  tally = record { marks = 5; given = 1; empty = 1; opened = 0; stored = 1; cleared = 1; flushed = 0; stopped = true }
 
   abbrev closed : IsClosed counted (pass_at 0 1 log ∷ pass_at 1 1 log ∷ []) tally
   closed = record {
     run = log;
-    legal = legal_4;
+    legal = legal_5;
     all = (record { seen = ([], refl); own = refl }, (record { seen = ([], refl); own = refl }, tt));
     numbers = one_of_each;
     within = none_beyond;
-    each = (refl, (refl, (refl, (refl, tt))));
+    each = (refl, (refl, (refl, (refl, (refl, tt)))));
     tally_is = refl;
   }
 
-  summary_is : summary_line tally ≡ line_of (codes "marks 4 given 1 empty 0 opened 0 stored 1 cleared 1 flushed 0")
+  summary_is : summary_line tally ≡ line_of (codes "marks 5 given 1 empty 1 opened 0 stored 1 cleared 1 flushed 0")
   unfolding digits
   summary_is = refl
 
@@ -569,7 +603,7 @@ module _ (some : AtCounted) where
     extra_as = refl;
     early = 0 ∷ 0 ∷ [];
     ears = 0 ∷ 0 ∷ [];
-    ran = (looked (worked first_works) (record { others = ended ∷ []; foreign = refl; now = refl; mine_is = refl; legal = legal_4 }), (worked second_works, tt));
+    ran = (looked (worked first_works) (record { others = missed ∷ ended ∷ []; foreign = refl; now = refl; mine_is = refl; legal = legal_5 }), (worked second_works, tt));
     tally = tally;
     closed = closed;
     sent = sent.All;
@@ -612,11 +646,13 @@ module _ (some : AtCounted) where
   }
 
   remembers : AllByRecursion Remembers second_events
-  remembers = ((λ never. never), ((λ never. never), ((λ is. cc is), ((λ never. never), ((λ never. never), ((λ is. cc is), ((λ never. never), tt)))))))
+  remembers =
+      ((λ never. never), ((λ never. never), ((λ is. cc is), ((λ never. never), ((λ never. never), ((λ is. cc is), ((λ never. never), ((λ never. never), ((λ is. cc is), ((λ never. never), tt))))))))))
 
   second_is_answered : AnswersAll (FaultlessAtDoor Home rules) rules second_events Killed
   second_is_answered = daemon_answered is_prompter second_served still remembers
 
+  -- No data was answered for its cause
   each_error_of_the_second_has_its_cause : Session (CausedAtDoor Home rules) (kept rules) second_events Killed
   each_error_of_the_second_has_its_cause = daemon_caused is_prompter second_served
 
