@@ -1,8 +1,8 @@
 mod Counting
-mod Lifting
+pub mod Lifting
 mod Pairs
 mod WorkedExamples
-mod Works
+pub mod Works
 mod OnePrompt
 pub mod PromptedParts
 pub mod PromptedLines

@@ -110,14 +110,14 @@ module _ {C La : Type 0} (readings : C → Readings) (launches : La → Launches
   lifts (one (further no_memory) more) = let r = lifts more in record { leads = one (further no_memory) r.leads; goes = r.goes }
   lifts (one (further (trust does)) more) = let r = lifts more in record { leads = one (further (trust does)) r.leads; goes = r.goes }
 
-no_some : {A : Type 0} (child : Option A) → is_some child ≡ false → child ≡ None
-no_some None is = refl
-no_some (Some conn) is = absurd (cc is)
+not_some_is_none : {A : Type 0} (child : Option A) → is_some child ≡ false → child ≡ None
+not_some_is_none None is = refl
+not_some_is_none (Some conn) is = absurd (cc is)
 
--- a pinentry that is shut
-gated_is_shut : {La : Type 0} (launches : La → Launches) (rules : Rules) (pinentry : PinentryState La) → pinentry.program ≡ rules.pinentry.items
+-- a pinentry that is shut is idle
+pub shut_is_idle : {La : Type 0} (launches : La → Launches) (rules : Rules) (pinentry : PinentryState La) → pinentry.program ≡ rules.pinentry.items
     → IsShut (at_prompter (at_pinentry launches pinentry)) → at_pinentry launches pinentry ≡ idle rules.pinentry.items (launches pinentry.launcher)
-gated_is_shut launches rules pinentry program shut = rw (program, shut.idle, no_some pinentry.child shut.childless) refl
+shut_is_idle launches rules pinentry program shut = rw (program, shut.idle, not_some_is_none pinentry.child shut.childless) refl
 
 -- what a session at the desk is at its pass
 module _ {C La R K T : Type 0} (views : Views La C R K) (trusts : T → TrustState) (folder : InFolder K T) (rules : Rules) (door : Door) (session : SessionId) (before after : LinkSides) (pass : AtPass) (parts : Parts La C R K)
@@ -144,7 +144,7 @@ module _ {C La R K T : Type 0} (views : Views La C R K) (trusts : T → TrustSta
   lifted = lifts views.readings views.launches (supply_of before.input.bytes) served.leads
 
   idle_now : at_pinentry views.launches gated_now.prompter ≡ idle rules.pinentry.items (views.launches gated_now.prompter.launcher)
-  idle_now = gated_is_shut views.launches rules gated_now.prompter (lifted.goes.program ∙ ap (λ (p : AtPinentry). p.program) unused) shut
+  idle_now = shut_is_idle views.launches rules gated_now.prompter (lifted.goes.program ∙ ap (λ (p : AtPinentry). p.program) unused) shut
 
   session_now : desk_now.session ≡ session
   session_now = lifted.goes.session ∙ ap (λ (d : AtCountedDesk C). d.session) desk_is

@@ -11,7 +11,6 @@ use Rattle.agent_ask.specs.Further as further
 use Rattle.agent_ask.specs.PartExchanges as whole
 use Rattle.agent_ask.specs.Parts.{goes_on, stops}
 use Rattle.agent_ask.specs.Plans.{IsSpec}
-use Rattle.agent_ask.specs.Prompters.{IsCall}
 use Rattle.agent_ask.specs.Prompts as prompts
 use Rattle.agent_ask.specs.SessionEvents.{Sent, Further, cache_turn}
 use Rattle.agent_ask.specs.TurnParts as taken
@@ -44,8 +43,9 @@ use Rattle.cache_policy.specs.Turns.{Turn, Open, Done}
 use Rattle.cache_policy.specs.declared.mark.MarkStep.{MarkStep}
 use Rattle.cache_policy.specs.declared.mark.MarkStep.TheVariants.{Seat, Close}
 use Rattle.key_commands.specs.Events.{Event}
+use Rattle.pinentry_client.proofs.Calling.{is_call}
 use Rattle.pinentry_client.specs.Dialogues.{PinentryDoes, unlaunched, shut_alone}
-use Rattle.pinentry_client.specs.States.{AtPinentry, at_prompter, idle}
+use Rattle.pinentry_client.specs.States.{idle}
 use Rattle.session_options.specs.declared.options.PinMode.TheVariants as mode
 use Rattle.session_options.specs.declared.rules.Rules.{Rules}
 
@@ -76,8 +76,7 @@ module _ (rules : Rules) (kept : Kept) (description : _) (spec : PromptSpec) (as
   exchange : RequestExchange rules kept (Cache (GetConfirmation description)) unstarted kept On
   exchange = cache (whole.refused (cache_turn (Seat None None) (Open 0) ∷ shown) (Some 0) (Agent code.NoPinentry) (stops confirms) (taken.closed Done))
 
-  module _ (program : List ℕ) (keys : KeyFiles) (dice : Side) (trust : TrustState) (supply : Supply)
-      (promise : (before : AtPinentry) (call : _) (after : AtPinentry) → PinentryDoes before call after → IsCall (at_prompter before) call (at_prompter after)) where
+  module _ (program : List ℕ) (keys : KeyFiles) (dice : Side) (trust : TrustState) (supply : Supply) where
     abbrev launches : ℕ → Launches
     launches faults = record { coming = Some []; launched = Some []; finished = Some []; faults = faults }
 
@@ -90,4 +89,4 @@ module _ (rules : Rules) (kept : Kept) (description : _) (spec : PromptSpec) (as
         (one (worlds.further (further.prompt (called shut_alone))) (one (worlds.turned tt) (one worlds.sent none))))
 
     has_one_prompt : HavePrompts program unstarted (launches 0) (launches 1)
-    has_one_prompt = have_prompts any_turn promise program (launches 0) (launches 1) refl refl (request_prompted _ exchange) leads
+    has_one_prompt = have_prompts any_turn (λ before call after does. is_call does) program (launches 0) (launches 1) refl refl (request_prompted _ exchange) leads

@@ -16,40 +16,40 @@ use Rattle.agent_top.specs.Load as load
 use Rattle.agent_top.specs.Top.{Machine, RunsSession, RunsServer, ran, exit_number, status_of}
 use Rattle.agent_top.specs.Top as top
 
-by_end : (end : SessionEnd) → (end ≡ ReadFault → ⊥) → (end ≡ WriteFault → ⊥) → SessionEndsByClient (exit_number (status_of end))
-by_end Bye unread unwritten = over
-by_end Killed unread unwritten = over
-by_end Ended unread unwritten = over
-by_end TooLong unread unwritten = too_long
-by_end Spent unread unwritten = spent
-by_end ReadFault unread unwritten = absurd (unread refl)
-by_end WriteFault unread unwritten = absurd (unwritten refl)
+faultless_end_is_by_client : (end : SessionEnd) → (end ≡ ReadFault → ⊥) → (end ≡ WriteFault → ⊥) → SessionEndsByClient (exit_number (status_of end))
+faultless_end_is_by_client Bye unread unwritten = over
+faultless_end_is_by_client Killed unread unwritten = over
+faultless_end_is_by_client Ended unread unwritten = over
+faultless_end_is_by_client TooLong unread unwritten = too_long
+faultless_end_is_by_client Spent unread unwritten = spent
+faultless_end_is_by_client ReadFault unread unwritten = absurd (unread refl)
+faultless_end_is_by_client WriteFault unread unwritten = absurd (unwritten refl)
 
 pub ends_by_client : {rules : Rules} {before after : Machine} {number : ℕ} → RunsSession rules before number after → NoLinkFault before after → SessionEndsByClient number
 ends_by_client session still =
-    subst SessionEndsByClient (sym session.number_is) (by_end session.end (λ is. still.input (session.served.read_fault is)) (λ is. still.output (session.served.write_fault is)))
+    subst SessionEndsByClient (sym session.number_is) (faultless_end_is_by_client session.end (λ is. still.input (session.served.read_fault is)) (λ is. still.output (session.served.write_fault is)))
 
 pub server_ends_well : {rules : Rules} {before after : Machine} {number : ℕ} → RunsServer rules before number after → NoLinkFault before after → SessionEndsWell number
 server_ends_well (ran session) still = by_client (ends_by_client session still)
 server_ends_well top.no_memory still = no_memory
 
-by_summary : (is_stopped : Bool) (sent : Sent) → (is_stopped ≡ false → ⊥) → ((count : ℕ) → sent ≡ Failed count → ⊥) → DaemonEndsWell (exit_number (status_after is_stopped sent))
-by_summary is_stopped (Failed count) runs whole = absurd (whole count refl)
-by_summary true All runs whole = stopped
-by_summary false All runs whole = absurd (runs refl)
+whole_summary_ends_well : (is_stopped : Bool) (sent : Sent) → (is_stopped ≡ false → ⊥) → ((count : ℕ) → sent ≡ Failed count → ⊥) → DaemonEndsWell (exit_number (status_after is_stopped sent))
+whole_summary_ends_well is_stopped (Failed count) runs whole = absurd (whole count refl)
+whole_summary_ends_well true All runs whole = stopped
+whole_summary_ends_well false All runs whole = absurd (runs refl)
 
 pub daemon_ends_well : {Ls E Li La C R K T : Type 0} {host : HostViews Ls E Li La C R K T} {rules : Rules} {listens listens_now : ℕ} {before after : Side} {number : ℕ}
     → RunsDaemon host rules listens before number listens_now after → ¬ Rose listens listens_now → ¬ Rose before.faults after.faults → DaemonEndsWell number
 daemon_ends_well (summed sums) heard written =
-    subst DaemonEndsWell (sym sums.number_is) (by_summary sums.tally.stopped sums.sent (λ is. heard (sums.unstopped is)) (λ count is. written (sums.cut (subst IsCut (sym is) tt))))
+    subst DaemonEndsWell (sym sums.number_is) (whole_summary_ends_well sums.tally.stopped sums.sent (λ is. heard (sums.unstopped is)) (λ count is. written (sums.cut (subst IsCut (sym is) tt))))
 daemon_ends_well (no_listener rose) heard written = absurd (heard rose)
 daemon_ends_well daemon.no_memory heard written = no_memory
 
-by_line : (sent : Sent) → ((count : ℕ) → sent ≡ Failed count → ⊥) → LoadEndsWell (exit_number (load_status sent))
-by_line (Failed count) whole = absurd (whole count refl)
-by_line All whole = done
+whole_line_ends_well : (sent : Sent) → ((count : ℕ) → sent ≡ Failed count → ⊥) → LoadEndsWell (exit_number (load_status sent))
+whole_line_ends_well (Failed count) whole = absurd (whole count refl)
+whole_line_ends_well All whole = done
 
 pub load_ends_well : {number result : ℕ} {before after : Side} → RunsLoad number before result after → ¬ Rose before.faults after.faults → LoadEndsWell result
 load_ends_well (wrote tally sent is line number_is cut) stays =
-    subst LoadEndsWell (sym number_is) (by_line sent (λ count is. stays (cut (subst IsCut (sym is) tt))))
+    subst LoadEndsWell (sym number_is) (whole_line_ends_well sent (λ count is. stays (cut (subst IsCut (sym is) tt))))
 load_ends_well load.no_memory stays = no_memory

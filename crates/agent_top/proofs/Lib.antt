@@ -11,6 +11,12 @@ mod OptionRows
 mod OptionPieces
 mod OptionWalk
 mod OwnPassphrases
+mod Replays
 mod Stopping
 mod Spelling
 mod WorkedExamples
+mod WorkedCommon
+mod WorkedServer
+mod WorkedDaemon
+mod WorkedPrompt
+mod WorkedLoad

@@ -1,9 +1,7 @@
 -- A session at the desk is one at what the desk shows.
 use Rattle.agent_ask.specs.Further.{FurtherEvent, prompt, keys, dice, trust, no_memory}
-use Rattle.std.proofs.Common.{◌≡◌, ℕ, List, [], Option, None, Some, false, ◌∷◌, inr, refl, ap, ◌∙◌, subst, arith}
-use Rattle.std.specs.Prelude.{is_some}
-use Rattle.agent_core.specs.Solos.{SoloState, AtSolo, seen, at_desk, TurnsSolo, SoloTurn}
-use Rattle.agent_core.proofs.Alone.{Replayed, replayed}
+use Rattle.std.proofs.Common.{◌≡◌, ℕ, List, None, refl, ap, ◌∙◌, subst}
+use Rattle.agent_core.specs.Solos.{SoloState, AtSolo, seen, TurnsSolo, SoloTurn}
 use Rattle.agent_ask.specs.Doing.{called, out_of_memory}
 use Rattle.agent_ask.specs.Prompters.{IsShut}
 use Rattle.agent_ports.specs.KeyFiles.{KeyFiles}
@@ -11,11 +9,7 @@ use Rattle.agent_ports.specs.Launches.{Launches}
 use Rattle.agent_ports.specs.Leads.{Leads, none, one}
 use Rattle.agent_ports.specs.Readings.{Readings}
 use Rattle.agent_ports.specs.Sides.{Side}
-use Rattle.cache_policy.specs.declared.life.Limits.{Limits}
-use Rattle.cache_policy.specs.Extending.{IsExtended}
-use Rattle.cache_policy.specs.Legal.{IsLegalRun}
-use Rattle.cache_policy.specs.Replay.{first_history}
-use Rattle.cache_policy.proofs.Extending.{extends}
+use Rattle.cache_policy.specs.Extending.{TakesTurn}
 use Rattle.agent_commands.specs.Events.{Event}
 use Rattle.agent_ask.specs.SessionEvents.{turns_in}
 use Rattle.agent_commands.specs.Outside.{World}
@@ -24,13 +18,14 @@ use Rattle.agent_ask.specs.Worlds.{Outside, Does, received, sent, cut, asked, no
 use Rattle.agent_commands.specs.declared.went.SessionEnd.{SessionEnd}
 use Rattle.agent_origin.proofs.Turning.{turns_lead}
 use Rattle.agent_origin.specs.Sessions.{ends_with, supply_of}
+use Rattle.agent_serve.proofs.Lifting.{shut_is_idle}
 use Rattle.agent_session.specs.Sessions.{without_trust, ServesRules}
-use Rattle.assuan_client.specs.Connections.{Connection}
 use Rattle.agent_origin.specs.FurtherStates.{FurtherWorld}
 use Rattle.pinentry_client.specs.Dialogues.{PinentryDoes, PinentryCall}
 use Rattle.pinentry_client.specs.States.{PinentryState, AtPinentry, at_pinentry, at_prompter}
 use Rattle.session_options.specs.declared.rules.Rules.{Rules}
-use Rattle.agent_top.specs.Cache.{limits_of, session, fresh_desk}
+use Rattle.agent_top.proofs.Replays.{turns_extend, turns_are_legal, turns_replay}
+use Rattle.agent_top.specs.Cache.{limits_of, fresh_desk}
 use Rattle.agent_top.specs.Top.{machine, no_child, RunsServer, ran, exit_number, status_of}
 
 -- a session at a desk and with a pinentry, and what they show of it
@@ -73,29 +68,6 @@ module _ {C La : Type 0} (readings : C → Readings) (launches : La → Launches
   lifts (one (further (trust does)) more) = let r = lifts more in record { leads = one (further (trust does)) r.leads; lent = r.lent; launcher = r.launcher; program = r.program }
   lifts (one (further no_memory) more) = let r = lifts more in record { leads = one (further no_memory) r.leads; lent = r.lent; launcher = r.launcher; program = r.program }
 
--- the run goes on by the turns of the events
-extended : (supply : session_lines.Supply) (before after : Outside seen_world) (events : List (Event FurtherEvent))
-    → Leads (Does seen_world supply) before events after
-    → IsExtended before.desk.limits before.desk.session before.desk.run (turns_in events) after.desk.run
-extended supply before after events leads =
-    extends at_desk TurnsSolo (λ b asked turn a turns. turns.is) before.desk after.desk (turns_in events) (turns_lead leads)
-
-pub first_legal : (limits : Limits) → IsLegalRun limits (first_history ∷ [])
-first_legal limits = record {
-  turns_over = tt;
-  each = (record { replies = tt; moments = tt; base = refl; not_spent = inr refl; few = omega arith; held = tt }, tt);
-  moments = tt;
-}
-
-no_some : (child : Option Connection) → is_some child ≡ false → child ≡ None
-no_some None is = refl
-no_some (Some conn) is = absurd (cc is)
-
--- a pinentry that is shut
-pinentry_is_shut : {La : Type 0} (launches : La → Launches) (rules : Rules) (pinentry : PinentryState La) → pinentry.program ≡ rules.pinentry.items
-    → IsShut (at_prompter (at_pinentry launches pinentry)) → at_pinentry launches pinentry ≡ no_child rules (launches pinentry.launcher)
-pinentry_is_shut launches rules pinentry program shut = rw (program, shut.idle, no_some pinentry.child shut.childless) refl
-
 -- what a session at the desk is for the agent
 module _ {C La : Type 0} (readings : C → Readings) (launches : La → Launches) (rules : Rules) (input output input_now output_now : Side) (desk desk_now : SoloState C)
     (pinentry pinentry_now : PinentryState La) (files files_now : KeyFiles) (draws draws_now : Side) (end : SessionEnd)
@@ -110,7 +82,7 @@ module _ {C La : Type 0} (readings : C → Readings) (launches : La → Launches
 
   -- in the end the pinentry is shut
   idle_now : at_pinentry launches pinentry_now ≡ no_child rules (launches pinentry_now.launcher)
-  idle_now = pinentry_is_shut launches rules pinentry_now (lifted.program ∙ ap (λ (p : AtPinentry). p.program) unused) shut
+  idle_now = shut_is_idle launches rules pinentry_now (lifted.program ∙ ap (λ (p : AtPinentry). p.program) unused) shut
 
   -- the desk as it begins
   abbrev leads_from : AtSolo → AtPinentry → AtPinentry → Type 0
@@ -127,11 +99,7 @@ module _ {C La : Type 0} (readings : C → Readings) (launches : La → Launches
   pub session_ran : (number : ℕ) → number ≡ exit_number (status_of end) → RunsServer rules (machine input output (readings desk.clock) (launches pinentry.launcher) files draws) number
       (machine input_now output_now (readings desk_now.clock) (launches pinentry_now.launcher) files_now draws_now)
   session_ran number is =
-      let extends : IsExtended (limits_of rules) session (first_history ∷ []) (turns_in served.events) (seen readings desk_now).run =
-      extended (supply_of input.bytes) _ _ served.events session_leads in
-      let replays : Replayed (fresh_desk (limits_of rules) (readings desk.clock)) (turns_in served.events) (seen readings desk_now) =
-      replayed (record { script = refl; nobody = refl }) (turns_lead session_leads) in
-      let legal = extends.legal (first_legal (limits_of rules)) in
+      let turns : Leads (TakesTurn TurnsSolo) (fresh_desk (limits_of rules) (readings desk.clock)) (turns_in served.events) (seen readings desk_now) = turns_lead session_leads in
       ran (record {
         end = end;
         number_is = is;
@@ -153,24 +121,9 @@ module _ {C La : Type 0} (readings : C → Readings) (launches : La → Launches
           input_faults = served.input_faults;
           output_faults = served.output_faults;
         };
-        extended = extends;
-        legal = legal;
-        replays = record {
-          readings = replays.readings;
-          given = replays.given;
-          steps = replays.steps;
-          read = replays.read;
-          marked = replays.marked;
-          firsts = replays.firsts;
-          replays = record {
-            start = extends.start;
-            legal = legal;
-            by = rw replays.marks replays.by;
-            steps_are = rw replays.marks replays.steps_are;
-            moments_are = rw replays.marks replays.moments_are;
-            none_empty = replays.none_empty tt;
-          };
-        };
+        extended = turns_extend turns;
+        legal = turns_are_legal turns;
+        replays = turns_replay turns;
       })
 
   pub clock_stays_lent : desk_now.lent ≡ desk.lent

@@ -32,7 +32,7 @@ use Rattle.std.specs.Prelude.{IfSome, IfOk, Result}
 use Rattle.std.specs.Option.{ok_or}
 use Rattle.std.proofs.Common.{append-nil}
 use Rattle.std.proofs.lemmas.List.{length-map}
-use Rattle.agent_top.proofs.Lifting.{first_legal}
+use Rattle.agent_top.proofs.Replays.{first_legal}
 use Rattle.agent_top.specs.Cache.{limits_of, session}
 use Rattle.agent_top.specs.Load.{IsLoadTally, IsMadeByLoad, load_steps, load_words, load_readings, generator_of, key, KeepsRun, AreOfWords, IsOfWord, step_of, words_from, readings_from}
 

@@ -9,7 +9,7 @@ use Rattle.clap.specs.Lexer.{long_of, long_of_rest, strip_byte}
 use Rattle.clap.specs.Kinds.{Kinds, or_else}
 use Rattle.clap.specs.Faults.{use_fault}
 use Rattle.clap.specs.Walk.{at_row, more_values, arg_by_index, Row}
-use Rattle.clap.specs.Walk.{option, used, has_row, arg_by_long, arg_by_id}
+use Rattle.clap.specs.Walk.{used, has_row, arg_by_long, arg_by_id}
 use Rattle.clap.specs.declared.parser.matches.ValueSource.TheVariants.{CommandLine}
 use Rattle.clap.specs.declared.error.kind.ErrorKind.TheVariants.{ArgumentConflict}
 use Rattle.agent_top.specs.Options.{after_dashes, row_for, is_flag, is_plain}

@@ -62,13 +62,13 @@ either_way : (a b : List ℕ) → bytes_eq a b ≡ bytes_eq b a
 either_way a b = both_hold (bytes_eq a b) (bytes_eq b a)
     (λ e. (bytes_eq-Decides b a).1 (sym (same_name a b e))) (λ e. (bytes_eq-Decides a b).1 (sym (same_name b a e)))
 
-four : (a e f m : Bool) → (not (a || e) && (f && not m)) ≡ ((not a && f) && not (e || m))
-four true e f m = refl
-four false true true m = refl
-four false true false m = refl
-four false false true m = refl
-four false false false true = refl
-four false false false false = refl
+four_tests_regroup : (a e f m : Bool) → (not (a || e) && (f && not m)) ≡ ((not a && f) && not (e || m))
+four_tests_regroup true e f m = refl
+four_tests_regroup false true true m = refl
+four_tests_regroup false true false m = refl
+four_tests_regroup false false true m = refl
+four_tests_regroup false false false true = refl
+four_tests_regroup false false false false = refl
 
 set_first : (name : List ℕ) (setting : Setting) (more : List Setting) → is_set name (setting ∷ more) ≡ (bytes_eq setting.0 name || is_set name more)
 set_first name setting more = go (bytes_eq setting.0 name)
@@ -81,11 +81,11 @@ fresh_more : (done : List Setting) (setting : Setting) (given : List Setting) �
 fresh_more done setting [] = refl
 fresh_more done setting (other ∷ more) =
     ap₂ (λ a b. not a && b) (set_more other.0 done setting) (fresh_more done setting more)
-    ∙ four (is_set other.0 done) (bytes_eq setting.0 other.0) (fresh done more) (is_set setting.0 more)
+    ∙ four_tests_regroup (is_set other.0 done) (bytes_eq setting.0 other.0) (fresh done more) (is_set setting.0 more)
     ∙ ap (λ b. (not (is_set other.0 done) && fresh done more) && not b) (ap (λ b. b || is_set setting.0 more) (either_way setting.0 other.0) ∙ sym (set_first setting.0 other more))
 
-six : (r s a d f m : Bool) → ((r && not s) && (a && (d && (f && not m)))) ≡ ((r && a) && ((not m && d) && (not s && f)))
-six r s a d f m = both_hold _ _
+six_tests_regroup : (r s a d f m : Bool) → ((r && not s) && (a && (d && (f && not m)))) ≡ ((r && a) && ((not m && d) && (not s && f)))
+six_tests_regroup r s a d f m = both_hold _ _
     (λ e.
     let p = and_parts (r && not s) _ e in
     let q = and_parts r (not s) p.0 in
@@ -111,7 +111,7 @@ module _ (rows : List (List ℕ × Form)) (dashes : list_all (λ row. dashed row
   reads_all done (setting ∷ more) =
       ap (λ b. (readable_in rows dashes setting && not (is_set setting.0 done)) && b)
       (reads_all (done ++ setting ∷ []) more ∙ ap (λ b. list_all (readable_in rows dashes) more && (are_distinct more && b)) (fresh_more done setting more))
-      ∙ six (readable_in rows dashes setting) (is_set setting.0 done) (list_all (readable_in rows dashes) more) (are_distinct more) (fresh done more) (is_set setting.0 more)
+      ∙ six_tests_regroup (readable_in rows dashes setting) (is_set setting.0 done) (list_all (readable_in rows dashes) more) (are_distinct more) (fresh done more) (is_set setting.0 more)
 
   fresh_none : (given : List Setting) → fresh [] given ≡ true
   fresh_none [] = refl

@@ -1,5 +1,5 @@
 -- How clap walks over plain words: as over the settings that they are read as.
-use Rattle.std.proofs.Common.{◌≡◌, ◌∙◌, ℕ, ◌+◌, Bool, true, false, cond, List, [], ◌∷◌, ◌++◌, map, Option, Some, None, is_some, refl, ap, ap₂, sym, subst, codes, true≢false, append_assoc, append-nil}
+use Rattle.std.proofs.Common.{◌≡◌, ◌∙◌, ℕ, Bool, true, false, cond, List, [], ◌∷◌, ◌++◌, map, Option, Some, None, is_some, refl, ap, ap₂, sym, subst, codes, true≢false, append_assoc, append-nil}
 use Rattle.std.specs.Prelude.{if◌then◌else◌, not, ◌&&◌, fold, nat_lt, option_map, option_and_then}
 use Rattle.std.specs.List.{list_all, before_first, after_first}
 use Rattle.std.specs.Option.{option_map_or}

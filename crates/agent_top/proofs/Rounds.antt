@@ -1,5 +1,5 @@
 -- What the daemon does with its passes and ears, round after round.
-use Rattle.std.proofs.Common.{◌≡◌, ◌⊎◌, inl, inr, List, [], ◌∷◌, Option, refl, subst, sym}
+use Rattle.std.proofs.Common.{◌≡◌, ◌⊎◌, inl, inr, List, [], ◌∷◌, Option, subst, sym}
 use Rattle.counted_lock.specs.Passes.{AtPass, HasLooked}
 use Rattle.agent_serve.specs.Pairs.{ByPlace, PairedTo}
 use Rattle.agent_serve.specs.Working.{HostViews}

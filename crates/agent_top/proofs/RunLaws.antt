@@ -1,21 +1,28 @@
 -- Runs of `--server`, and sessions of a daemon: the laws on single requests hold of each of their exchanges, and their prompts have their children.
 use Rattle.std.proofs.Common.{◌≡◌, ◌<◌, ◌+◌, ℕ, Bool, List, Option, Some, None, length, refl, ap, subst, ◌∙◌, arith}
-use Rattle.std.specs.Prelude.{⊤, IfSome}
+use Rattle.std.specs.List.{AllByRecursion}
+use Rattle.std.specs.Prelude.{⊤, IfSome, true}
 use Rattle.agent_ask.specs.Events.{Call}
 use Rattle.agent_ask.specs.Prompters.{IsCall}
 use Rattle.agent_ask.specs.Worlds.{Outside, Does}
 use Rattle.agent_ask.specs.Worlds as worlds
+use Rattle.agent_commands.specs.Requests.{request_of}
 use Rattle.agent_commands.specs.declared.went.SessionEnd.{SessionEnd}
+use Rattle.agent_commands.specs.declared.went.Went.{Went}
 use Rattle.agent_core.specs.Known.{MayRefuse, TakesStep, wants, begins, leaves}
 use Rattle.agent_core.specs.Known as known
 use Rattle.agent_core.specs.Solos.{AtSolo, TurnsSolo, at_desk}
 use Rattle.agent_core.proofs.Alone.{IsAlone, alone_turn}
 use Rattle.agent_core.specs.Cores.{WantsMemory}
 use Rattle.agent_origin.specs.DoorSessions.{DoorExchange}
+use Rattle.agent_origin.specs.Doors.{allowed}
 use Rattle.agent_origin.specs.FurtherStates.{FurtherWorld}
+use Rattle.agent_origin.specs.Names.{door_command_named}
 use Rattle.agent_origin.specs.SessionExchanges.{SessionExchange}
 use Rattle.agent_origin.specs.declared.door.Door.{Door}
+use Rattle.agent_origin.specs.declared.kept.Kept.{Kept}
 use Rattle.agent_ports.specs.HostParts.{Views, InFolder}
+use Rattle.agent_ports.specs.Leads.{Leads}
 use Rattle.agent_ports.specs.Readings.{Readings}
 use Rattle.agent_ports.specs.TrustFiles.{TrustState}
 use Rattle.agent_ports.specs.declared.session.SessionId.{SessionId}
@@ -23,12 +30,16 @@ use Rattle.agent_serve.proofs.PromptedLines.{request_prompted}
 use Rattle.agent_serve.proofs.PromptedSessions.{session_prompted, have_prompts}
 use Rattle.agent_serve.specs.Serves.{LinkSides, ServesOne}
 use Rattle.agent_session.proofs.Answering.{in_session}
+use Rattle.agent_session.proofs.AtOnce.{all_fit}
 use Rattle.agent_session.proofs.DoorAnswering.{at_door, door_is_session}
+use Rattle.agent_session.proofs.Fair.{all_fair, alone}
 use Rattle.agent_session.proofs.RunExchanges.{session_between, lawful}
-use Rattle.agent_session.specs.Completeness.{SessionCauses}
+use Rattle.agent_session.specs.Completeness.{IsStopped, SessionCauses}
 use Rattle.agent_session.specs.DoorCauses.{IsCausedAtDoor}
+use Rattle.agent_session.specs.Refusals.{AnswersAlone}
 use Rattle.agent_session.specs.RunExchanges.{LawfulExchange}
 use Rattle.assuan_server.specs.Reading.{Supply}
+use Rattle.assuan_text.specs.Words.{command_of}
 use Rattle.cache_policy.specs.declared.entry.Entry.{Entry}
 use Rattle.cache_policy.specs.Histories.{History}
 use Rattle.cache_policy.specs.Policy.{Reply, ask_ruling}
@@ -53,51 +64,51 @@ use Rattle.agent_top.specs.Top as top
 
 -- ---- the desk of a run: nobody else steps there
 
-never_opens : (entry : Option Entry) (stops : Bool) (held : Option Held) (late : Bool) → ask_ruling entry Quiet stops held late ≡ Reply reply.Open → ⊥
-never_opens None stops held late is = cc is
-never_opens (Some found) stops held late is = cc is
+quiet_never_opens : (entry : Option Entry) (stops : Bool) (held : Option Held) (late : Bool) → ask_ruling entry Quiet stops held late ≡ Reply reply.Open → ⊥
+quiet_never_opens None stops held late is = cc is
+quiet_never_opens (Some found) stops held late is = cc is
 
 -- what wants memory for itself may want some
-wants_may : (limits : Limits) (next : History) (asked : MarkStep) (moment : ℕ) → WantsMemory limits next asked moment → MayWantMemory asked
-wants_may limits next (Put id mode life secret) moment wanted = tt
-wants_may limits next (Ask id mode Prompt since) moment wanted = tt
-wants_may limits next (Ask id mode Quiet since) moment wanted = never_opens _ _ _ _ wanted
-wants_may limits next (Seat under since) moment wanted = wanted.0
-wants_may limits next (Peek id mode) moment wanted = wanted
-wants_may limits next (Close ticket keep) moment wanted = wanted
-wants_may limits next (Clear id mode) moment wanted = wanted
-wants_may limits next Flush moment wanted = wanted
-wants_may limits next Stop moment wanted = wanted
+what_wants_memory_may_want_some : (limits : Limits) (next : History) (asked : MarkStep) (moment : ℕ) → WantsMemory limits next asked moment → MayWantMemory asked
+what_wants_memory_may_want_some limits next (Put id mode life secret) moment wanted = tt
+what_wants_memory_may_want_some limits next (Ask id mode Prompt since) moment wanted = tt
+what_wants_memory_may_want_some limits next (Ask id mode Quiet since) moment wanted = quiet_never_opens _ _ _ _ wanted
+what_wants_memory_may_want_some limits next (Seat under since) moment wanted = wanted.0
+what_wants_memory_may_want_some limits next (Peek id mode) moment wanted = wanted
+what_wants_memory_may_want_some limits next (Close ticket keep) moment wanted = wanted
+what_wants_memory_may_want_some limits next (Clear id mode) moment wanted = wanted
+what_wants_memory_may_want_some limits next Flush moment wanted = wanted
+what_wants_memory_may_want_some limits next Stop moment wanted = wanted
 
-within_may : (limits : Limits) (last : History) (session : SessionId) (asked : MarkStep) (moment : ℕ) → length last.marks + 1 < MAX_MARKS → MayRefuse limits last session asked moment → MayWantMemory asked
-within_may limits last session asked moment within (wants wanted) = wants_may limits (next_history last) asked moment wanted
-within_may limits last session asked moment within (begins no_close full free) = absurd (omega (arith, within, full))
-within_may limits last session asked moment within (leaves answer no_close full rules out) = absurd (omega (arith, within, full))
+refused_within_may_want_some : (limits : Limits) (last : History) (session : SessionId) (asked : MarkStep) (moment : ℕ) → length last.marks + 1 < MAX_MARKS → MayRefuse limits last session asked moment → MayWantMemory asked
+refused_within_may_want_some limits last session asked moment within (wants wanted) = what_wants_memory_may_want_some limits (next_history last) asked moment wanted
+refused_within_may_want_some limits last session asked moment within (begins no_close full free) = absurd (omega (arith, within, full))
+refused_within_may_want_some limits last session asked moment within (leaves answer no_close full rules out) = absurd (omega (arith, within, full))
 
-takes_may : {limits : Limits} {run after : List History} {session : SessionId} {moment : ℕ} {asked : MarkStep} → IfSome (last_history run) (λ last. length last.marks + 1 < MAX_MARKS)
+refused_step_may_want_some : {limits : Limits} {run after : List History} {session : SessionId} {moment : ℕ} {asked : MarkStep} → IfSome (last_history run) (λ last. length last.marks + 1 < MAX_MARKS)
     → TakesStep limits run session moment asked Refused after → MayWantMemory asked
-takes_may within (known.marked last answer last_is below rules shows is) = absurd shows
-takes_may {limits} {session} {moment} {asked} within (known.refused last last_is below why is) =
-    within_may limits last session asked moment (subst (λ (h : Option History). IfSome h (λ last. length last.marks + 1 < MAX_MARKS)) last_is within) why
+refused_step_may_want_some within (known.marked last answer last_is below rules shows is) = absurd shows
+refused_step_may_want_some {limits} {session} {moment} {asked} within (known.refused last last_is below why is) =
+    refused_within_may_want_some limits last session asked moment (subst (λ (h : Option History). IfSome h (λ last. length last.marks + 1 < MAX_MARKS)) last_is within) why
 
 -- a turn within a history finds no memory only for a step that may want some
-solo_may : (before : AtSolo) (asked : MarkStep) (after : AtSolo) → IsAlone before → IsWithinHistory before → TurnsSolo before asked Refused after → MayWantMemory asked
-solo_may before asked after alone within turns = takes_may within (alone_turn asked before Refused after alone turns).takes.takes
+refused_turn_may_want_some : (before : AtSolo) (asked : MarkStep) (after : AtSolo) → IsAlone before → IsWithinHistory before → TurnsSolo before asked Refused after → MayWantMemory asked
+refused_turn_may_want_some before asked after alone within turns = refused_step_may_want_some within (alone_turn asked before Refused after alone turns).takes.takes
 
-alone_stays : (before : AtSolo) (asked : MarkStep) (turn : Turn) (after : AtSolo) → TurnsSolo before asked turn after → IsAlone before → IsAlone after
-alone_stays before asked turn after turns alone =
+turn_leaves_alone : (before : AtSolo) (asked : MarkStep) (turn : Turn) (after : AtSolo) → TurnsSolo before asked turn after → IsAlone before → IsAlone after
+turn_leaves_alone before asked turn after turns alone =
     let step = alone_turn asked before turn after alone turns in
     record { script = ap (λ (s : AtSolo). s.script) step.same ∙ alone.script; nobody = ap (λ (s : AtSolo). s.holder) step.same ∙ alone.nobody }
 
-stays_alone : {supply : Supply} (before : Outside (FurtherWorld TurnsSolo PinentryDoes)) (event : Event) (after : Outside (FurtherWorld TurnsSolo PinentryDoes))
+event_leaves_alone : {supply : Supply} (before : Outside (FurtherWorld TurnsSolo PinentryDoes)) (event : Event) (after : Outside (FurtherWorld TurnsSolo PinentryDoes))
     → Does (FurtherWorld TurnsSolo PinentryDoes) supply before event after → IsAlone before.desk → IsAlone after.desk
-stays_alone before event after (worlds.received known_so needed) alone = alone
-stays_alone before event after worlds.sent alone = alone
-stays_alone before event after worlds.cut alone = alone
-stays_alone before event after (worlds.asked known_so needed) alone = alone
-stays_alone before event after (worlds.not_asked unsent split) alone = alone
-stays_alone before event after (worlds.turned {taken} {desk} does) alone = alone_stays before.desk taken.asked taken.turn desk does alone
-stays_alone before event after (worlds.further does) alone = alone
+event_leaves_alone before event after (worlds.received known_so needed) alone = alone
+event_leaves_alone before event after worlds.sent alone = alone
+event_leaves_alone before event after worlds.cut alone = alone
+event_leaves_alone before event after (worlds.asked known_so needed) alone = alone
+event_leaves_alone before event after (worlds.not_asked unsent split) alone = alone
+event_leaves_alone before event after (worlds.turned {taken} {desk} does) alone = turn_leaves_alone before.desk taken.asked taken.turn desk does alone
+event_leaves_alone before event after (worlds.further does) alone = alone
 
 -- ---- the laws
 
@@ -110,8 +121,8 @@ module _ (promise : (before : AtPinentry) (call : Call) (after : AtPinentry) →
 
   pub server_lawful : {rules : Rules} {before after : Machine} {number : ℕ} (runs : RunsServer rules before number after) → IsLawfulRun runs
   server_lawful {rules} {before} (ran run) =
-      session_between (SessionExchange rules) (LawfulExchange TurnsSolo PinentryDoes at_prompter rules (SessionCauses rules) (λ line. ⊤) IsWithinHistory) IsAlone stays_alone
-      (lawful TurnsSolo PinentryDoes at_desk at_prompter (λ b asked turn a turns. turns.is) promise rules IsWithinHistory IsAlone (λ b asked a alone within refused. solo_may b asked a alone within refused)
+      session_between (SessionExchange rules) (LawfulExchange TurnsSolo PinentryDoes at_prompter rules (SessionCauses rules) (λ line. ⊤) IsWithinHistory) IsAlone event_leaves_alone
+      (lawful TurnsSolo PinentryDoes at_desk at_prompter (λ b asked turn a turns. turns.is) promise rules IsWithinHistory IsAlone (λ b asked a alone within refused. refused_turn_may_want_some b asked a alone within refused)
       (in_session rules) (λ b line events a went caused. caused.answered) (λ line. ⊤) (λ b line events a went exchange is. exchange))
       _ _ (record { script = refl; nobody = refl }) run.served.session run.served.leads
   server_lawful top.no_memory = tt
@@ -127,3 +138,12 @@ module _ (promise : (before : AtPinentry) (call : Call) (after : AtPinentry) →
         (λ b asked turn a does. does.is) promise rules (λ (desk : AtCountedDesk Readings). ⊤) (λ (desk : AtCountedDesk Readings). ⊤) (λ b asked a so spares does. does.turns.memory refl)
         (at_door door rules) (λ b line events a went caused. caused.by_cause.answered) (IsOfEverySession door) (λ b line events a went exchange is. door_is_session exchange is.0 is.1))
         _ _ tt one.served.session one.served.leads
+
+-- a request on the cache alone that is allowed wants no memory
+pub daemon_alone : {door : Door} {rules : Rules} {kept now : Kept} {line : List ℕ} {events : List Event} {went : Went} {supply : Supply} {before after : Outside (FurtherWorld (CountedTurn (λ (readings : Readings). readings)) PinentryDoes)}
+    → DoorExchange door rules kept line events now went → allowed door line ≡ true → door_command_named (command_of line) ≡ None
+    → Leads (Does (FurtherWorld (CountedTurn (λ (readings : Readings). readings)) PinentryDoes) supply) before events after → AllByRecursion (λ event. ¬ IsStopped event) events → AnswersAlone (request_of line) events
+daemon_alone {rules = rules} {line = line} exchange allows is leads still =
+    alone rules (request_of line) (door_is_session exchange allows is)
+    (all_fit (CountedTurn (λ (readings : Readings). readings)) PinentryDoes (λ (desk : AtCountedDesk Readings). at_counted desk.pass desk.session desk.out) (λ before asked turn after does. does.is) leads)
+    (all_fair (CountedTurn (λ (readings : Readings). readings)) PinentryDoes (λ before after asked does. does.turns.memory refl) leads) still

@@ -1,10 +1,12 @@
 -- The definition of the words on worked examples, each by computation.
 use Rattle.std.specs.Prelude.{◌≡◌, ℕ, List, [], ◌∷◌, replicate, codes, Option, Some, None, refl, true}
+use Rattle.std.specs.List.{list_all}
 use Rattle.std.specs.Option.{option_map}
 use Rattle.session_options.specs.declared.rules.Rules.{Rules}
 use Rattle.session_options.specs.declared.rules.RunMode.TheVariants.{Server, Daemon, Load}
-use Rattle.agent_top.specs.Settings.{settings}
-use Rattle.agent_top.specs.Forms.{form_of}
+use Rattle.agent_top.proofs.Spelling.{spelled, only}
+use Rattle.agent_top.specs.Settings.{Setting, Spells, settings, bare, joined, none}
+use Rattle.agent_top.specs.Forms.{fits, form_of}
 use Rattle.agent_top.specs.Words.{rules_from, rules_of}
 
 -- the words as settings
@@ -161,3 +163,18 @@ workers_0 = refl
 usual_workers : field (λ r. r.workers) (codes "--server" ∷ []) ≡ Some 8
 unfolding form_of
 usual_workers = refl
+
+-- the words are spelled by the settings that they are read as, and by no others that fit
+
+abbrev home : List Setting
+home = (codes "--server", None) ∷ (codes "--homedir", Some (codes "x")) ∷ []
+
+spelled_apart : Spells home (codes "--server" ∷ codes "--homedir" ∷ codes "x" ∷ [])
+spelled_apart = spelled (codes "--server" ∷ codes "--homedir" ∷ codes "x" ∷ [])
+
+home_fits : list_all fits home ≡ true
+unfolding form_of
+home_fits = refl
+
+read_as_spelled : settings (codes "--server" ∷ codes "--homedir=x" ∷ []) ≡ home
+read_as_spelled = only home (codes "--server" ∷ codes "--homedir=x" ∷ []) (bare refl (joined refl none)) home_fits

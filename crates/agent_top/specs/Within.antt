@@ -29,22 +29,22 @@ between least greatest default (Some number) within =
     (λ _. within)
 
 -- a value, or else a default, is within the bounds where the default is
-pub number-within : (form : Option Form) (default : ℕ) (value : Option (List ℕ)) → IsWithin form default
+pub number_is_within : (form : Option Form) (default : ℕ) (value : Option (List ℕ)) → IsWithin form default
     → IsWithin form (unwrap_or (option_and_then (number_for form) value) default)
-number-within (Some (Number least greatest)) default None within = within
-number-within (Some (Number least greatest)) default (Some value) within = between least greatest default (number_of value) within
-number-within (Some Flag) default value within = absurd within
-number-within (Some Path) default value within = absurd within
-number-within None default value within = absurd within
+number_is_within (Some (Number least greatest)) default None within = within
+number_is_within (Some (Number least greatest)) default (Some value) within = between least greatest default (number_of value) within
+number_is_within (Some Flag) default value within = absurd within
+number_is_within (Some Path) default value within = absurd within
+number_is_within None default value within = absurd within
 
-pub count-within : (given : List Setting) → IsS2kCount (number_or default_rules.s2k_count (codes "--s2k-count") given)
+pub count_is_within : (given : List Setting) → IsS2kCount (number_or default_rules.s2k_count (codes "--s2k-count") given)
 unfolding form_of
-count-within given =
-    let within = number-within (form_of (codes "--s2k-count")) default_rules.s2k_count (value_given (codes "--s2k-count") given) (lit≤ tt, lit≤ tt) in
+count_is_within given =
+    let within = number_is_within (form_of (codes "--s2k-count")) default_rules.s2k_count (value_given (codes "--s2k-count") given) (lit≤ tt, lit≤ tt) in
     record { least = within.0; greatest = within.1 }
 
-pub workers-within : (given : List Setting) → IsWorkers (number_or default_rules.workers (codes "--workers") given)
+pub workers_are_within : (given : List Setting) → IsWorkers (number_or default_rules.workers (codes "--workers") given)
 unfolding form_of
-workers-within given =
-    let within = number-within (form_of (codes "--workers")) default_rules.workers (value_given (codes "--workers") given) (lit≤ tt, lit≤ tt) in
+workers_are_within given =
+    let within = number_is_within (form_of (codes "--workers")) default_rules.workers (value_given (codes "--workers") given) (lit≤ tt, lit≤ tt) in
     record { least = within.0; greatest = within.1 }

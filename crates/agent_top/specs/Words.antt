@@ -10,7 +10,7 @@ use Rattle.session_options.specs.declared.rules.RunMode.{RunMode}
 use Rattle.session_options.specs.declared.rules.RunMode.TheVariants.{Server, Daemon, Load}
 use Rattle.agent_top.specs.Settings.{Setting, settings, is_set, are_distinct}
 use Rattle.agent_top.specs.Forms.{fits, number_or, path_or}
-use Rattle.agent_top.specs.Within.{count-within, workers-within}
+use Rattle.agent_top.specs.Within.{count_is_within, workers_are_within}
 
 -- exactly one of them is given, and this is the number of the third
 abbrev pub one_run : Bool → Bool → Bool → ℕ → Option RunMode
@@ -46,8 +46,8 @@ rules_with given run = record {
   pinentry = path_word (path_or default_rules.pinentry.items (codes "--pinentry-program") given);
   homedir = path_word (path_or default_rules.homedir.items (codes "--homedir") given);
   run = run;
-  count_in_range = count-within given;
-  workers_in_range = workers-within given;
+  count_in_range = count_is_within given;
+  workers_in_range = workers_are_within given;
 }
 
 -- each is known and has the form of its option, none is given twice, and one says what to do

@@ -2,7 +2,7 @@ mod NoLines
 mod Talks
 mod Readiness
 mod Faults
-mod Calling
+pub mod Calling
 mod WholeLemmas
 mod OnlyTook
 mod Alike
