@@ -23,9 +23,10 @@ use Rattle.session_options.specs.declared.options.PinMode.{PinMode}
 use Rattle.session_options.specs.declared.options.PinMode.TheVariants as mode
 use Rattle.session_options.specs.declared.rules.Rules.{Rules}
 use Rattle.agent_commands.specs.Endings.{went_after}
-use Rattle.agent_commands.specs.Exchanges.{Exchange, CacheReply, TellsPassphrase, TellsInfo, option_replies, confirms_by, GetReplies, PresetReplies, Replies}
+use Rattle.agent_commands.specs.Exchanges.{CacheExchange, CacheReply, TellsPassphrase, TellsInfo, option_replies, confirms_by, GetReplies, PresetReplies, CacheReplies}
 use Rattle.agent_commands.specs.Exchanges as exchanges
-use Rattle.agent_commands.specs.Parts.{Part as CacheParts, limit_line, AsksPassphrase}
+use Rattle.agent_commands.specs.Parts.{CachePart as CacheParts, AsksPassphrase}
+use Rattle.assuan_server.specs.Written.{limit_line}
 use Rattle.agent_commands.specs.Passphrases.{Looks, LooksFor, WantsPrompt, KeepsUnder, ByCache, ByClient, Uncached, WithoutPrompt, PromptsAny, ByUser, as_wanted, passphrase_by}
 use Rattle.agent_commands.specs.Passphrases as passphrases
 use Rattle.agent_commands.specs.Requests.{GetFields}
@@ -42,15 +43,16 @@ use Rattle.key_commands.specs.Parts.{Part}
 use Rattle.key_commands.proofs.EachEvent.{EachSo, each_bind, each_returned, each_refused, each_needed, each_otherwise, each_wanted, each_looks, each_seats, each_changes, each_closes}
 use Rattle.agent_origin.specs.DoorSessions.{AllowedExchange, DoorExchange}
 use Rattle.agent_origin.specs.DoorSessions as door
-use Rattle.agent_origin.specs.Exchanges.{TrustedNow, Stores, StoresUnsaid, Consented, Marked, Carried, TrustExchange, unless_said, asked_in, flag_of, trust_question, fingerprint_question}
-use Rattle.agent_origin.specs.Exchanges as trusting
-use Rattle.agent_origin.specs.Parts as trusts
+use Rattle.agent_origin.specs.TrustExchanges.{TrustedNow, Stores, StoresUnsaid, Consented, Marked, Carried, TrustExchange, unless_said, asked_in, flag_of, trust_question, fingerprint_question}
+use Rattle.agent_ask.specs.PartExchanges as part_exchanges
+use Rattle.agent_origin.specs.TrustExchanges as trusting
+use Rattle.agent_origin.specs.TrustParts as trusts
 use Rattle.agent_origin.specs.SessionExchanges.{RequestExchange, cache, keys}
 use Rattle.agent_origin.specs.declared.door.Door.{Door}
 use Rattle.agent_origin.specs.declared.kept.Kept.{Kept}
-use Rattle.agent_origin.specs.declared.request.TrustPurpose.{TrustPurpose}
-use Rattle.agent_origin.specs.declared.request.TrustRequest.{TrustRequest}
-use Rattle.agent_origin.specs.declared.request.TrustRequest.TheVariants.{IsTrusted, MarkTrusted, Bad}
+use Rattle.agent_origin.specs.declared.trust.request.TrustPurpose.{TrustPurpose}
+use Rattle.agent_origin.specs.declared.trust.request.TrustRequest.{TrustRequest}
+use Rattle.agent_origin.specs.declared.trust.request.TrustRequest.TheVariants.{IsTrusted, MarkTrusted, Bad}
 use Rattle.trust_list.specs.Trust.{trust}
 use Rattle.agent_serve.proofs.OnePrompt.{pin_is_one}
 use Rattle.agent_serve.proofs.PromptedParts.{Prompted, PromptedSo, prompted_append, IsUncalled, uncalled, uncalled_so, said_uncalled, shown_prompted, key_prompted, bind, behind, before_it, otherwise, ends_so, agrees_to, seated_agrees}
@@ -153,7 +155,7 @@ module _ (rules : Rules) (options : OptionValues) where
   confirms mode.Error description = uncalled_so (each_refused IsUncalled (Agent code.NoPinentry))
   confirms mode.Loopback description = uncalled_so (each_refused IsUncalled (Agent code.NoPinentry))
 
-  replies : (command : CacheCommand) → PromptedSo (Replies rules options command)
+  replies : (command : CacheCommand) → PromptedSo (CacheReplies rules options command)
   replies Nop = uncalled_so (each_returned IsUncalled _)
   replies Reset = uncalled_so (each_returned IsUncalled _)
   replies Bye = uncalled_so (each_returned IsUncalled _)
@@ -172,7 +174,7 @@ exchanged : {parts : CacheParts CacheReply} {before after : OptionValues} {event
 exchanged so (whole.answered events held reply {back} does closes) = ends_so events back _ (so.of None events (Ok reply) held does) closes (tt, tt)
 exchanged so (whole.refused events held why {back} does closes) = ends_so events back _ (so.of None events (Err why) held does) closes (said_uncalled (refusal_line why))
 
-cache_prompted : (rules : Rules) (before after : OptionValues) (request : Request) (events : List Event) (went : Went) → Exchange rules before request events after went → Prompted events
+cache_prompted : (rules : Rules) (before after : OptionValues) (request : Request) (events : List Event) (went : Went) → CacheExchange rules before request events after went → Prompted events
 cache_prompted rules before after (Cache command) events went exchange = exchanged (replies rules before command) exchange
 cache_prompted rules before after (BadLine why) events went exchange = exchanged (uncalled_so (each_refused IsUncalled (Agent why))) exchange
 cache_prompted rules before after (KeyLine line) events went never = absurd never
@@ -249,8 +251,8 @@ module _ (rules : Rules) (options : OptionValues) where
   carried (Bad why) = uncalled_so (each_refused IsUncalled _)
 
   trust_prompted : (request : TrustRequest) {events : List Event} {went : Went} → TrustExchange rules options request events went → Prompted events
-  trust_prompted request (trusting.answered events does) = prompted_append events _ ((carried request).of None events _ None does) (uncalled _ (tt, tt))
-  trust_prompted request (trusting.refused events why does) = prompted_append events _ ((carried request).of None events _ None does) (uncalled _ (said_uncalled (refusal_line why)))
+  trust_prompted request (part_exchanges.answered events does) = prompted_append events _ ((carried request).of None events _ None does) (uncalled _ (tt, tt))
+  trust_prompted request (part_exchanges.refused events why does) = prompted_append events _ ((carried request).of None events _ None does) (uncalled _ (said_uncalled (refusal_line why)))
 
 -- ---- at a door
 

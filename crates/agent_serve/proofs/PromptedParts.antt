@@ -18,8 +18,9 @@ use Rattle.session_options.specs.declared.options.PinMode.TheVariants as mode
 use Rattle.session_options.specs.declared.rules.Rules.{Rules}
 use Rattle.sexp_keys.specs.Key.{Key}
 use Rattle.key_commands.specs.Events.{Event}
-use Rattle.key_commands.specs.Exchanges.{Exchange, HaveKeyReplies, KeyInfoReplies, ListKeysReplies, KeyWrapReplies, ImportKeyReplies, ExportKeyReplies, PasswdReplies, VerifyReplies}
-use Rattle.key_commands.specs.Exchanges.{DeleteKeyReplies, Replies, wrap_key, FoundOrNew, RenewsPassphrase, ChangesOpened}
+use Rattle.key_commands.specs.Exchanges.{KeyExchange, HaveKeyReplies, KeyInfoReplies, ListKeysReplies, KeyWrapReplies, ImportKeyReplies, ExportKeyReplies, PasswdReplies, VerifyReplies}
+use Rattle.key_commands.specs.Exchanges.{DeleteKeyReplies, KeyReplies, wrap_key, FoundOrNew, RenewsPassphrase, ChangesOpened}
+use Rattle.agent_ask.specs.PartExchanges as part_exchanges
 use Rattle.key_commands.specs.Exchanges as exchange
 use Rattle.key_commands.specs.KeyParts.{Consents}
 use Rattle.agent_ask.specs.ConsentParts.{AgreesTo}
@@ -281,7 +282,7 @@ module _ (rules : Rules) (options : OptionValues) (wraps : WrapKeys) where
       (λ pass. each_bind IsUncalled (stores_key IsUncalled still_uncalled (λ key_grip secret turn. tt) (λ ticket keep turn. tt) (λ named secret turn. tt) options.s2k_count key grip pass)
       (λ cache_nonce. each_returned IsUncalled _))))))
 
-  replies : (asked : KeyRequest) → PromptedSo (Replies rules options wraps asked)
+  replies : (asked : KeyRequest) → PromptedSo (KeyReplies rules options wraps asked)
   replies (on.HaveKey grips) = have_key grips
   replies (on.KeyInfo grip) = key_info grip
   replies on.ListKeys = list_keys
@@ -294,6 +295,6 @@ module _ (rules : Rules) (options : OptionValues) (wraps : WrapKeys) where
   replies (on.Bad why) = uncalled_so (each_refused IsUncalled (Agent why))
 
   -- all that is done for a request
-  pub key_prompted : (asked : KeyRequest) {events : List Event} {after : WrapKeys} {went : KeyWent} → Exchange rules options wraps asked events after went → Prompted events
-  key_prompted asked (exchange.answered events held reply {back} does closes) = ends_so events back _ ((replies asked).of None events (Ok reply) held does) closes (tt, tt)
-  key_prompted asked (exchange.refused events held why {back} does closes) = ends_so events back _ ((replies asked).of None events (Err why) held does) closes (said_uncalled (refusal_line why))
+  pub key_prompted : (asked : KeyRequest) {events : List Event} {after : WrapKeys} {went : KeyWent} → KeyExchange rules options wraps asked events after went → Prompted events
+  key_prompted asked (part_exchanges.answered events held reply {back} does closes) = ends_so events back _ ((replies asked).of None events (Ok reply) held does) closes (tt, tt)
+  key_prompted asked (part_exchanges.refused events held why {back} does closes) = ends_so events back _ ((replies asked).of None events (Err why) held does) closes (said_uncalled (refusal_line why))

@@ -6,13 +6,14 @@ use Rattle.std.proofs.lemmas.Bool.{and_parts}
 use Rattle.std.proofs.lemmas.List.Folds.{list_any-append}
 use Rattle.agent_commands.specs.Answers.{comments}
 use Rattle.agent_ports.specs.declared.grip.Grip.{Grip}
-use Rattle.assuan_escape.proofs.EscapeLemmas.{has_lf-escapes, has_lf-hex_text}
+use Rattle.assuan_escape.proofs.EscapeLemmas.{has_lf_escapes, has_lf_hex_text}
 use Rattle.assuan_escape.specs.DataLines.{data_text}
 use Rattle.assuan_escape.specs.Escapes.{hex_text}
 use Rattle.assuan_server.proofs.NoteLines.{decimal_no_lf}
 use Rattle.assuan_text.specs.LineEnds.{is_lf, has_lf, line_of}
 use Rattle.cache_policy.specs.declared.secret.TheConstants.{MAX_SECRET_LEN}
-use Rattle.key_commands.specs.Lines.{info_line, info_text, limit_line, nonce_line}
+use Rattle.key_commands.specs.Lines.{info_line, info_text, nonce_line}
+use Rattle.assuan_server.specs.Written.{limit_line}
 use Rattle.agent_session.specs.Completeness.{IsAside, of_data, of_status, of_comment, AreAsides, none, one_more, IsStatus}
 
 pub asides_append : {first more : List ℕ} → AreAsides first → AreAsides more → AreAsides (first ++ more)
@@ -26,7 +27,7 @@ one_aside {line} aside = subst AreAsides (append-nil (line_of line)) (one_more a
 
 pub data_aside : (pieces : List (List ℕ)) → AreAsides (data_text pieces)
 data_aside [] = none
-data_aside (piece ∷ more) = one_more (of_data (has_lf-escapes piece)) (data_aside more)
+data_aside (piece ∷ more) = one_more (of_data (has_lf_escapes piece)) (data_aside more)
 
 -- ---- comments
 
@@ -64,7 +65,7 @@ clear_told grip cached clear = cached_told grip cached ++ codes " " ++ (if clear
 
 info_short : (grip : Grip) (cached clear : Bool) → has_lf (info_text grip cached clear) ≡ false
 info_short grip cached clear =
-    let first = both_short (hex_text grip.0) (codes " D - - ") (has_lf-hex_text grip.0) refl in
+    let first = both_short (hex_text grip.0) (codes " D - - ") (has_lf_hex_text grip.0) refl in
     let second = both_short (grip_told grip) _ first (either_short cached (codes "1") (codes "-") refl refl) in
     let third = both_short (cached_told grip cached ++ codes " ") _ (both_short (cached_told grip cached) (codes " ") second refl) (either_short clear (codes "C") (codes "P") refl refl) in
     both_short (clear_told grip cached clear) (codes " - - -") third refl
@@ -75,7 +76,7 @@ info_status grip cached clear = record { rest = codes "KEYINFO" ++ codes " " ++ 
 
 -- the nonce under which a passphrase was cached
 pub nonce_status : (nonce : List ℕ) → IsStatus (nonce_line (hex_text nonce))
-nonce_status nonce = record { rest = codes "CACHE_NONCE" ++ codes " " ++ hex_text nonce; is = refl; one_line = has_lf-hex_text nonce }
+nonce_status nonce = record { rest = codes "CACHE_NONCE" ++ codes " " ++ hex_text nonce; is = refl; one_line = has_lf_hex_text nonce }
 
 -- how much the client may send, by digits
 pub limit_status : (limit : ℕ) → limit < 2 ^ 64 → IsStatus (limit_line limit)

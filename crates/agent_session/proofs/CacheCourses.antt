@@ -20,11 +20,12 @@ use Rattle.session_options.specs.declared.options.OptionAnswer.TheVariants as op
 use Rattle.session_options.specs.declared.options.PinMode.{PinMode}
 use Rattle.session_options.specs.declared.options.PinMode.TheVariants as mode
 use Rattle.session_options.specs.declared.rules.Rules.{Rules}
-use Rattle.agent_commands.specs.Answers.{ok, IsInfo}
+use Rattle.agent_commands.specs.Answers.{IsInfo}
+use Rattle.assuan_server.specs.Written.{ok}
 use Rattle.agent_commands.specs.Endings.{went_after, end_of}
-use Rattle.agent_commands.specs.Exchanges.{Exchange, CacheReply, Replies, TellsPassphrase, TellsInfo, confirms_by, option_replies, reply}
+use Rattle.agent_commands.specs.Exchanges.{CacheExchange, CacheReply, CacheReplies, TellsPassphrase, TellsInfo, confirms_by, option_replies, reply}
 use Rattle.agent_commands.specs.Exchanges as told
-use Rattle.agent_commands.specs.Parts.{Part}
+use Rattle.agent_commands.specs.Parts.{CachePart}
 use Rattle.agent_commands.specs.Passphrases.{Prompts, passphrase_by, as_wanted}
 use Rattle.agent_commands.specs.Requests.{GetFields}
 use Rattle.agent_commands.specs.declared.request.CacheCommand.{CacheCommand}
@@ -39,7 +40,8 @@ use Rattle.agent_commands.specs.declared.went.Went.TheVariants.{End}
 use Rattle.key_commands.specs.Events.{Event}
 use Rattle.agent_session.specs.Causes.{IsSaid}
 use Rattle.agent_session.specs.Completeness.{EndsInOk}
-use Rattle.agent_session.specs.Refusals.{IsAllowed, limit, MayStore, preset, given, Course}
+use Rattle.agent_session.specs.Refusals.{IsAllowed, MayStore, preset, given, Course}
+use Rattle.key_commands.specs.Lines.{of_limit}
 use Rattle.agent_session.proofs.CacheWorks.{FitsCache, wants_prompt, changes, by_cache, without_prompt, prompts_any, confirmed, presets, tells_info}
 use Rattle.agent_session.proofs.Courses.{Ends, ends_with, EndsSo, working_ends, ends_working, bind_ends, made, closed, RepliesOk, ok_returns, ok_refuses, ok_then, reply_ends_in_ok, ok_course, err_course, ends_said, gone_only, said_before, answer_heard}
 use Rattle.agent_session.proofs.Replying.{IsReply, reply_ok, reply_closing, reply_help, reply_cache, reply_passphrase}
@@ -49,13 +51,13 @@ module _ (request : Request) where
   abbrev Fits : Event → Type 0
   Fits = IsAllowed request
 
-  abbrev Here : {A : Type 0} → Part A → Type 0
+  abbrev Here : {A : Type 0} → CachePart A → Type 0
   Here = WorksSo Fits
 
   fits : FitsCache Fits
   fits = record {
     cut = λ text. tt;
-    limits = limit MAX_SECRET_LEN;
+    limits = of_limit MAX_SECRET_LEN;
     clients = λ inquired. tt;
     notes = λ pid inquired. tt;
     calls = λ event. tt;
@@ -101,7 +103,7 @@ module _ (request : Request) where
     option_so option_answer.Parameter after = refuses_by Fits (Agent code.Parameter)
     option_so option_answer.NotSupported after = refuses_by Fits (Agent code.NotSupported)
 
-    replies : (command : CacheCommand) → request ≡ Cache command → EndsSo request (Replies rules options command)
+    replies : (command : CacheCommand) → request ≡ Cache command → EndsSo request (CacheReplies rules options command)
     replies Nop is = ends_working request (returned Fits _)
     replies Reset is = ends_working request (returned Fits _)
     replies Bye is = ends_working request (returned Fits _)
@@ -126,7 +128,7 @@ info_reply rules Pid is = reply_cache is
 info_reply rules S2kCount is = reply_cache is
 info_reply rules Listed is = subst IsReply (sym is) reply_ok
 
-abbrev ReplyOk : Part CacheReply → Type 0
+abbrev ReplyOk : CachePart CacheReply → Type 0
 ReplyOk = RepliesOk (λ reply. reply.text)
 
 module _ (rules : Rules) (options : OptionValues) where
@@ -144,10 +146,10 @@ module _ (rules : Rules) (options : OptionValues) where
   option_ok option_answer.Parameter after = ok_refuses _
   option_ok option_answer.NotSupported after = ok_refuses _
 
-  done_ok : {A : Type 0} {part : Part A} {values : OptionValues} → ReplyOk (part >>= λ value. Returns (reply values ok))
+  done_ok : {A : Type 0} {part : CachePart A} {values : OptionValues} → ReplyOk (part >>= λ value. Returns (reply values ok))
   done_ok = ok_then (λ value. ok_returns _ (reply_ends_in_ok reply_ok))
 
-  replies_ok : (command : CacheCommand) → ReplyOk (Replies rules options command)
+  replies_ok : (command : CacheCommand) → ReplyOk (CacheReplies rules options command)
   replies_ok Nop = ok_returns _ (reply_ends_in_ok reply_ok)
   replies_ok Reset = ok_returns _ (reply_ends_in_ok reply_ok)
   replies_ok Bye = ok_returns _ (reply_ends_in_ok reply_closing)
@@ -164,7 +166,7 @@ module _ (rules : Rules) (options : OptionValues) where
 
 -- ---- exchanges
 
-module _ (request : Request) {part : Part CacheReply} (ends : EndsSo request part) where
+module _ (request : Request) {part : CachePart CacheReply} (ends : EndsSo request part) where
   part_course : {before after : OptionValues} {events : List Event} {went : Went} → ReplyOk part → AnyExchange refusal_line went_after part before events after went → Course request events
   part_course oks (exchange.answered some held given_reply does closes_so) = ok_course request (oks.of does) (ends.of does) closes_so
   part_course oks (exchange.refused some held why does closes_so) = err_course request (ends.of does) closes_so
@@ -178,13 +180,13 @@ module _ (request : Request) {part : Part CacheReply} (ends : EndsSo request par
       ap (λ w. went_after (gone_by w)) refusal
 
 module _ (rules : Rules) (before after : OptionValues) (events : List Event) (went : Went) where
-  pub cache_course : (request : Request) → Exchange rules before request events after went → Course request events
+  pub cache_course : (request : Request) → CacheExchange rules before request events after went → Course request events
   cache_course (Cache command) exchanged = part_course (Cache command) (replies (Cache command) rules before command refl) (replies_ok rules before command) exchanged
   cache_course (Bad why) exchanged = part_course (Bad why) (ends_working (Bad why) (refuses_by (IsAllowed (Bad why)) (Agent why))) (ok_refuses _) exchanged
   cache_course (Key line) never = absurd never
 
   -- a client that is gone ends its session
-  pub cache_gone : (request : Request) {how : Gone} → Exchange rules before request events after went → IsSaid events (unheard.Gone how) → went ≡ End (end_of how)
+  pub cache_gone : (request : Request) {how : Gone} → CacheExchange rules before request events after went → IsSaid events (unheard.Gone how) → went ≡ End (end_of how)
   cache_gone (Cache command) exchanged says = part_gone (Cache command) (replies (Cache command) rules before command refl) exchanged says
   cache_gone (Bad why) exchanged says = part_gone (Bad why) (ends_working (Bad why) (refuses_by (IsAllowed (Bad why)) (Agent why))) exchanged says
   cache_gone (Key line) never says = absurd never

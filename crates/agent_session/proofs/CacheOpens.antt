@@ -24,10 +24,11 @@ use Rattle.session_options.specs.declared.options.PinMode.{PinMode}
 use Rattle.session_options.specs.declared.options.PinMode.TheVariants as mode
 use Rattle.session_options.specs.declared.rules.Rules.{Rules}
 use Rattle.agent_commands.specs.Endings.{went_after}
-use Rattle.agent_commands.specs.Events.{Event}
-use Rattle.agent_commands.specs.Exchanges.{Exchange, CacheReply, Replies, TellsPassphrase, TellsInfo, Presets, confirms_by, option_replies}
+use Rattle.agent_commands.specs.Events.{EventWith}
+use Rattle.agent_commands.specs.Exchanges.{CacheExchange, CacheReply, CacheReplies, TellsPassphrase, TellsInfo, Presets, confirms_by, option_replies}
 use Rattle.agent_commands.specs.Exchanges as told
-use Rattle.agent_commands.specs.Parts.{Part, AsksPassphrase, limit_line}
+use Rattle.agent_commands.specs.Parts.{CachePart, AsksPassphrase}
+use Rattle.assuan_server.specs.Written.{limit_line}
 use Rattle.agent_commands.specs.Passphrases.{LooksFor, WantsPrompt, KeepsUnder, Uncached, WithoutPrompt, PromptsAny, Prompts, passphrase_by, as_wanted}
 use Rattle.agent_commands.specs.Passphrases as passphrases
 use Rattle.agent_commands.specs.Requests.{GetFields}
@@ -46,11 +47,11 @@ use Rattle.key_commands.proofs.EachEvent.{each_append, each_shown, each_bind, ea
 
 -- ---- parts that call nobody
 
-writes_of : (text : List ℕ) (before : Option ℕ) (events : List (Event FurtherEvent)) (result : Result (Unit {0}) Refusal) (after : Option ℕ) → Writes text before events result after → Uncalled events
+writes_of : (text : List ℕ) (before : Option ℕ) (events : List (EventWith FurtherEvent)) (result : Result (Unit {0}) Refusal) (after : Option ℕ) → Writes text before events result after → Uncalled events
 writes_of text before events result after client.written = (tt, tt)
 writes_of text before events result after (client.cut unsent is) = (tt, tt)
 
-inquires_of : (word : List ℕ) (most : ℕ) (before : Option ℕ) (events : List (Event FurtherEvent)) (result : Result (List ℕ) Refusal) (after : Option ℕ)
+inquires_of : (word : List ℕ) (most : ℕ) (before : Option ℕ) (events : List (EventWith FurtherEvent)) (result : Result (List ℕ) Refusal) (after : Option ℕ)
     → Inquires session_lines word most before events result after → Uncalled events
 inquires_of word most before events result after (client.given is) = (tt, tt)
 inquires_of word most before events result after (client.not_given is) = (tt, tt)
@@ -88,7 +89,7 @@ option_uncalled option_answer.Unknown after = each_refused IsUncalled _
 option_uncalled option_answer.Parameter after = each_refused IsUncalled _
 option_uncalled option_answer.NotSupported after = each_refused IsUncalled _
 
-info_of : (rules : Rules) (what : Info) (before : Option ℕ) (events : List (Event FurtherEvent)) (result : Result (List ℕ) Refusal) (after : Option ℕ) → TellsInfo rules what before events result after → Uncalled events
+info_of : (rules : Rules) (what : Info) (before : Option ℕ) (events : List (EventWith FurtherEvent)) (result : Result (List ℕ) Refusal) (after : Option ℕ) → TellsInfo rules what before events result after → Uncalled events
 info_of rules what before events result after (told.tells is) = tt
 
 presets : (rules : Rules) (id : List ℕ) (life : _) (secret : Option (List ℕ)) → UncalledSo (Presets rules id life secret)
@@ -97,14 +98,14 @@ presets rules id life secret =
 
 -- ---- parts that open a prompt
 
-record OpensSo {A : Type 0} (part : Part A) : Type 0 where
-  of : (before : Option ℕ) (events : List (Event FurtherEvent)) (result : Result A Refusal) (after : Option ℕ) → part before events result after → OpensFirst events
+record OpensSo {A : Type 0} (part : CachePart A) : Type 0 where
+  of : (before : Option ℕ) (events : List (EventWith FurtherEvent)) (result : Result A Refusal) (after : Option ℕ) → part before events result after → OpensFirst events
 
-calls_nobody : {A : Type 0} {part : Part A} → UncalledSo part → OpensSo part
+calls_nobody : {A : Type 0} {part : CachePart A} → UncalledSo part → OpensSo part
 calls_nobody each = record { of = λ before events result after does. uncalled_opens events (each.of before events result after does) }
 
-module _ {A B : Type 0} {part : Part A} {next : A → Part B} where
-  behind_of : OpensSo part → ((value : A) → UnopeningSo (next value)) → (before : Option ℕ) (events : List (Event FurtherEvent)) (result : Result B Refusal) (after : Option ℕ)
+module _ {A B : Type 0} {part : CachePart A} {next : A → CachePart B} where
+  behind_of : OpensSo part → ((value : A) → UnopeningSo (next value)) → (before : Option ℕ) (events : List (EventWith FurtherEvent)) (result : Result B Refusal) (after : Option ℕ)
       → Follows part next before events result after → OpensFirst events
   behind_of first then before events result after (goes_on {first = some} {events = more} {value} {mid} does next_does) =
       then_unopening some more (first.of before some (Ok value) mid does) ((then value).of mid more result after next_does)
@@ -114,17 +115,17 @@ module _ {A B : Type 0} {part : Part A} {next : A → Part B} where
   behind : OpensSo part → ((value : A) → UnopeningSo (next value)) → OpensSo (part >>= next)
   behind first then = record { of = behind_of first then }
 
-any_of : {rules : Rules} {options : OptionValues} {texts : Texts} {check quality : Bool} {repeat : ℕ} (before : Option ℕ) (events : List (Event FurtherEvent)) (result : Result (List ℕ) Refusal) (after : Option ℕ)
+any_of : {rules : Rules} {options : OptionValues} {texts : Texts} {check quality : Bool} {repeat : ℕ} (before : Option ℕ) (events : List (EventWith FurtherEvent)) (result : Result (List ℕ) Refusal) (after : Option ℕ)
     → PromptsAny rules options texts check quality repeat before events result after → Unopening events
 any_of before events result after (passphrases.given spec is prompt) = each_shown IsUnopening still_unopening (λ event. tt) prompt.in_session
 any_of before events result after (passphrases.refused spec is prompt other refusal) = each_shown IsUnopening still_unopening (λ event. tt) prompt.in_session
 
-agrees_of : {rules : Rules} {options : OptionValues} (question : List ℕ) (before : Option ℕ) (events : List (Event FurtherEvent)) (result : Result (Unit {0}) Refusal) (after : Option ℕ)
+agrees_of : {rules : Rules} {options : OptionValues} (question : List ℕ) (before : Option ℕ) (events : List (EventWith FurtherEvent)) (result : Result (Unit {0}) Refusal) (after : Option ℕ)
     → AgreesTo session_lines rules options question before events result after → Unopening events
 agrees_of question before events result after (consent.consents spec is prompt) = each_shown IsUnopening still_unopening (λ event. tt) prompt.in_session
 agrees_of question before events result after (consent.refused spec is prompt refusal) = each_shown IsUnopening still_unopening (λ event. tt) prompt.in_session
 
-tells_of : (plain : Bool) (secret : List ℕ) (before : Option ℕ) (events : List (Event FurtherEvent)) (result : Result (List ℕ) Refusal) (after : Option ℕ) → TellsPassphrase plain secret before events result after
+tells_of : (plain : Bool) (secret : List ℕ) (before : Option ℕ) (events : List (EventWith FurtherEvent)) (result : Result (List ℕ) Refusal) (after : Option ℕ) → TellsPassphrase plain secret before events result after
     → Unopening events
 tells_of plain secret before events result after (told.tells is) = tt
 
@@ -152,7 +153,7 @@ module _ (rules : Rules) (options : OptionValues) where
 
   -- ---- requests
 
-  replies : (command : CacheCommand) → OpensSo (Replies rules options command)
+  replies : (command : CacheCommand) → OpensSo (CacheReplies rules options command)
   replies Nop = calls_nobody (each_returned IsUncalled _)
   replies Reset = calls_nobody (each_returned IsUncalled _)
   replies Bye = calls_nobody (each_returned IsUncalled _)
@@ -173,18 +174,18 @@ said_unopening : (line : Option (List ℕ)) → Unopening (said_last line)
 said_unopening None = tt
 said_unopening (Some text) = (tt, tt)
 
-answers_unopening : {held : Option ℕ} {back : List (Event FurtherEvent)} (last : List (Event FurtherEvent)) → Unopening last → Closes None held back (Ok tt) None → Unopening (back ++ last)
+answers_unopening : {held : Option ℕ} {back : List (EventWith FurtherEvent)} (last : List (EventWith FurtherEvent)) → Unopening last → Closes None held back (Ok tt) None → Unopening (back ++ last)
 answers_unopening {held} {back} last each closes_so = each_append IsUnopening back last ((each_closes IsUnopening None (λ number turn. refl)).of held back (Ok tt) None closes_so) each
 
-part_opens : {part : Part CacheReply} → OpensSo part → {before after : OptionValues} {events : List (Event FurtherEvent)} {went : Went} → AnyExchange refusal_line went_after part before events after went → OpensFirst events
+part_opens : {part : CachePart CacheReply} → OpensSo part → {before after : OptionValues} {events : List (EventWith FurtherEvent)} {went : Went} → AnyExchange refusal_line went_after part before events after went → OpensFirst events
 part_opens opens (exchange.answered events held reply does closes_so) = then_unopening events _ (opens.of None events (Ok reply) held does) (answers_unopening _ (tt, tt) closes_so)
 part_opens opens (exchange.refused events held why does closes_so) = then_unopening events _ (opens.of None events (Err why) held does) (answers_unopening _ (said_unopening (refusal_line why)) closes_so)
 
-cache_opens : (rules : Rules) (before after : OptionValues) (request : Request) (events : List (Event FurtherEvent)) (went : Went) → Exchange rules before request events after went → OpensFirst events
+cache_opens : (rules : Rules) (before after : OptionValues) (request : Request) (events : List (EventWith FurtherEvent)) (went : Went) → CacheExchange rules before request events after went → OpensFirst events
 cache_opens rules before after (Cache command) events went exchanged = part_opens (replies rules before command) exchanged
 cache_opens rules before after (Bad why) events went exchanged = part_opens (calls_nobody (each_refused IsUncalled (Agent why))) exchanged
 cache_opens rules before after (Key line) events went never = absurd never
 
-pub request_opens : {rules : Rules} {kept now : Kept} (request : Request) {events : List (Event FurtherEvent)} {went : Went} → RequestExchange rules kept request events now went → OpensFirst events
+pub request_opens : {rules : Rules} {kept now : Kept} (request : Request) {events : List (EventWith FurtherEvent)} {went : Went} → RequestExchange rules kept request events now went → OpensFirst events
 request_opens {rules} {kept} request (cache exchange) = cache_opens rules kept.options _ request _ _ exchange
 request_opens {rules} {kept} request (keys exchange) = key_opens rules kept.options kept.wraps _ exchange

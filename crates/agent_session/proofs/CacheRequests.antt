@@ -30,9 +30,10 @@ use Rattle.session_options.specs.declared.options.PinMode.TheVariants as mode
 use Rattle.session_options.specs.declared.rules.Rules.{Rules}
 use Rattle.agent_commands.specs.Answers.{IsInfo}
 use Rattle.agent_commands.specs.Endings.{went_after}
-use Rattle.agent_commands.specs.Events.{Event}
-use Rattle.agent_commands.specs.Exchanges.{Exchange, CacheReply, Replies, TellsPassphrase, TellsInfo, option_replies, ChangeReplies, confirms_by, is_quiet, tells}
-use Rattle.agent_commands.specs.Parts.{Part, AsksPassphrase, limit_line}
+use Rattle.agent_commands.specs.Events.{EventWith}
+use Rattle.agent_commands.specs.Exchanges.{CacheExchange, CacheReply, CacheReplies, TellsPassphrase, TellsInfo, option_replies, ChangeReplies, confirms_by, is_quiet, tells}
+use Rattle.agent_commands.specs.Parts.{CachePart, AsksPassphrase}
+use Rattle.assuan_server.specs.Written.{limit_line}
 use Rattle.agent_commands.specs.Passphrases.{ask, ask_or_open, LooksFor, WantsPrompt, ByCache, ByClient, Uncached, WithoutPrompt, PromptsAny, ByUser, as_wanted, passphrase_by}
 use Rattle.agent_commands.specs.Passphrases as passphrases
 use Rattle.agent_commands.specs.Requests.{GetFields, get_passphrase}
@@ -65,20 +66,20 @@ info_reply rules Pid is = reply_cache is
 info_reply rules S2kCount is = reply_cache is
 info_reply rules Listed is = subst IsReply (sym is) reply_ok
 
-module _ (rules : Rules) (kept : Kept) (whole : List (Event FurtherEvent)) (request : Request) where
-  abbrev Here : List (Event FurtherEvent) → Went → Type 0
+module _ (rules : Rules) (kept : Kept) (whole : List (EventWith FurtherEvent)) (request : Request) where
+  abbrev Here : List (EventWith FurtherEvent) → Went → Type 0
   Here = Explained whole (IsCaused whole rules kept request)
 
   -- what is done so comes to a good value, or to a refusal that has its cause
-  abbrev EachOf : {A : Type 0} → Part A → (A → Type 0) → Type 0
-  EachOf {A} part Good = (before : Option ℕ) (events : List (Event FurtherEvent)) (result : Result A Refusal) (after : Option ℕ) → part before events result after → StandIn events whole
+  abbrev EachOf : {A : Type 0} → CachePart A → (A → Type 0) → Type 0
+  EachOf {A} part Good = (before : Option ℕ) (events : List (EventWith FurtherEvent)) (result : Result A Refusal) (after : Option ℕ) → part before events result after → StandIn events whole
       → Comes whole (IsCaused whole rules kept request) Good events result
 
-  abbrev ExplainsHere : {A : Type 0} → Part A → (A → Type 0) → Type 0
+  abbrev ExplainsHere : {A : Type 0} → CachePart A → (A → Type 0) → Type 0
   ExplainsHere part Good = Explains whole (IsCaused whole rules kept request) part Good
 
   -- a part, and then what follows whatever it came to
-  then : {A B : Type 0} {part : Part A} {next : A → Part B} (Good : B → Type 0) → ExplainsHere part Anything → ((value : A) → ExplainsHere (next value) Good) → ExplainsHere (part >>= next) Good
+  then : {A B : Type 0} {part : CachePart A} {next : A → CachePart B} (Good : B → Type 0) → ExplainsHere part Anything → ((value : A) → ExplainsHere (next value) Good) → ExplainsHere (part >>= next) Good
   then Good first next = bind Anything Good first (λ value any. next value)
 
   done : {A : Type 0} (value : A) → ExplainsHere (Returns value) Anything
@@ -137,7 +138,7 @@ module _ (rules : Rules) (kept : Kept) (whole : List (Event FurtherEvent)) (requ
     abbrev HasNone : Type 0
     HasNone = HasNoEntry whole request × (is_quiet fields.no_ask fields.texts ≡ true → Caused rules kept request whole code.NoData)
 
-    looks_of : (id : List ℕ) → fields.id ≡ Some id → {before after : Option ℕ} {events : List (Event FurtherEvent)} {result : Result (Option (List ℕ)) Refusal} → taken.Asks (ask id) before events result after
+    looks_of : (id : List ℕ) → fields.id ≡ Some id → {before after : Option ℕ} {events : List (EventWith FurtherEvent)} {result : Result (Option (List ℕ)) Refusal} → taken.Asks (ask id) before events result after
         → after ≡ before → StandIn events whole → Comes whole (IsCaused whole rules kept request) (Either rules kept request whole Anything HasNone) events result
     looks_of id same taken.given keeps stands = record { silent = (tt, tt); explained = tt }
     looks_of id same taken.empty keeps stands =
@@ -184,7 +185,7 @@ module _ (rules : Rules) (kept : Kept) (whole : List (Event FurtherEvent)) (requ
   changed : {step : MarkStep} → closes step ≡ None → {given : CacheReply} → IsReply given.text → IsLast given.went → ExplainsHere (ChangeReplies step given) Answers
   changed keeps reply last = then Answers (changes rules kept request whole _ keeps) (λ made. answered reply last)
 
-  replies : (asked : CacheCommand) → request ≡ Cache asked → ExplainsHere (Replies rules kept.options asked) Answers
+  replies : (asked : CacheCommand) → request ≡ Cache asked → ExplainsHere (CacheReplies rules kept.options asked) Answers
   replies command.Nop is = answered reply_ok tt
   replies command.Reset is = answered reply_ok tt
   replies command.Bye is = answered reply_closing tt
@@ -225,7 +226,7 @@ module _ (rules : Rules) (kept : Kept) (whole : List (Event FurtherEvent)) (requ
   refusal_explained (Client why) says = client_explained why says
 
   -- the parts of a request are done, its ticket is given back, and then this is written
-  pub in_exchange : {A : Type 0} {part : Part A} {Good : A → Type 0} → ExplainsHere part Good → {events back last : List (Event FurtherEvent)} {result : Result A Refusal} {held : Option ℕ} {went : Went}
+  pub in_exchange : {A : Type 0} {part : CachePart A} {Good : A → Type 0} → ExplainsHere part Good → {events back last : List (EventWith FurtherEvent)} {result : Result A Refusal} {held : Option ℕ} {went : Went}
       → part None events result held → taken.Closes None held back (Ok tt) None → (IsExplained whole (IsCaused whole rules kept request) Good result → Here last went) → StandIn (events ++ (back ++ last)) whole
       → Here (events ++ (back ++ last)) went
   in_exchange {Good} explains {events} {back} {last} {result} {held} does closes ends stands =
@@ -233,14 +234,14 @@ module _ (rules : Rules) (kept : Kept) (whole : List (Event FurtherEvent)) (requ
       let close : Comes whole (IsCaused whole rules kept request) Anything back (Ok tt) = closes_of None held back (Ok tt) None closes (stand_left back last (stand_right events _ stands)) in
       after_these _ _ events first.silent (after_these _ _ back close.silent (ends first.explained))
 
-  exchange_explained : {part : Part CacheReply} → ExplainsHere part Answers → {events : List (Event FurtherEvent)} {after : OptionValues} {went : Went}
+  exchange_explained : {part : CachePart CacheReply} → ExplainsHere part Answers → {events : List (EventWith FurtherEvent)} {after : OptionValues} {went : Went}
       → exchange.AnyExchange refusal_line went_after part kept.options events after went → StandIn events whole → Here events went
   exchange_explained explains (exchange.answered events held reply does closes) stands = in_exchange explains does closes (λ good. replied [] reply.text tt good.0 good.1) stands
   exchange_explained explains (exchange.refused events held why does closes) stands = in_exchange explains does closes (λ caused. refusal_explained why caused) stands
 
-module _ (rules : Rules) (kept : Kept) (whole : List (Event FurtherEvent)) where
-  pub cache_explained : (request : Request) {events : List (Event FurtherEvent)} (after : OptionValues) {went : Went} → ((why : Code) → IsRefusedBy request why → IsCaused whole rules kept request why origin.Agent)
-      → Exchange rules kept.options request events after went → StandIn events whole → Explained whole (IsCaused whole rules kept request) events went
+module _ (rules : Rules) (kept : Kept) (whole : List (EventWith FurtherEvent)) where
+  pub cache_explained : (request : Request) {events : List (EventWith FurtherEvent)} (after : OptionValues) {went : Went} → ((why : Code) → IsRefusedBy request why → IsCaused whole rules kept request why origin.Agent)
+      → CacheExchange rules kept.options request events after went → StandIn events whole → Explained whole (IsCaused whole rules kept request) events went
   cache_explained (Cache asked) after line_caused exchanged stands = exchange_explained rules kept whole (Cache asked) (replies rules kept whole (Cache asked) asked refl) exchanged stands
   cache_explained (Bad why) after line_caused exchanged stands =
       exchange_explained rules kept whole (Bad why) (refused Answers (Agent why) (line_caused why (inl refl))) exchanged stands

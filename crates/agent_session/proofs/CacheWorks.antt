@@ -22,7 +22,8 @@ use Rattle.session_options.specs.declared.options.PinMode.TheVariants as mode
 use Rattle.session_options.specs.declared.rules.Rules.{Rules}
 use Rattle.agent_commands.specs.Exchanges.{TellsInfo, put, confirms_by, Presets}
 use Rattle.agent_commands.specs.Exchanges as exchanges
-use Rattle.agent_commands.specs.Parts.{Part, AsksPassphrase, limit_line}
+use Rattle.agent_commands.specs.Parts.{CachePart, AsksPassphrase}
+use Rattle.assuan_server.specs.Written.{limit_line}
 use Rattle.agent_commands.specs.Passphrases.{LooksFor, WantsPrompt, KeepsUnder, ByCache, ByClient, Uncached, WithoutPrompt, PromptsAny, ask, ask_or_open}
 use Rattle.agent_commands.specs.Passphrases as passphrases
 use Rattle.agent_commands.specs.declared.request.Info.{Info}
@@ -44,7 +45,7 @@ pub record FitsCache (Fits : Event → Type 0) : Type 0 where
   pub seats : (turn : Turn) → Fits (cache_turn (Seat None None) turn)
 
 module _ {Fits : Event → Type 0} (fits : FitsCache Fits) where
-  abbrev Here : {A : Type 0} → Part A → Type 0
+  abbrev Here : {A : Type 0} → CachePart A → Type 0
   Here = WorksSo Fits
 
   asks_passphrase : Here AsksPassphrase

@@ -25,7 +25,7 @@ use Rattle.agent_ports.specs.declared.trust.TrustRead.TheVariants as trust_read
 use Rattle.assuan_server.specs.Reading.{Supply}
 use Rattle.cache_policy.specs.declared.mark.MarkStep.{MarkStep}
 use Rattle.cache_policy.specs.Turns.{Turn}
-use Rattle.agent_commands.specs.Events.{Event}
+use Rattle.agent_commands.specs.Events.{EventWith}
 use Rattle.agent_session.specs.Causes.{Has, here, later, FailsAtKeys, FailsAtTrust, FailsAtKeysOrDice, HasOne, HasCall, HasTrustCall}
 use Rattle.agent_session.specs.Causes as causes
 use Rattle.agent_session.specs.Completeness.{FailuresRise}
@@ -36,15 +36,15 @@ use Rattle.agent_origin.specs.FurtherStates.{FurtherWorld}
 -- ---- what no event of a session is
 
 -- an answer of the keys that there may be: a file that is replaced needn't be there
-abbrev pub IsPossible : Event FurtherEvent → Type 0
+abbrev pub IsPossible : EventWith FurtherEvent → Type 0
 IsPossible (Further (Keys (Replaced grip file key_done.Absent))) = ⊥
 IsPossible _ = ⊤
 
-pub never_absent : {events : List (Event FurtherEvent)} → AllByRecursion IsPossible events → NeverAbsent events
+pub never_absent : {events : List (EventWith FurtherEvent)} → AllByRecursion IsPossible events → NeverAbsent events
 never_absent {events} each grip file has = each_has IsPossible events each has
 
 -- an event in which neither the prompter nor the keys nor the dice nor the trust file failed
-abbrev pub IsSteady : Event FurtherEvent → Type 0
+abbrev pub IsSteady : EventWith FurtherEvent → Type 0
 IsSteady (Further (Prompt (Called call))) = ¬ (is_failed call ≡ true)
 IsSteady (Further (Keys call)) = ¬ FailsAtKeys call
 IsSteady (Further (Dice (NotDrawn count))) = ⊥
@@ -52,12 +52,12 @@ IsSteady (Further (Trust call)) = ¬ FailsAtTrust call
 IsSteady _ = ⊤
 
 -- the event is a call of the trust file that failed
-abbrev FailsAtTrustFile : Event FurtherEvent → Type 0
+abbrev FailsAtTrustFile : EventWith FurtherEvent → Type 0
 FailsAtTrustFile (Further (Trust call)) = FailsAtTrust call
 FailsAtTrustFile _ = ⊥
 
 -- the event is a call of the prompter that failed
-abbrev FailsAtPrompter : Event FurtherEvent → Type 0
+abbrev FailsAtPrompter : EventWith FurtherEvent → Type 0
 FailsAtPrompter (Further (Prompt (Called call))) = is_failed call ≡ true
 FailsAtPrompter _ = ⊥
 
@@ -120,7 +120,7 @@ trust_rises before after (trust_call.Replaced file trust_done.NoMemory) does fai
 
 module _ {D P : Type 0} (turned : D → MarkStep → Turn → D → Type 0) (prompted : P → Call → P → Type 0) (at : P → AtPrompter)
     (promise : (before : P) (call : Call) (after : P) → prompted before call after → IsCall (at before) call (at after)) where
-  abbrev DoesHere : Supply → Outside (FurtherWorld turned prompted) → Event FurtherEvent → Outside (FurtherWorld turned prompted) → Type 0
+  abbrev DoesHere : Supply → Outside (FurtherWorld turned prompted) → EventWith FurtherEvent → Outside (FurtherWorld turned prompted) → Type 0
   DoesHere = Does (FurtherWorld turned prompted)
 
   -- the counts don't fall
@@ -178,7 +178,7 @@ module _ {D P : Type 0} (turned : D → MarkStep → Turn → D → Type 0) (pro
   call_rises out_of_memory fails = absurd fails
 
   module _ {supply : Supply} where
-    pub event_moves : {before after : Outside (FurtherWorld turned prompted)} {event : Event FurtherEvent} → DoesHere supply before event after → Moves before.ends after.ends
+    pub event_moves : {before after : Outside (FurtherWorld turned prompted)} {event : EventWith FurtherEvent} → DoesHere supply before event after → Moves before.ends after.ends
     event_moves (worlds.received known needed) = moves_none _
     event_moves worlds.sent = moves_none _
     event_moves worlds.cut = moves_none _
@@ -187,7 +187,7 @@ module _ {D P : Type 0} (turned : D → MarkStep → Turn → D → Type 0) (pro
     event_moves (worlds.turned does) = moves_none _
     event_moves (worlds.further does) = further_moves does
 
-    event_steady : {before after : Outside (FurtherWorld turned prompted)} {event : Event FurtherEvent} → DoesHere supply before event after → StandStill before.ends after.ends → IsSteady event
+    event_steady : {before after : Outside (FurtherWorld turned prompted)} {event : EventWith FurtherEvent} → DoesHere supply before event after → StandStill before.ends after.ends → IsSteady event
     event_steady (worlds.received known needed) still = tt
     event_steady worlds.sent still = tt
     event_steady worlds.cut still = tt
@@ -196,7 +196,7 @@ module _ {D P : Type 0} (turned : D → MarkStep → Turn → D → Type 0) (pro
     event_steady (worlds.turned does) still = tt
     event_steady (worlds.further does) still = further_steady does still
 
-    event_possible : {before after : Outside (FurtherWorld turned prompted)} {event : Event FurtherEvent} → DoesHere supply before event after → IsPossible event
+    event_possible : {before after : Outside (FurtherWorld turned prompted)} {event : EventWith FurtherEvent} → DoesHere supply before event after → IsPossible event
     event_possible (worlds.received known needed) = tt
     event_possible worlds.sent = tt
     event_possible worlds.cut = tt
@@ -205,13 +205,13 @@ module _ {D P : Type 0} (turned : D → MarkStep → Turn → D → Type 0) (pro
     event_possible (worlds.turned does) = tt
     event_possible (worlds.further does) = further_possible does
 
-    all_move : {before after : Outside (FurtherWorld turned prompted)} {events : List (Event FurtherEvent)} → Leads (DoesHere supply) before events after → Moves before.ends after.ends
+    all_move : {before after : Outside (FurtherWorld turned prompted)} {events : List (EventWith FurtherEvent)} → Leads (DoesHere supply) before events after → Moves before.ends after.ends
     all_move none = moves_none _
     all_move (one does rest_of) =
         let first = event_moves does in let rest = all_move rest_of in
         record { prompter = omega (arith, first.prompter, rest.prompter); keys = omega (arith, first.keys, rest.keys); dice = omega (arith, first.dice, rest.dice); trust = omega (arith, first.trust, rest.trust) }
 
-    pub all_steady : {before after : Outside (FurtherWorld turned prompted)} {events : List (Event FurtherEvent)} → Leads (DoesHere supply) before events after → StandStill before.ends after.ends
+    pub all_steady : {before after : Outside (FurtherWorld turned prompted)} {events : List (EventWith FurtherEvent)} → Leads (DoesHere supply) before events after → StandStill before.ends after.ends
         → AllByRecursion IsSteady events
     all_steady none still = tt
     all_steady {before} {after} (one {mid} does rest_of) still =
@@ -230,13 +230,13 @@ module _ {D P : Type 0} (turned : D → MarkStep → Turn → D → Type 0) (pro
         } in
         (event_steady does now, all_steady rest_of then)
 
-    pub all_possible : {before after : Outside (FurtherWorld turned prompted)} {events : List (Event FurtherEvent)} → Leads (DoesHere supply) before events after → AllByRecursion IsPossible events
+    pub all_possible : {before after : Outside (FurtherWorld turned prompted)} {events : List (EventWith FurtherEvent)} → Leads (DoesHere supply) before events after → AllByRecursion IsPossible events
     all_possible none = tt
     all_possible (one does rest_of) = (event_possible does, all_possible rest_of)
 
     -- ---- a failure raises its count
 
-    event_rises : {before after : Outside (FurtherWorld turned prompted)} {event : Event FurtherEvent} → DoesHere supply before event after → FailsAtKeysOrDice event
+    event_rises : {before after : Outside (FurtherWorld turned prompted)} {event : EventWith FurtherEvent} → DoesHere supply before event after → FailsAtKeysOrDice event
         → Rose before.ends.keys.faults after.ends.keys.faults ⊎ Rose before.ends.dice.faults after.ends.dice.faults
     event_rises (worlds.received known needed) fails = absurd fails
     event_rises worlds.sent fails = absurd fails
@@ -251,7 +251,7 @@ module _ {D P : Type 0} (turned : D → MarkStep → Turn → D → Type 0) (pro
     event_rises (worlds.further (further.trust does)) fails = absurd fails
     event_rises (worlds.further further.no_memory) fails = absurd fails
 
-    prompter_rises : {before after : Outside (FurtherWorld turned prompted)} {event : Event FurtherEvent} → DoesHere supply before event after → FailsAtPrompter event
+    prompter_rises : {before after : Outside (FurtherWorld turned prompted)} {event : EventWith FurtherEvent} → DoesHere supply before event after → FailsAtPrompter event
         → Rose (at before.ends.prompter).faults (at after.ends.prompter).faults
     prompter_rises (worlds.received known needed) fails = absurd fails
     prompter_rises worlds.sent fails = absurd fails
@@ -265,7 +265,7 @@ module _ {D P : Type 0} (turned : D → MarkStep → Turn → D → Type 0) (pro
     prompter_rises (worlds.further (further.trust does)) fails = absurd fails
     prompter_rises (worlds.further further.no_memory) fails = absurd fails
 
-    trust_event_rises : {before after : Outside (FurtherWorld turned prompted)} {event : Event FurtherEvent} → DoesHere supply before event after → FailsAtTrustFile event
+    trust_event_rises : {before after : Outside (FurtherWorld turned prompted)} {event : EventWith FurtherEvent} → DoesHere supply before event after → FailsAtTrustFile event
         → Rose before.ends.trust.faults after.ends.trust.faults
     trust_event_rises (worlds.received known needed) fails = absurd fails
     trust_event_rises worlds.sent fails = absurd fails
@@ -279,36 +279,36 @@ module _ {D P : Type 0} (turned : D → MarkStep → Turn → D → Type 0) (pro
     trust_event_rises {before} (worlds.further (further.trust {call} {file} does)) fails = trust_rises before.ends.trust file call does fails
     trust_event_rises (worlds.further further.no_memory) fails = absurd fails
 
-    all_rise : {before after : Outside (FurtherWorld turned prompted)} {events : List (Event FurtherEvent)} {event : Event FurtherEvent} → Leads (DoesHere supply) before events after → Has event events
+    all_rise : {before after : Outside (FurtherWorld turned prompted)} {events : List (EventWith FurtherEvent)} {event : EventWith FurtherEvent} → Leads (DoesHere supply) before events after → Has event events
         → FailsAtKeysOrDice event → Rose before.ends.keys.faults after.ends.keys.faults ⊎ Rose before.ends.dice.faults after.ends.dice.faults
     all_rise none has fails = elim has [ ]
     all_rise (one does rest) here fails = elim (event_rises does fails) [ inl keys ↦ inl (first_rose _ _ _ keys (all_move rest).keys) | inr dice ↦ inr (first_rose _ _ _ dice (all_move rest).dice) ]
     all_rise (one does rest) (later has) fails = elim (all_rise rest has fails) [ inl keys ↦ inl (last_rose _ _ _ (event_moves does).keys keys) | inr dice ↦ inr (last_rose _ _ _ (event_moves does).dice dice) ]
 
-    all_prompts_rise : {before after : Outside (FurtherWorld turned prompted)} {events : List (Event FurtherEvent)} {event : Event FurtherEvent} → Leads (DoesHere supply) before events after → Has event events
+    all_prompts_rise : {before after : Outside (FurtherWorld turned prompted)} {events : List (EventWith FurtherEvent)} {event : EventWith FurtherEvent} → Leads (DoesHere supply) before events after → Has event events
         → FailsAtPrompter event → Rose (at before.ends.prompter).faults (at after.ends.prompter).faults
     all_prompts_rise none has fails = elim has [ ]
     all_prompts_rise (one does rest) here fails = first_rose _ _ _ (prompter_rises does fails) (all_move rest).prompter
     all_prompts_rise (one does rest) (later has) fails = last_rose _ _ _ (event_moves does).prompter (all_prompts_rise rest has fails)
 
-    all_trust_rise : {before after : Outside (FurtherWorld turned prompted)} {events : List (Event FurtherEvent)} {event : Event FurtherEvent} → Leads (DoesHere supply) before events after → Has event events
+    all_trust_rise : {before after : Outside (FurtherWorld turned prompted)} {events : List (EventWith FurtherEvent)} {event : EventWith FurtherEvent} → Leads (DoesHere supply) before events after → Has event events
         → FailsAtTrustFile event → Rose before.ends.trust.faults after.ends.trust.faults
     all_trust_rise none has fails = elim has [ ]
     all_trust_rise (one does rest) here fails = first_rose _ _ _ (trust_event_rises does fails) (all_move rest).trust
     all_trust_rise (one does rest) (later has) fails = last_rose _ _ _ (event_moves does).trust (all_trust_rise rest has fails)
 
-    has_risen : {before after : Outside (FurtherWorld turned prompted)} {events : List (Event FurtherEvent)} → Leads (DoesHere supply) before events after → HasOne events FailsAtKeysOrDice
+    has_risen : {before after : Outside (FurtherWorld turned prompted)} {events : List (EventWith FurtherEvent)} → Leads (DoesHere supply) before events after → HasOne events FailsAtKeysOrDice
         → Rose before.ends.keys.faults after.ends.keys.faults ⊎ Rose before.ends.dice.faults after.ends.dice.faults
     has_risen leads (causes.one event fails has) = all_rise leads has fails
 
-    has_prompt_risen : {before after : Outside (FurtherWorld turned prompted)} {events : List (Event FurtherEvent)} → Leads (DoesHere supply) before events after → HasCall events is_failed
+    has_prompt_risen : {before after : Outside (FurtherWorld turned prompted)} {events : List (EventWith FurtherEvent)} → Leads (DoesHere supply) before events after → HasCall events is_failed
         → Rose (at before.ends.prompter).faults (at after.ends.prompter).faults
     has_prompt_risen leads (causes.called call fails has) = all_prompts_rise leads has fails
 
-    has_trust_risen : {before after : Outside (FurtherWorld turned prompted)} {events : List (Event FurtherEvent)} → Leads (DoesHere supply) before events after → HasTrustCall events FailsAtTrust
+    has_trust_risen : {before after : Outside (FurtherWorld turned prompted)} {events : List (EventWith FurtherEvent)} → Leads (DoesHere supply) before events after → HasTrustCall events FailsAtTrust
         → Rose before.ends.trust.faults after.ends.trust.faults
     has_trust_risen leads (causes.called_trust call fails has) = all_trust_rise leads has fails
 
-    pub failures_rise : {before after : Outside (FurtherWorld turned prompted)} {events : List (Event FurtherEvent)} → Leads (DoesHere supply) before events after
+    pub failures_rise : {before after : Outside (FurtherWorld turned prompted)} {events : List (EventWith FurtherEvent)} → Leads (DoesHere supply) before events after
         → FailuresRise at events before.ends after.ends
     failures_rise leads = record { keys_or_dice = has_risen leads; prompter = has_prompt_risen leads; trust = has_trust_risen leads }

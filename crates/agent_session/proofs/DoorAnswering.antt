@@ -20,15 +20,16 @@ use Rattle.session_options.specs.declared.rules.Rules.{Rules}
 use Rattle.agent_origin.specs.DoorSessions.{door_help, AllowedExchange, DoorExchange}
 use Rattle.agent_origin.specs.DoorSessions as doors
 use Rattle.agent_origin.specs.Doors.{allowed}
-use Rattle.agent_origin.specs.Names.{commands, command_named, door_command_named}
-use Rattle.agent_origin.specs.Exchanges.{TrustExchange}
-use Rattle.agent_origin.specs.Requests.{trust_request_of}
+use Rattle.agent_origin.specs.TrustNames.{commands_on_trust, trust_command_named}
+use Rattle.agent_origin.specs.DoorSessions.{door_command_named}
+use Rattle.agent_origin.specs.TrustExchanges.{TrustExchange}
+use Rattle.agent_origin.specs.TrustRequests.{trust_request_of}
 use Rattle.agent_origin.specs.SessionExchanges.{SessionExchange}
 use Rattle.agent_origin.specs.declared.door.Door.{Door}
 use Rattle.agent_origin.specs.declared.kept.Kept.{Kept}
-use Rattle.agent_origin.specs.declared.names.TrustCommandName.{TrustCommandName}
+use Rattle.agent_origin.specs.declared.trust.names.TrustCommandName.{TrustCommandName}
 use Rattle.agent_origin.specs.declared.names.TrustCommandName.TheVariants as name
-use Rattle.agent_origin.specs.declared.request.TrustRequest.TheVariants.{Bad}
+use Rattle.agent_origin.specs.declared.trust.request.TrustRequest.TheVariants.{Bad}
 use Rattle.agent_origin.proofs.EachLine.{each_request}
 use Rattle.agent_session.specs.Causes.{HasOne, HasCall, WantsMemory, is_broken}
 use Rattle.agent_session.specs.Completeness.{IsAnsweredBy, HasError, CausedInSession}
@@ -44,7 +45,7 @@ use Rattle.agent_session.proofs.Standing.{stand_all}
 use Rattle.agent_session.proofs.TrustDenied.{none_called, denial_is_said}
 use Rattle.agent_session.proofs.TrustExplained.{trust_explained, trust_line_form}
 
--- ---- names of commands
+-- ---- names of commands_on_trust
 
 -- a command of the door's own that isn't HELP is one on the trust list, and one that is none of the door's own isn't
 trust_by : {X : Type 0} {help trust : X} → ¬ (help ≡ trust) → (first second third : Bool) → cond first (Some help) (cond second (Some trust) (cond third (Some trust) None)) ≡ Some trust
@@ -64,8 +65,8 @@ none_by help trust false false false is = refl
 abbrev pub is_word : List ℕ → List ℕ → Bool
 is_word row word = bytes_eq (str_to_ascii_lowercase row) (str_to_ascii_lowercase word)
 
-pub no_command : (word : List ℕ) → door_command_named word ≡ None → command_named word ≡ None
-unfolding door_command_named command_named
+pub no_command : (word : List ℕ) → door_command_named word ≡ None → trust_command_named word ≡ None
+unfolding door_command_named trust_command_named
 no_command word is = none_by _ _ (is_word (codes "HELP") word) (is_word (codes "ISTRUSTED") word) (is_word (codes "MARKTRUSTED") word) is
 
 -- ---- one exchange
@@ -79,8 +80,8 @@ none_read_of events each (file, read_trust is has) = none_called events each has
 
 reply_help : IsReply door_help
 reply_help = begins (λ e. absurd (cc e)) (record {
-  before = comments command_names ++ comments (map (λ row. row.0) commands);
-  asides = asides_append (comments_aside command_names refl) (comments_aside (map (λ row. row.0) commands) refl);
+  before = comments command_names ++ comments (map (λ row. row.0) commands_on_trust);
+  asides = asides_append (comments_aside command_names refl) (comments_aside (map (λ row. row.0) commands_on_trust) refl);
   rest = [];
   is = refl;
   one_line = refl;
@@ -108,7 +109,7 @@ module _ (door : Door) (rules : Rules) (before : Kept) (line : List ℕ) where
   JudgedBy events went = Judged door rules before line events went
 
   -- a request on the trust list
-  trust_judged : (found : TrustCommandName) → command_named (command_of line) ≡ Some found → allowed door line ≡ true → {events : List Event} {went : Went}
+  trust_judged : (found : TrustCommandName) → trust_command_named (command_of line) ≡ Some found → allowed door line ≡ true → {events : List Event} {went : Went}
       → TrustExchange rules before.options (trust_request_of line) events went → JudgedBy events went
   trust_judged found named allows {events} exchanged =
       judged door rules before line events
@@ -119,7 +120,7 @@ module _ (door : Door) (rules : Rules) (before : Kept) (line : List ℕ) where
       exchanged (stand_all events)))
 
   -- one of any session
-  session_judged : command_named (command_of line) ≡ None → allowed door line ≡ true → {events : List Event} {after : Kept} {went : Went}
+  session_judged : trust_command_named (command_of line) ≡ None → allowed door line ≡ true → {events : List Event} {after : Kept} {went : Went}
       → CausedInSession rules before line events after went → JudgedBy events went
   session_judged named allows {events} {went} caused = record {
     answered = caused.answered;
@@ -128,7 +129,7 @@ module _ (door : Door) (rules : Rules) (before : Kept) (line : List ℕ) where
 
   allowed_judged : {command : _} → door_command_named (command_of line) ≡ command → allowed door line ≡ true → {events : List Event} {after : Kept} {went : Went}
       → AllowedExchange rules before line command events after went → AllByRecursion IsPossible events → JudgedBy events went
-  unfolding door_command_named command_named
+  unfolding door_command_named trust_command_named
   allowed_judged is allows doors.helped possible = judged door rules before line (Sent door_help ∷ []) (replied [] door_help tt reply_help tt)
   allowed_judged is allows (doors.trusts exchanged) possible =
       let found = trust_by (λ e. absurd (cc e)) (is_word (codes "HELP") (command_of line)) (is_word (codes "ISTRUSTED") (command_of line)) (is_word (codes "MARKTRUSTED") (command_of line)) is in
@@ -160,7 +161,7 @@ module _ (door : Door) (rules : Rules) (before : Kept) (line : List ℕ) where
 
   never_forbidden : {events : List Event} → allowed door line ≡ true → IsCausedAtDoor door rules before line events code.Forbidden Agent → ⊥
   never_forbidden allowing (forbidden refuses) = absurd (cc (allowing, refuses))
-  never_forbidden {events} allowing (is_allowed allows cause) = never (command_named (command_of line)) cause
+  never_forbidden {events} allowing (is_allowed allows cause) = never (trust_command_named (command_of line)) cause
     where
       never : (found : Option TrustCommandName) → IsCausedBy rules before line events found code.Forbidden Agent → ⊥
       never None cause = cause
@@ -204,7 +205,7 @@ module _ (rules : Rules) (before : Kept) (line : List ℕ) (events : List Event)
 
   module _ (door : Door) where
     -- an error line but Forbidden has a cause that the line's command says
-    pub because : (why : Code) → ¬ (code.Forbidden ≡ why) → IsCausedAtDoor door rules before line events why Agent → Because (command_named (command_of line)) why
+    pub because : (why : Code) → ¬ (code.Forbidden ≡ why) → IsCausedAtDoor door rules before line events why Agent → Because (trust_command_named (command_of line)) why
     because why other (forbidden refuses) = absurd (other refl)
     because why other (is_allowed allows cause) = cause
 
@@ -213,11 +214,11 @@ at_door door rules = record {
   judged = λ before line events after went possible exchanged. door_caused door rules before line possible exchanged;
   has_cause = λ before line events after went caused. caused.by_cause.caused;
   for_memory = λ before line events cause.
-      wanted_by rules before line events (command_named (command_of line)) (because rules before line events door code.NoMemory (λ e. absurd (cc e)) cause);
+      wanted_by rules before line events (trust_command_named (command_of line)) (because rules before line events door code.NoMemory (λ e. absurd (cc e)) cause);
   by_failure = λ before line events cause.
-      failed_by rules before line events (command_named (command_of line)) (because rules before line events door code.General (λ e. absurd (cc e)) cause);
+      failed_by rules before line events (trust_command_named (command_of line)) (because rules before line events door code.General (λ e. absurd (cc e)) cause);
   unopened = λ before line events cause.
-      unopened_by rules before line events (command_named (command_of line)) (because rules before line events door code.NoPinentry (λ e. absurd (cc e)) cause);
+      unopened_by rules before line events (trust_command_named (command_of line)) (because rules before line events door code.NoPinentry (λ e. absurd (cc e)) cause);
 }
 
 -- ---- lines of any session

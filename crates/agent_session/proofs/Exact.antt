@@ -21,12 +21,12 @@ use Rattle.session_options.specs.declared.options.OptionAnswer.TheVariants as op
 use Rattle.session_options.specs.declared.rules.Rules.{Rules}
 use Rattle.sexp_keys.specs.Key.{Key}
 use Rattle.sexp_keys.specs.declared.fault.KeyFault.{KeyFault}
-use Rattle.agent_commands.specs.Exchanges.{Exchange}
+use Rattle.agent_commands.specs.Exchanges.{CacheExchange}
 use Rattle.agent_commands.specs.declared.request.Request.{Request}
 use Rattle.agent_commands.specs.declared.request.Request.TheVariants.{Cache, Key as OnKeys, Bad}
 use Rattle.agent_commands.specs.declared.went.Went.{Went}
 use Rattle.key_commands.specs.Events.{Event}
-use Rattle.key_commands.specs.Exchanges.{Exchange as KeyExchange}
+use Rattle.key_commands.specs.Exchanges.{KeyExchange}
 use Rattle.key_commands.specs.Faults.{fault_code}
 use Rattle.key_commands.specs.Files.{FileSays}
 use Rattle.key_commands.specs.KeyParts.{max_key_data}
@@ -170,8 +170,8 @@ module _ (rules : Rules) (kept : Kept) (request : Request) (events : List Event)
 
   -- ---- requests on the cache and on the session
 
-  module _ (options : OptionValues) (went : Went) (exchange : Exchange rules kept.options request events options went) (remembers : AllByRecursion Remembers events) where
-    not_keys : (asked_for : Request) → Exchange rules kept.options asked_for events options went → on_keys asked_for ≡ None
+  module _ (options : OptionValues) (went : Went) (exchange : CacheExchange rules kept.options request events options went) (remembers : AllByRecursion Remembers events) where
+    not_keys : (asked_for : Request) → CacheExchange rules kept.options asked_for events options went → on_keys asked_for ≡ None
     not_keys (Cache command) is = refl
     not_keys (Bad why) is = refl
     not_keys (OnKeys line) is = elim is [ ]

@@ -18,8 +18,8 @@ use Rattle.session_options.specs.declared.options.PinMode.TheVariants as mode
 use Rattle.session_options.specs.declared.rules.Rules.{Rules}
 use Rattle.agent_commands.specs.Endings.{went_after}
 use Rattle.agent_commands.specs.Exchanges as exchanges
-use Rattle.agent_commands.specs.Exchanges.{Exchange, CacheReply, Replies, ChangeReplies, TellsPassphrase, option_replies, is_quiet}
-use Rattle.agent_commands.specs.Parts.{Part}
+use Rattle.agent_commands.specs.Exchanges.{CacheExchange, CacheReply, CacheReplies, ChangeReplies, TellsPassphrase, option_replies, is_quiet}
+use Rattle.agent_commands.specs.Parts.{CachePart}
 use Rattle.agent_commands.specs.Passphrases.{WithoutPrompt, as_wanted, passphrase_by, ask}
 use Rattle.agent_commands.specs.Requests.{GetFields, get_passphrase}
 use Rattle.agent_commands.specs.declared.request.CacheCommand.{CacheCommand}
@@ -54,7 +54,7 @@ module _ (deciding : Deciding) where
   abbrev Alone : Event → Type 0
   Alone = IsSaidAlone deciding
 
-  alone : {A : Type 0} {part : Part A} → WorksSo Alone part → Heeds deciding NoneDue part NoneOwed
+  alone : {A : Type 0} {part : CachePart A} → WorksSo Alone part → Heeds deciding NoneDue part NoneOwed
   alone parts_work = said_alone deciding NoneOwed parts_work
 
   fits : FitsCache Alone
@@ -92,7 +92,7 @@ module _ (deciding : Deciding) where
     changed : (step : MarkStep) (reply : CacheReply) → closes step ≡ None → Heeds deciding NoneDue (ChangeReplies step reply) NoneOwed
     changed step reply no_close = alone (work.bind Alone (changes fits step no_close (λ turn. free deciding)) (λ done. returned Alone reply))
 
-    replies : (command : CacheCommand) → Heeds deciding (cache_due options (Cache command)) (Replies rules options command) NoneOwed
+    replies : (command : CacheCommand) → Heeds deciding (cache_due options (Cache command)) (CacheReplies rules options command) NoneOwed
     replies Nop = alone (returned Alone _)
     replies Reset = alone (returned Alone _)
     replies Bye = alone (returned Alone _)
@@ -111,13 +111,13 @@ module _ (deciding : Deciding) where
 
   -- ---- the answer
 
-  exchange_answered : {Due : Code → Type 0} {parts : Part CacheReply} → Heeds deciding Due parts NoneOwed → {before after : OptionValues} {events : List Event} {went : Went}
+  exchange_answered : {Due : Code → Type 0} {parts : CachePart CacheReply} → Heeds deciding Due parts NoneOwed → {before after : OptionValues} {events : List Event} {went : Went}
       → AnyExchange refusal_line went_after parts before events after went → AllByRecursion Remembers events → (why : Code) → Due why ⊎ IsDecided deciding events why → HasError why OfAgent events
   exchange_answered heeds (answered events held reply does closes_so) remembers why due = absurd (never_ok deciding heeds why (Some reply.text) closes_so remembers due does)
   exchange_answered heeds (refused events held refusal does closes_so) remembers why due = error_said deciding heeds why (refusal_line refusal) closes_so remembers due refl does
 
   -- a request on the cache is answered by the error line of what is due before it, or decides it among its events
-  pub cache_answered : (rules : Rules) (before after : OptionValues) (request : Request) (events : List Event) (went : Went) → Exchange rules before request events after went → AllByRecursion Remembers events
+  pub cache_answered : (rules : Rules) (before after : OptionValues) (request : Request) (events : List Event) (went : Went) → CacheExchange rules before request events after went → AllByRecursion Remembers events
       → (why : Code) → cache_due before request why ⊎ IsDecided deciding events why → HasError why OfAgent events
   cache_answered rules before after (Cache command) events went exchange remembers why due = exchange_answered (replies rules before command) exchange remembers why due
   cache_answered rules before after (Bad given) events went exchange remembers why due = exchange_answered (refuses_due deciding given) exchange remembers why due
@@ -136,10 +136,10 @@ quiet_empty plain (Some id) named (answers completeness.empty) has = later here
 quiet_empty plain (Some id) named (interrupted why) here = elim why [ ]
 quiet_empty plain (Some id) named (interrupted why) (later (later has)) = elim has [ ]
 
-module _ (rules : Rules) (before after : OptionValues) (request : Request) (events : List Event) (went : Went) (exchange : Exchange rules before request events after went) (fields : GetFields)
+module _ (rules : Rules) (before after : OptionValues) (request : Request) (events : List Event) (went : Went) (exchange : CacheExchange rules before request events after went) (fields : GetFields)
     (is : request ≡ Cache (get_passphrase fields)) (quiet : is_quiet fields.no_ask fields.texts ≡ true) where
   looks : LooksAlone fields.plain fields.id events
-  looks = looked rules before fields quiet (subst (λ r. Exchange rules before r events after went) is exchange)
+  looks = looked rules before fields quiet (subst (λ r. CacheExchange rules before r events after went) is exchange)
 
   pub none_without : fields.id ≡ None → HasError code.NoData OfAgent events
   none_without none = quiet_without fields.plain fields.id looks none

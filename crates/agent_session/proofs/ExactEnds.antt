@@ -5,7 +5,7 @@ use Rattle.agent_ask.specs.PartExchanges.{answered, refused}
 use Rattle.agent_ask.specs.Parts as chain
 use Rattle.agent_ask.specs.Parts.{goes_on}
 use Rattle.agent_commands.specs.Endings.{went_after}
-use Rattle.agent_commands.specs.Exchanges.{Exchange, CacheReply, Replies, option_replies}
+use Rattle.agent_commands.specs.Exchanges.{CacheExchange, CacheReply, CacheReplies, option_replies}
 use Rattle.agent_commands.specs.declared.request.CacheCommand.{CacheCommand}
 use Rattle.agent_commands.specs.declared.request.CacheCommand.TheVariants.{Nop, Reset, Bye, Help, SetOption, GetInfo, GetPassphrase, PresetPassphrase, ClearPassphrase, GetConfirmation, ReloadAgent, KillAgent, SetKeyDesc}
 use Rattle.agent_commands.specs.declared.request.Request.{Request}
@@ -16,9 +16,10 @@ use Rattle.agent_commands.specs.declared.went.Went.TheVariants.{On, End}
 use Rattle.assuan_server.specs.Written.{refusal_line}
 use Rattle.assuan_server.specs.declared.errors.Origin.TheVariants.{Agent}
 use Rattle.key_commands.specs.Events.{Event}
+use Rattle.agent_ask.specs.PartExchanges as part_exchanges
 use Rattle.key_commands.specs.Exchanges as key_exchanges
-use Rattle.key_commands.specs.Exchanges.{Exchange as KeyExchange}
-use Rattle.key_commands.specs.Parts.{went_after as key_went_after}
+use Rattle.key_commands.specs.Exchanges.{KeyExchange}
+use Rattle.key_commands.specs.Parts.{key_went_after}
 use Rattle.key_commands.specs.declared.request.KeyRequest.{KeyRequest}
 use Rattle.key_commands.specs.declared.went.KeyWent.{KeyWent}
 use Rattle.key_commands.specs.declared.wrap_keys.WrapKeys.{WrapKeys}
@@ -66,7 +67,7 @@ option_on Parameter values events reply held does = elim does [ ]
 option_on NotSupported values events reply held does = elim does [ ]
 
 module _ (rules : Rules) (options : OptionValues) where
-  reply_on : (command : CacheCommand) (events : List Event) (reply : CacheReply) (held : Option ℕ) → Replies rules options command None events (Ok reply) held → reply.went ≡ End TooLong → ⊥
+  reply_on : (command : CacheCommand) (events : List Event) (reply : CacheReply) (held : Option ℕ) → CacheReplies rules options command None events (Ok reply) held → reply.went ≡ End TooLong → ⊥
   reply_on Nop _ _ _ chain.returns is = cc is
   reply_on Reset _ _ _ chain.returns is = cc is
   reply_on Bye _ _ _ chain.returns is = cc is
@@ -81,7 +82,7 @@ module _ (rules : Rules) (options : OptionValues) where
   reply_on ReloadAgent _ _ _ (goes_on does chain.returns) is = cc is
   reply_on KillAgent _ _ _ (goes_on does chain.returns) is = cc is
 
-cache_told : (rules : Rules) (before after : OptionValues) (request : Request) (events : List Event) (went : Went) → Exchange rules before request events after went → IsTold events went
+cache_told : (rules : Rules) (before after : OptionValues) (request : Request) (events : List Event) (went : Went) → CacheExchange rules before request events after went → IsTold events went
 cache_told rules before after (Cache command) events went (answered first held reply does closes) is = absurd (reply_on rules before command first reply held does is)
 cache_told rules before after (Cache command) events went (refused first held why {back} does closes) is = refusal_told first back why is
 cache_told rules before after (Bad given) events went (answered first held reply does closes) is = elim does [ ]
@@ -96,8 +97,8 @@ same_end (Some how) = refl
 
 keys_told : {rules : Rules} {options : OptionValues} {wraps : WrapKeys} {asked : KeyRequest} {events : List Event} {after : WrapKeys} {went : KeyWent} → KeyExchange rules options wraps asked events after went
     → IsTold events (went_after_key went)
-keys_told (key_exchanges.answered events held reply does closes) is = absurd (cc is)
-keys_told (key_exchanges.refused events held why {back} does closes) is = refusal_told events back why (sym (same_end (gone_by why)) ∙ is)
+keys_told (part_exchanges.answered events held reply does closes) is = absurd (cc is)
+keys_told (part_exchanges.refused events held why {back} does closes) is = refusal_told events back why (sym (same_end (gone_by why)) ∙ is)
 
 pub end_told : {rules : Rules} {kept : Kept} {request : Request} {events : List Event} {after : Kept} {went : Went} → RequestExchange rules kept request events after went → IsTold events went
 end_told (cache exchange) is = cache_told _ _ _ _ _ _ exchange is

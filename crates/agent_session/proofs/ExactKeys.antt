@@ -18,7 +18,8 @@ use Rattle.session_options.specs.OptionValues.{OptionValues}
 use Rattle.session_options.specs.declared.rules.Rules.{Rules}
 use Rattle.sexp_keys.specs.Key.{Key}
 use Rattle.key_commands.specs.Events.{Event}
-use Rattle.key_commands.specs.Exchanges.{Exchange, answered, refused, Replies, HaveKeyReplies, KeyInfoReplies, ListKeysReplies, KeyWrapReplies, ImportKeyReplies, ExportKeyReplies, PasswdReplies, VerifyReplies, DeleteKeyReplies}
+use Rattle.key_commands.specs.Exchanges.{KeyExchange, KeyReplies, HaveKeyReplies, KeyInfoReplies, ListKeysReplies, KeyWrapReplies, ImportKeyReplies, ExportKeyReplies, PasswdReplies, VerifyReplies, DeleteKeyReplies}
+use Rattle.agent_ask.specs.PartExchanges.{answered, refused}
 use Rattle.key_commands.specs.Exchanges.{wrap_key, StoresKey, FoundOrNew, RewritesFile, ChangesOpened}
 use Rattle.key_commands.specs.Parts.{Part}
 use Rattle.key_commands.specs.Passphrases.{OldPassphrase, VerifiesPassphrase}
@@ -209,7 +210,7 @@ module _ (one_canon : (file : List ℕ) (a b : Option (List ℕ)) → Canon file
             (λ pass. bind d NoneOwed (stores_key d rules options grip options.s2k_count key pass) (λ cache_nonce. alone d (returned (Alone d) _)))))));
       }
 
-  replies : (wraps : WrapKeys) (asked : KeyRequest) → Heeds (deciding_of wraps asked) (due_of wraps asked) (Replies rules options wraps asked) NoneOwed
+  replies : (wraps : WrapKeys) (asked : KeyRequest) → Heeds (deciding_of wraps asked) (due_of wraps asked) (KeyReplies rules options wraps asked) NoneOwed
   replies wraps (on.HaveKey grips) = have_key wraps grips
   replies wraps (on.KeyInfo grip) = key_info wraps grip
   replies wraps on.ListKeys = list_keys wraps
@@ -225,7 +226,7 @@ module _ (one_canon : (file : List ℕ) (a b : Option (List ℕ)) → Canon file
 
 module _ (one_canon : (file : List ℕ) (a b : Option (List ℕ)) → Canon file a → Canon file b → a ≡ b) (rules : Rules) (options : OptionValues) (wraps : WrapKeys) where
   -- a request on keys is answered by the error line of what is due before it, or decides it among its events
-  pub keys_answered : (asked : KeyRequest) {events : List Event} {after : WrapKeys} {went : KeyWent} → Exchange rules options wraps asked events after went → AllByRecursion Remembers events → (why : Code)
+  pub keys_answered : (asked : KeyRequest) {events : List Event} {after : WrapKeys} {went : KeyWent} → KeyExchange rules options wraps asked events after went → AllByRecursion Remembers events → (why : Code)
       → due_of wraps asked why ⊎ IsDecided (deciding_of wraps asked) events why → HasError why OfAgent events
   keys_answered asked (answered events held reply does closes) remembers why due =
       absurd (never_ok (deciding_of wraps asked) (replies one_canon rules options wraps asked) why (Some reply.text) closes remembers due does)

@@ -44,15 +44,18 @@ use Rattle.sexp_keys.specs.Key.{Key}
 use Rattle.sexp_keys.specs.Lists.{key_list_of}
 use Rattle.agent_commands.specs.declared.request.Request.{Request}
 use Rattle.key_commands.specs.Events.{Event}
-use Rattle.key_commands.specs.Exchanges.{KeyReply, Exchange, PasswdReplies, RenewsPassphrase, RewritesFile, ChangesOpened}
+use Rattle.key_commands.specs.Exchanges.{KeyReply, KeyExchange, PasswdReplies, RenewsPassphrase, RewritesFile, ChangesOpened}
+use Rattle.agent_ask.specs.PartExchanges as part_exchanges
 use Rattle.key_commands.specs.Exchanges as exchange
 use Rattle.key_commands.specs.Files.{FileSays}
 use Rattle.key_commands.specs.Files as files
 use Rattle.key_commands.specs.KeyParts.{ReadsFile, file_in}
 use Rattle.key_commands.specs.KeyParts as parts
 use Rattle.key_commands.specs.Lines.{grip_text}
+use Rattle.agent_ask.specs.ClientParts as client_parts
 use Rattle.key_commands.specs.Parts as small
 use Rattle.key_commands.specs.Passphrases.{OpensBy, PromptsOld, ClientOld, UncachedOld, CachedOld, OpensLocked, OldPassphrase, TakesSeat, old_by, ask_nonce, ask_key, put_key}
+use Rattle.agent_ask.specs.PinParts as pin_parts
 use Rattle.key_commands.specs.Passphrases as passphrases
 use Rattle.key_commands.specs.declared.wrapping.TheConstants.{MAX_LIST_LEN}
 use Rattle.key_commands.specs.declared.request.KeyRequest.{KeyRequest}
@@ -158,8 +161,8 @@ module _ (Rule : List ℕ → Type 0) (plan : AskPlan) (no_check : plan.check �
       subst (AllByRecursion (VainPrompt Refused)) (sym asks.whole)
       (each_append (VainPrompt Refused) asks.before _ (before_vain asks.asks none (each_left Recalls asks.before _ (subst (AllByRecursion Recalls) asks.whole recalls))) (tt, tt))
 
-refused_none : (answer : Asked) {why : Refusal} → passphrases.pin_refusal answer ≡ Some why → (pin : List ℕ) → answer ≡ asked.Pin pin → ⊥
-refused_none answer refusal pin is = let none : None ≡ Some _ = sym (ap passphrases.pin_refusal is) ∙ refusal in cc none
+refused_none : (answer : Asked) {why : Refusal} → pin_parts.pin_refusal answer ≡ Some why → (pin : List ℕ) → answer ≡ asked.Pin pin → ⊥
+refused_none answer refusal pin is = let none : None ≡ Some _ = sym (ap pin_parts.pin_refusal is) ∙ refusal in cc none
 
 -- ---- a key that wasn't opened
 
@@ -191,14 +194,14 @@ module _ (rules : Rules) (options : OptionValues) (grip : Grip) (locked : Locked
 
   client_vain : (before : Option ℕ) (events : List Event) (why : Refusal) (after : Option ℕ) → ClientOld rules options grip locked before events (Err why) after → Vain events
   unfolding ClientOld
-  client_vain _ _ _ _ (stops (stops (small.cut unsent is))) = (tt, tt)
-  client_vain _ _ _ _ (stops (goes_on small.written (small.not_given is))) = (tt, (tt, tt))
-  client_vain _ _ _ _ (goes_on (goes_on small.written (small.given is)) (stops passphrases.no_memory)) = (tt, (tt, (tt, tt)))
-  client_vain _ _ _ _ (goes_on (goes_on small.written (small.given is)) (goes_on (passphrases.stays closed) (stops chain.refuses))) = (tt, (tt, tt))
-  client_vain _ _ _ _ (goes_on (goes_on small.written (small.given is)) (goes_on (passphrases.stays closed) (goes_on never more))) = elim never [ ]
-  client_vain _ _ _ _ (goes_on (goes_on small.written (small.given is)) (goes_on (passphrases.opens to) (stops never))) = elim never [ ]
-  client_vain _ _ _ _ (goes_on (goes_on small.written (small.given is)) (goes_on (passphrases.opens to) (goes_on returns (stops (taken.interrupted why))))) = (tt, (tt, interrupted_put _ why))
-  client_vain _ _ _ _ (goes_on (goes_on small.written (small.given is)) (goes_on (passphrases.opens to) (goes_on returns (goes_on taken.done never)))) = elim never [ ]
+  client_vain _ _ _ _ (stops (stops (client_parts.cut unsent is))) = (tt, tt)
+  client_vain _ _ _ _ (stops (goes_on client_parts.written (client_parts.not_given is))) = (tt, (tt, tt))
+  client_vain _ _ _ _ (goes_on (goes_on client_parts.written (client_parts.given is)) (stops passphrases.no_memory)) = (tt, (tt, (tt, tt)))
+  client_vain _ _ _ _ (goes_on (goes_on client_parts.written (client_parts.given is)) (goes_on (passphrases.stays closed) (stops chain.refuses))) = (tt, (tt, tt))
+  client_vain _ _ _ _ (goes_on (goes_on client_parts.written (client_parts.given is)) (goes_on (passphrases.stays closed) (goes_on never more))) = elim never [ ]
+  client_vain _ _ _ _ (goes_on (goes_on client_parts.written (client_parts.given is)) (goes_on (passphrases.opens to) (stops never))) = elim never [ ]
+  client_vain _ _ _ _ (goes_on (goes_on client_parts.written (client_parts.given is)) (goes_on (passphrases.opens to) (goes_on returns (stops (taken.interrupted why))))) = (tt, (tt, interrupted_put _ why))
+  client_vain _ _ _ _ (goes_on (goes_on client_parts.written (client_parts.given is)) (goes_on (passphrases.opens to) (goes_on returns (goes_on taken.done never)))) = elim never [ ]
 
   uncached_vain : (way : PinMode) (before : Option ℕ) (events : List Event) (why : Refusal) (after : Option ℕ) → UncachedOld rules options grip way locked before events (Err why) after → AllByRecursion Remembers events
       → Vain events
@@ -452,25 +455,25 @@ module _ (one_canon : (file : List ℕ) (a b : Option (List ℕ)) → Canon file
 -- ---- the answer
 
 module _ (one_canon : (file : List ℕ) (a b : Option (List ℕ)) → Canon file a → Canon file b → a ≡ b) (rules : Rules) (kept : Kept) (request : Request) where
-  pub long_answered : {asked_for : KeyRequest} {events : List Event} {after : WrapKeys} {went : KeyWent} → on_keys request ≡ Some asked_for → Exchange rules kept.options kept.wraps asked_for events after went
+  pub long_answered : {asked_for : KeyRequest} {events : List Event} {after : WrapKeys} {went : KeyWent} → on_keys request ≡ Some asked_for → KeyExchange rules kept.options kept.wraps asked_for events after went
       → AllByRecursion Remembers events → IsLong events rules kept request → HasError code.BadSecKey OfAgent events
   long_answered {events = whole} {after} {went} same exchanged remembers (long {grip} {old} {new} is opened long_list) =
       let asked_is : _ ≡ on.Passwd grip old new false = some_key (sym same ∙ is) in
-      run (subst (λ a. Exchange rules kept.options kept.wraps a whole after went) asked_is exchanged) remembers opened long_list
+      run (subst (λ a. KeyExchange rules kept.options kept.wraps a whole after went) asked_is exchanged) remembers opened long_list
     where
-      run : {whole : List Event} {after : WrapKeys} {went : KeyWent} → Exchange rules kept.options kept.wraps (on.Passwd grip old new false) whole after went → AllByRecursion Remembers whole → IsOpened whole grip old
+      run : {whole : List Event} {after : WrapKeys} {went : KeyWent} → KeyExchange rules kept.options kept.wraps (on.Passwd grip old new false) whole after went → AllByRecursion Remembers whole → IsOpened whole grip old
           → HasLongList whole grip → HasError code.BadSecKey OfAgent whole
-      run (exchange.answered some held reply {back} does closes) all opened_so list_so =
+      run (part_exchanges.answered some held reply {back} does closes) all opened_so list_so =
           absurd (passwd_long one_canon rules kept request grip old new is _ _ (behind_of (Some reply.text) closes) _ _ _ does refl (each_left Remembers some _ all) opened_so list_so)
-      run (exchange.refused some held why {back} does closes) all opened_so list_so =
+      run (part_exchanges.refused some held why {back} does closes) all opened_so list_so =
           said_error some back (refusal_line why) code.BadSecKey (passwd_long one_canon rules kept request grip old new is _ _ (behind_of (refusal_line why) closes) _ _ _ does refl (each_left Remembers some _ all) opened_so list_so)
   long_answered {events = whole} {after} {went} same exchanged remembers (long_file {grip} {old} {new} is drawn file_long) =
       let asked_is : _ ≡ on.Passwd grip old new false = some_key (sym same ∙ is) in
-      run (subst (λ a. Exchange rules kept.options kept.wraps a whole after went) asked_is exchanged) remembers drawn file_long
+      run (subst (λ a. KeyExchange rules kept.options kept.wraps a whole after went) asked_is exchanged) remembers drawn file_long
     where
-      run : {whole : List Event} {after : WrapKeys} {went : KeyWent} {bytes : List ℕ} → Exchange rules kept.options kept.wraps (on.Passwd grip old new false) whole after went → AllByRecursion Remembers whole
+      run : {whole : List Event} {after : WrapKeys} {went : KeyWent} {bytes : List ℕ} → KeyExchange rules kept.options kept.wraps (on.Passwd grip old new false) whole after went → AllByRecursion Remembers whole
           → IsDrawn whole 20 bytes → HasLongFile whole grip kept.options.s2k_count → HasError code.BadSecKey OfAgent whole
-      run (exchange.answered some held reply {back} does closes) all drawn_so file_so =
+      run (part_exchanges.answered some held reply {back} does closes) all drawn_so file_so =
           absurd (passwd_long_file one_canon rules kept request grip old new is _ _ (behind_of (Some reply.text) closes) _ _ _ _ does refl (each_left Remembers some _ all) drawn_so file_so)
-      run (exchange.refused some held why {back} does closes) all drawn_so file_so =
+      run (part_exchanges.refused some held why {back} does closes) all drawn_so file_so =
           said_error some back (refusal_line why) code.BadSecKey (passwd_long_file one_canon rules kept request grip old new is _ _ (behind_of (refusal_line why) closes) _ _ _ _ does refl (each_left Remembers some _ all) drawn_so file_so)

@@ -25,7 +25,9 @@ use Rattle.session_client.specs.declared.refusal.Refusal.TheVariants.{Agent, Cli
 use Rattle.session_client.specs.declared.unheard.Unheard.{Unheard}
 use Rattle.key_commands.specs.Events.{Event}
 use Rattle.key_commands.specs.KeyParts.{max_key_data}
-use Rattle.key_commands.specs.Parts.{Part, Inquires}
+use Rattle.key_commands.specs.Parts.{Part}
+use Rattle.agent_ask.specs.ClientParts.{Inquires}
+use Rattle.agent_ask.specs.ClientParts as client_parts
 use Rattle.key_commands.specs.Parts as small
 use Rattle.key_commands.proofs.EachEvent.{each_append}
 use Rattle.agent_session.specs.Causes.{Has, here, later}
@@ -238,8 +240,8 @@ module _ (deciding : Deciding) where
   pub inquires_of : (word : List ℕ) (limit : ℕ) (before : Option ℕ) (events : List Event) (result : Result (List ℕ) Refusal) (after : Option ℕ) → Inquires word limit before events result after
       → AllByRecursion Remembers events → (why : Code) → NoneDue why ⊎ IsDecided deciding events why → SaysTo (λ bytes why. (limit ≡ max_key_data) × deciding.sent bytes why) result why
   inquires_of word limit before events result after does remembers why (inl due) = absurd due
-  inquires_of word limit before events result after (small.given {bytes} is) remembers why (inr decided) = subst (λ r. SaidDecides deciding limit r why) is (decided_only decided)
-  inquires_of word limit before events result after (small.not_given {why = unheard} is) remembers why (inr decided) =
+  inquires_of word limit before events result after (client_parts.given {bytes} is) remembers why (inr decided) = subst (λ r. SaidDecides deciding limit r why) is (decided_only decided)
+  inquires_of word limit before events result after (client_parts.not_given {why = unheard} is) remembers why (inr decided) =
       client_line why unheard (Client unheard) (subst (λ r. SaidDecides deciding limit r why) is (decided_only decided)) refl
 
 -- the events of what is asked and told for a passphrase of a key, or of what is cached

@@ -6,7 +6,7 @@ use Rattle.agent_ask.specs.Parts as chain
 use Rattle.agent_ask.specs.SessionEvents.{CacheTurn}
 use Rattle.agent_ask.specs.TrustCalls.{TrustCall, Read, Replaced}
 use Rattle.agent_ask.specs.TurnParts as turning
-use Rattle.agent_commands.specs.Answers.{ok}
+use Rattle.assuan_server.specs.Written.{ok}
 use Rattle.agent_commands.specs.declared.went.Went.{Went}
 use Rattle.agent_ports.specs.declared.grip.Grip.{Grip}
 use Rattle.agent_ports.specs.declared.trust.TrustDone.{TrustDone}
@@ -23,13 +23,14 @@ use Rattle.session_options.specs.declared.options.PinMode.TheVariants as mode
 use Rattle.session_options.specs.declared.rules.Rules.{Rules}
 use Rattle.trust_list.specs.Trust.{trust, with_entry}
 use Rattle.trust_list.specs.declared.TheConstants.{MAX_TRUST_FILE_LEN}
-use Rattle.agent_origin.specs.Exchanges.{flag_of, trust_question, fingerprint_question, unless_said, TrustedNow, Stores, StoresUnsaid, Consented, asked_in, Marked, Carried, TrustExchange}
-use Rattle.agent_origin.specs.Exchanges as trusts
-use Rattle.agent_origin.specs.Parts.{UnderTicket, Agrees, ReadsFile, AddsEntry, Replaces, file_in, trust_called}
-use Rattle.agent_origin.specs.Parts as parts
-use Rattle.agent_origin.specs.declared.request.TrustPurpose.{TrustPurpose}
-use Rattle.agent_origin.specs.declared.request.TrustRequest.{TrustRequest}
-use Rattle.agent_origin.specs.declared.request.TrustRequest.TheVariants.{IsTrusted, MarkTrusted, Bad}
+use Rattle.agent_origin.specs.TrustExchanges.{flag_of, trust_question, fingerprint_question, unless_said, TrustedNow, Stores, StoresUnsaid, Consented, asked_in, Marked, Carried, TrustExchange}
+use Rattle.agent_ask.specs.PartExchanges as part_exchanges
+use Rattle.agent_origin.specs.TrustExchanges as trusts
+use Rattle.agent_origin.specs.TrustParts.{UnderTicket, Agrees, ReadsFile, AddsEntry, Replaces, file_in, trust_called}
+use Rattle.agent_origin.specs.TrustParts as parts
+use Rattle.agent_origin.specs.declared.trust.request.TrustPurpose.{TrustPurpose}
+use Rattle.agent_origin.specs.declared.trust.request.TrustRequest.{TrustRequest}
+use Rattle.agent_origin.specs.declared.trust.request.TrustRequest.TheVariants.{IsTrusted, MarkTrusted, Bad}
 use Rattle.key_commands.specs.Events.{Event}
 use Rattle.key_commands.specs.Parts.{Part}
 use Rattle.agent_session.specs.Completeness.{Remembers, HasError}
@@ -208,5 +209,5 @@ module _ (fingerprint : Grip) (purpose : TrustPurpose) where
 module _ (rules : Rules) (options : OptionValues) where
   pub trust_answered : (request : TrustRequest) {events : List Event} {went : Went} → TrustExchange rules options request events went → AllByRecursion Remembers events → (why : Code)
       → due_trust request why ⊎ IsDecided BySaid events why → HasError why OfAgent events
-  trust_answered request (trusts.answered events does) remembers why due = absurd (never_ok BySaid (carried rules options request) why (Some ok) turning.unheld remembers due does)
-  trust_answered request (trusts.refused events refusal does) remembers why due = error_said BySaid (carried rules options request) why (refusal_line refusal) turning.unheld remembers due refl does
+  trust_answered request (part_exchanges.answered events does) remembers why due = absurd (never_ok BySaid (carried rules options request) why (Some ok) turning.unheld remembers due does)
+  trust_answered request (part_exchanges.refused events refusal does) remembers why due = error_said BySaid (carried rules options request) why (refusal_line refusal) turning.unheld remembers due refl does

@@ -18,16 +18,19 @@ use Rattle.session_client.specs.declared.unheard.Gone.TheVariants as gone
 use Rattle.session_client.specs.declared.unheard.Unheard.{Unheard}
 use Rattle.session_client.specs.declared.unheard.Unheard.TheVariants as unheard
 use Rattle.session_options.specs.declared.rules.Rules.{Rules}
-use Rattle.agent_commands.specs.Events.{Event}
+use Rattle.agent_commands.specs.Events.{EventWith}
 use Rattle.agent_commands.specs.declared.request.Request.{Request}
-use Rattle.key_commands.specs.Parts.{Part, Writes, Inquires, AsksClient, Finds, Draws}
+use Rattle.key_commands.specs.Parts.{Part, Finds, Draws}
+use Rattle.agent_ask.specs.ClientParts.{Writes, Inquires, AsksClient}
 use Rattle.agent_ask.specs.Parts.{◌>>=◌, Follows, goes_on, stops, Returns, returns, Refuses, refuses, needed, or_else, unless, wanted}
 use Rattle.agent_ask.specs.Interrupts.{Interrupts}
 use Rattle.agent_ask.specs.Interrupts as turns
 use Rattle.agent_ask.specs.TurnParts as taken
 use Rattle.agent_ask.specs.TurnParts.{Asks, Seats, Changes, Peeks, Closes}
+use Rattle.agent_ask.specs.ClientParts as client_parts
 use Rattle.key_commands.specs.Parts as parts
-use Rattle.key_commands.specs.Lines.{grip_text, limit_line}
+use Rattle.key_commands.specs.Lines.{grip_text}
+use Rattle.assuan_server.specs.Written.{limit_line}
 use Rattle.session_client.specs.declared.refusal.Refusal.{Refusal}
 use Rattle.session_client.specs.declared.refusal.Refusal.TheVariants.{Agent, Pinentry, Client}
 use Rattle.key_commands.proofs.EachEvent.{each_append}
@@ -42,12 +45,12 @@ abbrev pub Anything : {A : Type 0} → A → Type 0
 Anything value = ⊤
 
 -- the client said this, or the text that it was to be sent couldn't be written
-pub data ClientSays (whole : List (Event FurtherEvent)) : Unheard → Type 0 where
+pub data ClientSays (whole : List (EventWith FurtherEvent)) : Unheard → Type 0 where
   cut : ClientSays whole (unheard.Gone gone.WriteFault)
   client_said : {why : Unheard} → IsSaid whole why → ClientSays whole why
 
 -- what causes a code, of this origin
-module _ (whole : List (Event FurtherEvent)) (Causes : Code → Origin → Type 0) where
+module _ (whole : List (EventWith FurtherEvent)) (Causes : Code → Origin → Type 0) where
   abbrev pub CausedRefusal : Refusal → Type 0
   CausedRefusal (Agent why) = Causes why OfAgent
   CausedRefusal (Pinentry why) = Causes why OfPinentry
@@ -58,19 +61,19 @@ module _ (whole : List (Event FurtherEvent)) (Causes : Code → Origin → Type 
   IsExplained Good (Ok value) = Good value
   IsExplained Good (Err why) = CausedRefusal why
 
-  pub record Comes {A : Type 0} (Good : A → Type 0) (events : List (Event FurtherEvent)) (result : Result A Refusal) : Type 0 where
+  pub record Comes {A : Type 0} (Good : A → Type 0) (events : List (EventWith FurtherEvent)) (result : Result A Refusal) : Type 0 where
     pub silent : AllByRecursion AnswersNothing events
     pub explained : IsExplained Good result
 
   pub record Explains {A : Type 0} (part : Part A) (Good : A → Type 0) : Type 0 where
-    pub of : (before : Option ℕ) (events : List (Event FurtherEvent)) (result : Result A Refusal) (after : Option ℕ) → part before events result after → StandIn events whole
+    pub of : (before : Option ℕ) (events : List (EventWith FurtherEvent)) (result : Result A Refusal) (after : Option ℕ) → part before events result after → StandIn events whole
         → Comes Good events result
 
-module _ {whole : List (Event FurtherEvent)} {Causes : Code → Origin → Type 0} where
+module _ {whole : List (EventWith FurtherEvent)} {Causes : Code → Origin → Type 0} where
   -- a part, and then what follows on its value
   module _ {A B : Type 0} {part : Part A} {next : A → Part B} (First : A → Type 0) (Good : B → Type 0) (first : Explains whole Causes part First)
       (then : (value : A) → First value → Explains whole Causes (next value) Good) where
-    bind_of : (before : Option ℕ) (events : List (Event FurtherEvent)) (result : Result B Refusal) (after : Option ℕ) → Follows part next before events result after → StandIn events whole
+    bind_of : (before : Option ℕ) (events : List (EventWith FurtherEvent)) (result : Result B Refusal) (after : Option ℕ) → Follows part next before events result after → StandIn events whole
         → Comes whole Causes Good events result
     bind_of before events result after (goes_on {first = some} {events = more} {value} {mid} does next_does) stands =
         let one : Comes whole Causes First some (Ok value) = first.of before some (Ok value) mid does (stand_left some more stands) in
@@ -89,7 +92,7 @@ module _ {whole : List (Event FurtherEvent)} {Causes : Code → Origin → Type 
     any_value (Ok value) good = tt
     any_value (Err why) caused = caused
 
-    whatever_of : (before : Option ℕ) (events : List (Event FurtherEvent)) (result : Result A Refusal) (after : Option ℕ) → part before events result after → StandIn events whole
+    whatever_of : (before : Option ℕ) (events : List (EventWith FurtherEvent)) (result : Result A Refusal) (after : Option ℕ) → part before events result after → StandIn events whole
         → Comes whole Causes Anything events result
     whatever_of before events result after does stands =
         let comes : Comes whole Causes Good events result = explains.of before events result after does stands in
@@ -99,14 +102,14 @@ module _ {whole : List (Event FurtherEvent)} {Causes : Code → Origin → Type 
     whatever = record { of = whatever_of }
 
   module _ {A : Type 0} (Good : A → Type 0) where
-    returns_of : (value : A) → Good value → (before : Option ℕ) (events : List (Event FurtherEvent)) (result : Result A Refusal) (after : Option ℕ) → Returns value before events result after
+    returns_of : (value : A) → Good value → (before : Option ℕ) (events : List (EventWith FurtherEvent)) (result : Result A Refusal) (after : Option ℕ) → Returns value before events result after
         → StandIn events whole → Comes whole Causes Good events result
     returns_of value good before events result after returns stands = record { silent = tt; explained = good }
 
     pub returned : (value : A) → Good value → Explains whole Causes (Returns value) Good
     returned value good = record { of = returns_of value good }
 
-    refuses_of : (why : Refusal) → CausedRefusal whole Causes why → (before : Option ℕ) (events : List (Event FurtherEvent)) (result : Result A Refusal) (after : Option ℕ) → Refuses why before events result after
+    refuses_of : (why : Refusal) → CausedRefusal whole Causes why → (before : Option ℕ) (events : List (EventWith FurtherEvent)) (result : Result A Refusal) (after : Option ℕ) → Refuses why before events result after
         → StandIn events whole → Comes whole Causes Good events result
     refuses_of why caused before events result after refuses stands = record { silent = tt; explained = caused }
 
@@ -130,7 +133,7 @@ module _ {whole : List (Event FurtherEvent)} {Causes : Code → Origin → Type 
   is_wanted why false caused = refused (λ done. false ≡ true) (Agent why) (caused refl)
 
   module _ (keep : Option (List ℕ)) where
-    pub closes_of : (before : Option ℕ) (events : List (Event FurtherEvent)) (result : Result (Unit {0}) Refusal) (after : Option ℕ) → Closes keep before events result after
+    pub closes_of : (before : Option ℕ) (events : List (EventWith FurtherEvent)) (result : Result (Unit {0}) Refusal) (after : Option ℕ) → Closes keep before events result after
         → StandIn events whole → Comes whole Causes Anything events result
     closes_of before events result after taken.unheld stands = record { silent = tt; explained = tt }
     closes_of before events result after (taken.closed turn) stands = record { silent = (tt, tt); explained = tt }
@@ -138,21 +141,21 @@ module _ {whole : List (Event FurtherEvent)} {Causes : Code → Origin → Type 
     pub closes_explained : Explains whole Causes (Closes keep) Anything
     closes_explained = record { of = closes_of }
 
-module _ (rules : Rules) (kept : Kept) (request : Request) (whole : List (Event FurtherEvent)) where
+module _ (rules : Rules) (kept : Kept) (request : Request) (whole : List (EventWith FurtherEvent)) where
   abbrev pub Caused : Code → Type 0
   Caused why = IsCaused whole rules kept request why OfAgent
 
   -- ---- wants of memory
 
-  pub out_of_memory_first : {more : List (Event FurtherEvent)} → StandIn (Further NoMemory ∷ more) whole → Caused code.NoMemory
+  pub out_of_memory_first : {more : List (EventWith FurtherEvent)} → StandIn (Further NoMemory ∷ more) whole → Caused code.NoMemory
   out_of_memory_first stands = one (Further NoMemory) tt (has_first stands)
 
-  pub out_of_memory_second : {first : Event FurtherEvent} {more : List (Event FurtherEvent)} → StandIn (first ∷ Further NoMemory ∷ more) whole → Caused code.NoMemory
+  pub out_of_memory_second : {first : EventWith FurtherEvent} {more : List (EventWith FurtherEvent)} → StandIn (first ∷ Further NoMemory ∷ more) whole → Caused code.NoMemory
   out_of_memory_second stands = one (Further NoMemory) tt (has_second stands)
 
   -- ---- turns
 
-  pub interrupts : (step : MarkStep) → closes step ≡ None → {turn : Turn} {why : Code} {more : List (Event FurtherEvent)} → Interrupts turn why → StandIn (cache_turn step turn ∷ more) whole
+  pub interrupts : (step : MarkStep) → closes step ≡ None → {turn : Turn} {why : Code} {more : List (EventWith FurtherEvent)} → Interrupts turn why → StandIn (cache_turn step turn ∷ more) whole
       → Caused why
   interrupts step keeps turns.refused stands = one (cache_turn step Refused) refl (has_first stands)
   interrupts step keeps turns.stopping stands = by_stop (turned step keeps (has_first stands))
@@ -164,7 +167,7 @@ module _ (rules : Rules) (kept : Kept) (request : Request) (whole : List (Event 
     found : {grant : Grant} → Has (cache_turn step (Given grant)) whole → FoundBy step (Some grant.entry.secret)
 
   module _ (step : MarkStep) (keeps : closes step ≡ None) where
-    looks_of : (before : Option ℕ) (events : List (Event FurtherEvent)) (result : Result (Option (List ℕ)) Refusal) (after : Option ℕ) → Asks step before events result after
+    looks_of : (before : Option ℕ) (events : List (EventWith FurtherEvent)) (result : Result (Option (List ℕ)) Refusal) (after : Option ℕ) → Asks step before events result after
         → StandIn events whole → Comes whole (IsCaused whole rules kept request) (FoundBy step) events result
     looks_of before events result after taken.given stands = record { silent = (tt, tt); explained = found (has_first stands) }
     looks_of before events result after taken.empty stands = record { silent = (tt, tt); explained = found_none (none_given Empty tt (has_first stands)) }
@@ -174,7 +177,7 @@ module _ (rules : Rules) (kept : Kept) (request : Request) (whole : List (Event 
     pub looks : Explains whole (IsCaused whole rules kept request) (Asks step) (FoundBy step)
     looks = record { of = looks_of }
 
-    seats_of : (before : Option ℕ) (events : List (Event FurtherEvent)) (result : Result (Unit {0}) Refusal) (after : Option ℕ) → Seats step before events result after
+    seats_of : (before : Option ℕ) (events : List (EventWith FurtherEvent)) (result : Result (Unit {0}) Refusal) (after : Option ℕ) → Seats step before events result after
         → StandIn events whole → Comes whole (IsCaused whole rules kept request) Anything events result
     seats_of before events result after taken.opened stands = record { silent = (tt, tt); explained = tt }
     seats_of before events result after (taken.interrupted why) stands = record { silent = (tt, tt); explained = interrupts step keeps why stands }
@@ -182,7 +185,7 @@ module _ (rules : Rules) (kept : Kept) (request : Request) (whole : List (Event 
     pub seats : Explains whole (IsCaused whole rules kept request) (Seats step) Anything
     seats = record { of = seats_of }
 
-    changes_of : (before : Option ℕ) (events : List (Event FurtherEvent)) (result : Result (Unit {0}) Refusal) (after : Option ℕ) → Changes step before events result after
+    changes_of : (before : Option ℕ) (events : List (EventWith FurtherEvent)) (result : Result (Unit {0}) Refusal) (after : Option ℕ) → Changes step before events result after
         → StandIn events whole → Comes whole (IsCaused whole rules kept request) Anything events result
     changes_of before events result after taken.done stands = record { silent = (tt, tt); explained = tt }
     changes_of before events result after (taken.interrupted why) stands = record { silent = (tt, tt); explained = interrupts step keeps why stands }
@@ -191,7 +194,7 @@ module _ (rules : Rules) (kept : Kept) (request : Request) (whole : List (Event 
     changes = record { of = changes_of }
 
   module _ (grip : Grip) where
-    peeks_of : (before : Option ℕ) (events : List (Event FurtherEvent)) (result : Result Bool Refusal) (after : Option ℕ) → Peeks (grip_text grip) Normal before events result after
+    peeks_of : (before : Option ℕ) (events : List (EventWith FurtherEvent)) (result : Result Bool Refusal) (after : Option ℕ) → Peeks (grip_text grip) Normal before events result after
         → StandIn events whole → Comes whole (IsCaused whole rules kept request) Anything events result
     peeks_of before events result after taken.peeked stands = record { silent = (tt, tt); explained = tt }
     peeks_of before events result after (taken.interrupted why) stands = record { silent = (tt, tt); explained = interrupts _ refl why stands }
@@ -202,19 +205,19 @@ module _ (rules : Rules) (kept : Kept) (request : Request) (whole : List (Event 
   -- ---- the client
 
   module _ (text : List ℕ) (status : IsStatus text) where
-    writes_of : (before : Option ℕ) (events : List (Event FurtherEvent)) (result : Result (Unit {0}) Refusal) (after : Option ℕ) → Writes text before events result after
+    writes_of : (before : Option ℕ) (events : List (EventWith FurtherEvent)) (result : Result (Unit {0}) Refusal) (after : Option ℕ) → Writes text before events result after
         → StandIn events whole → Comes whole (IsCaused whole rules kept request) Anything events result
-    writes_of before events result after parts.written stands = record { silent = (status, tt); explained = tt }
-    writes_of before events result after (parts.cut unsent is) stands = record { silent = (tt, tt); explained = cut }
+    writes_of before events result after client_parts.written stands = record { silent = (status, tt); explained = tt }
+    writes_of before events result after (client_parts.cut unsent is) stands = record { silent = (tt, tt); explained = cut }
 
     pub writes : Explains whole (IsCaused whole rules kept request) (Writes text) Anything
     writes = record { of = writes_of }
 
   module _ (word : List ℕ) (limit : ℕ) where
-    pub inquires_of : (before : Option ℕ) (events : List (Event FurtherEvent)) (result : Result (List ℕ) Refusal) (after : Option ℕ) → Inquires word limit before events result after
+    pub inquires_of : (before : Option ℕ) (events : List (EventWith FurtherEvent)) (result : Result (List ℕ) Refusal) (after : Option ℕ) → Inquires word limit before events result after
         → StandIn events whole → Comes whole (IsCaused whole rules kept request) (IsSent whole word limit) events result
-    inquires_of before events result after (parts.given is) stands = record { silent = (tt, tt); explained = sent is (has_first stands) }
-    inquires_of before events result after (parts.not_given is) stands = record { silent = (tt, tt); explained = client_said (said is (has_first stands)) }
+    inquires_of before events result after (client_parts.given is) stands = record { silent = (tt, tt); explained = sent is (has_first stands) }
+    inquires_of before events result after (client_parts.not_given is) stands = record { silent = (tt, tt); explained = client_said (said is (has_first stands)) }
 
     inquires : Explains whole (IsCaused whole rules kept request) (Inquires word limit) (IsSent whole word limit)
     inquires = record { of = inquires_of }
@@ -230,7 +233,7 @@ module _ (rules : Rules) (kept : Kept) (request : Request) (whole : List (Event 
   IsFound grip false = IsUnread whole grip
 
   module _ (grip : Grip) where
-    finds_of : (before : Option ℕ) (events : List (Event FurtherEvent)) (result : Result Bool Refusal) (after : Option ℕ) → Finds grip before events result after
+    finds_of : (before : Option ℕ) (events : List (EventWith FurtherEvent)) (result : Result Bool Refusal) (after : Option ℕ) → Finds grip before events result after
         → StandIn events whole → Comes whole (IsCaused whole rules kept request) (IsFound grip) events result
     finds_of before events result after (parts.found {file}) stands = record { silent = (tt, tt); explained = (file, has_first stands) }
     finds_of before events result after parts.absent stands = record { silent = (tt, tt); explained = has_first stands }
@@ -241,7 +244,7 @@ module _ (rules : Rules) (kept : Kept) (request : Request) (whole : List (Event 
     finds = record { of = finds_of }
 
   module _ (count : ℕ) where
-    draws_of : (before : Option ℕ) (events : List (Event FurtherEvent)) (result : Result (List ℕ) Refusal) (after : Option ℕ) → Draws count before events result after
+    draws_of : (before : Option ℕ) (events : List (EventWith FurtherEvent)) (result : Result (List ℕ) Refusal) (after : Option ℕ) → Draws count before events result after
         → StandIn events whole → Comes whole (IsCaused whole rules kept request) (IsDrawn whole count) events result
     draws_of before events result after (parts.drawn long) stands = record { silent = (tt, tt); explained = record { long = long; has = has_first stands } }
     draws_of before events result after parts.faulted stands = record { silent = (tt, tt); explained = one (Further (Dice (NotDrawn count))) tt (has_first stands) }

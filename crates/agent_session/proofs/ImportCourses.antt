@@ -13,11 +13,12 @@ use Rattle.session_options.specs.declared.options.PinMode.{PinMode}
 use Rattle.session_options.specs.declared.options.PinMode.TheVariants as mode
 use Rattle.session_options.specs.declared.rules.Rules.{Rules}
 use Rattle.sexp_keys.specs.Key.{Key}
-use Rattle.agent_commands.specs.Events.{Event}
+use Rattle.agent_commands.specs.Events.{EventWith}
 use Rattle.agent_commands.specs.declared.request.Request.{Request}
 use Rattle.agent_commands.specs.declared.request.Request.TheVariants.{Cache, Key as OnKeys, Bad}
 use Rattle.agent_commands.specs.declared.went.Went.{Went}
-use Rattle.key_commands.specs.Exchanges.{Exchange, ImportKeyReplies, StoresKey, FoundOrNew}
+use Rattle.key_commands.specs.Exchanges.{KeyExchange, ImportKeyReplies, StoresKey, FoundOrNew}
+use Rattle.agent_ask.specs.PartExchanges as part_exchanges
 use Rattle.key_commands.specs.Exchanges as exchange
 use Rattle.key_commands.specs.KeyParts.{change_fault}
 use Rattle.key_commands.specs.KeyParts as parts
@@ -44,7 +45,7 @@ use Rattle.agent_session.proofs.OwnKeys.{still_quiet}
 use Rattle.agent_session.proofs.OwnParts.{kept_none}
 
 -- behind what hands nothing in, and before it
-course_behind : (first : List (Event FurtherEvent)) {events : List (Event FurtherEvent)} → HandNothing first → ImportCourse events → ImportCourse (first ++ events)
+course_behind : (first : List (EventWith FurtherEvent)) {events : List (EventWith FurtherEvent)} → HandNothing first → ImportCourse events → ImportCourse (first ++ events)
 course_behind first each (not_drawn {events} nothing) = not_drawn (each_append HandsNothing first events each nothing)
 course_behind first each (not_put early late drawn pass nothing long why behind) =
     subst ImportCourse (append_assoc first early _) (not_put (first ++ early) late drawn pass (each_append HandsNothing first early each nothing) long why behind)
@@ -53,7 +54,7 @@ course_behind first each (not_replaced early late drawn pass file grip answer no
 course_behind first each (replaced early late drawn pass file turn nothing long keeps behind) =
     subst ImportCourse (append_assoc first early _) (replaced (first ++ early) late drawn pass file turn (each_append HandsNothing first early each nothing) long keeps behind)
 
-course_before : (last : List (Event FurtherEvent)) {events : List (Event FurtherEvent)} → HandNothing last → ImportCourse events → ImportCourse (events ++ last)
+course_before : (last : List (EventWith FurtherEvent)) {events : List (EventWith FurtherEvent)} → HandNothing last → ImportCourse events → ImportCourse (events ++ last)
 course_before last each (not_drawn {events} nothing) = not_drawn (each_append HandsNothing events last nothing each)
 course_before last each (not_put early late drawn pass nothing long why behind) =
     subst ImportCourse (sym (append_assoc early _ last)) (not_put early (late ++ last) drawn pass nothing long why (each_append HandsNothing late last behind each))
@@ -63,7 +64,7 @@ course_before last each (replaced early late drawn pass file turn nothing long k
     subst ImportCourse (sym (append_assoc early _ last)) (replaced early (late ++ last) drawn pass file turn nothing long keeps (each_append HandsNothing late last behind each))
 
 abbrev IsImport : {A : Type 0} → Part A → Type 0
-IsImport {A} part = (before : Option ℕ) (events : List (Event FurtherEvent)) (result : Result A Refusal) (after : Option ℕ) → part before events result after → ImportCourse events
+IsImport {A} part = (before : Option ℕ) (events : List (EventWith FurtherEvent)) (result : Result A Refusal) (after : Option ℕ) → part before events result after → ImportCourse events
 
 module _ {A B : Type 0} {part : Part A} {next : A → Part B} (first : EachSo HandsNothing part) (then : (value : A) → IsImport (next value)) where
   quiet_then : IsImport (part >>= next)
@@ -113,7 +114,7 @@ module _ (rules : Rules) (options : OptionValues) (wraps : WrapKeys) where
       quiet_then (each_needed HandsNothing code.Parameter wraps.import) (λ wrap. quiet_then (receives_key HandsNothing still_quiet wrap) (λ key. quiet_then (names_key HandsNothing still_quiet key)
       (λ grip. quiet_then (is_free HandsNothing still_quiet force grip) (λ free. quiet_then (found_quiet rules options nonce grip) (λ pass. made_of _ (stores_of options.s2k_count key grip pass))))))
 
-  back_nothing : {held : Option ℕ} {back : List (Event FurtherEvent)} → Closes None held back (Ok tt) None → HandNothing back
+  back_nothing : {held : Option ℕ} {back : List (EventWith FurtherEvent)} → Closes None held back (Ok tt) None → HandNothing back
   back_nothing turning.unheld = tt
   back_nothing (turning.closed turn) = (kept_none _, tt)
 
@@ -121,11 +122,11 @@ module _ (rules : Rules) (options : OptionValues) (wraps : WrapKeys) where
   refusal_nothing None = tt
   refusal_nothing (Some line) = (tt, tt)
 
-  pub import_exchange : (asked : KeyRequest) {force : Bool} {nonce : Option (List ℕ)} → asked ≡ on.ImportKey force nonce → {events : List (Event FurtherEvent)} {after : WrapKeys} {went : KeyWent}
-      → Exchange rules options wraps asked events after went → ImportCourse events
-  import_exchange (on.ImportKey force nonce) is (exchange.answered events held reply {back} does closes) =
+  pub import_exchange : (asked : KeyRequest) {force : Bool} {nonce : Option (List ℕ)} → asked ≡ on.ImportKey force nonce → {events : List (EventWith FurtherEvent)} {after : WrapKeys} {went : KeyWent}
+      → KeyExchange rules options wraps asked events after went → ImportCourse events
+  import_exchange (on.ImportKey force nonce) is (part_exchanges.answered events held reply {back} does closes) =
       course_before (back ++ Sent reply.text ∷ []) (each_append HandsNothing back _ (back_nothing closes) (tt, tt)) (import_so force nonce None events (Ok reply) held does)
-  import_exchange (on.ImportKey force nonce) is (exchange.refused events held why {back} does closes) =
+  import_exchange (on.ImportKey force nonce) is (part_exchanges.refused events held why {back} does closes) =
       course_before (back ++ refusal_events why) (each_append HandsNothing back (refusal_events why) (back_nothing closes) (refusal_nothing (refusal_line why))) (import_so force nonce None events (Err why) held does)
   import_exchange (on.HaveKey grips) is exchanged = absurd (cc is)
   import_exchange (on.KeyInfo grip) is exchanged = absurd (cc is)
@@ -139,7 +140,7 @@ module _ (rules : Rules) (options : OptionValues) (wraps : WrapKeys) where
 some_key : {one other : KeyRequest} → Some one ≡ Some other → one ≡ other
 some_key is = cc is
 
-pub import_course : (request : Request) {force : Bool} {nonce : Option (List ℕ)} → on_keys request ≡ Some (on.ImportKey force nonce) → {rules : Rules} {kept now : Kept} {events : List (Event FurtherEvent)} {went : Went}
+pub import_course : (request : Request) {force : Bool} {nonce : Option (List ℕ)} → on_keys request ≡ Some (on.ImportKey force nonce) → {rules : Rules} {kept now : Kept} {events : List (EventWith FurtherEvent)} {went : Went}
     → RequestExchange rules kept request events now went → ImportCourse events
 import_course (Cache command) is exchanged = absurd (cc is)
 import_course (Bad why) is exchanged = absurd (cc is)

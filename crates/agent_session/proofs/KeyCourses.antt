@@ -25,13 +25,15 @@ use Rattle.session_options.specs.declared.rules.Rules.{Rules}
 use Rattle.sexp_keys.specs.Key.{Key}
 use Rattle.agent_commands.specs.declared.request.Request.{Request}
 use Rattle.key_commands.specs.Events.{Event}
-use Rattle.key_commands.specs.Exchanges.{KeyReply, Exchange, HaveKeyReplies, KeyInfoReplies, ListKeysReplies, KeyWrapReplies, ImportKeyReplies, ExportKeyReplies, PasswdReplies, VerifyReplies}
-use Rattle.key_commands.specs.Exchanges.{DeleteKeyReplies, Replies, wrap_key, StoresKey, RewritesFile, ChangesOpened}
+use Rattle.key_commands.specs.Exchanges.{KeyReply, KeyExchange, HaveKeyReplies, KeyInfoReplies, ListKeysReplies, KeyWrapReplies, ImportKeyReplies, ExportKeyReplies, PasswdReplies, VerifyReplies}
+use Rattle.key_commands.specs.Exchanges.{DeleteKeyReplies, KeyReplies, wrap_key, StoresKey, RewritesFile, ChangesOpened}
+use Rattle.agent_ask.specs.PartExchanges as part_exchanges
 use Rattle.key_commands.specs.Exchanges as exchange
-use Rattle.key_commands.specs.KeyParts.{Tells, tells, Replaces, Removes, KeepsNew, HasOne, TellsInfo, WritesInfo, TellsListed, WritesInfos, max_key_data, ReceivesKey, IsFree, WrapsKey, Consents}
+use Rattle.key_commands.specs.KeyParts.{Tells, tells, Replaces, Removes, KeepsNew, HasOne, TellsKeyInfo, WritesInfo, TellsListed, WritesInfos, max_key_data, ReceivesKey, IsFree, WrapsKey, Consents}
 use Rattle.key_commands.specs.KeyParts as parts
-use Rattle.key_commands.specs.Lines.{ok, grip_text, info_line}
-use Rattle.key_commands.specs.Parts.{Part, went_after}
+use Rattle.key_commands.specs.Lines.{grip_text, info_line}
+use Rattle.assuan_server.specs.Written.{ok}
+use Rattle.key_commands.specs.Parts.{Part, key_went_after}
 use Rattle.key_commands.specs.declared.request.Direction.{Direction}
 use Rattle.key_commands.specs.declared.request.KeyRequest.{KeyRequest}
 use Rattle.key_commands.specs.declared.request.KeyRequest.TheVariants as on
@@ -42,7 +44,8 @@ use Rattle.assuan_escape.specs.Escapes.{hex_text}
 use Rattle.agent_session.specs.Causes.{on_keys, IsSaid}
 use Rattle.agent_session.specs.Completeness.{EndsInOk}
 use Rattle.agent_session.specs.Completeness as completeness
-use Rattle.agent_session.specs.Refusals.{IsAllowed, IsWorkStep, limit, info, MayStore, exported, changed, imported, Course}
+use Rattle.agent_session.specs.Refusals.{IsAllowed, IsWorkStep, MayStore, exported, changed, imported, Course}
+use Rattle.key_commands.specs.Lines.{of_limit, of_key}
 use Rattle.agent_session.proofs.Asides.{info_status, nonce_status, status_aside}
 use Rattle.agent_session.proofs.Courses.{Ends, ends_with, EndsSo, working_ends, ends_working, bind_ends, made, makes, closed, unwrapped, kept, put, unput, cleared, uncleared, RepliesOk, ok_returns, ok_refuses, ok_then, reply_ends_in_ok, ok_course, err_course, ends_said, gone_only, said_before, answer_heard}
 use Rattle.agent_session.proofs.KeyWorks.{FitsKeys, looks_nonce, old_here, verified_here, new_here, consents, tells_info, writes_infos, has_one}
@@ -69,7 +72,7 @@ module _ (request : Request) where
   fits = record {
     memory = tt;
     cut = λ text. tt;
-    limits = limit;
+    limits = of_limit;
     clients = λ word inquired. tt;
     notes = λ pid inquired. tt;
     calls = λ event. tt;
@@ -78,7 +81,7 @@ module _ (request : Request) where
     seats_for = λ grip turn. tt;
     seats = λ turn. tt;
     peeks = λ grip turn. tt;
-    infos = info;
+    infos = of_key;
   }
 
   reads_file : (grip : Grip) → Here (parts.ReadsFile grip)
@@ -88,7 +91,7 @@ module _ (request : Request) where
 
   receives_key : (wrap : List ℕ) → Here (ReceivesKey wrap)
   receives_key wrap =
-      bind Fits (so (work.key_writes Fits (λ text. tt) (limit max_key_data))) (λ told. bind Fits (so (work.asks_key_data Fits (λ inquired. tt) tt)) (λ wrapped. so (work.unwraps Fits tt)))
+      bind Fits (so (work.key_writes Fits (λ text. tt) (of_limit max_key_data))) (λ told. bind Fits (so (work.asks_key_data Fits (λ inquired. tt) tt)) (λ wrapped. so (work.unwraps Fits tt)))
 
   is_free : (force : Bool) (grip : Grip) → Here (IsFree force grip)
   is_free true grip = returned Fits tt
@@ -137,7 +140,7 @@ module _ (request : Request) where
   gives_back_of (stops never) = elim never [ ]
 
   wraps_last_of : {keep : Option (List ℕ)} {wrap : List ℕ} {key : Key} {wraps : WrapKeys} {before after : Option ℕ} {events : List Event} {result : Result KeyReply Refusal}
-      → (Closes keep >>= λ closed. (WrapsKey wrap key >>= λ wrapped. (Tells wrapped >>= λ text. Returns (exchange.reply wraps text)))) before events result after → Ends request events result after
+      → (Closes keep >>= λ closed. (WrapsKey wrap key >>= λ wrapped. (Tells wrapped >>= λ text. Returns (exchange.key_reply wraps text)))) before events result after → Ends request events result after
   wraps_last_of (goes_on taken.unheld (goes_on parts.is_wrapped (goes_on (tells answers) returns))) = working_ends request (works Fits tt)
   wraps_last_of (goes_on taken.unheld (stops parts.no_memory)) = working_ends request (work.no_memory Fits tt)
   wraps_last_of (goes_on (taken.closed turn) (goes_on parts.is_wrapped (goes_on (tells answers) returns))) = ends_with request (closed turn)
@@ -212,7 +215,7 @@ module _ (request : Request) where
         (λ free. bind_ends request (bind Fits (so (work.looks_over Fits (λ named. own _ refl tt))) (λ found. or_otherwise Fits found (new_here fits rules options grip options.mode)))
         (λ pass. made request (stores_key stores options.s2k_count key grip pass) (λ nonce. makes request _))))))
 
-    replies : (asked : KeyRequest) → on_keys request ≡ Some asked → EndsHere (Replies rules options wraps asked)
+    replies : (asked : KeyRequest) → on_keys request ≡ Some asked → EndsHere (KeyReplies rules options wraps asked)
     replies (on.HaveKey grips) is = have_key grips
     replies (on.KeyInfo grip) is = key_info grip
     replies on.ListKeys is = list_keys
@@ -230,14 +233,14 @@ ReplyOk = RepliesOk (λ reply. reply.text)
 
 -- what is known of a key, and an OK line
 info_ok_of : (grip : Grip) (key : Key) (wraps : WrapKeys) {before after : Option ℕ} {events : List Event} {reply : KeyReply}
-    → (TellsInfo grip key >>= λ line. Returns (exchange.reply wraps (line ++ ok))) before events (Ok reply) after → EndsInOk reply.text
+    → (TellsKeyInfo grip key >>= λ line. Returns (exchange.key_reply wraps (line ++ ok))) before events (Ok reply) after → EndsInOk reply.text
 info_ok_of grip key wraps (goes_on (goes_on {value = cached} peeks line) returns) = info_told line
   where
     info_told : {before after : Option ℕ} {events : List Event} {line : List ℕ} → Returns (info_line grip cached key.is_clear) before events (Ok line) after → EndsInOk (line ++ ok)
     info_told returns = ends_in_ok (status_aside (info_status grip cached key.is_clear))
 
 tells_ok_of : (bytes : List ℕ) (make : List ℕ → WrapKeys) {before after : Option ℕ} {events : List Event} {reply : KeyReply}
-    → (Tells bytes >>= λ text. Returns (exchange.reply (make text) text)) before events (Ok reply) after → EndsInOk reply.text
+    → (Tells bytes >>= λ text. Returns (exchange.key_reply (make text) text)) before events (Ok reply) after → EndsInOk reply.text
 tells_ok_of bytes make (goes_on (tells answers) returns) = reply_ends_in_ok (reply_keys answers)
 
 module _ (rules : Rules) (options : OptionValues) (wraps : WrapKeys) where
@@ -277,7 +280,7 @@ module _ (rules : Rules) (options : OptionValues) (wraps : WrapKeys) where
   unfolding DeleteKeyReplies
   delete_key_ok force grip = ok_then (λ there. ok_then (λ some. ok_then (λ agreed. ok_then (λ removed. ok_then (λ cleared. ok_returns _ (ends_in_ok completeness.none))))))
 
-  replies_ok : (asked : KeyRequest) → ReplyOk (Replies rules options wraps asked)
+  replies_ok : (asked : KeyRequest) → ReplyOk (KeyReplies rules options wraps asked)
   replies_ok (on.HaveKey grips) = have_key_ok grips
   replies_ok (on.KeyInfo grip) = key_info_ok grip
   replies_ok on.ListKeys = list_keys_ok
@@ -291,17 +294,17 @@ module _ (rules : Rules) (options : OptionValues) (wraps : WrapKeys) where
 
 module _ (request : Request) (rules : Rules) (options : OptionValues) (wraps : WrapKeys) where
   module _ {asked : KeyRequest} (is : on_keys request ≡ Some asked) where
-    pub key_course : {events : List Event} {after : WrapKeys} {went : KeyWent} → Exchange rules options wraps asked events after went → Course request events
-    key_course (exchange.answered some held reply does closes_so) = ok_course request ((replies_ok rules options wraps asked).of does) ((replies request rules options wraps asked is).of does) closes_so
-    key_course (exchange.refused some held why does closes_so) = err_course request ((replies request rules options wraps asked is).of does) closes_so
+    pub key_course : {events : List Event} {after : WrapKeys} {went : KeyWent} → KeyExchange rules options wraps asked events after went → Course request events
+    key_course (part_exchanges.answered some held reply does closes_so) = ok_course request ((replies_ok rules options wraps asked).of does) ((replies request rules options wraps asked is).of does) closes_so
+    key_course (part_exchanges.refused some held why does closes_so) = err_course request ((replies request rules options wraps asked is).of does) closes_so
 
     -- a client that is gone ends its session
-    pub key_gone : {events : List Event} {after : WrapKeys} {went : KeyWent} {how : Gone} → Exchange rules options wraps asked events after went → IsSaid events (unheard.Gone how) → went ≡ key_went.Gone how
-    key_gone (exchange.answered some held reply does closes_so) says_so =
+    pub key_gone : {events : List Event} {after : WrapKeys} {went : KeyWent} {how : Gone} → KeyExchange rules options wraps asked events after went → IsSaid events (unheard.Gone how) → went ≡ key_went.Gone how
+    key_gone (part_exchanges.answered some held reply does closes_so) says_so =
         let ends = (replies request rules options wraps asked is).of does in
         absurd (cc (gone_only (ends_said request ends (said_before some _ (answer_heard (Some reply.text) closes_so) says_so))))
-    key_gone {how} (exchange.refused some held why does closes_so) says_so =
+    key_gone {how} (part_exchanges.refused some held why does closes_so) says_so =
         let ends = (replies request rules options wraps asked is).of does in
         let same : Err why ≡ Err (Client (unheard.Gone how)) = gone_only (ends_said request ends (said_before some _ (answer_heard (refusal_line why) closes_so) says_so)) in
         let refusal : why ≡ Client (unheard.Gone how) = cc same in
-        ap (λ w. went_after (gone_by w)) refusal
+        ap (λ w. key_went_after (gone_by w)) refusal

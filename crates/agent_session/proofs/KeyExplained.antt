@@ -11,14 +11,15 @@ use Rattle.assuan_server.specs.declared.errors.Origin.TheVariants as origin
 use Rattle.session_client.specs.declared.unheard.Gone.{Gone}
 use Rattle.session_options.specs.declared.rules.Rules.{Rules}
 use Rattle.agent_commands.specs.Endings.{went_after}
-use Rattle.agent_commands.specs.Events.{Event}
+use Rattle.agent_commands.specs.Events.{EventWith}
 use Rattle.session_client.specs.Refusals.{gone_by}
 use Rattle.agent_commands.specs.Requests.{request_of}
 use Rattle.agent_commands.specs.declared.request.Request.{Request}
 use Rattle.agent_commands.specs.declared.went.Went.{Went}
 use Rattle.agent_commands.specs.declared.went.Went.TheVariants.{On}
-use Rattle.key_commands.specs.Exchanges.{Exchange, answered, refused}
-use Rattle.key_commands.specs.Parts.{refusal_events, refusal_went, went_after as key_went}
+use Rattle.key_commands.specs.Exchanges.{KeyExchange}
+use Rattle.agent_ask.specs.PartExchanges.{answered, refused}
+use Rattle.key_commands.specs.Parts.{refusal_events, refusal_went, key_went_after as key_went}
 use Rattle.session_client.specs.declared.refusal.Refusal.{Refusal}
 use Rattle.key_commands.specs.declared.request.KeyRequest.{KeyRequest}
 use Rattle.key_commands.specs.declared.went.KeyWent.{KeyWent}
@@ -34,7 +35,7 @@ use Rattle.agent_session.proofs.LineFaults.{line_caused}
 use Rattle.agent_session.proofs.Standing.{stand_all}
 
 -- a file that is replaced needn't be there
-abbrev pub NeverAbsent : List (Event FurtherEvent) → Type 0
+abbrev pub NeverAbsent : List (EventWith FurtherEvent) → Type 0
 NeverAbsent events = (grip : Grip) (file : List ℕ) → Has (Further (Keys (Replaced grip file key_done.Absent))) events → ⊥
 
 -- a session goes on so after a request on keys as after any other
@@ -45,33 +46,33 @@ went_of_refusal why = went_of (gone_by why)
     went_of None = refl
     went_of (Some how) = refl
 
-module _ (rules : Rules) (kept : Kept) (request : Request) (whole : List (Event FurtherEvent)) where
-  abbrev Here : List (Event FurtherEvent) → Went → Type 0
+module _ (rules : Rules) (kept : Kept) (request : Request) (whole : List (EventWith FurtherEvent)) where
+  abbrev Here : List (EventWith FurtherEvent) → Went → Type 0
   Here = Explained whole (IsCaused whole rules kept request)
 
   module _ (line_caused : (why : Code) → IsRefusedBy request why → IsCaused whole rules kept request why origin.Agent) (never_absent : NeverAbsent whole) where
-    keys_explained : (asked : KeyRequest) → on_keys request ≡ Some asked → {events : List (Event FurtherEvent)} {after : WrapKeys} {went : KeyWent}
-        → Exchange rules kept.options kept.wraps asked events after went → StandIn events whole → Here events (went_after_key went)
+    keys_explained : (asked : KeyRequest) → on_keys request ≡ Some asked → {events : List (EventWith FurtherEvent)} {after : WrapKeys} {went : KeyWent}
+        → KeyExchange rules kept.options kept.wraps asked events after went → StandIn events whole → Here events (went_after_key went)
     keys_explained asked is (answered events held reply does closes) stands =
         in_exchange rules kept whole request (replies rules kept request whole never_absent line_caused asked is) does closes (λ good. replied [] reply.text tt good tt) stands
     keys_explained asked is (refused events held why does closes) stands =
         in_exchange rules kept whole request (replies rules kept request whole never_absent line_caused asked is) does closes
         (λ caused. subst (Here (refusal_events why)) (sym (went_of_refusal why)) (refusal_explained rules kept whole request why caused)) stands
 
-request_explained : (rules : Rules) (kept : Kept) (request : Request) (whole : List (Event FurtherEvent)) {events : List (Event FurtherEvent)} {after : Kept} {went : Went}
+request_explained : (rules : Rules) (kept : Kept) (request : Request) (whole : List (EventWith FurtherEvent)) {events : List (EventWith FurtherEvent)} {after : Kept} {went : Went}
     → ((why : Code) → IsRefusedBy request why → IsCaused whole rules kept request why origin.Agent) → NeverAbsent whole → RequestExchange rules kept request events after went → StandIn events whole
     → Explained whole (IsCaused whole rules kept request) events went
 request_explained rules kept request whole caused never_absent (cache exchange) stands = cache_explained rules kept whole request _ caused exchange stands
 request_explained rules kept request whole caused never_absent (keys exchange) stands = keys_explained rules kept request whole caused never_absent _ refl exchange stands
 
-pub exchange_caused : (rules : Rules) (kept : Kept) (line : List ℕ) {events : List (Event FurtherEvent)} {after : Kept} {went : Went} → NeverAbsent events → SessionExchange rules kept line events after went
+pub exchange_caused : (rules : Rules) (kept : Kept) (line : List ℕ) {events : List (EventWith FurtherEvent)} {after : Kept} {went : Went} → NeverAbsent events → SessionExchange rules kept line events after went
     → CausedInSession rules kept line events after went
 exchange_caused rules kept line {events} never_absent exchange =
     let explained = request_explained rules kept (request_of line) events (line_caused rules kept line events) never_absent exchange (stand_all events) in
     record { exchange = exchange; answered = is_answered events (IsCaused events rules kept (request_of line)) explained refl; caused = is_caused events (IsCaused events rules kept (request_of line)) explained }
 
 -- after an error line the session goes on, but after one
-pub exchange_goes_on : (rules : Rules) (kept : Kept) (line : List ℕ) {events : List (Event FurtherEvent)} {after : Kept} {went : Went} → NeverAbsent events → SessionExchange rules kept line events after went
+pub exchange_goes_on : (rules : Rules) (kept : Kept) (line : List ℕ) {events : List (EventWith FurtherEvent)} {after : Kept} {went : Went} → NeverAbsent events → SessionExchange rules kept line events after went
     → (why : Code) (origin : Origin) → HasError why origin events → (why ≡ code.LineTooLong → ⊥) → went ≡ On
 exchange_goes_on rules kept line {events} {went} never_absent exchange why origin has =
     let explained = request_explained rules kept (request_of line) events (line_caused rules kept line events) never_absent exchange (stand_all events) in

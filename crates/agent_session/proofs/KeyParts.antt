@@ -34,7 +34,7 @@ use Rattle.sexp_keys.specs.Key.{Key}
 use Rattle.sexp_keys.specs.declared.fault.KeyFault.{KeyFault}
 use Rattle.sexp_keys.specs.declared.fault.KeyFault.TheVariants as faults
 use Rattle.secret_file.specs.Opens.{LockedKey}
-use Rattle.agent_commands.specs.Events.{Event}
+use Rattle.agent_commands.specs.Events.{EventWith}
 use Rattle.agent_commands.specs.declared.request.Request.{Request}
 use Rattle.key_commands.specs.Faults.{fault_code}
 use Rattle.key_commands.specs.KeyParts.{ReadsFile, change_fault, Replaces, Removes, KeepsNew}
@@ -42,7 +42,8 @@ use Rattle.agent_ask.specs.ConsentParts.{AgreesTo, consent_refusal}
 use Rattle.agent_ask.specs.ConsentParts as consent
 use Rattle.key_commands.specs.KeyParts as parts
 use Rattle.key_commands.specs.Parts.{read_fault}
-use Rattle.key_commands.specs.Passphrases.{ask_nonce, LooksForNonce, TakesSeat, pin_refusal, Locks, OpensBy, Tries, TriesFound, PromptsOld, PromptsNew}
+use Rattle.key_commands.specs.Passphrases.{ask_nonce, LooksForNonce, TakesSeat, Locks, OpensBy, TriesPassphrase, TriesFound, PromptsOld, PromptsNew}
+use Rattle.agent_ask.specs.PinParts.{pin_refusal}
 use Rattle.key_commands.specs.Passphrases as passphrases
 use Rattle.session_client.specs.declared.refusal.Refusal.{Refusal}
 use Rattle.session_client.specs.declared.refusal.Refusal.TheVariants.{Client}
@@ -59,23 +60,23 @@ use Rattle.agent_session.proofs.Prompted.{PinShows, ConsentShows, HasCalled, Has
 use Rattle.agent_session.proofs.Standing.{has_first, has_in}
 
 -- nothing is answered by a prompt
-pub prompt_silent : {prompt : List PromptEvent} {shown : List (Event FurtherEvent)} → AnyInSession session_lines prompt shown → AllByRecursion AnswersNothing shown
+pub prompt_silent : {prompt : List PromptEvent} {shown : List (EventWith FurtherEvent)} → AnyInSession session_lines prompt shown → AllByRecursion AnswersNothing shown
 prompt_silent session.none = tt
 prompt_silent (session.called more) = (tt, prompt_silent more)
 prompt_silent (session.noted says more) = (tt, prompt_silent more)
 prompt_silent (session.out_of_memory more) = (tt, prompt_silent more)
 
-module _ (rules : Rules) (kept : Kept) (request : Request) (whole : List (Event FurtherEvent)) where
+module _ (rules : Rules) (kept : Kept) (request : Request) (whole : List (EventWith FurtherEvent)) where
   abbrev CausedHere : Code → Type 0
   CausedHere = Caused rules kept request whole
 
   abbrev CausedRefusalHere : Refusal → Type 0
   CausedRefusalHere = CausedRefusal whole (IsCaused whole rules kept request)
 
-  abbrev ComesHere : {A : Type 0} → (A → Type 0) → List (Event FurtherEvent) → Result A Refusal → Type 0
+  abbrev ComesHere : {A : Type 0} → (A → Type 0) → List (EventWith FurtherEvent) → Result A Refusal → Type 0
   ComesHere = Comes whole (IsCaused whole rules kept request)
 
-  abbrev ExplainsHere : {A : Type 0} → (Option ℕ → List (Event FurtherEvent) → Result A Refusal → Option ℕ → Type 0) → (A → Type 0) → Type 0
+  abbrev ExplainsHere : {A : Type 0} → (Option ℕ → List (EventWith FurtherEvent) → Result A Refusal → Option ℕ → Type 0) → (A → Type 0) → Type 0
   ExplainsHere = Explains whole (IsCaused whole rules kept request)
 
   -- ---- faults of keys
@@ -90,7 +91,7 @@ module _ (rules : Rules) (kept : Kept) (request : Request) (whole : List (Event 
   -- ---- prompts
 
   -- what a prompt shows is among the events of the request
-  module _ {prompt : List PromptEvent} {shown : List (Event FurtherEvent)} (in_session : AnyInSession session_lines prompt shown) (stands : StandIn shown whole) where
+  module _ {prompt : List PromptEvent} {shown : List (EventWith FurtherEvent)} (in_session : AnyInSession session_lines prompt shown) (stands : StandIn shown whole) where
     pub has_call : {is : _} → HasCalled is prompt → HasCall whole is
     has_call (prompted.called call so has) = causes.called call so (has_in stands (shown_as (Called call) in_session has))
 
@@ -166,7 +167,7 @@ module _ (rules : Rules) (kept : Kept) (request : Request) (whole : List (Event 
   nonce_none_opens (Some nonce) locked pass by closed = none_opens (ask_nonce nonce) locked pass by closed
 
   module _ (grip : Grip) where
-    takes_seat_of : (before : Option ℕ) (events : List (Event FurtherEvent)) (result : Result (Unit {0}) Refusal) (after : Option ℕ) → TakesSeat grip before events result after
+    takes_seat_of : (before : Option ℕ) (events : List (EventWith FurtherEvent)) (result : Result (Unit {0}) Refusal) (after : Option ℕ) → TakesSeat grip before events result after
         → StandIn events whole → ComesHere Anything events result
     takes_seat_of None events result after does stands = (seats rules kept request whole _ refl).of None events result after does stands
     takes_seat_of (Some ticket) events result after does stands = (returned Anything tt tt).of (Some ticket) events result after does stands
@@ -175,7 +176,7 @@ module _ (rules : Rules) (kept : Kept) (request : Request) (whole : List (Event 
     takes_seat = record { of = takes_seat_of }
 
   module _ (grip : Grip) (pass : List ℕ) where
-    keeps_new_of : (before : Option ℕ) (events : List (Event FurtherEvent)) (result : Result (Unit {0}) Refusal) (after : Option ℕ) → KeepsNew grip pass before events result after
+    keeps_new_of : (before : Option ℕ) (events : List (EventWith FurtherEvent)) (result : Result (Unit {0}) Refusal) (after : Option ℕ) → KeepsNew grip pass before events result after
         → StandIn events whole → ComesHere Anything events result
     keeps_new_of None events result after does stands = (changes rules kept request whole _ refl).of None events result after does stands
     keeps_new_of (Some ticket) events result after does stands = closes_of (Some pass) (Some ticket) events result after does stands
@@ -186,7 +187,7 @@ module _ (rules : Rules) (kept : Kept) (request : Request) (whole : List (Event 
   -- ---- locked keys
 
   module _ (grip : Grip) (unlocks : Unlocks request grip) (key : Key) (is_read : IsRead whole grip (Ok key)) (closed : key.is_clear ≡ false) where
-    locks_of : (before : Option ℕ) (events : List (Event FurtherEvent)) (result : Result LockedKey Refusal) (after : Option ℕ) → Locks key before events result after
+    locks_of : (before : Option ℕ) (events : List (EventWith FurtherEvent)) (result : Result LockedKey Refusal) (after : Option ℕ) → Locks key before events result after
         → StandIn events whole → ComesHere (IsReadLocked whole grip) events result
     locks_of before events result after (passphrases.is_locked same locked) stands =
         record { silent = tt; explained = record { key = subst (λ k. IsRead whole grip (Ok k)) (sym same) is_read; protection = locked } }
@@ -204,13 +205,13 @@ module _ (rules : Rules) (kept : Kept) (request : Request) (whole : List (Event 
 
   module _ (grip : Grip) (unlocks : Unlocks request grip) (locked : LockedKey) (is_locked : IsReadLocked whole grip locked) where
     module _ (pass : List ℕ) where
-      tries_of : (before : Option ℕ) (events : List (Event FurtherEvent)) (result : Result (Option _) Refusal) (after : Option ℕ) → Tries locked pass before events result after
+      tries_of : (before : Option ℕ) (events : List (EventWith FurtherEvent)) (result : Result (Option _) Refusal) (after : Option ℕ) → TriesPassphrase locked pass before events result after
           → StandIn events whole → ComesHere (Either (λ opened. OpensRead whole grip opened.key) (¬ OpensBy locked pass)) events result
       tries_of before events result after (passphrases.opens to) stands = record { silent = tt; explained = opens is_locked to }
       tries_of before events result after (passphrases.stays closed) stands = record { silent = tt; explained = closed }
       tries_of before events result after passphrases.no_memory stands = record { silent = (tt, tt); explained = out_of_memory_first rules kept request whole stands }
 
-      pub tries : ExplainsHere (Tries locked pass) (Either (λ opened. OpensRead whole grip opened.key) (¬ OpensBy locked pass))
+      pub tries : ExplainsHere (TriesPassphrase locked pass) (Either (λ opened. OpensRead whole grip opened.key) (¬ OpensBy locked pass))
       tries = record { of = tries_of }
 
     -- no passphrase was found, or one that doesn't open it
@@ -218,7 +219,7 @@ module _ (rules : Rules) (kept : Kept) (request : Request) (whole : List (Event 
     NoneOpens pass = (secret : List ℕ) → pass ≡ Some secret → ¬ OpensBy locked secret
 
     module _ (pass : List ℕ) where
-      tried_of : (before : Option ℕ) (events : List (Event FurtherEvent)) (result : Result (Option _) Refusal) (after : Option ℕ) → Tries locked pass before events result after
+      tried_of : (before : Option ℕ) (events : List (EventWith FurtherEvent)) (result : Result (Option _) Refusal) (after : Option ℕ) → TriesPassphrase locked pass before events result after
           → StandIn events whole → ComesHere (Either (λ opened. OpensRead whole grip opened.key) (NoneOpens (Some pass))) events result
       tried_of before events result after (passphrases.opens to) stands = record { silent = tt; explained = opens is_locked to }
       tried_of before events result after (passphrases.stays closed) stands =
@@ -232,12 +233,12 @@ module _ (rules : Rules) (kept : Kept) (request : Request) (whole : List (Event 
 
     -- ---- prompts for passphrases
 
-    bad_opening : {spec : PromptSpec} {plan : AskPlan} {prompt : List PromptEvent} {shown : List (Event FurtherEvent)} {answer : Asked} → AsksPin spec plan (OpensBy locked) prompt answer
+    bad_opening : {spec : PromptSpec} {plan : AskPlan} {prompt : List PromptEvent} {shown : List (EventWith FurtherEvent)} {answer : Asked} → AsksPin spec plan (OpensBy locked) prompt answer
         → AnyInSession session_lines prompt shown → StandIn shown whole → answer ≡ asked.Bad → CausedHere code.BadPass
     bad_opening {spec} {plan} {prompt} prompted_so in_session stands bad =
         causes.at_prompt (causes.opening unlocks is_locked (subst (λ a. AsksPin spec plan (OpensBy locked) prompt a) bad prompted_so) in_session stands)
 
-    prompts_old_of : (before : Option ℕ) (events : List (Event FurtherEvent)) (result : Result _ Refusal) (after : Option ℕ) → PromptsOld rules kept.options grip locked before events result after
+    prompts_old_of : (before : Option ℕ) (events : List (EventWith FurtherEvent)) (result : Result _ Refusal) (after : Option ℕ) → PromptsOld rules kept.options grip locked before events result after
         → StandIn events whole → ComesHere (λ opened. OpensRead whole grip opened.key) events result
     prompts_old_of before events result after (passphrases.opens_by spec is prompt to) stands =
         record { silent = prompt_silent prompt.in_session; explained = opens is_locked to }
@@ -251,7 +252,7 @@ module _ (rules : Rules) (kept : Kept) (request : Request) (whole : List (Event 
     prompts_old = record { of = prompts_old_of }
 
   -- a prompt at which every passphrase is right, and that gave none
-  pub refused_any : {A : Type 0} (Good : A → Type 0) {spec : PromptSpec} {plan : AskPlan} {prompt : List PromptEvent} {shown : List (Event FurtherEvent)} {answer : Asked} {why : Refusal}
+  pub refused_any : {A : Type 0} (Good : A → Type 0) {spec : PromptSpec} {plan : AskPlan} {prompt : List PromptEvent} {shown : List (EventWith FurtherEvent)} {answer : Asked} {why : Refusal}
       → AsksPin spec plan (λ pin. ⊤) prompt answer → AnyInSession session_lines prompt shown → pin_refusal answer ≡ Some why → StandIn shown whole → ComesHere Good shown (Err why)
   refused_any Good {spec} {plan} {prompt} {answer} {why} prompted_so in_session refusal stands = record {
     silent = prompt_silent in_session;
@@ -260,7 +261,7 @@ module _ (rules : Rules) (kept : Kept) (request : Request) (whole : List (Event 
   }
 
   module _ (grip : Grip) where
-    prompts_new_of : (before : Option ℕ) (events : List (Event FurtherEvent)) (result : Result (List ℕ) Refusal) (after : Option ℕ) → PromptsNew rules kept.options grip before events result after
+    prompts_new_of : (before : Option ℕ) (events : List (EventWith FurtherEvent)) (result : Result (List ℕ) Refusal) (after : Option ℕ) → PromptsNew rules kept.options grip before events result after
         → StandIn events whole → ComesHere Anything events result
     prompts_new_of before events result after (passphrases.given spec is prompt) stands = record { silent = prompt_silent prompt.in_session; explained = tt }
     prompts_new_of before events result after (passphrases.refused spec is prompt refusal) stands = refused_any Anything prompt.asks prompt.in_session refusal stands
@@ -268,7 +269,7 @@ module _ (rules : Rules) (kept : Kept) (request : Request) (whole : List (Event 
     pub prompts_new : ExplainsHere (PromptsNew rules kept.options grip) Anything
     prompts_new = record { of = prompts_new_of }
 
-  agrees_of : (question : List ℕ) (before : Option ℕ) (events : List (Event FurtherEvent)) (result : Result (Unit {0}) Refusal) (after : Option ℕ)
+  agrees_of : (question : List ℕ) (before : Option ℕ) (events : List (EventWith FurtherEvent)) (result : Result (Unit {0}) Refusal) (after : Option ℕ)
       → AgreesTo session_lines rules kept.options question before events result after → StandIn events whole → ComesHere Anything events result
   agrees_of question before events result after (consent.consents spec is prompt) stands = record { silent = prompt_silent prompt.in_session; explained = tt }
   agrees_of question before events result after (consent.refused {answer} {why} spec is prompt refusal) stands =
@@ -280,7 +281,7 @@ module _ (rules : Rules) (kept : Kept) (request : Request) (whole : List (Event 
   -- ---- key files
 
   -- a read that gave no file
-  read_caused : (grip : Grip) (answer : KeyRead) {why : Code} {more : List (Event FurtherEvent)} → (answer ≡ key_read.Absent → CausedHere code.NoSecKey) → read_fault answer ≡ Some why
+  read_caused : (grip : Grip) (answer : KeyRead) {why : Code} {more : List (EventWith FurtherEvent)} → (answer ≡ key_read.Absent → CausedHere code.NoSecKey) → read_fault answer ≡ Some why
       → StandIn (Further (Keys (Read grip answer)) ∷ more) whole → CausedHere why
   read_caused grip (key_read.Found bytes) absent is stands = absurd (cc is)
   read_caused grip key_read.Absent absent is stands = let same : code.NoSecKey ≡ _ = cc in subst CausedHere same (absent refl)
@@ -288,7 +289,7 @@ module _ (rules : Rules) (kept : Kept) (request : Request) (whole : List (Event 
   read_caused grip key_read.NoMemory absent is stands = let same : code.NoMemory ≡ _ = cc in subst CausedHere same (one _ tt (has_first stands))
 
   module _ (grip : Grip) (judges : Judges request grip) (lacks : IsUnread whole grip → LacksKeys whole (on_keys request)) where
-    reads_file_of : (before : Option ℕ) (events : List (Event FurtherEvent)) (result : Result _ Refusal) (after : Option ℕ) → ReadsFile grip before events result after
+    reads_file_of : (before : Option ℕ) (events : List (EventWith FurtherEvent)) (result : Result _ Refusal) (after : Option ℕ) → ReadsFile grip before events result after
         → StandIn events whole → ComesHere (λ file. IsReadOf whole grip file.bytes × IsRead whole grip (Ok file.key)) events result
     reads_file_of before events result after (parts.is_key is says) stands = record { silent = (tt, tt); explained = (read_of is (has_first stands), read is says (has_first stands)) }
     reads_file_of before events result after (parts.faulty {file} {fault} is says) stands =
@@ -301,13 +302,13 @@ module _ (rules : Rules) (kept : Kept) (request : Request) (whole : List (Event 
     reads_file = record { of = reads_file_of }
 
   module _ (grip : Grip) (lacks : IsUnremoved whole grip → LacksKeys whole (on_keys request)) where
-    removal_caused : (answer : KeyDone) (why : Code) {more : List (Event FurtherEvent)} → change_fault answer ≡ Some why → StandIn (Further (Keys (Removed grip answer)) ∷ more) whole → CausedHere why
+    removal_caused : (answer : KeyDone) (why : Code) {more : List (EventWith FurtherEvent)} → change_fault answer ≡ Some why → StandIn (Further (Keys (Removed grip answer)) ∷ more) whole → CausedHere why
     removal_caused key_done.Done why is stands = absurd (cc is)
     removal_caused key_done.Absent why is stands = let same : code.NoSecKey ≡ why = cc in subst CausedHere same (lacks (has_first stands))
     removal_caused key_done.Failed why is stands = let same : code.General ≡ why = cc in subst CausedHere same (one _ tt (has_first stands))
     removal_caused key_done.NoMemory why is stands = let same : code.NoMemory ≡ why = cc in subst CausedHere same (one _ tt (has_first stands))
 
-    removes_of : (before : Option ℕ) (events : List (Event FurtherEvent)) (result : Result (Unit {0}) Refusal) (after : Option ℕ) → Removes grip before events result after
+    removes_of : (before : Option ℕ) (events : List (EventWith FurtherEvent)) (result : Result (Unit {0}) Refusal) (after : Option ℕ) → Removes grip before events result after
         → StandIn events whole → ComesHere Anything events result
     removes_of before events result after parts.done stands = record { silent = (tt, tt); explained = tt }
     removes_of before events result after (parts.not_done {answer} {code = why} is) stands = record { silent = (tt, tt); explained = removal_caused answer why is stands }
@@ -317,14 +318,14 @@ module _ (rules : Rules) (kept : Kept) (request : Request) (whole : List (Event 
 
   -- a file that is replaced needn't be there
   module _ (there : (grip : Grip) (file : List ℕ) → Has (Further (Keys (Replaced grip file key_done.Absent))) whole → ⊥) (grip : Grip) (file : List ℕ) where
-    replacement_caused : (answer : KeyDone) (why : Code) {more : List (Event FurtherEvent)} → change_fault answer ≡ Some why → StandIn (Further (Keys (Replaced grip file answer)) ∷ more) whole
+    replacement_caused : (answer : KeyDone) (why : Code) {more : List (EventWith FurtherEvent)} → change_fault answer ≡ Some why → StandIn (Further (Keys (Replaced grip file answer)) ∷ more) whole
         → CausedHere why
     replacement_caused key_done.Done why is stands = absurd (cc is)
     replacement_caused key_done.Absent why is stands = absurd (there grip file (has_first stands))
     replacement_caused key_done.Failed why is stands = let same : code.General ≡ why = cc in subst CausedHere same (one _ tt (has_first stands))
     replacement_caused key_done.NoMemory why is stands = let same : code.NoMemory ≡ why = cc in subst CausedHere same (one _ tt (has_first stands))
 
-    replaces_of : (before : Option ℕ) (events : List (Event FurtherEvent)) (result : Result (Unit {0}) Refusal) (after : Option ℕ) → Replaces grip file before events result after
+    replaces_of : (before : Option ℕ) (events : List (EventWith FurtherEvent)) (result : Result (Unit {0}) Refusal) (after : Option ℕ) → Replaces grip file before events result after
         → StandIn events whole → ComesHere Anything events result
     replaces_of before events result after parts.done stands = record { silent = (tt, tt); explained = tt }
     replaces_of before events result after (parts.not_done {answer} {code = why} is) stands = record { silent = (tt, tt); explained = replacement_caused answer why is stands }

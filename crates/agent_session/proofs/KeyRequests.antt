@@ -21,16 +21,16 @@ use Rattle.session_options.specs.declared.options.PinMode.TheVariants as mode
 use Rattle.session_options.specs.declared.rules.Rules.{Rules}
 use Rattle.sexp_keys.specs.Key.{Key}
 use Rattle.sexp_keys.specs.Lists.{grip_of}
-use Rattle.agent_commands.specs.Events.{Event}
+use Rattle.agent_commands.specs.Events.{EventWith}
 use Rattle.agent_commands.specs.declared.request.Request.{Request}
 use Rattle.key_commands.specs.Exchanges.{KeyReply, HaveKeyReplies, KeyInfoReplies, ListKeysReplies, KeyWrapReplies, ImportKeyReplies, ExportKeyReplies, PasswdReplies, VerifyReplies, DeleteKeyReplies}
-use Rattle.key_commands.specs.Exchanges.{Replies, wrap_key, StoresKey, FoundOrNew, RenewsPassphrase, RewritesFile, ChangesOpened}
+use Rattle.key_commands.specs.Exchanges.{KeyReplies, wrap_key, StoresKey, FoundOrNew, RenewsPassphrase, RewritesFile, ChangesOpened}
 use Rattle.key_commands.specs.Files.{Rewrites}
 use Rattle.key_commands.specs.Files as files
-use Rattle.key_commands.specs.KeyParts.{Tells, tells, Protects, IsShort, HasOne as HasOneKey, TellsInfo, ListsGrips, ReadsListed, WritesInfo, TellsListed, WritesInfos, max_key_data, AsksKeyData}
+use Rattle.key_commands.specs.KeyParts.{Tells, tells, Protects, IsShort, HasOne as HasOneKey, TellsKeyInfo, ListsGrips, ReadsListed, WritesInfo, TellsListed, WritesInfos, max_key_data, AsksKeyData}
 use Rattle.key_commands.specs.KeyParts.{Unwraps, ReceivesKey, NamesKey, IsFree, LooksOver, WrapsKey, Consents}
 use Rattle.key_commands.specs.KeyParts as parts
-use Rattle.key_commands.specs.Lines.{limit_line}
+use Rattle.assuan_server.specs.Written.{limit_line}
 use Rattle.key_commands.specs.Parts.{Part, read_fault}
 use Rattle.agent_ask.specs.Parts.{Returns, needed, or_else, wanted}
 use Rattle.agent_ask.specs.Parts as chain
@@ -58,19 +58,19 @@ use Rattle.agent_session.proofs.KeyParts.{FoundByNonce, nonce_none, none_opens, 
 use Rattle.agent_session.proofs.Replying.{IsReply, reply_ok, reply_status, reply_nonce, reply_keys}
 use Rattle.agent_session.proofs.Standing.{has_first, has_in, has_right}
 
-module _ (rules : Rules) (kept : Kept) (request : Request) (whole : List (Event FurtherEvent)) where
+module _ (rules : Rules) (kept : Kept) (request : Request) (whole : List (EventWith FurtherEvent)) where
   abbrev CausedHere : Code → Type 0
   CausedHere = Caused rules kept request whole
 
-  abbrev ComesHere : {A : Type 0} → (A → Type 0) → List (Event FurtherEvent) → Result A Refusal → Type 0
+  abbrev ComesHere : {A : Type 0} → (A → Type 0) → List (EventWith FurtherEvent) → Result A Refusal → Type 0
   ComesHere = Comes whole (IsCaused whole rules kept request)
 
-  abbrev ExplainsHere : {A : Type 0} → (Option ℕ → List (Event FurtherEvent) → Result A Refusal → Option ℕ → Type 0) → (A → Type 0) → Type 0
+  abbrev ExplainsHere : {A : Type 0} → (Option ℕ → List (EventWith FurtherEvent) → Result A Refusal → Option ℕ → Type 0) → (A → Type 0) → Type 0
   ExplainsHere = Explains whole (IsCaused whole rules kept request)
 
   -- ---- parts that only want memory
 
-  tells_of : (bytes : List ℕ) (before : Option ℕ) (events : List (Event FurtherEvent)) (result : Result (List ℕ) Refusal) (after : Option ℕ) → Tells bytes before events result after → StandIn events whole
+  tells_of : (bytes : List ℕ) (before : Option ℕ) (events : List (EventWith FurtherEvent)) (result : Result (List ℕ) Refusal) (after : Option ℕ) → Tells bytes before events result after → StandIn events whole
       → ComesHere IsReply events result
   tells_of bytes before events result after (tells answer) stands = record { silent = tt; explained = reply_keys answer }
 
@@ -81,7 +81,7 @@ module _ (rules : Rules) (kept : Kept) (request : Request) (whole : List (Event 
     abbrev IsProtected : List ℕ → Type 0
     IsProtected list = list ≡ protected_file key (ocb_protection key pass salt iv count None) None
 
-    protects_of : (before : Option ℕ) (events : List (Event FurtherEvent)) (result : Result (List ℕ) Refusal) (after : Option ℕ) → Protects key pass salt iv count before events result after
+    protects_of : (before : Option ℕ) (events : List (EventWith FurtherEvent)) (result : Result (List ℕ) Refusal) (after : Option ℕ) → Protects key pass salt iv count before events result after
         → StandIn events whole → ComesHere IsProtected events result
     protects_of before events result after parts.made stands = record { silent = tt; explained = refl }
     protects_of before events result after parts.no_memory stands = record { silent = (tt, tt); explained = out_of_memory_first rules kept request whole stands }
@@ -89,7 +89,7 @@ module _ (rules : Rules) (kept : Kept) (request : Request) (whole : List (Event 
     protects : ExplainsHere (Protects key pass salt iv count) IsProtected
     protects = record { of = protects_of }
 
-  names_key_of : (key : Key) (before : Option ℕ) (events : List (Event FurtherEvent)) (result : Result Grip Refusal) (after : Option ℕ) → NamesKey key before events result after → StandIn events whole
+  names_key_of : (key : Key) (before : Option ℕ) (events : List (EventWith FurtherEvent)) (result : Result Grip Refusal) (after : Option ℕ) → NamesKey key before events result after → StandIn events whole
       → ComesHere (λ grip. grip.0 ≡ grip_of key) events result
   names_key_of key before events result after (parts.named is) stands = record { silent = tt; explained = is }
   names_key_of key before events result after parts.no_memory stands = record { silent = (tt, tt); explained = out_of_memory_first rules kept request whole stands }
@@ -97,7 +97,7 @@ module _ (rules : Rules) (kept : Kept) (request : Request) (whole : List (Event 
   names_key : (key : Key) → ExplainsHere (NamesKey key) (λ grip. grip.0 ≡ grip_of key)
   names_key key = record { of = names_key_of key }
 
-  wraps_key_of : (wrap : List ℕ) (key : Key) (before : Option ℕ) (events : List (Event FurtherEvent)) (result : Result (List ℕ) Refusal) (after : Option ℕ) → WrapsKey wrap key before events result after
+  wraps_key_of : (wrap : List ℕ) (key : Key) (before : Option ℕ) (events : List (EventWith FurtherEvent)) (result : Result (List ℕ) Refusal) (after : Option ℕ) → WrapsKey wrap key before events result after
       → StandIn events whole → ComesHere Anything events result
   wraps_key_of wrap key before events result after parts.is_wrapped stands = record { silent = tt; explained = tt }
   wraps_key_of wrap key before events result after parts.no_memory stands = record { silent = (tt, tt); explained = out_of_memory_first rules kept request whole stands }
@@ -110,7 +110,7 @@ module _ (rules : Rules) (kept : Kept) (request : Request) (whole : List (Event 
   Overlooked id None = ByNonce whole (GivesNone whole) id
   Overlooked id (Some pass) = ⊤
 
-  looks_over_of : (nonce : Option (List ℕ)) (before : Option ℕ) (events : List (Event FurtherEvent)) (result : Result (Option (List ℕ)) Refusal) (after : Option ℕ) → LooksOver nonce before events result after
+  looks_over_of : (nonce : Option (List ℕ)) (before : Option ℕ) (events : List (EventWith FurtherEvent)) (result : Result (Option (List ℕ)) Refusal) (after : Option ℕ) → LooksOver nonce before events result after
       → StandIn events whole → ComesHere (Overlooked nonce) events result
   looks_over_of id before events result after parts.no_nonce stands = record { silent = tt; explained = tt }
   looks_over_of id before events result after parts.given stands = record { silent = (tt, tt); explained = tt }
@@ -123,10 +123,10 @@ module _ (rules : Rules) (kept : Kept) (request : Request) (whole : List (Event 
 
   -- ---- what is known of keys
 
-  tells_info : (grip : Grip) (key : Key) → ExplainsHere (TellsInfo grip key) IsStatus
+  tells_info : (grip : Grip) (key : Key) → ExplainsHere (TellsKeyInfo grip key) IsStatus
   tells_info grip key = bind Anything IsStatus (peeks rules kept request whole grip) (λ cached any. returned IsStatus _ (info_status grip cached key.is_clear))
 
-  lists_of : (before : Option ℕ) (events : List (Event FurtherEvent)) (result : Result (List Grip) Refusal) (after : Option ℕ) → ListsGrips before events result after → StandIn events whole
+  lists_of : (before : Option ℕ) (events : List (EventWith FurtherEvent)) (result : Result (List Grip) Refusal) (after : Option ℕ) → ListsGrips before events result after → StandIn events whole
       → ComesHere Anything events result
   lists_of before events result after (parts.listed is) stands = record { silent = (tt, tt); explained = tt }
   lists_of before events result after parts.faulted stands = record { silent = (tt, tt); explained = one _ tt (has_first stands) }
@@ -135,14 +135,14 @@ module _ (rules : Rules) (kept : Kept) (request : Request) (whole : List (Event 
   lists : ExplainsHere ListsGrips Anything
   lists = record { of = lists_of }
 
-  unlisted_caused : (grip : Grip) (answer : KeyRead) {why : Code} {more : List (Event FurtherEvent)} → answer ≢ key_read.Absent → read_fault answer ≡ Some why
+  unlisted_caused : (grip : Grip) (answer : KeyRead) {why : Code} {more : List (EventWith FurtherEvent)} → answer ≢ key_read.Absent → read_fault answer ≡ Some why
       → StandIn (Further (Keys (Read grip answer)) ∷ more) whole → CausedHere why
   unlisted_caused grip (key_read.Found bytes) other is stands = absurd (cc is)
   unlisted_caused grip key_read.Absent other is stands = absurd (other refl)
   unlisted_caused grip key_read.Failed other is stands = let same : code.General ≡ _ = cc in subst CausedHere same (one _ tt (has_first stands))
   unlisted_caused grip key_read.NoMemory other is stands = let same : code.NoMemory ≡ _ = cc in subst CausedHere same (one _ tt (has_first stands))
 
-  reads_listed_of : (grip : Grip) (before : Option ℕ) (events : List (Event FurtherEvent)) (result : Result (Option Key) Refusal) (after : Option ℕ) → ReadsListed grip before events result after
+  reads_listed_of : (grip : Grip) (before : Option ℕ) (events : List (EventWith FurtherEvent)) (result : Result (Option Key) Refusal) (after : Option ℕ) → ReadsListed grip before events result after
       → StandIn events whole → ComesHere Anything events result
   reads_listed_of grip before events result after (parts.is_key is says) stands = record { silent = (tt, tt); explained = tt }
   reads_listed_of grip before events result after (parts.faulty is says) stands = record { silent = (tt, tt); explained = tt }
@@ -165,10 +165,10 @@ module _ (rules : Rules) (kept : Kept) (request : Request) (whole : List (Event 
   writes_infos (grip ∷ more) = bind Anything Anything (tells_listed grip) (λ told any. writes_infos more)
 
   -- one of them is there, or all are absent, those among them that were read earlier
-  abbrev unread : Grip → Event FurtherEvent
+  abbrev unread : Grip → EventWith FurtherEvent
   unread grip = Further (Keys (Read grip key_read.Absent))
 
-  has_one_of : (earlier grips : List Grip) → (AreUnread whole (earlier ++ grips) → CausedHere code.NoSecKey) → (before : Option ℕ) (events : List (Event FurtherEvent)) (result : Result (Unit {0}) Refusal)
+  has_one_of : (earlier grips : List Grip) → (AreUnread whole (earlier ++ grips) → CausedHere code.NoSecKey) → (before : Option ℕ) (events : List (EventWith FurtherEvent)) (result : Result (Unit {0}) Refusal)
       (after : Option ℕ) → HasOneKey grips before events result after → StandIn (map unread earlier ++ events) whole → ComesHere Anything events result
   has_one_of earlier [] lacks before events result after chain.refuses stands = record {
     silent = tt;
@@ -189,7 +189,7 @@ module _ (rules : Rules) (kept : Kept) (request : Request) (whole : List (Event 
 
   -- ---- wrapped keys
 
-  asks_key_data_of : (before : Option ℕ) (events : List (Event FurtherEvent)) (result : Result (List ℕ) Refusal) (after : Option ℕ) → AsksKeyData before events result after
+  asks_key_data_of : (before : Option ℕ) (events : List (EventWith FurtherEvent)) (result : Result (List ℕ) Refusal) (after : Option ℕ) → AsksKeyData before events result after
       → StandIn events whole → ComesHere (IsSent whole (codes "KEYDATA") max_key_data) events result
   asks_key_data_of before events result after (parts.asked inquires) stands = inquires_of rules kept request whole (codes "KEYDATA") max_key_data before events result before inquires stands
   asks_key_data_of before events result after (parts.no_memory at_end) stands = record { silent = (tt, (tt, tt)); explained = out_of_memory_second rules kept request whole stands }
@@ -207,7 +207,7 @@ module _ (rules : Rules) (kept : Kept) (request : Request) (whole : List (Event 
     wrapped_caused (wrapping.checked are (wrapping.protected padded is locked)) = faulty (key_data (data_says drawn sent (wrapping.checked are (wrapping.protected padded is locked))))
     wrapped_caused (wrapping.checked are (wrapping.long padded is clear much)) = faulty (key_data (data_says drawn sent (wrapping.checked are (wrapping.long padded is clear much))))
 
-    unwraps_of : (before : Option ℕ) (events : List (Event FurtherEvent)) (result : Result Key Refusal) (after : Option ℕ) → Unwraps wrap wrapped before events result after → StandIn events whole
+    unwraps_of : (before : Option ℕ) (events : List (EventWith FurtherEvent)) (result : Result Key Refusal) (after : Option ℕ) → Unwraps wrap wrapped before events result after → StandIn events whole
         → ComesHere (λ key. KeyDataSays whole rules kept request (Ok key)) events result
     unwraps_of before events result after (parts.is_key says) stands = record { silent = tt; explained = data_says drawn sent says }
     unwraps_of before events result after (parts.refused says) stands = record { silent = tt; explained = wrapped_caused says }
@@ -310,7 +310,7 @@ module _ (rules : Rules) (kept : Kept) (request : Request) (whole : List (Event 
         is_empty pass none = nil_from_length pass (grind (arith, nat_tests, none))
 
 -- a request in each mode in which a client may want to be asked
-module _ (rules : Rules) (kept : Kept) (request : Request) (whole : List (Event FurtherEvent)) (grip : Grip) where
+module _ (rules : Rules) (kept : Kept) (request : Request) (whole : List (EventWith FurtherEvent)) (grip : Grip) where
   abbrev in_mode : PinMode → Kept
   in_mode way = record kept { options = record kept.options { mode = way } }
 
@@ -331,7 +331,7 @@ module _ (rules : Rules) (kept : Kept) (request : Request) (whole : List (Event 
 
 -- ---- requests
 
-module _ (rules : Rules) (kept : Kept) (request : Request) (whole : List (Event FurtherEvent)) where
+module _ (rules : Rules) (kept : Kept) (request : Request) (whole : List (EventWith FurtherEvent)) where
   abbrev pub Replied : KeyReply → Type 0
   Replied reply = IsReply reply.text
 
@@ -414,7 +414,7 @@ module _ (rules : Rules) (kept : Kept) (request : Request) (whole : List (Event 
         (λ none. new_passphrase rules kept request whole grip kept.options.mode (renewed asked (nonce_none rules kept request whole new (subst (FoundByNonce rules kept request whole new) none by)))))
 
     module _ (key : Key) (opens : OpensRead whole grip key) where
-      is_short_of : (before : Option ℕ) (events : List (Event FurtherEvent)) (result : Result (Unit {0}) Refusal) (after : Option ℕ) → IsShort key before events result after → StandIn events whole
+      is_short_of : (before : Option ℕ) (events : List (EventWith FurtherEvent)) (result : Result (Unit {0}) Refusal) (after : Option ℕ) → IsShort key before events result after → StandIn events whole
           → Comes whole (IsCaused whole rules kept request) Anything events result
       is_short_of before events result after (parts.short few) stands = record { silent = tt; explained = tt }
       is_short_of before events result after (parts.long many) stands = record { silent = tt; explained = long asked opens many }
@@ -424,7 +424,7 @@ module _ (rules : Rules) (kept : Kept) (request : Request) (whole : List (Event 
 
       module _ (file : List ℕ) (is_read : IsReadOf whole grip file) (pass : List ℕ) where
         module _ (list : List ℕ) (is_list : IsListOf whole key pass kept.options.s2k_count list) where
-          rewrites_of : (before : Option ℕ) (events : List (Event FurtherEvent)) (result : Result (List ℕ) Refusal) (after : Option ℕ) → Rewrites file list before events result after
+          rewrites_of : (before : Option ℕ) (events : List (EventWith FurtherEvent)) (result : Result (List ℕ) Refusal) (after : Option ℕ) → Rewrites file list before events result after
               → StandIn events whole → Comes whole (IsCaused whole rules kept request) Anything events result
           rewrites_of before events result after (files.canonical_file is) stands = record { silent = tt; explained = tt }
           rewrites_of before events result after (files.extended_file other with_list few) stands = record { silent = tt; explained = tt }
@@ -490,7 +490,7 @@ module _ (rules : Rules) (kept : Kept) (request : Request) (whole : List (Event 
 
     -- a request on keys, whose line may be refused
     module _ (line_caused : (why : Code) → IsRefusedBy request why → IsCaused whole rules kept request why OfAgent) where
-      pub replies : (asked : KeyRequest) → on_keys request ≡ Some asked → Explains whole (IsCaused whole rules kept request) (Replies rules kept.options kept.wraps asked) Replied
+      pub replies : (asked : KeyRequest) → on_keys request ≡ Some asked → Explains whole (IsCaused whole rules kept request) (KeyReplies rules kept.options kept.wraps asked) Replied
       replies (on.HaveKey grips) is = have_key grips is
       replies (on.KeyInfo grip) is = key_info grip is
       replies on.ListKeys is = list_keys

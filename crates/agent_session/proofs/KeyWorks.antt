@@ -23,9 +23,11 @@ use Rattle.session_options.specs.declared.options.PinMode.TheVariants as mode
 use Rattle.session_options.specs.declared.rules.Rules.{Rules}
 use Rattle.sexp_keys.specs.Key.{Key}
 use Rattle.key_commands.specs.Events.{Event, read, out_of_memory}
-use Rattle.key_commands.specs.KeyParts.{Consents, HasOne, TellsInfo, WritesInfo, WritesInfos}
-use Rattle.key_commands.specs.Lines.{grip_text, info_line, limit_line}
-use Rattle.key_commands.specs.Parts.{Part, AsksClient}
+use Rattle.key_commands.specs.KeyParts.{Consents, HasOne, TellsKeyInfo, WritesInfo, WritesInfos}
+use Rattle.key_commands.specs.Lines.{grip_text, info_line}
+use Rattle.assuan_server.specs.Written.{limit_line}
+use Rattle.key_commands.specs.Parts.{Part}
+use Rattle.agent_ask.specs.ClientParts.{AsksClient}
 use Rattle.key_commands.specs.Passphrases.{PromptsOld, PromptsNew, ClientOld, UncachedOld, OpensLocked, ClientNew, ask_nonce, ask_key, seat_for, put_key, way_of}
 use Rattle.key_commands.specs.Passphrases as passphrases
 use Rattle.agent_session.proofs.PromptWorks.{pin_works, pin_comes, agrees_to}
@@ -122,10 +124,10 @@ module _ {Fits : Event → Type 0} (fits : FitsKeys Fits) where
 
   -- ---- what is known of keys
 
-  pub tells_info : (grip : Grip) (key : Key) → Here (TellsInfo grip key)
+  pub tells_info : (grip : Grip) (key : Key) → Here (TellsKeyInfo grip key)
   tells_info grip key = bind Fits (so (work.peeks Fits (turns_of Fits refl (fits.peeks grip)))) (λ is_cached. returned Fits _)
 
-  info_fits : (grip : Grip) (key : Key) {before mid : Option ℕ} {events : List Event} {line : List ℕ} → TellsInfo grip key before events (Ok line) mid → Fits (Sent line)
+  info_fits : (grip : Grip) (key : Key) {before mid : Option ℕ} {events : List Event} {line : List ℕ} → TellsKeyInfo grip key before events (Ok line) mid → Fits (Sent line)
   info_fits grip key (goes_on looked returns) = fits.infos grip _ _
 
   writes_info_of : (grip : Grip) (key : Option Key) (before : Option ℕ) (events : List Event) (result : Result (Unit {0}) Refusal) (after : Option ℕ) → WritesInfo grip key before events result after → Works Fits events result

@@ -8,9 +8,11 @@ use Rattle.assuan_server.specs.declared.errors.Origin.TheVariants.{Agent}
 use Rattle.assuan_text.specs.Options.{options_of, arguments_of, has_option, last_option, last_value}
 use Rattle.assuan_text.specs.Words.{command_of, rest_of, words}
 use Rattle.session_options.specs.declared.rules.Rules.{Rules}
-use Rattle.agent_commands.specs.Events.{Event}
-use Rattle.agent_commands.specs.Fields.{cache_id, text, repeats, texts, life, cleared_mode, given_passphrase}
+use Rattle.agent_commands.specs.Events.{EventWith}
+use Rattle.agent_commands.specs.Fields.{cache_id, repeats, texts, life, cleared_mode, given_passphrase}
+use Rattle.agent_ask.specs.Plans.{text}
 use Rattle.agent_commands.specs.Names.{command_named, is_key_command, info_named}
+use Rattle.session_client.specs.Fields as fields
 use Rattle.agent_commands.specs.Requests as requests
 use Rattle.agent_commands.specs.Requests.{request_of}
 use Rattle.agent_commands.specs.declared.names.CommandName.{CommandName}
@@ -51,17 +53,17 @@ if_fits : {A : Type 0} {Good : A → Type 0} (so : Bool) {one other : Result A C
 if_fits true one other = one
 if_fits false one other = other
 
-needed_fits : {A : Type 0} (field : Option A) → Fits (requests.needed field)
+needed_fits : {A : Type 0} (field : Option A) → Fits (fields.in_form field)
 needed_fits None = fault form
 needed_fits (Some value) = fine tt
 
-then_fits : {A B : Type 0} {Good : B → Type 0} (first : Result A Code) (next : A → Result B Code) → Fits first → ((value : A) → FitsSo Good (next value)) → FitsSo Good (requests.◌>>=◌ first next)
+then_fits : {A B : Type 0} {Good : B → Type 0} (first : Result A Code) (next : A → Result B Code) → Fits first → ((value : A) → FitsSo Good (next value)) → FitsSo Good (fields.◌>>=◌ first next)
 then_fits (Ok value) next fits each = each value
 then_fits (Err why) next (fault is) each = fault is
 
 -- a field that is needed, and then the rest
-field_fits : {A B : Type 0} {Good : B → Type 0} (field : Option A) (next : A → Result B Code) → ((value : A) → FitsSo Good (next value)) → FitsSo Good (requests.◌>>=◌ (requests.needed field) next)
-field_fits field next each = then_fits (requests.needed field) next (needed_fits field) each
+field_fits : {A B : Type 0} {Good : B → Type 0} (field : Option A) (next : A → Result B Code) → ((value : A) → FitsSo Good (next value)) → FitsSo Good (fields.◌>>=◌ (fields.in_form field) next)
+field_fits field next each = then_fits (fields.in_form field) next (needed_fits field) each
 
 -- ---- requests on the cache and on the session
 
@@ -142,7 +144,7 @@ grips_fit (word ∷ more) = field_fits (key_requests.grip word) _ (λ first. the
 wrap_fits : (options : List (List ℕ)) → FitsSo IsAsked (key_requests.wrap_of options)
 wrap_fits options = field_fits (key_requests.direction (has_option (codes "--import") options) (has_option (codes "--export") options)) _ (λ way. (fine tt))
 
-key_asked_fits : (command : KeyCommandName) (rest : List ℕ) → FitsSo IsAsked (key_requests.asked_by command rest)
+key_asked_fits : (command : KeyCommandName) (rest : List ℕ) → FitsSo IsAsked (key_requests.key_asked_by command rest)
 key_asked_fits key_name.HaveKey rest = let arguments = arguments_of (words rest) in then_fits (key_requests.some_grips arguments) _ (if_fits _ (grips_fit arguments) (fault form)) (λ grips. (fine tt))
 key_asked_fits key_name.KeyInfo rest = if_fits _ (fine tt) (field_fits (key_requests.first_grip (arguments_of (words rest))) _ (λ grip. (fine tt)))
 key_asked_fits key_name.KeyWrap rest = wrap_fits (options_of (words rest))
@@ -155,21 +157,21 @@ key_asked_fits key_name.Passwd rest =
     (λ old. field_fits (key_requests.nonce (last_value (codes "--passwd-nonce") (options_of (words rest)))) _ (λ new. (fine tt))))
 key_asked_fits key_name.DeleteKey rest = field_fits (key_requests.first_grip (arguments_of (words rest))) _ (λ grip. if_fits _ (fault unsupported) (fine tt))
 
-either_asked : (result : Result KeyRequest Code) → FitsSo IsAsked result → (why : Code) → key_requests.either result ≡ on.Bad why → IsLineCode why
+either_asked : (result : Result KeyRequest Code) → FitsSo IsAsked result → (why : Code) → key_requests.key_or_bad result ≡ on.Bad why → IsLineCode why
 either_asked (Ok value) (fine good) why is = absurd (subst IsAsked is good)
 either_asked (Err given) (fault code_is) why is = let same : given ≡ why = cc in subst IsLineCode same code_is
 
-named_asked : (command : Option KeyCommandName) (input : List ℕ) (why : Code) → key_requests.request_by command input ≡ on.Bad why → IsLineCode why
-named_asked (Some name) input why is = either_asked (key_requests.asked_by name (rest_of input)) (key_asked_fits name (rest_of input)) why is
+named_asked : (command : Option KeyCommandName) (input : List ℕ) (why : Code) → key_requests.key_request_by command input ≡ on.Bad why → IsLineCode why
+named_asked (Some name) input why is = either_asked (key_requests.key_asked_by name (rest_of input)) (key_asked_fits name (rest_of input)) why is
 named_asked None input why is = let same : code.UnknownCommand ≡ why = cc in subst IsLineCode same unknown
 
 pub key_request_fits : (input : List ℕ) (why : Code) → key_request_of input ≡ on.Bad why → IsLineCode why
 unfolding key_request_of
-key_request_fits input why is = named_asked (key_names.command_named (command_of input)) input why is
+key_request_fits input why is = named_asked (key_names.key_command_named (command_of input)) input why is
 
 -- ---- so its refusal has its cause
 
-module _ (rules : Rules) (kept : Kept) (request : Request) (whole : List (Event FurtherEvent)) where
+module _ (rules : Rules) (kept : Kept) (request : Request) (whole : List (EventWith FurtherEvent)) where
   code_caused : (why : Code) → IsLineCode why → IsRefusedBy request why → IsCaused whole rules kept request why Agent
   code_caused why unknown by = by
   code_caused why form by = IsMalformed.line by
@@ -185,7 +187,7 @@ on_keys_fits (Key input) why is = let bad : key_request_of input.items ≡ on.Ba
 on_keys_fits (Cache command) why is = absurd (cc is)
 on_keys_fits (Bad given) why is = absurd (cc is)
 
-pub line_caused : (rules : Rules) (kept : Kept) (input : List ℕ) (whole : List (Event FurtherEvent)) (why : Code) → IsRefusedBy (request_of input) why
+pub line_caused : (rules : Rules) (kept : Kept) (input : List ℕ) (whole : List (EventWith FurtherEvent)) (why : Code) → IsRefusedBy (request_of input) why
     → IsCaused whole rules kept (request_of input) why Agent
 line_caused rules kept input whole why (inl is) = code_caused rules kept (request_of input) whole why (bad_fits (request_of input) (request_fits input) why is) (inl is)
 line_caused rules kept input whole why (inr is) = code_caused rules kept (request_of input) whole why (on_keys_fits (request_of input) why is) (inr is)

@@ -14,13 +14,14 @@ use Rattle.agent_commands.specs.declared.went.Went.{Went}
 use Rattle.agent_commands.specs.declared.went.Went.TheVariants.{On, End}
 use Rattle.agent_origin.specs.DoorSessions.{AllowedExchange, DoorExchange}
 use Rattle.agent_origin.specs.DoorSessions as doors
-use Rattle.agent_origin.specs.Exchanges.{TrustExchange}
-use Rattle.agent_origin.specs.Exchanges as trusts
-use Rattle.agent_origin.specs.Names.{command_named}
+use Rattle.agent_origin.specs.TrustExchanges.{TrustExchange}
+use Rattle.agent_ask.specs.PartExchanges as part_exchanges
+use Rattle.agent_origin.specs.TrustExchanges as trusts
+use Rattle.agent_origin.specs.TrustNames.{trust_command_named}
 use Rattle.agent_origin.specs.SessionExchanges.{RequestExchange, cache, keys, went_after_key}
 use Rattle.agent_origin.specs.declared.door.Door.{Door}
 use Rattle.agent_origin.specs.declared.kept.Kept.{Kept}
-use Rattle.agent_origin.specs.declared.names.TrustCommandName.{TrustCommandName}
+use Rattle.agent_origin.specs.declared.trust.names.TrustCommandName.{TrustCommandName}
 use Rattle.assuan_line.specs.declared.reader.Took.TheVariants as took
 use Rattle.assuan_server.specs.Errors.{error_text}
 use Rattle.assuan_server.specs.Written.{greeting}
@@ -240,8 +241,8 @@ door_gone (doors.forbidden refuses) says = absurd (heard_so _ (refl, tt) says)
 door_gone (doors.is_allowed allows exchanged) says = allowed_gone exchanged says
 
 trust_told : {rules : Rules} {options : _} {request : _} {events : List Event} {went : Went} → TrustExchange rules options request events went → went ≡ End TooLong → Has long_line events
-trust_told (trusts.answered some does) is = absurd (cc is)
-trust_told (trusts.refused some why does) is = refusal_told some [] why is
+trust_told (part_exchanges.answered some does) is = absurd (cc is)
+trust_told (part_exchanges.refused some why does) is = refusal_told some [] why is
 
 allowed_told : {rules : Rules} {before after : Kept} {line : List ℕ} {command : _} {events : List Event} {went : Went} → AllowedExchange rules before line command events after went → went ≡ End TooLong
     → Has long_line events
@@ -272,5 +273,5 @@ door_long door rules = record {
   ends = λ {before} {after} {line} {events} {went} caused says. door_gone caused.by_cause.exchange says;
   told = λ {before} {after} {line} {events} {went} caused is. door_told caused.by_cause.exchange is;
   caused = λ {before} {after} {line} {events} {went} caused has.
-      said_by_command rules before line (command_named (command_of line)) (because rules before line events door code.LineTooLong (λ e. absurd (cc e)) (caused.by_cause.caused code.LineTooLong Agent has));
+      said_by_command rules before line (trust_command_named (command_of line)) (because rules before line events door code.LineTooLong (λ e. absurd (cc e)) (caused.by_cause.caused code.LineTooLong Agent has));
 }

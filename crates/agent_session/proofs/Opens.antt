@@ -11,13 +11,14 @@ use Rattle.session_options.specs.declared.options.PinMode.{PinMode}
 use Rattle.session_options.specs.declared.options.PinMode.TheVariants as mode
 use Rattle.session_options.specs.declared.rules.Rules.{Rules}
 use Rattle.sexp_keys.specs.Key.{Key}
-use Rattle.agent_commands.specs.Events.{Event}
-use Rattle.key_commands.specs.Exchanges.{KeyReply, Exchange, HaveKeyReplies, KeyInfoReplies, ListKeysReplies, KeyWrapReplies, ImportKeyReplies, ExportKeyReplies, PasswdReplies, VerifyReplies}
-use Rattle.key_commands.specs.Exchanges.{DeleteKeyReplies, Replies, wrap_key, FoundOrNew, RenewsPassphrase, ChangesOpened}
+use Rattle.agent_commands.specs.Events.{EventWith}
+use Rattle.key_commands.specs.Exchanges.{KeyReply, KeyExchange, HaveKeyReplies, KeyInfoReplies, ListKeysReplies, KeyWrapReplies, ImportKeyReplies, ExportKeyReplies, PasswdReplies, VerifyReplies}
+use Rattle.key_commands.specs.Exchanges.{DeleteKeyReplies, KeyReplies, wrap_key, FoundOrNew, RenewsPassphrase, ChangesOpened}
+use Rattle.agent_ask.specs.PartExchanges as part_exchanges
 use Rattle.key_commands.specs.Exchanges as exchange
 use Rattle.key_commands.specs.KeyParts.{IsShort, Consents}
 use Rattle.key_commands.specs.KeyParts as parts
-use Rattle.key_commands.specs.Lines.{ok}
+use Rattle.assuan_server.specs.Written.{ok}
 use Rattle.key_commands.specs.Parts.{Part, refusal_events}
 use Rattle.agent_ask.specs.Parts.{◌>>=◌, Follows, goes_on, stops, Returns, or_else}
 use Rattle.agent_ask.specs.TurnParts.{Closes}
@@ -39,10 +40,10 @@ use Rattle.agent_session.specs.Refusals.{IsUncalled, IsUnopening, OpensFirst}
 use Rattle.key_commands.proofs.EachEvent.{looks_over, takes_seat, each_closes, finds, draws, reads_file, lists, told, is_short, names_key, wraps_key, receives_key, is_free, has_one, locks}
 use Rattle.key_commands.proofs.EachEvent.{tries_found, removes, tells_info, writes_infos, client_old, rewrites_file, stores_key, client_new, prompts_old, prompts_new, agrees}
 
-abbrev pub Uncalled : List (Event FurtherEvent) → Type 0
+abbrev pub Uncalled : List (EventWith FurtherEvent) → Type 0
 Uncalled events = AllByRecursion IsUncalled events
 
-abbrev pub Unopening : List (Event FurtherEvent) → Type 0
+abbrev pub Unopening : List (EventWith FurtherEvent) → Type 0
 Unopening events = AllByRecursion IsUnopening events
 
 abbrev pub UncalledSo : {A : Type 0} → Part A → Type 0
@@ -51,7 +52,7 @@ UncalledSo part = EachSo IsUncalled part
 abbrev pub UnopeningSo : {A : Type 0} → Part A → Type 0
 UnopeningSo part = EachSo IsUnopening part
 
-still_uncalled : (event : Event FurtherEvent) → IsStill event → IsUncalled event
+still_uncalled : (event : EventWith FurtherEvent) → IsStill event → IsUncalled event
 still_uncalled (Sent text) still = tt
 still_uncalled (Cut text) still = tt
 still_uncalled (Inquiry word params limit inquired) still = tt
@@ -63,7 +64,7 @@ still_uncalled (Further (Prompt event)) still = absurd still
 still_uncalled (CacheTurn taken) still = tt
 still_uncalled (Received took) still = tt
 
-pub still_unopening : (event : Event FurtherEvent) → IsStill event → IsUnopening event
+pub still_unopening : (event : EventWith FurtherEvent) → IsStill event → IsUnopening event
 still_unopening (Sent text) still = tt
 still_unopening (Cut text) still = tt
 still_unopening (Inquiry word params limit inquired) still = tt
@@ -77,31 +78,31 @@ still_unopening (Received took) still = tt
 
 -- ---- lists
 
-pub uncalled_first : (first more : List (Event FurtherEvent)) → Uncalled first → OpensFirst more → OpensFirst (first ++ more)
+pub uncalled_first : (first more : List (EventWith FurtherEvent)) → Uncalled first → OpensFirst more → OpensFirst (first ++ more)
 uncalled_first [] more each opens = opens
 uncalled_first (event ∷ first) more each opens = (inl each.0, uncalled_first first more each.1 opens)
 
-pub unopening_opens : (events : List (Event FurtherEvent)) → Unopening events → OpensFirst events
+pub unopening_opens : (events : List (EventWith FurtherEvent)) → Unopening events → OpensFirst events
 unopening_opens [] each = tt
 unopening_opens (event ∷ more) each = (inr each.1, unopening_opens more each.1)
 
-pub then_unopening : (first more : List (Event FurtherEvent)) → OpensFirst first → Unopening more → OpensFirst (first ++ more)
+pub then_unopening : (first more : List (EventWith FurtherEvent)) → OpensFirst first → Unopening more → OpensFirst (first ++ more)
 then_unopening [] more opens each = unopening_opens more each
 then_unopening (event ∷ first) more opens each = (elim (opens.0) [ inl uncalled ↦ inl uncalled | inr unopening ↦ inr (each_append IsUnopening first more unopening each) ], then_unopening first more opens.1 each)
 
-pub uncalled_opens : (events : List (Event FurtherEvent)) → Uncalled events → OpensFirst events
+pub uncalled_opens : (events : List (EventWith FurtherEvent)) → Uncalled events → OpensFirst events
 uncalled_opens events each = subst OpensFirst (append-nil events) (uncalled_first events [] each tt)
 
 -- ---- parts
 
 -- a part, by which the prompter is called only where it leaves a ticket out
 record PromptsSo {A : Type 0} (part : Part A) : Type 0 where
-  opens : (before : Option ℕ) (events : List (Event FurtherEvent)) (result : Result A Refusal) (after : Option ℕ) → part before events result after → OpensFirst events
-  seated : (before : Option ℕ) (events : List (Event FurtherEvent)) (result : Result A Refusal) (after : Option ℕ) → part before events result after → after ≡ None → Uncalled events
+  opens : (before : Option ℕ) (events : List (EventWith FurtherEvent)) (result : Result A Refusal) (after : Option ℕ) → part before events result after → OpensFirst events
+  seated : (before : Option ℕ) (events : List (EventWith FurtherEvent)) (result : Result A Refusal) (after : Option ℕ) → part before events result after → after ≡ None → Uncalled events
 
 -- one from its first event on, whatever is behind
 record OpensSo {A : Type 0} (part : Part A) : Type 0 where
-  of : (before : Option ℕ) (events : List (Event FurtherEvent)) (result : Result A Refusal) (after : Option ℕ) → part before events result after → OpensFirst events
+  of : (before : Option ℕ) (events : List (EventWith FurtherEvent)) (result : Result A Refusal) (after : Option ℕ) → part before events result after → OpensFirst events
 
 uncalled_prompts : {A : Type 0} {part : Part A} → UncalledSo part → PromptsSo part
 uncalled_prompts each = record {
@@ -117,7 +118,7 @@ unopening_part_opens each = record { of = λ before events result after does. un
 
 module _ {A B : Type 0} {part : Part A} {next : A → Part B} (first : UncalledSo part) where
   module _ (then : (value : A) → OpensSo (next value)) where
-    before_opens_of : (before : Option ℕ) (events : List (Event FurtherEvent)) (result : Result B Refusal) (after : Option ℕ) → Follows part next before events result after → OpensFirst events
+    before_opens_of : (before : Option ℕ) (events : List (EventWith FurtherEvent)) (result : Result B Refusal) (after : Option ℕ) → Follows part next before events result after → OpensFirst events
     before_opens_of before events result after (goes_on {first = some} {events = more} {value} {mid} does next_does) =
         uncalled_first some more (first.of before some (Ok value) mid does) ((then value).of mid more result after next_does)
     before_opens_of before events result after (stops {refusal = why} does) = uncalled_opens events (first.of before events (Err why) after does)
@@ -126,7 +127,7 @@ module _ {A B : Type 0} {part : Part A} {next : A → Part B} (first : UncalledS
     before_opens = record { of = before_opens_of }
 
   module _ (then : (value : A) → PromptsSo (next value)) where
-    before_seated_of : (before : Option ℕ) (events : List (Event FurtherEvent)) (result : Result B Refusal) (after : Option ℕ) → Follows part next before events result after → after ≡ None → Uncalled events
+    before_seated_of : (before : Option ℕ) (events : List (EventWith FurtherEvent)) (result : Result B Refusal) (after : Option ℕ) → Follows part next before events result after → after ≡ None → Uncalled events
     before_seated_of before events result after (goes_on {first = some} {events = more} {value} {mid} does next_does) none =
         each_append IsUncalled some more (first.of before some (Ok value) mid does) ((then value).seated mid more result after next_does none)
     before_seated_of before events result after (stops {refusal = why} does) none = first.of before events (Err why) after does
@@ -135,7 +136,7 @@ module _ {A B : Type 0} {part : Part A} {next : A → Part B} (first : UncalledS
     before_prompts = record { opens = (before_opens (λ value. prompts_opens (then value))).of; seated = before_seated_of }
 
 module _ {A B : Type 0} {part : Part A} {next : A → Part B} (first : OpensSo part) (then : (value : A) → UnopeningSo (next value)) where
-  behind_opens_of : (before : Option ℕ) (events : List (Event FurtherEvent)) (result : Result B Refusal) (after : Option ℕ) → Follows part next before events result after → OpensFirst events
+  behind_opens_of : (before : Option ℕ) (events : List (EventWith FurtherEvent)) (result : Result B Refusal) (after : Option ℕ) → Follows part next before events result after → OpensFirst events
   behind_opens_of before events result after (goes_on {first = some} {events = more} {value} {mid} does next_does) =
       then_unopening some more (first.of before some (Ok value) mid does) ((then value).of mid more result after next_does)
   behind_opens_of before events result after (stops {refusal = why} does) = first.of before events (Err why) after does
@@ -150,7 +151,7 @@ otherwise_prompts (Some value) other = uncalled_prompts (each_returned IsUncalle
 -- ---- prompts
 
 module _ (rules : Rules) (options : OptionValues) (grip : Grip) where
-  old_seated : (locked : LockedKey) (before : Option ℕ) (events : List (Event FurtherEvent)) (result : Result _ Refusal) (after : Option ℕ) → PromptsOld rules options grip locked before events result after → after ≡ None → ⊥
+  old_seated : (locked : LockedKey) (before : Option ℕ) (events : List (EventWith FurtherEvent)) (result : Result _ Refusal) (after : Option ℕ) → PromptsOld rules options grip locked before events result after → after ≡ None → ⊥
   old_seated locked before events result after (passphrases.opens_by spec is prompt to) none = absurd (cc none)
   old_seated locked before events result after (passphrases.refused spec is prompt refusal) none = absurd (cc none)
 
@@ -160,7 +161,7 @@ module _ (rules : Rules) (options : OptionValues) (grip : Grip) where
     seated = λ before events result after does none. absurd (old_seated locked before events result after does none);
   }
 
-  new_seated : (before : Option ℕ) (events : List (Event FurtherEvent)) (result : Result (List ℕ) Refusal) (after : Option ℕ) → PromptsNew rules options grip before events result after → after ≡ None → ⊥
+  new_seated : (before : Option ℕ) (events : List (EventWith FurtherEvent)) (result : Result (List ℕ) Refusal) (after : Option ℕ) → PromptsNew rules options grip before events result after → after ≡ None → ⊥
   new_seated before events result after (passphrases.given spec is prompt) none = absurd (cc none)
   new_seated before events result after (passphrases.refused spec is prompt refusal) none = absurd (cc none)
 
@@ -209,35 +210,35 @@ agrees_opens rules options grip mode.Loopback false = prompts_opens (uncalled_pr
 -- ---- a request that has a ticket opens no other prompt
 
 record Seated {A : Type 0} (part : Part A) : Type 0 where
-  each : (number : ℕ) (events : List (Event FurtherEvent)) (result : Result A Refusal) (after : Option ℕ) → part (Some number) events result after → Unopening events
-  stays : (number : ℕ) (events : List (Event FurtherEvent)) (result : Result A Refusal) (after : Option ℕ) → part (Some number) events result after → after ≡ Some number
+  each : (number : ℕ) (events : List (EventWith FurtherEvent)) (result : Result A Refusal) (after : Option ℕ) → part (Some number) events result after → Unopening events
+  stays : (number : ℕ) (events : List (EventWith FurtherEvent)) (result : Result A Refusal) (after : Option ℕ) → part (Some number) events result after → after ≡ Some number
 
-module _ {A B : Type 0} {part : Part A} {next : A → Part B} (first : Seated part) (then : (value : A) (number : ℕ) (events : List (Event FurtherEvent)) (result : Result B Refusal) (after : Option ℕ)
+module _ {A B : Type 0} {part : Part A} {next : A → Part B} (first : Seated part) (then : (value : A) (number : ℕ) (events : List (EventWith FurtherEvent)) (result : Result B Refusal) (after : Option ℕ)
     → next value (Some number) events result after → Unopening events) where
-  seated_then : (number : ℕ) (events : List (Event FurtherEvent)) (result : Result B Refusal) (after : Option ℕ) → Follows part next (Some number) events result after → Unopening events
+  seated_then : (number : ℕ) (events : List (EventWith FurtherEvent)) (result : Result B Refusal) (after : Option ℕ) → Follows part next (Some number) events result after → Unopening events
   seated_then number events result after (goes_on {first = some} {events = more} {value} {mid} does next_does) =
       each_append IsUnopening some more (first.each number some (Ok value) mid does)
       ((then value) number more result after (subst (λ m. next value m more result after) (first.stays number some (Ok value) mid does) next_does))
   seated_then number events result after (stops {refusal = why} does) = first.each number events (Err why) after does
 
-short_stays : (key : Key) (number : ℕ) (events : List (Event FurtherEvent)) (result : Result (Unit {0}) Refusal) (after : Option ℕ) → IsShort key (Some number) events result after → after ≡ Some number
+short_stays : (key : Key) (number : ℕ) (events : List (EventWith FurtherEvent)) (result : Result (Unit {0}) Refusal) (after : Option ℕ) → IsShort key (Some number) events result after → after ≡ Some number
 short_stays key number events result after (parts.short few) = refl
 short_stays key number events result after (parts.long many) = refl
 
-nonce_stays : (id : Option (List ℕ)) (number : ℕ) (events : List (Event FurtherEvent)) (result : Result (Option (List ℕ)) Refusal) (after : Option ℕ) → LooksForNonce id (Some number) events result after → after ≡ Some number
+nonce_stays : (id : Option (List ℕ)) (number : ℕ) (events : List (EventWith FurtherEvent)) (result : Result (Option (List ℕ)) Refusal) (after : Option ℕ) → LooksForNonce id (Some number) events result after → after ≡ Some number
 nonce_stays None number events result after chain.returns = refl
 nonce_stays (Some id) number events result after taken.given = refl
 nonce_stays (Some id) number events result after taken.empty = refl
 nonce_stays (Some id) number events result after (taken.interrupted why) = refl
 
-seat_taken_stays : (grip : Grip) (number : ℕ) (events : List (Event FurtherEvent)) (result : Result (Unit {0}) Refusal) (after : Option ℕ) → TakesSeat grip (Some number) events result after → after ≡ Some number
+seat_taken_stays : (grip : Grip) (number : ℕ) (events : List (EventWith FurtherEvent)) (result : Result (Unit {0}) Refusal) (after : Option ℕ) → TakesSeat grip (Some number) events result after → after ≡ Some number
 seat_taken_stays grip number events result after chain.returns = refl
 
-seat_taken_each : (grip : Grip) (number : ℕ) (events : List (Event FurtherEvent)) (result : Result (Unit {0}) Refusal) (after : Option ℕ) → TakesSeat grip (Some number) events result after → Unopening events
+seat_taken_each : (grip : Grip) (number : ℕ) (events : List (EventWith FurtherEvent)) (result : Result (Unit {0}) Refusal) (after : Option ℕ) → TakesSeat grip (Some number) events result after → Unopening events
 seat_taken_each grip number events result after chain.returns = tt
 
 module _ (rules : Rules) (options : OptionValues) (grip : Grip) where
-  new_by_seated : (way : PinMode) (number : ℕ) (events : List (Event FurtherEvent)) (result : Result (List ℕ) Refusal) (after : Option ℕ) → passphrases.new_by rules options grip way (Some number) events result after
+  new_by_seated : (way : PinMode) (number : ℕ) (events : List (EventWith FurtherEvent)) (result : Result (List ℕ) Refusal) (after : Option ℕ) → passphrases.new_by rules options grip way (Some number) events result after
       → Unopening events
   new_by_seated mode.Ask number events result after does =
       seated_then (record { each = seat_taken_each grip; stays = seat_taken_stays grip })
@@ -246,24 +247,24 @@ module _ (rules : Rules) (options : OptionValues) (grip : Grip) where
   new_by_seated mode.Error number events result after does = (each_refused IsUnopening (Agent code.NoPinentry)).of (Some number) events result after does
   new_by_seated mode.Loopback number events result after does = (client_new IsUnopening still_unopening).of (Some number) events result after does
 
-  found_seated : (found : Option (List ℕ)) (number : ℕ) (events : List (Event FurtherEvent)) (result : Result (List ℕ) Refusal) (after : Option ℕ)
+  found_seated : (found : Option (List ℕ)) (number : ℕ) (events : List (EventWith FurtherEvent)) (result : Result (List ℕ) Refusal) (after : Option ℕ)
       → or_else found (NewPassphrase rules options grip) (Some number) events result after → Unopening events
   found_seated None number events result after does = new_by_seated options.mode number events result after does
   found_seated (Some pass) number events result after does = (each_returned IsUnopening pass).of (Some number) events result after does
 
-  renews_seated : (id : Option (List ℕ)) (number : ℕ) (events : List (Event FurtherEvent)) (result : Result (List ℕ) Refusal) (after : Option ℕ) → RenewsPassphrase rules options grip id (Some number) events result after
+  renews_seated : (id : Option (List ℕ)) (number : ℕ) (events : List (EventWith FurtherEvent)) (result : Result (List ℕ) Refusal) (after : Option ℕ) → RenewsPassphrase rules options grip id (Some number) events result after
       → Unopening events
   renews_seated id = seated_then
       (record { each = λ number events result after does. (looks_nonce IsUnopening id (λ named turn. refl)).of (Some number) events result after does; stays = nonce_stays id })
       (λ found. found_seated found)
 
-  changes_seated : (id : Option (List ℕ)) (file : List ℕ) (key : Key) (number : ℕ) (events : List (Event FurtherEvent)) (result : Result (Unit {0}) Refusal) (after : Option ℕ)
+  changes_seated : (id : Option (List ℕ)) (file : List ℕ) (key : Key) (number : ℕ) (events : List (EventWith FurtherEvent)) (result : Result (Unit {0}) Refusal) (after : Option ℕ)
       → ChangesOpened rules options grip id file key (Some number) events result after → Unopening events
   changes_seated id file key = seated_then
       (record { each = λ number events result after does. (is_short IsUnopening still_unopening key).of (Some number) events result after does; stays = short_stays key })
       (λ short number events result after does. renewed number events result after does)
     where
-      renewed : (number : ℕ) (events : List (Event FurtherEvent)) (result : Result (Unit {0}) Refusal) (after : Option ℕ)
+      renewed : (number : ℕ) (events : List (EventWith FurtherEvent)) (result : Result (Unit {0}) Refusal) (after : Option ℕ)
           → (RenewsPassphrase rules options grip id >>= λ pass. exchange.RewritesFile rules options grip file key pass) (Some number) events result after → Unopening events
       renewed number events result after (goes_on {first = some} {events = more} {value = pass} {mid} does next_does) =
           each_append IsUnopening some more (renews_seated id number some (Ok pass) mid does)
@@ -276,15 +277,15 @@ module _ (rules : Rules) (options : OptionValues) (grip : Grip) where
       (prompts_opens (before_prompts (looks_nonce IsUncalled id (λ named turn. tt)) (λ found. otherwise_prompts found (new_by_prompts rules options grip options.mode))))
       (λ pass. rewrites_file IsUnopening still_unopening (λ key_grip secret turn. refl) (λ ticket keep turn. refl) rules options grip file key pass))
 
-  changed_seated : (wraps : WrapKeys) (id : Option (List ℕ)) (file : List ℕ) (key : Key) (number : ℕ) (events : List (Event FurtherEvent)) (result : Result KeyReply Refusal) (after : Option ℕ)
-      → (ChangesOpened rules options grip id file key >>= λ changed. Returns (exchange.reply wraps ok)) (Some number) events result after → Unopening events
+  changed_seated : (wraps : WrapKeys) (id : Option (List ℕ)) (file : List ℕ) (key : Key) (number : ℕ) (events : List (EventWith FurtherEvent)) (result : Result KeyReply Refusal) (after : Option ℕ)
+      → (ChangesOpened rules options grip id file key >>= λ changed. Returns (exchange.key_reply wraps ok)) (Some number) events result after → Unopening events
   changed_seated wraps id file key number events result after (goes_on {first = some} {events = more} {value} {mid} does chain.returns) =
       each_append IsUnopening some more (changes_seated id file key number some (Ok value) mid does) tt
   changed_seated wraps id file key number events result after (stops {refusal = why} does) = changes_seated id file key number events (Err why) after does
 
   -- both passphrases, under one ticket
-  both_of : (wraps : WrapKeys) (old_id new_id : Option (List ℕ)) (file : List ℕ) (key : Key) (before : Option ℕ) (events : List (Event FurtherEvent)) (result : Result KeyReply Refusal) (after : Option ℕ)
-      → (OldPassphrase rules options grip old_id key >>= λ opened. (ChangesOpened rules options grip new_id file opened.key >>= λ changed. Returns (exchange.reply wraps ok))) before events result after
+  both_of : (wraps : WrapKeys) (old_id new_id : Option (List ℕ)) (file : List ℕ) (key : Key) (before : Option ℕ) (events : List (EventWith FurtherEvent)) (result : Result KeyReply Refusal) (after : Option ℕ)
+      → (OldPassphrase rules options grip old_id key >>= λ opened. (ChangesOpened rules options grip new_id file opened.key >>= λ changed. Returns (exchange.key_reply wraps ok))) before events result after
       → OpensFirst events
   both_of wraps old_id new_id file key before events result after (goes_on {first = some} {events = more} {value = opened} {mid = None} does next_does) =
       uncalled_first some more ((old_by_prompts rules options grip old_id key key.is_clear).seated before some (Ok opened) None does refl)
@@ -347,7 +348,7 @@ module _ (rules : Rules) (options : OptionValues) (wraps : WrapKeys) where
       (λ pass. each_bind IsUnopening (stores_key IsUnopening still_unopening (λ key_grip secret turn. refl) (λ ticket keep turn. refl) (λ named secret turn. refl) options.s2k_count key grip pass)
       (λ cache_nonce. each_returned IsUnopening _))))))
 
-  replies : (asked : KeyRequest) → OpensSo (Replies rules options wraps asked)
+  replies : (asked : KeyRequest) → OpensSo (KeyReplies rules options wraps asked)
   replies (on.HaveKey grips) = have_key grips
   replies (on.KeyInfo grip) = key_info grip
   replies on.ListKeys = list_keys
@@ -359,7 +360,7 @@ module _ (rules : Rules) (options : OptionValues) (wraps : WrapKeys) where
   replies (on.DeleteKey grip force) = delete_key force grip
   replies (on.Bad why) = prompts_opens (uncalled_prompts (each_refused IsUncalled (Agent why)))
 
-  back_unopening : {held : Option ℕ} {back : List (Event FurtherEvent)} (last : List (Event FurtherEvent)) → Unopening last → Closes None held back (Ok tt) None → Unopening (back ++ last)
+  back_unopening : {held : Option ℕ} {back : List (EventWith FurtherEvent)} (last : List (EventWith FurtherEvent)) → Unopening last → Closes None held back (Ok tt) None → Unopening (back ++ last)
   back_unopening last each taken.unheld = each
   back_unopening last each (taken.closed turn) = (refl, each)
 
@@ -375,6 +376,6 @@ module _ (rules : Rules) (options : OptionValues) (wraps : WrapKeys) where
   refusal_unopening (Client (unheard.Gone gone.ReadFault)) = tt
   refusal_unopening (Client (unheard.Gone gone.WriteFault)) = tt
 
-  pub key_opens : (asked : KeyRequest) {events : List (Event FurtherEvent)} {after : WrapKeys} {went : KeyWent} → Exchange rules options wraps asked events after went → OpensFirst events
-  key_opens asked (exchange.answered events held reply does closes) = then_unopening events _ ((replies asked).of None events (Ok reply) held does) (back_unopening _ (tt, tt) closes)
-  key_opens asked (exchange.refused events held why does closes) = then_unopening events _ ((replies asked).of None events (Err why) held does) (back_unopening _ (refusal_unopening why) closes)
+  pub key_opens : (asked : KeyRequest) {events : List (EventWith FurtherEvent)} {after : WrapKeys} {went : KeyWent} → KeyExchange rules options wraps asked events after went → OpensFirst events
+  key_opens asked (part_exchanges.answered events held reply does closes) = then_unopening events _ ((replies asked).of None events (Ok reply) held does) (back_unopening _ (tt, tt) closes)
+  key_opens asked (part_exchanges.refused events held why does closes) = then_unopening events _ ((replies asked).of None events (Err why) held does) (back_unopening _ (refusal_unopening why) closes)

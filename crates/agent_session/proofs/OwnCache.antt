@@ -34,10 +34,11 @@ use Rattle.session_options.specs.declared.options.PinMode.{PinMode}
 use Rattle.session_options.specs.declared.options.PinMode.TheVariants as mode
 use Rattle.session_options.specs.declared.rules.Rules.{Rules}
 use Rattle.agent_commands.specs.Endings.{went_after}
-use Rattle.agent_commands.specs.Events.{Event}
+use Rattle.agent_commands.specs.Events.{EventWith}
 use Rattle.agent_commands.specs.Exchanges as exchanges
-use Rattle.agent_commands.specs.Exchanges.{Exchange, CacheReply, TellsPassphrase, TellsInfo, GivenOrAsked, Presets, Replies, option_replies, confirms_by, put}
-use Rattle.agent_commands.specs.Parts.{Part, AsksPassphrase, limit_line}
+use Rattle.agent_commands.specs.Exchanges.{CacheExchange, CacheReply, TellsPassphrase, TellsInfo, GivenOrAsked, Presets, CacheReplies, option_replies, confirms_by, put}
+use Rattle.agent_commands.specs.Parts.{CachePart, AsksPassphrase}
+use Rattle.assuan_server.specs.Written.{limit_line}
 use Rattle.agent_commands.specs.Passphrases.{ask, ask_or_open, LooksFor, WantsPrompt, KeepsUnder, ByCache, ByClient, Uncached, WithoutPrompt, PromptsAny, ByUser, as_wanted, passphrase_by}
 use Rattle.agent_commands.specs.Passphrases as passphrases
 use Rattle.agent_commands.specs.Requests.{GetFields, get_passphrase}
@@ -56,7 +57,8 @@ use Rattle.agent_session.specs.OwnAnswers.{IsPublic, done, closes, helps, tells,
 use Rattle.agent_session.specs.OwnAnswers as answers
 use Rattle.agent_session.specs.OwnPassphrases.{by_command, WantsTicket, by_id, unkept, HasTicket, has_ticket, IsAccepted, any, HandsIn, StoresOwn}
 use Rattle.agent_session.specs.OwnPassphrases as whose
-use Rattle.agent_session.specs.Refusals.{preset, given, limit}
+use Rattle.agent_session.specs.Refusals.{preset, given}
+use Rattle.key_commands.specs.Lines.{of_limit}
 use Rattle.agent_session.proofs.OwnFacts.{ticket_more, accepted_more, sent_more}
 use Rattle.agent_session.proofs.OwnLines.{IsOpen, IsPlain, Open, Plain, each_first, each_second, shown_plain, refusal_plain, back_plain, open_are_own, said_last_own}
 use Rattle.agent_session.proofs.OwnKeys.{stand_last, key_own}
@@ -65,10 +67,10 @@ use Rattle.agent_session.proofs.Standing.{has_left, has_right}
 
 -- what is so of what was done before and of the ticket that is held
 abbrev Fact : Type 1
-Fact = List (Event FurtherEvent) → Option ℕ → Type 0
+Fact = List (EventWith FurtherEvent) → Option ℕ → Type 0
 
 module _ (rules : Rules) where
-  agrees_of : {options : OptionValues} {question : List ℕ} (before : Option ℕ) (events : List (Event FurtherEvent)) (result : Result (Unit {0}) Refusal) (after : Option ℕ)
+  agrees_of : {options : OptionValues} {question : List ℕ} (before : Option ℕ) (events : List (EventWith FurtherEvent)) (result : Result (Unit {0}) Refusal) (after : Option ℕ)
       → AgreesTo session_lines rules options question before events result after → Plain rules events
   agrees_of before events result after (consent.consents spec is prompt) = shown_plain rules prompt.in_session
   agrees_of before events result after (consent.refused spec is prompt refusal) = shown_plain rules prompt.in_session
@@ -83,14 +85,14 @@ module _ (rules : Rules) where
     -- ---- parts
 
     -- where this is so, what a part hands in is the request's own, and it writes no passphrase; and then that is so of what it comes to
-    abbrev Owns : {A : Type 0} → Fact → Part A → (A → Fact) → Type 0
-    Owns {A} Pre part Post = (prior : List (Event FurtherEvent)) (before : Option ℕ) (events : List (Event FurtherEvent)) (result : Result A Refusal) (after : Option ℕ) → part before events result after → Pre prior before
+    abbrev Owns : {A : Type 0} → Fact → CachePart A → (A → Fact) → Type 0
+    Owns {A} Pre part Post = (prior : List (EventWith FurtherEvent)) (before : Option ℕ) (events : List (EventWith FurtherEvent)) (result : Result A Refusal) (after : Option ℕ) → part before events result after → Pre prior before
         → AreOwn request prior events × Open rules events × HoldsOf (λ value. Post value (prior ++ events) after) result
 
-    record OwnUntold {A : Type 0} (Pre : Fact) (part : Part A) (Post : A → Fact) : Type 0 where
+    record OwnUntold {A : Type 0} (Pre : Fact) (part : CachePart A) (Post : A → Fact) : Type 0 where
       of : Owns Pre part Post
 
-    module _ {A B : Type 0} {Pre : Fact} {Mid : A → Fact} {Post : B → Fact} {part : Part A} {next : A → Part B} (first : OwnUntold Pre part Mid) (then : (value : A) → OwnUntold (Mid value) (next value) Post) where
+    module _ {A B : Type 0} {Pre : Fact} {Mid : A → Fact} {Post : B → Fact} {part : CachePart A} {next : A → CachePart B} (first : OwnUntold Pre part Mid) (then : (value : A) → OwnUntold (Mid value) (next value) Post) where
       bind_of : Owns Pre (part >>= next) Post
       bind_of prior before events result after (goes_on {first = some} {events = more} {value} {mid} does next_does) pre =
           let one = first.of prior before some (Ok value) mid does pre in
@@ -102,28 +104,28 @@ module _ (rules : Rules) where
       bind = record { of = bind_of }
 
     module _ {A : Type 0} (Pre : Fact) (Post : A → Fact) where
-      returned_of : (value : A) → ((prior : List (Event FurtherEvent)) (held : Option ℕ) → Pre prior held → Post value prior held) → Owns Pre (Returns value) Post
+      returned_of : (value : A) → ((prior : List (EventWith FurtherEvent)) (held : Option ℕ) → Pre prior held → Post value prior held) → Owns Pre (Returns value) Post
       returned_of value so prior before events result after returns pre = (tt, tt, subst (λ p. Post value p before) (sym (append-nil prior)) (so prior before pre))
 
       refused_of : (why : Refusal) → Owns Pre (Refuses {A = A} why) Post
       refused_of why prior before events result after chain.refuses pre = (tt, tt, tt)
 
     module _ {A : Type 0} {Pre : Fact} {Post : A → Fact} where
-      returned : (value : A) → ((prior : List (Event FurtherEvent)) (held : Option ℕ) → Pre prior held → Post value prior held) → OwnUntold Pre (Returns value) Post
+      returned : (value : A) → ((prior : List (EventWith FurtherEvent)) (held : Option ℕ) → Pre prior held → Post value prior held) → OwnUntold Pre (Returns value) Post
       returned value so = record { of = returned_of Pre Post value so }
 
       refused : (why : Refusal) → OwnUntold Pre (Refuses {A = A} why) Post
       refused why = record { of = refused_of Pre Post why }
 
-    plain_own : (prior events : List (Event FurtherEvent)) → Plain rules events → AreOwn request prior events × Open rules events
+    plain_own : (prior events : List (EventWith FurtherEvent)) → Plain rules events → AreOwn request prior events × Open rules events
     plain_own prior events each = (quiet_are_own request prior events (each_first IsQuiet (IsOpen rules) events each), each_second IsQuiet (IsOpen rules) events each)
 
-    plainly : {A : Type 0} {Pre : Fact} {part : Part A} → EachSo (IsPlain rules) part → OwnUntold Pre part (λ value. Anything)
+    plainly : {A : Type 0} {Pre : Fact} {part : CachePart A} → EachSo (IsPlain rules) part → OwnUntold Pre part (λ value. Anything)
     plainly each = record { of = λ prior before events result after does pre. let so = plain_own prior events (each.of before events result after does) in (so.0, so.1, whatever result tt) }
 
     -- a turn that changes the cache
-    module _ (Is After : List (Event FurtherEvent) → Type 0) (step : MarkStep) (own : (prior : List (Event FurtherEvent)) → Is prior → HandsIn step → StoresOwn request prior step)
-        (then : (prior more : List (Event FurtherEvent)) → Is prior → After (prior ++ more)) where
+    module _ (Is After : List (EventWith FurtherEvent) → Type 0) (step : MarkStep) (own : (prior : List (EventWith FurtherEvent)) → Is prior → HandsIn step → StoresOwn request prior step)
+        (then : (prior more : List (EventWith FurtherEvent)) → Is prior → After (prior ++ more)) where
       changes_of : Owns (λ prior held. Is prior) (Changes step) (λ changed prior held. After prior)
       changes_of prior before events result after turning.done pre = ((own prior pre, tt), (tt, tt), then prior _ pre)
       changes_of prior before events result after (turning.interrupted why) pre = ((own prior pre, tt), (tt, tt), tt)
@@ -136,9 +138,9 @@ module _ (rules : Rules) where
     abbrev IsSaid : List ℕ → Fact
     IsSaid pass prior held = IsSent prior (codes "PASSPHRASE") MAX_SECRET_LEN pass
 
-    module _ (Pre : Fact) (Post : List ℕ → Fact) (gives : (pass : List ℕ) (prior : List (Event FurtherEvent)) (held : Option ℕ) → IsSaid pass prior held → Post pass prior held) where
+    module _ (Pre : Fact) (Post : List ℕ → Fact) (gives : (pass : List ℕ) (prior : List (EventWith FurtherEvent)) (held : Option ℕ) → IsSaid pass prior held → Post pass prior held) where
       writes_of : Owns Pre (Writes limit_line) (λ wrote. Anything)
-      writes_of prior before events result after client.written pre = ((tt, tt), (notice (limit MAX_SECRET_LEN), tt), tt)
+      writes_of prior before events result after client.written pre = ((tt, tt), (notice (of_limit MAX_SECRET_LEN), tt), tt)
       writes_of prior before events result after (client.cut unsent is) pre = ((tt, tt), (tt, tt), tt)
 
       inquires_of : Owns Anything (Inquires session_lines (codes "PASSPHRASE") MAX_SECRET_LEN) Post
@@ -154,10 +156,10 @@ module _ (rules : Rules) where
     abbrev Held : Fact
     Held prior held = (ticket : ℕ) → held ≡ Some ticket → HasTicket request prior ticket
 
-    held_more : {prior : List (Event FurtherEvent)} {held : Option ℕ} (more : List (Event FurtherEvent)) → Held prior held → Held (prior ++ more) held
+    held_more : {prior : List (EventWith FurtherEvent)} {held : Option ℕ} (more : List (EventWith FurtherEvent)) → Held prior held → Held (prior ++ more) held
     held_more more own ticket is = ticket_more request more (own ticket is)
 
-    opened_own : {prior : List (Event FurtherEvent)} {ticket : ℕ} → HasTicket request prior ticket → Held prior (Some ticket)
+    opened_own : {prior : List (EventWith FurtherEvent)} {ticket : ℕ} → HasTicket request prior ticket → Held prior (Some ticket)
     opened_own {prior} has other is = subst (HasTicket request prior) (cc is) has
 
     seats_of : Owns Held (Seats (Seat None None)) (λ seated. Held)
@@ -179,8 +181,8 @@ module _ (rules : Rules) where
       Known None = Held
       Known (Some secret) = IsFound secret
 
-      module _ (step : MarkStep) (quiet : HandsIn step → ⊥) (gives : (prior : List (Event FurtherEvent)) (grant : Grant) → Has (cache_turn step (Given grant)) prior → IsAnswered request prior fields grant.entry.secret) where
-        asks_of : (prior : List (Event FurtherEvent)) (before : Option ℕ) (events : List (Event FurtherEvent)) (result : Result (Option (List ℕ)) Refusal) (after : Option ℕ)
+      module _ (step : MarkStep) (quiet : HandsIn step → ⊥) (gives : (prior : List (EventWith FurtherEvent)) (grant : Grant) → Has (cache_turn step (Given grant)) prior → IsAnswered request prior fields grant.entry.secret) where
+        asks_of : (prior : List (EventWith FurtherEvent)) (before : Option ℕ) (events : List (EventWith FurtherEvent)) (result : Result (Option (List ℕ)) Refusal) (after : Option ℕ)
             → ((ticket : ℕ) → before ≡ None → after ≡ Some ticket → WantsTicket request step) → Asks step before events result after → Held prior before
             → AreOwn request prior events × Open rules events × HoldsOf (λ found. Known found (prior ++ events) after) result
         asks_of prior before events result after wants (turning.given {grant}) pre = (((λ hands. absurd (quiet hands)), tt), (tt, tt), gives _ grant (has_right prior here))
@@ -203,7 +205,7 @@ module _ (rules : Rules) where
             asks_of (ask_or_open id) (λ hands. elim hands [ ]) (λ prior grant has. unprompted same has) prior before events result after (λ ticket none some. by_id fields is_get same) does pre;
       }
 
-      found_or : (found : Option (List ℕ)) {other : Part (List ℕ)} → OwnUntold Held other IsFound → OwnUntold (Known found) (or_else found other) IsFound
+      found_or : (found : Option (List ℕ)) {other : CachePart (List ℕ)} → OwnUntold Held other IsFound → OwnUntold (Known found) (or_else found other) IsFound
       found_or None other = other
       found_or (Some secret) other = returned secret (λ prior held found. found)
 
@@ -217,7 +219,7 @@ module _ (rules : Rules) where
       keeps_under : (id : Option (List ℕ)) → fields.id ≡ id → (secret : List ℕ) → OwnUntold (IsSaid secret) (KeepsUnder id secret) (λ kept. IsSaid secret)
       keeps_under None same secret = returned tt (λ prior held says. says)
       keeps_under (Some id) same secret =
-          let says_so : List (Event FurtherEvent) → Type 0 = λ prior. IsSaid secret prior None in
+          let says_so : List (EventWith FurtherEvent) → Type 0 = λ prior. IsSaid secret prior None in
           changes says_so says_so (Put id User Default secret) (λ prior says hands. whose.sent (by_command (given fields is_get same)) says) (λ prior more says. sent_more more says)
 
       by_client : OwnUntold Held (ByClient fields.id) IsFound
@@ -279,7 +281,7 @@ module _ (rules : Rules) where
     changes_plainly quiet = plainly (each_changes (IsPlain rules) (λ turn. (quiet, tt)))
 
     module _ (id : List ℕ) (life : Life) where
-      abbrev IsPreset : List ℕ → List (Event FurtherEvent) → Type 0
+      abbrev IsPreset : List ℕ → List (EventWith FurtherEvent) → Type 0
       IsPreset pass prior = StoresOwn request prior (put id life pass)
 
       given_or_asked : (secret : Option (List ℕ)) → request ≡ Cache (on.PresetPassphrase id life secret) → OwnUntold Anything (GivenOrAsked secret) (λ pass prior held. IsPreset pass prior)
@@ -291,7 +293,7 @@ module _ (rules : Rules) where
           bind (plainly (each_wanted (IsPlain rules) code.NotSupported rules.allow_preset))
           (λ allowed. bind (given_or_asked secret is) (λ pass. changes (IsPreset pass) (λ prior. ⊤) (put id life pass) (λ prior so hands. so) (λ prior more so. tt)))
 
-    replies : (options : OptionValues) (command : CacheCommand) → request ≡ Cache command → OwnUntold Held (Replies rules options command) Says
+    replies : (options : OptionValues) (command : CacheCommand) → request ≡ Cache command → OwnUntold Held (CacheReplies rules options command) Says
     replies options on.Nop is = says _ done
     replies options on.Reset is = says _ done
     replies options on.Bye is = says _ closes
@@ -310,7 +312,7 @@ module _ (rules : Rules) where
 
     -- ---- exchanges
 
-    says_more : {prior : List (Event FurtherEvent)} {text : List ℕ} (more : List (Event FurtherEvent)) → SaysOwn request prior rules text → SaysOwn request (prior ++ more) rules text
+    says_more : {prior : List (EventWith FurtherEvent)} {text : List ℕ} (more : List (EventWith FurtherEvent)) → SaysOwn request prior rules text → SaysOwn request (prior ++ more) rules text
     says_more more (public is) = public is
     says_more more (passphrase fields is_get found is) = passphrase fields is_get (found_more found) is
       where
@@ -321,10 +323,10 @@ module _ (rules : Rules) where
         found_more (answers.sent says) = answers.sent (sent_more more says)
 
     -- what is done for a request is its own, and what is written for it
-    abbrev AllOwn : List (Event FurtherEvent) → Type 0
+    abbrev AllOwn : List (EventWith FurtherEvent) → Type 0
     AllOwn events = AreOwn request [] events × SaysOwnAlone rules request events
 
-    exchange_own : {part : Part CacheReply} {before after : OptionValues} {events : List (Event FurtherEvent)} {went : Went} → OwnUntold Held part Says → AnyExchange refusal_line went_after part before events after went → AllOwn events
+    exchange_own : {part : CachePart CacheReply} {before after : OptionValues} {events : List (EventWith FurtherEvent)} {went : Went} → OwnUntold Held part Says → AnyExchange refusal_line went_after part before events after went → AllOwn events
     exchange_own own (exchange.answered events held reply {back} does closes_so) =
         let so = own.of [] None events (Ok reply) held does (λ ticket is. absurd (cc is)) in
         let plain : Plain rules back = back_plain rules closes_so in
@@ -342,11 +344,11 @@ module _ (rules : Rules) where
           open_are_own rules request (events ++ last) (each_append (IsOpen rules) events last so.1 (each_second IsQuiet (IsOpen rules) last plain)),
         )
 
-  pub cache_own : (before : OptionValues) (request : Request) (events : List (Event FurtherEvent)) (after : OptionValues) (went : Went) → Exchange rules before request events after went → AllOwn request events
+  pub cache_own : (before : OptionValues) (request : Request) (events : List (EventWith FurtherEvent)) (after : OptionValues) (went : Went) → CacheExchange rules before request events after went → AllOwn request events
   cache_own before (Cache command) events after went exchanged = exchange_own (Cache command) (replies (Cache command) before command refl) exchanged
   cache_own before (Bad why) events after went exchanged = exchange_own (Bad why) (refused (Bad why) {Post = Says (Bad why)} (Agent why)) exchanged
   cache_own before (OnKeys line) events after went exchanged = absurd exchanged
 
-pub request_own : {rules : Rules} {kept now : Kept} (request : Request) {events : List (Event FurtherEvent)} {went : Went} → RequestExchange rules kept request events now went → Fit events → AreOwn request [] events
+pub request_own : {rules : Rules} {kept now : Kept} (request : Request) {events : List (EventWith FurtherEvent)} {went : Went} → RequestExchange rules kept request events now went → Fit events → AreOwn request [] events
 request_own {rules} {kept} request {events} {went} (cache {options} exchanged) fits = (cache_own rules kept.options request events options went exchanged).0
 request_own {rules} {kept} request (keys exchanged) fits = key_own request rules kept.options kept.wraps _ refl exchanged fits

@@ -5,16 +5,18 @@ use Rattle.agent_ask.specs.Further.{FurtherEvent}
 use Rattle.agent_ports.specs.declared.grip.Grip.{Grip}
 use Rattle.secret_file.specs.Opens.{LockedKey, IsLocked}
 use Rattle.sexp_keys.specs.Key.{Key}
-use Rattle.agent_commands.specs.Events.{Event}
+use Rattle.agent_commands.specs.Events.{EventWith}
 use Rattle.agent_commands.specs.declared.request.Request.{Request}
 use Rattle.key_commands.specs.KeyParts.{Tells, tells, ReadsFile, Replaces, Protects, IsShort, AsksKeyData, Unwraps, NamesKey, LooksOver, WrapsKey}
 use Rattle.key_commands.specs.KeyParts as parts
-use Rattle.key_commands.specs.Parts.{Writes, Inquires, Finds, Draws}
+use Rattle.key_commands.specs.Parts.{Finds, Draws}
+use Rattle.agent_ask.specs.ClientParts.{Writes, Inquires}
 use Rattle.agent_ask.specs.TurnParts.{Asks}
 use Rattle.agent_ask.specs.Parts as chain
 use Rattle.agent_ask.specs.TurnParts as turning
+use Rattle.agent_ask.specs.ClientParts as client_parts
 use Rattle.key_commands.specs.Parts as small
-use Rattle.key_commands.specs.Passphrases.{LooksForNonce, Locks, Tries, ask_nonce}
+use Rattle.key_commands.specs.Passphrases.{LooksForNonce, Locks, TriesPassphrase, ask_nonce}
 use Rattle.key_commands.specs.Passphrases as passphrases
 use Rattle.session_client.specs.declared.refusal.Refusal.{Refusal}
 use Rattle.agent_session.specs.Causes.{here, StandIn, IsSent, sent, IsDrawn, IsRead, read, IsReadLocked}
@@ -29,49 +31,49 @@ stand_more {part} more stands = record {
   is = ap (λ w. w ++ more) stands.is ∙ append_assoc stands.before (part ++ stands.after) more ∙ ap (λ x. stands.before ++ x) (append_assoc part stands.after more);
 }
 
-pub sent_more : {prior : List (Event FurtherEvent)} {word pass : List ℕ} {limit : ℕ} (more : List (Event FurtherEvent)) → IsSent prior word limit pass → IsSent (prior ++ more) word limit pass
+pub sent_more : {prior : List (EventWith FurtherEvent)} {word pass : List ℕ} {limit : ℕ} (more : List (EventWith FurtherEvent)) → IsSent prior word limit pass → IsSent (prior ++ more) word limit pass
 sent_more more (sent says has) = sent says (has_left more has)
 
-pub drawn_more : {prior : List (Event FurtherEvent)} {count : ℕ} {bytes : List ℕ} (more : List (Event FurtherEvent)) → IsDrawn prior count bytes → IsDrawn (prior ++ more) count bytes
+pub drawn_more : {prior : List (EventWith FurtherEvent)} {count : ℕ} {bytes : List ℕ} (more : List (EventWith FurtherEvent)) → IsDrawn prior count bytes → IsDrawn (prior ++ more) count bytes
 drawn_more more drawn = record { long = drawn.long; has = has_left more drawn.has }
 
-pub read_more : {prior : List (Event FurtherEvent)} {grip : Grip} {says : _} (more : List (Event FurtherEvent)) → IsRead prior grip says → IsRead (prior ++ more) grip says
+pub read_more : {prior : List (EventWith FurtherEvent)} {grip : Grip} {says : _} (more : List (EventWith FurtherEvent)) → IsRead prior grip says → IsRead (prior ++ more) grip says
 read_more more (read is says has) = read is says (has_left more has)
 
-pub locked_more : {prior : List (Event FurtherEvent)} {grip : Grip} {locked : LockedKey} (more : List (Event FurtherEvent)) → IsReadLocked prior grip locked → IsReadLocked (prior ++ more) grip locked
+pub locked_more : {prior : List (EventWith FurtherEvent)} {grip : Grip} {locked : LockedKey} (more : List (EventWith FurtherEvent)) → IsReadLocked prior grip locked → IsReadLocked (prior ++ more) grip locked
 locked_more more locked = record { key = read_more more locked.key; protection = locked.protection }
 
 module _ (request : Request) where
-  pub ticket_more : {prior : List (Event FurtherEvent)} {ticket : ℕ} (more : List (Event FurtherEvent)) → HasTicket request prior ticket → HasTicket request (prior ++ more) ticket
+  pub ticket_more : {prior : List (EventWith FurtherEvent)} {ticket : ℕ} (more : List (EventWith FurtherEvent)) → HasTicket request prior ticket → HasTicket request (prior ++ more) ticket
   ticket_more more (has_ticket wants has) = has_ticket wants (has_left more has)
 
-  pub accepted_more : {prior : List (Event FurtherEvent)} {pin : List ℕ} (more : List (Event FurtherEvent)) → IsAccepted request prior pin → IsAccepted request (prior ++ more) pin
+  pub accepted_more : {prior : List (EventWith FurtherEvent)} {pin : List ℕ} (more : List (EventWith FurtherEvent)) → IsAccepted request prior pin → IsAccepted request (prior ++ more) pin
   accepted_more more (any asks in_session stands) = any asks in_session (stand_more more stands)
   accepted_more more (opening unlocks locked asks in_session stands) = opening unlocks (locked_more more locked) asks in_session (stand_more more stands)
 
-  pub given_more : {prior : List (Event FurtherEvent)} {pass : List ℕ} (more : List (Event FurtherEvent)) → IsGivenNew request prior pass → IsGivenNew request (prior ++ more) pass
+  pub given_more : {prior : List (EventWith FurtherEvent)} {pass : List ℕ} (more : List (EventWith FurtherEvent)) → IsGivenNew request prior pass → IsGivenNew request (prior ++ more) pass
   given_more more (given names has) = given names (has_left more has)
 
 -- ---- quiet parts
 
 -- a question for what is cached, without a prompt, gives no ticket
 module _ (id : List ℕ) where
-  nonce_of : (before : Option ℕ) (events : List (Event FurtherEvent)) (result : Result (Option (List ℕ)) Refusal) (after : Option ℕ) → Asks (ask_nonce id) before events result after → Fit events
+  nonce_of : (before : Option ℕ) (events : List (EventWith FurtherEvent)) (result : Result (Option (List ℕ)) Refusal) (after : Option ℕ) → Asks (ask_nonce id) before events result after → Fit events
       → AllByRecursion IsQuiet events × (after ≡ before)
   nonce_of before events result after turning.given fits = (((λ hands. elim hands [ ]), tt), refl)
   nonce_of before events result after turning.empty fits = (((λ hands. elim hands [ ]), tt), refl)
   nonce_of before events result after turning.opened fits = absurd fits.0
   nonce_of before events result after (turning.interrupted why) fits = (((λ hands. elim hands [ ]), tt), refl)
 
-inquires_of : (word : List ℕ) (limit : ℕ) (prior : List (Event FurtherEvent)) (before : Option ℕ) (events : List (Event FurtherEvent)) (result : Result (List ℕ) Refusal) (after : Option ℕ)
+inquires_of : (word : List ℕ) (limit : ℕ) (prior : List (EventWith FurtherEvent)) (before : Option ℕ) (events : List (EventWith FurtherEvent)) (result : Result (List ℕ) Refusal) (after : Option ℕ)
     → Inquires word limit before events result after → Fit events → AllByRecursion IsQuiet events × (after ≡ before) × HoldsOf (λ pass. IsSent (prior ++ events) word limit pass) result
-inquires_of word limit prior before events result after (small.given is) fits = ((tt, tt), refl, sent is (has_right prior here))
-inquires_of word limit prior before events result after (small.not_given is) fits = ((tt, tt), refl, tt)
+inquires_of word limit prior before events result after (client_parts.given is) fits = ((tt, tt), refl, sent is (has_right prior here))
+inquires_of word limit prior before events result after (client_parts.not_given is) fits = ((tt, tt), refl, tt)
 
 pub inquires_quiet : (word : List ℕ) (limit : ℕ) → QuietWith (Inquires word limit) (λ pass prior. IsSent prior word limit pass)
 inquires_quiet word limit = record { of = inquires_of word limit }
 
-draws_of : (count : ℕ) (prior : List (Event FurtherEvent)) (before : Option ℕ) (events : List (Event FurtherEvent)) (result : Result (List ℕ) Refusal) (after : Option ℕ) → Draws count before events result after → Fit events
+draws_of : (count : ℕ) (prior : List (EventWith FurtherEvent)) (before : Option ℕ) (events : List (EventWith FurtherEvent)) (result : Result (List ℕ) Refusal) (after : Option ℕ) → Draws count before events result after → Fit events
     → AllByRecursion IsQuiet events × (after ≡ before) × HoldsOf (λ bytes. IsDrawn (prior ++ events) count bytes) result
 draws_of count prior before events result after (small.drawn long) fits = ((tt, tt), refl, record { long = long; has = has_right prior here })
 draws_of count prior before events result after small.faulted fits = ((tt, tt), refl, tt)
@@ -79,7 +81,7 @@ draws_of count prior before events result after small.faulted fits = ((tt, tt), 
 pub draws_quiet : (count : ℕ) → QuietWith (Draws count) (λ bytes prior. IsDrawn prior count bytes)
 draws_quiet count = record { of = draws_of count }
 
-reads_file_of : (grip : Grip) (prior : List (Event FurtherEvent)) (before : Option ℕ) (events : List (Event FurtherEvent)) (result : Result _ Refusal) (after : Option ℕ) → ReadsFile grip before events result after
+reads_file_of : (grip : Grip) (prior : List (EventWith FurtherEvent)) (before : Option ℕ) (events : List (EventWith FurtherEvent)) (result : Result _ Refusal) (after : Option ℕ) → ReadsFile grip before events result after
     → Fit events → AllByRecursion IsQuiet events × (after ≡ before) × HoldsOf (λ file. IsRead (prior ++ events) grip (Ok file.key)) result
 reads_file_of grip prior before events result after (parts.is_key is says) fits = ((tt, tt), refl, read is says (has_right prior here))
 reads_file_of grip prior before events result after (parts.faulty is says) fits = ((tt, tt), refl, tt)
@@ -89,7 +91,7 @@ reads_file_of grip prior before events result after (parts.unread is) fits = ((t
 pub reads_file_quiet : (grip : Grip) → QuietWith (ReadsFile grip) (λ file prior. IsRead prior grip (Ok file.key))
 reads_file_quiet grip = record { of = reads_file_of grip }
 
-locks_of : (key : Key) (prior : List (Event FurtherEvent)) (before : Option ℕ) (events : List (Event FurtherEvent)) (result : Result LockedKey Refusal) (after : Option ℕ) → Locks key before events result after → Fit events
+locks_of : (key : Key) (prior : List (EventWith FurtherEvent)) (before : Option ℕ) (events : List (EventWith FurtherEvent)) (result : Result LockedKey Refusal) (after : Option ℕ) → Locks key before events result after → Fit events
     → AllByRecursion IsQuiet events × (after ≡ before) × HoldsOf (λ locked. (locked.key ≡ key) × IsLocked locked) result
 locks_of key prior before events result after (passphrases.is_locked same locked) fits = (tt, refl, (same, locked))
 locks_of key prior before events result after (passphrases.has_fault is) fits = (tt, refl, tt)
@@ -100,18 +102,18 @@ locks_quiet key = record { of = locks_of key }
 
 module _ (request : Request) where
   -- what was found under the nonce of a new one
-  abbrev pub FoundNew : Option (List ℕ) → List (Event FurtherEvent) → Type 0
+  abbrev pub FoundNew : Option (List ℕ) → List (EventWith FurtherEvent) → Type 0
   FoundNew None prior = Unit {0}
   FoundNew (Some pass) prior = IsGivenNew request prior pass
 
-  new_nonce_of : (id : List ℕ) → NamesNew request id → (prior : List (Event FurtherEvent)) (before : Option ℕ) (events : List (Event FurtherEvent)) (result : Result (Option (List ℕ)) Refusal) (after : Option ℕ)
+  new_nonce_of : (id : List ℕ) → NamesNew request id → (prior : List (EventWith FurtherEvent)) (before : Option ℕ) (events : List (EventWith FurtherEvent)) (result : Result (Option (List ℕ)) Refusal) (after : Option ℕ)
       → Asks (ask_nonce id) before events result after → Fit events → AllByRecursion IsQuiet events × (after ≡ before) × HoldsOf (λ found. FoundNew found (prior ++ events)) result
   new_nonce_of id names prior before events result after turning.given fits = (((λ hands. elim hands [ ]), tt), refl, given names (has_right prior here))
   new_nonce_of id names prior before events result after turning.empty fits = (((λ hands. elim hands [ ]), tt), refl, tt)
   new_nonce_of id names prior before events result after turning.opened fits = absurd fits.0
   new_nonce_of id names prior before events result after (turning.interrupted why) fits = (((λ hands. elim hands [ ]), tt), refl, tt)
 
-  no_nonce_of : (prior : List (Event FurtherEvent)) (before : Option ℕ) (events : List (Event FurtherEvent)) (result : Result (Option (List ℕ)) Refusal) (after : Option ℕ)
+  no_nonce_of : (prior : List (EventWith FurtherEvent)) (before : Option ℕ) (events : List (EventWith FurtherEvent)) (result : Result (Option (List ℕ)) Refusal) (after : Option ℕ)
       → chain.Returns None before events result after → Fit events → AllByRecursion IsQuiet events × (after ≡ before) × HoldsOf (λ found. FoundNew found (prior ++ events)) result
   no_nonce_of prior before events result after chain.returns fits = (tt, refl, tt)
 
@@ -119,7 +121,7 @@ module _ (request : Request) where
   new_nonce_quiet None names = record { of = no_nonce_of }
   new_nonce_quiet (Some id) names = record { of = new_nonce_of id (names id refl) }
 
-  looks_over_of : (id : Option (List ℕ)) → ((nonce : List ℕ) → id ≡ Some nonce → NamesNew request nonce) → (prior : List (Event FurtherEvent)) (before : Option ℕ) (events : List (Event FurtherEvent))
+  looks_over_of : (id : Option (List ℕ)) → ((nonce : List ℕ) → id ≡ Some nonce → NamesNew request nonce) → (prior : List (EventWith FurtherEvent)) (before : Option ℕ) (events : List (EventWith FurtherEvent))
       (result : Result (Option (List ℕ)) Refusal) (after : Option ℕ) → LooksOver id before events result after → Fit events
       → AllByRecursion IsQuiet events × (after ≡ before) × HoldsOf (λ found. FoundNew found (prior ++ events)) result
   looks_over_of id names prior before events result after parts.no_nonce fits = (tt, refl, tt)
@@ -131,7 +133,7 @@ module _ (request : Request) where
   pub looks_over_quiet : (id : Option (List ℕ)) → ((nonce : List ℕ) → id ≡ Some nonce → NamesNew request nonce) → QuietWith (LooksOver id) FoundNew
   looks_over_quiet id names = record { of = looks_over_of id names }
 
-no_look_of : (before : Option ℕ) (events : List (Event FurtherEvent)) (result : Result (Option (List ℕ)) Refusal) (after : Option ℕ)
+no_look_of : (before : Option ℕ) (events : List (EventWith FurtherEvent)) (result : Result (Option (List ℕ)) Refusal) (after : Option ℕ)
     → chain.Returns None before events result after → Fit events → AllByRecursion IsQuiet events × (after ≡ before)
 no_look_of before events result after chain.returns fits = (tt, refl)
 

@@ -19,13 +19,15 @@ use Rattle.session_options.specs.declared.options.PinMode.{PinMode}
 use Rattle.session_options.specs.declared.options.PinMode.TheVariants as mode
 use Rattle.session_options.specs.declared.rules.Rules.{Rules}
 use Rattle.sexp_keys.specs.Key.{Key}
-use Rattle.agent_commands.specs.Events.{Event}
+use Rattle.agent_commands.specs.Events.{EventWith}
 use Rattle.agent_commands.specs.declared.request.Request.{Request}
+use Rattle.agent_ask.specs.PartExchanges as part_exchanges
 use Rattle.key_commands.specs.Exchanges as exchange
-use Rattle.key_commands.specs.Exchanges.{Exchange, Replies, HaveKeyReplies, KeyInfoReplies, ListKeysReplies, KeyWrapReplies, DeleteKeyReplies, wrap_key}
+use Rattle.key_commands.specs.Exchanges.{KeyExchange, KeyReplies, HaveKeyReplies, KeyInfoReplies, ListKeysReplies, KeyWrapReplies, DeleteKeyReplies, wrap_key}
 use Rattle.key_commands.specs.Exchanges.{RewritesFile, ChangesOpened, StoresKey, FoundOrNew, ExportKeyReplies, PasswdReplies, VerifyReplies, ImportKeyReplies}
 use Rattle.key_commands.specs.KeyParts.{KeepsNew, ReceivesKey, IsFree, Consents}
-use Rattle.key_commands.specs.Parts.{Part, AsksClient, refusal_events}
+use Rattle.key_commands.specs.Parts.{Part, refusal_events}
+use Rattle.agent_ask.specs.ClientParts.{AsksClient}
 use Rattle.agent_ask.specs.TurnParts.{Asks, Changes, Closes}
 use Rattle.agent_ask.specs.Parts.{or_else}
 use Rattle.assuan_server.specs.Written.{refusal_line}
@@ -57,7 +59,7 @@ use Rattle.agent_session.proofs.Works as work
 
 -- ---- what stays so
 
-pub still_quiet : (event : Event FurtherEvent) → IsStill event → IsQuiet event
+pub still_quiet : (event : EventWith FurtherEvent) → IsStill event → IsQuiet event
 still_quiet (Sent text) still = tt
 still_quiet (Cut text) still = tt
 still_quiet (Inquiry word params limit inquired) still = tt
@@ -66,10 +68,10 @@ still_quiet (CacheTurn taken) still = absurd still
 still_quiet (Received took) still = tt
 
 -- no ticket is held
-abbrev Unheld : List (Event FurtherEvent) → Option ℕ → Type 0
+abbrev Unheld : List (EventWith FurtherEvent) → Option ℕ → Type 0
 Unheld prior held = held ≡ None
 
-pub stand_last : (prior shown : List (Event FurtherEvent)) → StandIn shown (prior ++ shown)
+pub stand_last : (prior shown : List (EventWith FurtherEvent)) → StandIn shown (prior ++ shown)
 stand_last prior shown = record { before = prior; after = []; is = ap (λ x. prior ++ x) (sym (append-nil shown)) }
 
 module _ (request : Request) where
@@ -80,38 +82,38 @@ module _ (request : Request) where
   any_stays = record { of = λ prior more held so. tt }
 
   -- none is, or the request's own, where the client wants prompts
-  data TicketAt (way : PinMode) (prior : List (Event FurtherEvent)) : Option ℕ → Type 0 where
+  data TicketAt (way : PinMode) (prior : List (EventWith FurtherEvent)) : Option ℕ → Type 0 where
     no_ticket : TicketAt way prior None
     own_ticket : {ticket : ℕ} → way ≡ mode.Ask → HasTicket request prior ticket → TicketAt way prior (Some ticket)
 
-  ticket_stays_of : (way : PinMode) (prior more : List (Event FurtherEvent)) (held : Option ℕ) → TicketAt way prior held → TicketAt way (prior ++ more) held
+  ticket_stays_of : (way : PinMode) (prior more : List (EventWith FurtherEvent)) (held : Option ℕ) → TicketAt way prior held → TicketAt way (prior ++ more) held
   ticket_stays_of way prior more held no_ticket = no_ticket
   ticket_stays_of way prior more held (own_ticket is has) = own_ticket is (ticket_more request more has)
 
   ticket_stays : (way : PinMode) → Stays (TicketAt way)
   ticket_stays way = record { of = ticket_stays_of way }
 
-  unheld_ticket : (way : PinMode) (prior : List (Event FurtherEvent)) (held : Option ℕ) → held ≡ None → TicketAt way prior held
+  unheld_ticket : (way : PinMode) (prior : List (EventWith FurtherEvent)) (held : Option ℕ) → held ≡ None → TicketAt way prior held
   unheld_ticket way prior held none = subst (TicketAt way prior) (sym none) no_ticket
 
-  loopback_unheld : (prior : List (Event FurtherEvent)) (held : Option ℕ) → TicketAt mode.Loopback prior held → held ≡ None
+  loopback_unheld : (prior : List (EventWith FurtherEvent)) (held : Option ℕ) → TicketAt mode.Loopback prior held → held ≡ None
   loopback_unheld prior held no_ticket = refl
   loopback_unheld prior held (own_ticket is has) = absurd (cc is)
 
   -- the request's own is
-  data Seated (prior : List (Event FurtherEvent)) : Option ℕ → Type 0 where
+  data Seated (prior : List (EventWith FurtherEvent)) : Option ℕ → Type 0 where
     seated : {ticket : ℕ} → HasTicket request prior ticket → Seated prior (Some ticket)
 
-  seat_of : {prior : List (Event FurtherEvent)} {ticket : ℕ} → Seated prior (Some ticket) → HasTicket request prior ticket
+  seat_of : {prior : List (EventWith FurtherEvent)} {ticket : ℕ} → Seated prior (Some ticket) → HasTicket request prior ticket
   seat_of (seated has) = has
 
-  or_own : {A : Type 0} {Pre : List (Event FurtherEvent) → Option ℕ → Type 0} {Post : A → List (Event FurtherEvent) → Option ℕ → Type 0} {other : Part A} (value : Option A)
-      → ((some : A) → value ≡ Some some → (prior : List (Event FurtherEvent)) (held : Option ℕ) → Pre prior held → Post some prior held) → (value ≡ None → OwnSo request Pre other Post)
+  or_own : {A : Type 0} {Pre : List (EventWith FurtherEvent) → Option ℕ → Type 0} {Post : A → List (EventWith FurtherEvent) → Option ℕ → Type 0} {other : Part A} (value : Option A)
+      → ((some : A) → value ≡ Some some → (prior : List (EventWith FurtherEvent)) (held : Option ℕ) → Pre prior held → Post some prior held) → (value ≡ None → OwnSo request Pre other Post)
       → OwnSo request Pre (or_else value other) Post
   or_own None some other = other refl
   or_own (Some value) some other = own_returned request value (some value refl)
 
-  asks_client : {Pre : List (Event FurtherEvent) → Option ℕ → Type 0} (word : List ℕ) (limit : ℕ) → Stays Pre
+  asks_client : {Pre : List (EventWith FurtherEvent) → Option ℕ → Type 0} (word : List ℕ) (limit : ℕ) → Stays Pre
       → OwnSo request Pre (AsksClient word limit) (λ pass prior held. Pre prior held × IsSent prior word limit pass)
   asks_client word limit stays = own_bind request (quietly request stays (quiet_keeps (work.key_writes IsQuiet (λ text. tt) tt))) (λ told. quiet_with request stays (quiet.inquires_quiet word limit))
 
@@ -123,22 +125,22 @@ module _ (request : Request) where
   module _ (rules : Rules) (options : OptionValues) (grip : Grip) (unlocks : Unlocks request grip) where
     module _ (way : PinMode) where
       -- what was opened: where a ticket is held, a prompt accepted its passphrase
-      data OpenedAt (by : Option (List ℕ)) (prior : List (Event FurtherEvent)) : Option ℕ → Type 0 where
+      data OpenedAt (by : Option (List ℕ)) (prior : List (EventWith FurtherEvent)) : Option ℕ → Type 0 where
         unheld : OpenedAt by prior None
         by_prompt : {ticket : ℕ} → way ≡ mode.Ask → HasTicket request prior ticket → ((pass : List ℕ) → by ≡ Some pass → IsAccepted request prior pass) → OpenedAt by prior (Some ticket)
 
-      unheld_opened : (by : Option (List ℕ)) (prior : List (Event FurtherEvent)) (held : Option ℕ) → held ≡ None → OpenedAt by prior held
+      unheld_opened : (by : Option (List ℕ)) (prior : List (EventWith FurtherEvent)) (held : Option ℕ) → held ≡ None → OpenedAt by prior held
       unheld_opened by prior held none = subst (OpenedAt by prior) (sym none) unheld
 
-      opened_ticket : (by : Option (List ℕ)) (prior : List (Event FurtherEvent)) (held : Option ℕ) → OpenedAt by prior held → TicketAt way prior held
+      opened_ticket : (by : Option (List ℕ)) (prior : List (EventWith FurtherEvent)) (held : Option ℕ) → OpenedAt by prior held → TicketAt way prior held
       opened_ticket by prior held unheld = no_ticket
       opened_ticket by prior held (by_prompt is has accepted) = own_ticket is has
 
     module _ (locked : LockedKey) where
-      abbrev Free : List (Event FurtherEvent) → Option ℕ → Type 0
+      abbrev Free : List (EventWith FurtherEvent) → Option ℕ → Type 0
       Free prior held = IsReadLocked prior grip locked × (held ≡ None)
 
-      abbrev Ready : PinMode → List (Event FurtherEvent) → Option ℕ → Type 0
+      abbrev Ready : PinMode → List (EventWith FurtherEvent) → Option ℕ → Type 0
       Ready way prior held = IsReadLocked prior grip locked × TicketAt way prior held
 
       free_stays : Stays Free
@@ -147,11 +149,11 @@ module _ (request : Request) where
       ready_stays : (way : PinMode) → Stays (Ready way)
       ready_stays way = record { of = λ prior more held so. (locked_more more so.0, ticket_stays_of way prior more held so.1) }
 
-      free_ready : (way : PinMode) (prior : List (Event FurtherEvent)) (held : Option ℕ) → Free prior held → Ready way prior held
+      free_ready : (way : PinMode) (prior : List (EventWith FurtherEvent)) (held : Option ℕ) → Free prior held → Ready way prior held
       free_ready way prior held free = (free.0, unheld_ticket way prior held free.1)
 
       -- a prompt's ticket
-      takes_of : (prior : List (Event FurtherEvent)) (before : Option ℕ) (events : List (Event FurtherEvent)) (result : Result (Unit {0}) Refusal) (after : Option ℕ) → TakesSeat grip before events result after
+      takes_of : (prior : List (EventWith FurtherEvent)) (before : Option ℕ) (events : List (EventWith FurtherEvent)) (result : Result (Unit {0}) Refusal) (after : Option ℕ) → TakesSeat grip before events result after
           → Fit events → Ready mode.Ask prior before → AreOwn request prior events × HoldsOf (λ done. IsReadLocked (prior ++ events) grip locked × Seated (prior ++ events) after) result
       takes_of prior None events result after (turning.opened {ticket}) fits pre =
           (((λ hands. elim hands [ ]), tt), (locked_more _ pre.0, seated (has_ticket (by_seat (named unlocks)) (has_right prior here))))
@@ -162,7 +164,7 @@ module _ (request : Request) where
           seat_at : TicketAt mode.Ask prior (Some number) → Seated prior (Some number)
           seat_at (own_ticket is has) = seated has
 
-      old_of : (prior : List (Event FurtherEvent)) (before : Option ℕ) (events : List (Event FurtherEvent)) (result : Result _ Refusal) (after : Option ℕ) → PromptsOld rules options grip locked before events result after
+      old_of : (prior : List (EventWith FurtherEvent)) (before : Option ℕ) (events : List (EventWith FurtherEvent)) (result : Result _ Refusal) (after : Option ℕ) → PromptsOld rules options grip locked before events result after
           → Fit events → IsReadLocked prior grip locked × Seated prior before → AreOwn request prior events × HoldsOf (λ opened. OpenedAt mode.Ask opened.by (prior ++ events) after) result
       old_of prior before events result after (passphrases.opens_by {shown} {pin} spec is prompt to) fits pre = (
         quiet_are_own request prior shown (each_shown IsQuiet still_quiet (λ event. tt) prompt.in_session),
@@ -172,7 +174,7 @@ module _ (request : Request) where
       old_of prior before events result after (passphrases.refused {shown} spec is prompt refusal) fits pre = (quiet_are_own request prior shown (each_shown IsQuiet still_quiet (λ event. tt) prompt.in_session), tt)
 
       -- a passphrase that the client gave is kept
-      put_of : {word : List ℕ} {limit : ℕ} (pass : List ℕ) (prior : List (Event FurtherEvent)) (before : Option ℕ) (events : List (Event FurtherEvent)) (result : Result (Unit {0}) Refusal) (after : Option ℕ)
+      put_of : {word : List ℕ} {limit : ℕ} (pass : List ℕ) (prior : List (EventWith FurtherEvent)) (before : Option ℕ) (events : List (EventWith FurtherEvent)) (result : Result (Unit {0}) Refusal) (after : Option ℕ)
           → Changes (put_key grip pass) before events result after → Fit events → Unheld prior before × IsSent prior word limit pass
           → AreOwn request prior events × HoldsOf (λ done. Unheld (prior ++ events) after) result
       put_of pass prior before events result after turning.done fits pre = (((λ hands. whose.sent (of_key (named unlocks)) pre.1), tt), pre.0)
@@ -191,19 +193,19 @@ module _ (request : Request) where
       uncached_old mode.Loopback = own_where request (λ prior held ready. loopback_unheld prior held ready.1) (client_old mode.Loopback)
 
       -- what the cache was asked, and what came of it: nothing, and perhaps a ticket, or something, and none
-      data AskedAt (way : PinMode) {A : Type 0} (value : Option A) (prior : List (Event FurtherEvent)) (held : Option ℕ) : Type 0 where
+      data AskedAt (way : PinMode) {A : Type 0} (value : Option A) (prior : List (EventWith FurtherEvent)) (held : Option ℕ) : Type 0 where
         free : Free prior held → AskedAt way value prior held
         missed : value ≡ None → Ready way prior held → AskedAt way value prior held
 
-      asked_ready : (way : PinMode) {A : Type 0} {value : Option A} (prior : List (Event FurtherEvent)) (held : Option ℕ) → AskedAt way value prior held → Ready way prior held
+      asked_ready : (way : PinMode) {A : Type 0} {value : Option A} (prior : List (EventWith FurtherEvent)) (held : Option ℕ) → AskedAt way value prior held → Ready way prior held
       asked_ready way prior held (free so) = free_ready way prior held so
       asked_ready way prior held (missed none ready) = ready
 
-      asked_free : (way : PinMode) {A : Type 0} (value : A) (prior : List (Event FurtherEvent)) (held : Option ℕ) → AskedAt way (Some value) prior held → Free prior held
+      asked_free : (way : PinMode) {A : Type 0} (value : A) (prior : List (EventWith FurtherEvent)) (held : Option ℕ) → AskedAt way (Some value) prior held → Free prior held
       asked_free way value prior held (free so) = so
       asked_free way value prior held (missed none ready) = absurd (cc none)
 
-      asked_none : (way : PinMode) {A B : Type 0} (prior : List (Event FurtherEvent)) (held : Option ℕ) → AskedAt way {A = A} None prior held → AskedAt way {A = B} None prior held
+      asked_none : (way : PinMode) {A B : Type 0} (prior : List (EventWith FurtherEvent)) (held : Option ℕ) → AskedAt way {A = A} None prior held → AskedAt way {A = B} None prior held
       asked_none way prior held (free so) = free so
       asked_none way prior held (missed none ready) = missed refl ready
 
@@ -213,7 +215,7 @@ module _ (request : Request) where
       wants_of mode.Error ticket fits = absurd fits.0
       wants_of mode.Loopback ticket fits = absurd fits.0
 
-      asks_of : (way : PinMode) (prior : List (Event FurtherEvent)) (before : Option ℕ) (events : List (Event FurtherEvent)) (result : Result (Option (List ℕ)) Refusal) (after : Option ℕ)
+      asks_of : (way : PinMode) (prior : List (EventWith FurtherEvent)) (before : Option ℕ) (events : List (EventWith FurtherEvent)) (result : Result (Option (List ℕ)) Refusal) (after : Option ℕ)
           → Asks (ask_key grip (way_of way)) before events result after → Fit events → Free prior before → AreOwn request prior events × HoldsOf (λ cached. AskedAt way cached (prior ++ events) after) result
       asks_of way prior before events result after turning.given fits pre = (((λ hands. elim hands [ ]), tt), free (locked_more _ pre.0, pre.1))
       asks_of way prior before events result after turning.empty fits pre = (((λ hands. elim hands [ ]), tt), free (locked_more _ pre.0, pre.1))
@@ -242,13 +244,13 @@ module _ (request : Request) where
           (λ none. own_bind request (record { of = asks_of options.mode }) (λ cached. own_bind request (tries_asked options.mode cached) (λ second. after_asked options.mode second)))))
 
     -- a key's file was read, and no ticket is held
-    abbrev ReadAt : Key → List (Event FurtherEvent) → Option ℕ → Type 0
+    abbrev ReadAt : Key → List (EventWith FurtherEvent) → Option ℕ → Type 0
     ReadAt key prior held = (held ≡ None) × IsRead prior grip (Ok key)
 
     read_stays : (key : Key) → Stays (ReadAt key)
     read_stays key = record { of = λ prior more held so. (so.0, read_more more so.1) }
 
-    locked_so : (key : Key) (locked : LockedKey) (prior : List (Event FurtherEvent)) (held : Option ℕ) → ReadAt key prior held × ((locked.key ≡ key) × IsLocked locked) → Free locked prior held
+    locked_so : (key : Key) (locked : LockedKey) (prior : List (EventWith FurtherEvent)) (held : Option ℕ) → ReadAt key prior held × ((locked.key ≡ key) × IsLocked locked) → Free locked prior held
     locked_so key locked prior held so = (record { key = subst (λ k. IsRead prior grip (Ok k)) (sym so.1.0) so.0.1; protection = so.1.1 }, so.0.0)
 
     locks_free : (key : Key) → OwnSo request (ReadAt key) (Locks key) (λ locked. Free locked)
@@ -263,15 +265,15 @@ module _ (request : Request) where
     verified_here key false = own_bind request (locks_free key) (λ locked. own_where request (free_ready locked options.mode) (uncached_old locked options.mode))
 
     -- the ticket is given back with what opened the key
-    close_own : (by : Option (List ℕ)) (prior : List (Event FurtherEvent)) (ticket : ℕ) → HasTicket request prior ticket → ((pass : List ℕ) → by ≡ Some pass → IsAccepted request prior pass) → HandsIn (Close ticket by)
+    close_own : (by : Option (List ℕ)) (prior : List (EventWith FurtherEvent)) (ticket : ℕ) → HasTicket request prior ticket → ((pass : List ℕ) → by ≡ Some pass → IsAccepted request prior pass) → HandsIn (Close ticket by)
         → StoresOwn request prior (Close ticket by)
     close_own None prior ticket has accepted hands = absurd (kept_none ticket hands)
     close_own (Some pass) prior ticket has accepted hands = whose.accepted has (accepted pass refl)
 
-    opened_own : (way : PinMode) (by : Option (List ℕ)) (prior : List (Event FurtherEvent)) (ticket : ℕ) → OpenedAt way by prior (Some ticket) → HandsIn (Close ticket by) → StoresOwn request prior (Close ticket by)
+    opened_own : (way : PinMode) (by : Option (List ℕ)) (prior : List (EventWith FurtherEvent)) (ticket : ℕ) → OpenedAt way by prior (Some ticket) → HandsIn (Close ticket by) → StoresOwn request prior (Close ticket by)
     opened_own way by prior ticket (by_prompt is has accepted) hands = close_own by prior ticket has accepted hands
 
-    closes_of : (way : PinMode) (by : Option (List ℕ)) (prior : List (Event FurtherEvent)) (before : Option ℕ) (events : List (Event FurtherEvent)) (result : Result (Unit {0}) Refusal) (after : Option ℕ)
+    closes_of : (way : PinMode) (by : Option (List ℕ)) (prior : List (EventWith FurtherEvent)) (before : Option ℕ) (events : List (EventWith FurtherEvent)) (result : Result (Unit {0}) Refusal) (after : Option ℕ)
         → Closes by before events result after → Fit events → OpenedAt way by prior before → AreOwn request prior events × HoldsOf (λ done. Anything (prior ++ events) after) result
     closes_of way by prior before events result after turning.unheld fits pre = (tt, tt)
     closes_of way by prior before events result after (turning.closed {ticket} turn) fits pre = (((λ hands. opened_own way by prior ticket pre hands), tt), tt)
@@ -283,14 +285,14 @@ module _ (request : Request) where
 
   module _ (grip : Grip) (about : IsAbout request grip) where
     -- what it is of, by whether the request's ticket is held
-    data NewAt (pass : List ℕ) (prior : List (Event FurtherEvent)) : Option ℕ → Type 0 where
+    data NewAt (pass : List ℕ) (prior : List (EventWith FurtherEvent)) : Option ℕ → Type 0 where
       by_client : {word : List ℕ} {limit : ℕ} → IsSent prior word limit pass → NewAt pass prior None
       by_cache : IsGivenNew request prior pass → NewAt pass prior None
       at_prompt : {ticket : ℕ} → HasTicket request prior ticket → IsAccepted request prior pass → NewAt pass prior (Some ticket)
       renewed : {ticket : ℕ} {other : Grip} {old new : Option (List ℕ)} → on_keys request ≡ Some (on.Passwd other old new false) → HasTicket request prior ticket → IsGivenNew request prior pass
           → NewAt pass prior (Some ticket)
 
-    new_stays_of : (pass : List ℕ) (prior more : List (Event FurtherEvent)) (held : Option ℕ) → NewAt pass prior held → NewAt pass (prior ++ more) held
+    new_stays_of : (pass : List ℕ) (prior more : List (EventWith FurtherEvent)) (held : Option ℕ) → NewAt pass prior held → NewAt pass (prior ++ more) held
     new_stays_of pass prior more held (by_client says) = by_client (sent_more more says)
     new_stays_of pass prior more held (by_cache gave) = by_cache (given_more request more gave)
     new_stays_of pass prior more held (at_prompt has accepted) = at_prompt (ticket_more request more has) (accepted_more request more accepted)
@@ -299,15 +301,15 @@ module _ (request : Request) where
     new_stays : (pass : List ℕ) → Stays (NewAt pass)
     new_stays pass = record { of = new_stays_of pass }
 
-    put_new : (pass : List ℕ) (prior : List (Event FurtherEvent)) → NewAt pass prior None → StoresOwn request prior (put_key grip pass)
+    put_new : (pass : List ℕ) (prior : List (EventWith FurtherEvent)) → NewAt pass prior None → StoresOwn request prior (put_key grip pass)
     put_new pass prior (by_client says) = whose.sent (of_key about) says
     put_new pass prior (by_cache gave) = whose.given_new (of_key about) gave
 
-    close_new : (pass : List ℕ) (prior : List (Event FurtherEvent)) (ticket : ℕ) → NewAt pass prior (Some ticket) → StoresOwn request prior (Close ticket (Some pass))
+    close_new : (pass : List ℕ) (prior : List (EventWith FurtherEvent)) (ticket : ℕ) → NewAt pass prior (Some ticket) → StoresOwn request prior (Close ticket (Some pass))
     close_new pass prior ticket (at_prompt has accepted) = whose.accepted has accepted
     close_new pass prior ticket (renewed is has gave) = whose.changed is has gave
 
-    keeps_of : (pass : List ℕ) (prior : List (Event FurtherEvent)) (before : Option ℕ) (events : List (Event FurtherEvent)) (result : Result (Unit {0}) Refusal) (after : Option ℕ) → KeepsNew grip pass before events result after
+    keeps_of : (pass : List ℕ) (prior : List (EventWith FurtherEvent)) (before : Option ℕ) (events : List (EventWith FurtherEvent)) (result : Result (Unit {0}) Refusal) (after : Option ℕ) → KeepsNew grip pass before events result after
         → Fit events → NewAt pass prior before → AreOwn request prior events × HoldsOf (λ done. Anything (prior ++ events) after) result
     keeps_of pass prior None events result after turning.done fits pre = (((λ hands. put_new pass prior pre), tt), tt)
     keeps_of pass prior None events result after (turning.interrupted why) fits pre = (((λ hands. put_new pass prior pre), tt), tt)
@@ -316,7 +318,7 @@ module _ (request : Request) where
     keeps_new : (pass : List ℕ) → OwnSo request (NewAt pass) (KeepsNew grip pass) (λ done. Anything)
     keeps_new pass = record { of = keeps_of pass }
 
-    takes_new : (prior : List (Event FurtherEvent)) (before : Option ℕ) (events : List (Event FurtherEvent)) (result : Result (Unit {0}) Refusal) (after : Option ℕ) → TakesSeat grip before events result after
+    takes_new : (prior : List (EventWith FurtherEvent)) (before : Option ℕ) (events : List (EventWith FurtherEvent)) (result : Result (Unit {0}) Refusal) (after : Option ℕ) → TakesSeat grip before events result after
         → Fit events → TicketAt mode.Ask prior before → AreOwn request prior events × HoldsOf (λ done. Seated (prior ++ events) after) result
     takes_new prior None events result after turning.opened fits pre = (((λ hands. elim hands [ ]), tt), seated (has_ticket (by_seat about) (has_right prior here)))
     takes_new prior None events result after (turning.interrupted why) fits pre = (((λ hands. elim hands [ ]), tt), tt)
@@ -326,7 +328,7 @@ module _ (request : Request) where
         seat_at (own_ticket is has) = seated has
 
     module _ (rules : Rules) (options : OptionValues) where
-      prompts_new_of : (prior : List (Event FurtherEvent)) (before : Option ℕ) (events : List (Event FurtherEvent)) (result : Result (List ℕ) Refusal) (after : Option ℕ) → PromptsNew rules options grip before events result after
+      prompts_new_of : (prior : List (EventWith FurtherEvent)) (before : Option ℕ) (events : List (EventWith FurtherEvent)) (result : Result (List ℕ) Refusal) (after : Option ℕ) → PromptsNew rules options grip before events result after
           → Fit events → Seated prior before → AreOwn request prior events × HoldsOf (λ pass. NewAt pass (prior ++ events) after) result
       prompts_new_of prior before events result after (passphrases.given {shown} spec is prompt) fits pre = (
         quiet_are_own request prior shown (each_shown IsQuiet still_quiet (λ event. tt) prompt.in_session),
@@ -356,7 +358,7 @@ module _ (request : Request) where
           (λ new_file. own_bind request (quietly request (new_stays pass) (quiet_keeps (work.replaces IsQuiet tt (λ answer. tt)))) (λ replaced. keeps_new pass))))
 
       module _ {old new : Option (List ℕ)} (passwd : on_keys request ≡ Some (on.Passwd grip old new false)) where
-        renewed_at : (pass : List ℕ) (prior : List (Event FurtherEvent)) (held : Option ℕ) → TicketAt options.mode prior held → IsGivenNew request prior pass → NewAt pass prior held
+        renewed_at : (pass : List ℕ) (prior : List (EventWith FurtherEvent)) (held : Option ℕ) → TicketAt options.mode prior held → IsGivenNew request prior pass → NewAt pass prior held
         renewed_at pass prior held no_ticket gave = by_cache gave
         renewed_at pass prior held (own_ticket is has) gave = renewed passwd has gave
 
@@ -383,13 +385,13 @@ module _ (request : Request) where
         found_or_new : OwnSo request Unheld (FoundOrNew rules options nonce grip) (λ pass. NewAt pass)
         found_or_new = own_bind request (quiet_with request unheld_stays (quiet.looks_over_quiet request nonce names_brought)) after_found
 
-        nonce_own : (pass drawn : List ℕ) (prior : List (Event FurtherEvent)) (held : Option ℕ) → NewAt pass prior held → IsDrawn prior 32 drawn → StoresOwn request prior (Put (hex_text (drop 20 drawn)) Nonce Default pass)
+        nonce_own : (pass drawn : List ℕ) (prior : List (EventWith FurtherEvent)) (held : Option ℕ) → NewAt pass prior held → IsDrawn prior 32 drawn → StoresOwn request prior (Put (hex_text (drop 20 drawn)) Nonce Default pass)
         nonce_own pass drawn prior held (by_client says) has = whose.sent (by_command (imported brings_it (drop 20 drawn))) says
         nonce_own pass drawn prior held (by_cache gave) has = whose.given_new (by_command (imported brings_it (drop 20 drawn))) gave
         nonce_own pass drawn prior held (at_prompt ticket accepted) has = whose.under_nonce brings_it has accepted
         nonce_own pass drawn prior held (renewed is ticket gave) has = whose.given_new (by_command (imported brings_it (drop 20 drawn))) gave
 
-        nonce_of : (pass drawn : List ℕ) (prior : List (Event FurtherEvent)) (before : Option ℕ) (events : List (Event FurtherEvent)) (result : Result (Unit {0}) Refusal) (after : Option ℕ)
+        nonce_of : (pass drawn : List ℕ) (prior : List (EventWith FurtherEvent)) (before : Option ℕ) (events : List (EventWith FurtherEvent)) (result : Result (Unit {0}) Refusal) (after : Option ℕ)
             → Changes (Put (hex_text (drop 20 drawn)) Nonce Default pass) before events result after → Fit events → NewAt pass prior before × IsDrawn prior 32 drawn
             → AreOwn request prior events × HoldsOf (λ done. NewAt pass (prior ++ events) after) result
         nonce_of pass drawn prior before events result after turning.done fits pre = (((λ hands. nonce_own pass drawn prior before pre.0 pre.1), tt), new_stays_of pass prior _ before pre.0)
@@ -477,7 +479,7 @@ module _ (request : Request) where
         each_bind IsQuiet (finds IsQuiet still_quiet grip) (λ there. each_bind IsQuiet (each_wanted IsQuiet code.NoSecKey there) (λ some. each_bind IsQuiet (delete_agrees grip options.mode force)
         (λ agreed. each_bind IsQuiet (removes IsQuiet still_quiet grip) (λ removed. each_bind IsQuiet (each_changes IsQuiet (λ turn hands. elim hands [ ])) (λ cleared. each_returned IsQuiet _)))))
 
-    replies : (asked : KeyRequest) → on_keys request ≡ Some asked → OwnSo request Unheld (Replies rules options wraps asked) (λ reply. Anything)
+    replies : (asked : KeyRequest) → on_keys request ≡ Some asked → OwnSo request Unheld (KeyReplies rules options wraps asked) (λ reply. Anything)
     replies (on.HaveKey grips) is = each_quiet request (quiet_have grips)
     replies (on.KeyInfo grip) is = each_quiet request (quiet_info grip)
     replies on.ListKeys is = each_quiet request quiet_list
@@ -495,16 +497,16 @@ module _ (request : Request) where
     refusal_quiet None = tt
     refusal_quiet (Some line) = (tt, tt)
 
-    back_quiet : {held : Option ℕ} {back : List (Event FurtherEvent)} → Closes None held back (Ok tt) None → AllByRecursion IsQuiet back
+    back_quiet : {held : Option ℕ} {back : List (EventWith FurtherEvent)} → Closes None held back (Ok tt) None → AllByRecursion IsQuiet back
     back_quiet turning.unheld = tt
     back_quiet (turning.closed turn) = (kept_none _, tt)
 
-    ended_own : (events back last : List (Event FurtherEvent)) → AreOwn request [] events → AllByRecursion IsQuiet back → AllByRecursion IsQuiet last → AreOwn request [] (events ++ (back ++ last))
+    ended_own : (events back last : List (EventWith FurtherEvent)) → AreOwn request [] events → AllByRecursion IsQuiet back → AllByRecursion IsQuiet last → AreOwn request [] (events ++ (back ++ last))
     ended_own events back last own back_so last_so = own_then request [] events (back ++ last) own (quiet_are_own request events (back ++ last) (each_append IsQuiet back last back_so last_so))
 
-    pub key_own : (asked : KeyRequest) → on_keys request ≡ Some asked → {events : List (Event FurtherEvent)} {after : WrapKeys} {went : KeyWent} → Exchange rules options wraps asked events after went → Fit events
+    pub key_own : (asked : KeyRequest) → on_keys request ≡ Some asked → {events : List (EventWith FurtherEvent)} {after : WrapKeys} {went : KeyWent} → KeyExchange rules options wraps asked events after went → Fit events
         → AreOwn request [] events
-    key_own asked is (exchange.answered events held reply {back} does closes_so) fits =
+    key_own asked is (part_exchanges.answered events held reply {back} does closes_so) fits =
         ended_own events back (Sent reply.text ∷ []) ((replies asked is).of [] None events (Ok reply) held does (each_left FitsTurn events _ fits) refl).0 (back_quiet closes_so) (tt, tt)
-    key_own asked is (exchange.refused events held why {back} does closes_so) fits =
+    key_own asked is (part_exchanges.refused events held why {back} does closes_so) fits =
         ended_own events back (refusal_events why) ((replies asked is).of [] None events (Err why) held does (each_left FitsTurn events _ fits) refl).0 (back_quiet closes_so) (refusal_quiet (refusal_line why))

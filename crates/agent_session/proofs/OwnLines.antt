@@ -18,7 +18,7 @@ use Rattle.session_client.specs.declared.code.Code.{Code}
 use Rattle.session_client.specs.declared.refusal.Refusal.{Refusal}
 use Rattle.session_client.specs.declared.refusal.Refusal.TheVariants.{Agent, Pinentry, Client}
 use Rattle.session_options.specs.declared.rules.Rules.{Rules}
-use Rattle.agent_commands.specs.Events.{Event}
+use Rattle.agent_commands.specs.Events.{EventWith}
 use Rattle.agent_commands.specs.declared.request.Request.{Request}
 use Rattle.agent_session.specs.OwnAnswers.{IsPublic, error, SaysOwn, public, SaysOwnAlone}
 use Rattle.agent_session.proofs.OwnParts.{IsQuiet, kept_none}
@@ -54,20 +54,20 @@ in_either (first ∷ xs) ys (second ∷ front) x back is =
 module _ (rules : Rules) where
   -- ---- what hands nothing in, and has no passphrase in it
 
-  abbrev pub IsOpen : Event FurtherEvent → Type 0
+  abbrev pub IsOpen : EventWith FurtherEvent → Type 0
   IsOpen (Sent text) = IsPublic rules text
   IsOpen _ = ⊤
 
-  abbrev pub IsPlain : Event FurtherEvent → Type 0
+  abbrev pub IsPlain : EventWith FurtherEvent → Type 0
   IsPlain event = IsQuiet event × IsOpen event
 
-  abbrev pub Open : List (Event FurtherEvent) → Type 0
+  abbrev pub Open : List (EventWith FurtherEvent) → Type 0
   Open events = AllByRecursion IsOpen events
 
-  abbrev pub Plain : List (Event FurtherEvent) → Type 0
+  abbrev pub Plain : List (EventWith FurtherEvent) → Type 0
   Plain events = AllByRecursion IsPlain events
 
-  pub shown_plain : {prompt : List PromptEvent} {shown : List (Event FurtherEvent)} → AnyInSession session_lines prompt shown → Plain shown
+  pub shown_plain : {prompt : List PromptEvent} {shown : List (EventWith FurtherEvent)} → AnyInSession session_lines prompt shown → Plain shown
   shown_plain session.none = tt
   shown_plain (session.called more) = ((tt, tt), shown_plain more)
   shown_plain (session.noted says more) = ((tt, tt), shown_plain more)
@@ -82,24 +82,24 @@ module _ (rules : Rules) where
   refusal_plain (Pinentry why) = ((tt, error why origin.Pinentry), tt)
   refusal_plain (Client why) = failed_plain (refusal_code why)
 
-  pub back_plain : {held : Option ℕ} {back : List (Event FurtherEvent)} → Closes None held back (Ok tt) None → Plain back
+  pub back_plain : {held : Option ℕ} {back : List (EventWith FurtherEvent)} → Closes None held back (Ok tt) None → Plain back
   back_plain turning.unheld = tt
   back_plain (turning.closed turn) = ((kept_none _, tt), tt)
 
   -- ---- whose they are
 
-  pub open_are_own : (request : Request) (events : List (Event FurtherEvent)) → Open events → SaysOwnAlone rules request events
+  pub open_are_own : (request : Request) (events : List (EventWith FurtherEvent)) → Open events → SaysOwnAlone rules request events
   open_are_own request events each front later text is = public ((each_right IsOpen front (Sent text ∷ later) (subst Open is each)).0)
 
   -- the last one may have a passphrase in it
-  pub said_last_own : (request : Request) (first : List (Event FurtherEvent)) (text : List ℕ) → Open first → SaysOwn request first rules text → SaysOwnAlone rules request (first ++ Sent text ∷ [])
+  pub said_last_own : (request : Request) (first : List (EventWith FurtherEvent)) (text : List ℕ) → Open first → SaysOwn request first rules text → SaysOwnAlone rules request (first ++ Sent text ∷ [])
   said_last_own request first text each own front later said is =
       elim (in_either first (Sent text ∷ []) front (Sent said) later is) [
         | in_first rest here ↦ open_are_own request first each front rest said here
         | in_second rest there here ↦ subst (λ f. SaysOwn request f rules said) (sym there) (at_last rest here)
       ]
     where
-      at_last : (rest : List (Event FurtherEvent)) → Sent text ∷ [] ≡ rest ++ Sent said ∷ later → SaysOwn request (first ++ rest) rules said
+      at_last : (rest : List (EventWith FurtherEvent)) → Sent text ∷ [] ≡ rest ++ Sent said ∷ later → SaysOwn request (first ++ rest) rules said
       at_last [] here = let same : text ≡ said = cc here in subst (λ f. SaysOwn request f rules said) (sym (append-nil first)) (subst (SaysOwn request first rules) same own)
       at_last (event ∷ []) here = cc here
       at_last (event ∷ second ∷ rest) here = cc here

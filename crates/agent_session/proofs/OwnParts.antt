@@ -7,7 +7,7 @@ use Rattle.agent_ask.specs.SessionEvents.{Received, Sent, Cut, Inquiry, CacheTur
 use Rattle.cache_policy.specs.Turns.{Turn}
 use Rattle.cache_policy.specs.declared.mark.MarkStep.{MarkStep}
 use Rattle.cache_policy.specs.declared.mark.MarkStep.TheVariants.{Close}
-use Rattle.agent_commands.specs.Events.{Event}
+use Rattle.agent_commands.specs.Events.{EventWith}
 use Rattle.agent_commands.specs.declared.request.Request.{Request}
 use Rattle.session_client.specs.declared.code.Code.{Code}
 use Rattle.key_commands.specs.Parts.{Part}
@@ -23,14 +23,14 @@ use Rattle.agent_session.proofs.Standing.{each_left, each_right}
 use Rattle.agent_session.proofs.Works.{Keeps, each_fits}
 
 -- it hands no passphrase to the cache
-abbrev pub IsQuiet : Event FurtherEvent → Type 0
+abbrev pub IsQuiet : EventWith FurtherEvent → Type 0
 IsQuiet event = HandsNothing event
 
 -- nor does a ticket's return by which nothing is kept
 pub kept_none : (ticket : ℕ) → HandsIn (Close ticket None) → ⊥
 kept_none ticket hands = elim hands [ ]
 
-abbrev pub Fit : List (Event FurtherEvent) → Type 0
+abbrev pub Fit : List (EventWith FurtherEvent) → Type 0
 Fit events = AllByRecursion FitsTurn events
 
 -- ---- parts
@@ -45,23 +45,23 @@ whatever (Ok value) is = is
 whatever (Err why) is = tt
 
 -- what stays so, whatever is done
-pub record Stays (Pre : List (Event FurtherEvent) → Option ℕ → Type 0) : Type 0 where
-  pub of : (prior more : List (Event FurtherEvent)) (held : Option ℕ) → Pre prior held → Pre (prior ++ more) held
+pub record Stays (Pre : List (EventWith FurtherEvent) → Option ℕ → Type 0) : Type 0 where
+  pub of : (prior more : List (EventWith FurtherEvent)) (held : Option ℕ) → Pre prior held → Pre (prior ++ more) held
 
 -- a part that hands nothing in, and leaves the ticket, by which something becomes so
-pub record QuietWith {A : Type 0} (part : Part A) (Extra : A → List (Event FurtherEvent) → Type 0) : Type 0 where
-  pub of : (prior : List (Event FurtherEvent)) (before : Option ℕ) (events : List (Event FurtherEvent)) (result : Result A Refusal) (after : Option ℕ) → part before events result after → Fit events
+pub record QuietWith {A : Type 0} (part : Part A) (Extra : A → List (EventWith FurtherEvent) → Type 0) : Type 0 where
+  pub of : (prior : List (EventWith FurtherEvent)) (before : Option ℕ) (events : List (EventWith FurtherEvent)) (result : Result A Refusal) (after : Option ℕ) → part before events result after → Fit events
       → AllByRecursion IsQuiet events × (after ≡ before) × HoldsOf (λ value. Extra value (prior ++ events)) result
 
 pub record Quiet {A : Type 0} (part : Part A) : Type 0 where
-  pub of : (before : Option ℕ) (events : List (Event FurtherEvent)) (result : Result A Refusal) (after : Option ℕ) → part before events result after → Fit events
+  pub of : (before : Option ℕ) (events : List (EventWith FurtherEvent)) (result : Result A Refusal) (after : Option ℕ) → part before events result after → Fit events
       → AllByRecursion IsQuiet events × (after ≡ before)
 
 -- work in which nothing is handed in, and that leaves the ticket
 pub quiet_keeps : {A : Type 0} {part : Part A} → Keeps IsQuiet part → Quiet part
 quiet_keeps keeps = record { of = λ before events result after does fits. let so = keeps before events result after does in (each_fits IsQuiet tt so.0, so.1) }
 
-pub forget : {A : Type 0} {part : Part A} {Extra : A → List (Event FurtherEvent) → Type 0} → QuietWith part Extra → Quiet part
+pub forget : {A : Type 0} {part : Part A} {Extra : A → List (EventWith FurtherEvent) → Type 0} → QuietWith part Extra → Quiet part
 forget quiet = record { of = λ before events result after does fits. let so = quiet.of [] before events result after does fits in (so.0, so.1) }
 
 with_both : {A : Type 0} {Is : Type 0} (Extra : A → Type 0) (result : Result A Refusal) → Is → HoldsOf Extra result → HoldsOf (λ value. Is × Extra value) result
@@ -69,31 +69,31 @@ with_both Extra (Ok value) is extra = (is, extra)
 with_both Extra (Err why) is extra = tt
 
 -- nothing is known
-abbrev pub Anything : List (Event FurtherEvent) → Option ℕ → Type 0
+abbrev pub Anything : List (EventWith FurtherEvent) → Option ℕ → Type 0
 Anything prior held = ⊤
 
 module _ (request : Request) where
   -- ---- events behind others
 
   -- what it hands to the cache is the request's own, by what was done before
-  abbrev pub IsOwn : List (Event FurtherEvent) → Event FurtherEvent → Type 0
+  abbrev pub IsOwn : List (EventWith FurtherEvent) → EventWith FurtherEvent → Type 0
   IsOwn before (CacheTurn taken) = HandsIn taken.asked → StoresOwn request before taken.asked
   IsOwn before _ = ⊤
 
-  abbrev pub AreOwn : List (Event FurtherEvent) → List (Event FurtherEvent) → Type 0
+  abbrev pub AreOwn : List (EventWith FurtherEvent) → List (EventWith FurtherEvent) → Type 0
   AreOwn before [] = ⊤
   AreOwn before (event ∷ more) = IsOwn before event × AreOwn (before ++ event ∷ []) more
 
-  pub own_then : (before first more : List (Event FurtherEvent)) → AreOwn before first → AreOwn (before ++ first) more → AreOwn before (first ++ more)
+  pub own_then : (before first more : List (EventWith FurtherEvent)) → AreOwn before first → AreOwn (before ++ first) more → AreOwn before (first ++ more)
   own_then before [] more own own_more = subst (λ b. AreOwn b more) (append-nil before) own_more
   own_then before (event ∷ first) more own own_more =
       (own.0, own_then (before ++ event ∷ []) first more own.1 (subst (λ b. AreOwn b more) (sym (append_assoc before (event ∷ []) first)) own_more))
 
-  pub own_left : (before first more : List (Event FurtherEvent)) → AreOwn before (first ++ more) → AreOwn before first
+  pub own_left : (before first more : List (EventWith FurtherEvent)) → AreOwn before (first ++ more) → AreOwn before first
   own_left before [] more own = tt
   own_left before (event ∷ first) more own = (own.0, own_left (before ++ event ∷ []) first more own.1)
 
-  quiet_own : (before : List (Event FurtherEvent)) (event : Event FurtherEvent) → IsQuiet event → IsOwn before event
+  quiet_own : (before : List (EventWith FurtherEvent)) (event : EventWith FurtherEvent) → IsQuiet event → IsOwn before event
   quiet_own before (CacheTurn taken) quiet = λ hands. absurd (quiet hands)
   quiet_own before (Received took) quiet = tt
   quiet_own before (Sent text) quiet = tt
@@ -101,12 +101,12 @@ module _ (request : Request) where
   quiet_own before (Inquiry word params limit inquired) quiet = tt
   quiet_own before (Further event) quiet = tt
 
-  pub quiet_are_own : (before events : List (Event FurtherEvent)) → AllByRecursion IsQuiet events → AreOwn before events
+  pub quiet_are_own : (before events : List (EventWith FurtherEvent)) → AllByRecursion IsQuiet events → AreOwn before events
   quiet_are_own before [] each = tt
   quiet_are_own before (event ∷ more) each = (quiet_own before event each.0, quiet_are_own (before ++ event ∷ []) more each.1)
 
   -- the event at this place
-  pub own_at : (before events front : List (Event FurtherEvent)) (asked : MarkStep) (turn : Turn) (back : List (Event FurtherEvent)) → AreOwn before events → events ≡ front ++ cache_turn asked turn ∷ back → HandsIn asked
+  pub own_at : (before events front : List (EventWith FurtherEvent)) (asked : MarkStep) (turn : Turn) (back : List (EventWith FurtherEvent)) → AreOwn before events → events ≡ front ++ cache_turn asked turn ∷ back → HandsIn asked
       → StoresOwn request (before ++ front) asked
   own_at before [] [] asked turn back own is hands = cc is
   own_at before [] (first ∷ front) asked turn back own is hands = cc is
@@ -123,13 +123,13 @@ module _ (request : Request) where
   -- ---- parts
 
   -- where this is so of what was done before and of the ticket that is held, a part's events are the request's own, and then that is so
-  pub record OwnSo {A : Type 0} (Pre : List (Event FurtherEvent) → Option ℕ → Type 0) (part : Part A) (Post : A → List (Event FurtherEvent) → Option ℕ → Type 0) : Type 0 where
-    pub of : (prior : List (Event FurtherEvent)) (before : Option ℕ) (events : List (Event FurtherEvent)) (result : Result A Refusal) (after : Option ℕ) → part before events result after → Fit events
+  pub record OwnSo {A : Type 0} (Pre : List (EventWith FurtherEvent) → Option ℕ → Type 0) (part : Part A) (Post : A → List (EventWith FurtherEvent) → Option ℕ → Type 0) : Type 0 where
+    pub of : (prior : List (EventWith FurtherEvent)) (before : Option ℕ) (events : List (EventWith FurtherEvent)) (result : Result A Refusal) (after : Option ℕ) → part before events result after → Fit events
         → Pre prior before → AreOwn prior events × HoldsOf (λ value. Post value (prior ++ events) after) result
 
-  module _ {A B : Type 0} {Pre : List (Event FurtherEvent) → Option ℕ → Type 0} {Mid : A → List (Event FurtherEvent) → Option ℕ → Type 0} {Post : B → List (Event FurtherEvent) → Option ℕ → Type 0}
+  module _ {A B : Type 0} {Pre : List (EventWith FurtherEvent) → Option ℕ → Type 0} {Mid : A → List (EventWith FurtherEvent) → Option ℕ → Type 0} {Post : B → List (EventWith FurtherEvent) → Option ℕ → Type 0}
       {part : Part A} {next : A → Part B} (first : OwnSo Pre part Mid) (then : (value : A) → OwnSo (Mid value) (next value) Post) where
-    own_bind_of : (prior : List (Event FurtherEvent)) (before : Option ℕ) (events : List (Event FurtherEvent)) (result : Result B Refusal) (after : Option ℕ) → Follows part next before events result after → Fit events
+    own_bind_of : (prior : List (EventWith FurtherEvent)) (before : Option ℕ) (events : List (EventWith FurtherEvent)) (result : Result B Refusal) (after : Option ℕ) → Follows part next before events result after → Fit events
         → Pre prior before → AreOwn prior events × HoldsOf (λ value. Post value (prior ++ events) after) result
     own_bind_of prior before events result after (goes_on {first = some} {events = more} {value} {mid} does next_does) fits pre =
         let one = first.of prior before some (Ok value) mid does (each_left FitsTurn some more fits) pre in
@@ -141,9 +141,9 @@ module _ (request : Request) where
     own_bind = record { of = own_bind_of }
 
   -- what is so then is more than is wanted
-  module _ {A : Type 0} {Pre : List (Event FurtherEvent) → Option ℕ → Type 0} {Post Other : A → List (Event FurtherEvent) → Option ℕ → Type 0} {part : Part A} (own : OwnSo Pre part Post)
-      (weaker : (value : A) (prior : List (Event FurtherEvent)) (held : Option ℕ) → Post value prior held → Other value prior held) where
-    weaker_of : (prior : List (Event FurtherEvent)) (after : Option ℕ) (result : Result A Refusal) → HoldsOf (λ value. Post value prior after) result → HoldsOf (λ value. Other value prior after) result
+  module _ {A : Type 0} {Pre : List (EventWith FurtherEvent) → Option ℕ → Type 0} {Post Other : A → List (EventWith FurtherEvent) → Option ℕ → Type 0} {part : Part A} (own : OwnSo Pre part Post)
+      (weaker : (value : A) (prior : List (EventWith FurtherEvent)) (held : Option ℕ) → Post value prior held → Other value prior held) where
+    weaker_of : (prior : List (EventWith FurtherEvent)) (after : Option ℕ) (result : Result A Refusal) → HoldsOf (λ value. Post value prior after) result → HoldsOf (λ value. Other value prior after) result
     weaker_of prior after (Ok value) holds = weaker value prior after holds
     weaker_of prior after (Err why) holds = tt
 
@@ -153,12 +153,12 @@ module _ (request : Request) where
           let so = own.of prior before events result after does fits pre in (so.0, weaker_of (prior ++ events) after result so.1);
     }
 
-  pub own_where : {A : Type 0} {Pre Wider : List (Event FurtherEvent) → Option ℕ → Type 0} {Post : A → List (Event FurtherEvent) → Option ℕ → Type 0} {part : Part A}
-      → ((prior : List (Event FurtherEvent)) (held : Option ℕ) → Pre prior held → Wider prior held) → OwnSo Wider part Post → OwnSo Pre part Post
+  pub own_where : {A : Type 0} {Pre Wider : List (EventWith FurtherEvent) → Option ℕ → Type 0} {Post : A → List (EventWith FurtherEvent) → Option ℕ → Type 0} {part : Part A}
+      → ((prior : List (EventWith FurtherEvent)) (held : Option ℕ) → Pre prior held → Wider prior held) → OwnSo Wider part Post → OwnSo Pre part Post
   own_where narrows own = record { of = λ prior before events result after does fits pre. own.of prior before events result after does fits (narrows prior before pre) }
 
-  module _ {Pre : List (Event FurtherEvent) → Option ℕ → Type 0} (stays : Stays Pre) {A : Type 0} {part : Part A} where
-    pub quiet_with : {Extra : A → List (Event FurtherEvent) → Type 0} → QuietWith part Extra → OwnSo Pre part (λ value prior held. Pre prior held × Extra value prior)
+  module _ {Pre : List (EventWith FurtherEvent) → Option ℕ → Type 0} (stays : Stays Pre) {A : Type 0} {part : Part A} where
+    pub quiet_with : {Extra : A → List (EventWith FurtherEvent) → Type 0} → QuietWith part Extra → OwnSo Pre part (λ value prior held. Pre prior held × Extra value prior)
     quiet_with {Extra} quiet = record {
       of = λ prior before events result after does fits pre.
           let so = quiet.of prior before events result after does fits in
@@ -173,27 +173,27 @@ module _ (request : Request) where
     }
 
   -- one of which each event is quiet
-  pub each_quiet : {A : Type 0} {Pre : List (Event FurtherEvent) → Option ℕ → Type 0} {part : Part A} → EachSo IsQuiet part → OwnSo Pre part (λ value. Anything)
+  pub each_quiet : {A : Type 0} {Pre : List (EventWith FurtherEvent) → Option ℕ → Type 0} {part : Part A} → EachSo IsQuiet part → OwnSo Pre part (λ value. Anything)
   each_quiet each = record { of = λ prior before events result after does fits pre. (quiet_are_own prior events (each.of before events result after does), whatever result tt) }
 
   -- ---- the simplest ones
 
-  module _ {A : Type 0} (Pre : List (Event FurtherEvent) → Option ℕ → Type 0) (Post : A → List (Event FurtherEvent) → Option ℕ → Type 0) where
-    own_returned_of : (value : A) → ((prior : List (Event FurtherEvent)) (held : Option ℕ) → Pre prior held → Post value prior held) → (prior : List (Event FurtherEvent)) (before : Option ℕ)
-        (events : List (Event FurtherEvent)) (result : Result A Refusal) (after : Option ℕ) → Returns value before events result after → Fit events
+  module _ {A : Type 0} (Pre : List (EventWith FurtherEvent) → Option ℕ → Type 0) (Post : A → List (EventWith FurtherEvent) → Option ℕ → Type 0) where
+    own_returned_of : (value : A) → ((prior : List (EventWith FurtherEvent)) (held : Option ℕ) → Pre prior held → Post value prior held) → (prior : List (EventWith FurtherEvent)) (before : Option ℕ)
+        (events : List (EventWith FurtherEvent)) (result : Result A Refusal) (after : Option ℕ) → Returns value before events result after → Fit events
         → Pre prior before → AreOwn prior events × HoldsOf (λ value. Post value (prior ++ events) after) result
     own_returned_of value so prior before events result after returns fits pre = (tt, subst (λ p. Post value p before) (sym (append-nil prior)) (so prior before pre))
 
-    own_refused_of : (why : Refusal) (prior : List (Event FurtherEvent)) (before : Option ℕ) (events : List (Event FurtherEvent)) (result : Result A Refusal) (after : Option ℕ)
+    own_refused_of : (why : Refusal) (prior : List (EventWith FurtherEvent)) (before : Option ℕ) (events : List (EventWith FurtherEvent)) (result : Result A Refusal) (after : Option ℕ)
         → Refuses {A = A} why before events result after → Fit events → Pre prior before → AreOwn prior events × HoldsOf (λ value. Post value (prior ++ events) after) result
     own_refused_of why prior before events result after chain.refuses fits pre = (tt, tt)
 
-  module _ {Pre : List (Event FurtherEvent) → Option ℕ → Type 0} where
-    pub own_returned : {A : Type 0} {Post : A → List (Event FurtherEvent) → Option ℕ → Type 0} (value : A) → ((prior : List (Event FurtherEvent)) (held : Option ℕ) → Pre prior held → Post value prior held)
+  module _ {Pre : List (EventWith FurtherEvent) → Option ℕ → Type 0} where
+    pub own_returned : {A : Type 0} {Post : A → List (EventWith FurtherEvent) → Option ℕ → Type 0} (value : A) → ((prior : List (EventWith FurtherEvent)) (held : Option ℕ) → Pre prior held → Post value prior held)
         → OwnSo Pre (Returns value) Post
     own_returned {Post} value so = record { of = own_returned_of Pre Post value so }
 
-    pub own_refused : {A : Type 0} {Post : A → List (Event FurtherEvent) → Option ℕ → Type 0} (why : Refusal) → OwnSo Pre (Refuses {A = A} why) Post
+    pub own_refused : {A : Type 0} {Post : A → List (EventWith FurtherEvent) → Option ℕ → Type 0} (why : Refusal) → OwnSo Pre (Refuses {A = A} why) Post
     own_refused {Post} why = record { of = own_refused_of Pre Post why }
 
     pub own_needed : {A : Type 0} (why : Code) (value : Option A) → OwnSo Pre (needed why value) (λ value. Pre)

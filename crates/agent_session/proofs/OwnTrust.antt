@@ -11,21 +11,22 @@ use Rattle.session_options.specs.declared.options.PinMode.{PinMode}
 use Rattle.session_options.specs.declared.options.PinMode.TheVariants as mode
 use Rattle.session_options.specs.declared.rules.Rules.{Rules}
 use Rattle.trust_list.specs.Trust.{trust}
-use Rattle.agent_origin.specs.Exchanges.{unless_said, TrustedNow, Stores, StoresUnsaid, Consented, asked_in, Marked, Carried, TrustExchange}
-use Rattle.agent_origin.specs.Exchanges as trusts
-use Rattle.agent_origin.specs.Parts.{UnderTicket, Agrees, ReadsFile, AddsEntry, Replaces}
+use Rattle.agent_origin.specs.TrustExchanges.{unless_said, TrustedNow, Stores, StoresUnsaid, Consented, asked_in, Marked, Carried, TrustExchange}
+use Rattle.agent_ask.specs.PartExchanges as part_exchanges
+use Rattle.agent_origin.specs.TrustExchanges as trusts
+use Rattle.agent_origin.specs.TrustParts.{UnderTicket, Agrees, ReadsFile, AddsEntry, Replaces}
 use Rattle.key_commands.specs.Parts.{Part, refusal_events}
 use Rattle.agent_ask.specs.Parts.{◌>>=◌, Follows, Returns, Refuses}
 use Rattle.agent_ask.specs.TurnParts.{Seats}
 use Rattle.assuan_server.specs.Written.{refusal_line}
-use Rattle.agent_origin.specs.Parts as parts
+use Rattle.agent_origin.specs.TrustParts as parts
 use Rattle.agent_ask.specs.ConsentParts as consent
 use Rattle.agent_ask.specs.Parts as chain
 use Rattle.agent_ask.specs.TurnParts as turning
 use Rattle.cache_policy.specs.declared.mark.MarkStep.TheVariants.{Seat}
-use Rattle.agent_origin.specs.declared.request.TrustPurpose.{TrustPurpose}
-use Rattle.agent_origin.specs.declared.request.TrustRequest.{TrustRequest}
-use Rattle.agent_origin.specs.declared.request.TrustRequest.TheVariants.{IsTrusted, MarkTrusted, Bad}
+use Rattle.agent_origin.specs.declared.trust.request.TrustPurpose.{TrustPurpose}
+use Rattle.agent_origin.specs.declared.trust.request.TrustRequest.{TrustRequest}
+use Rattle.agent_origin.specs.declared.trust.request.TrustRequest.TheVariants.{IsTrusted, MarkTrusted, Bad}
 use Rattle.agent_session.specs.OwnPassphrases.{IsUnreceived}
 use Rattle.agent_session.proofs.OwnParts.{IsQuiet, kept_none}
 
@@ -135,5 +136,5 @@ module _ (rules : Rules) (options : OptionValues) where
   said_idle (Some line) = ((tt, tt), tt)
 
   pub trust_idle : (request : TrustRequest) {events : List Event} {went : Went} → TrustExchange rules options request events went → Idle events
-  trust_idle request (trusts.answered events does) = each_append IsIdle events _ ((carried request).of does) ((tt, tt), tt)
-  trust_idle request (trusts.refused events why does) = each_append IsIdle events (refusal_events why) ((carried request).of does) (said_idle (refusal_line why))
+  trust_idle request (part_exchanges.answered events does) = each_append IsIdle events _ ((carried request).of does) ((tt, tt), tt)
+  trust_idle request (part_exchanges.refused events why does) = each_append IsIdle events (refusal_events why) ((carried request).of does) (said_idle (refusal_line why))

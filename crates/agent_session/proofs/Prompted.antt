@@ -26,7 +26,7 @@ use Rattle.agent_ask.specs.declared.spec.PromptSpec.{PromptSpec}
 use Rattle.assuan_server.specs.Clients.{session_lines}
 use Rattle.session_client.specs.Asking.{said_by, without_data}
 use Rattle.session_client.specs.declared.unheard.Unheard.{Unheard}
-use Rattle.agent_commands.specs.Events.{Event, Inquired}
+use Rattle.agent_commands.specs.Events.{EventWith, Inquired}
 use Rattle.agent_session.specs.Causes.{Has, here, later, is_cancelled, is_timed_out, is_disagreed, is_broken}
 use Rattle.agent_session.proofs.Standing.{has_left, has_right}
 
@@ -149,18 +149,18 @@ consent_shows {events} {end} asks = subst (λ e. ConsentShows end e) (sym asks.w
 -- ---- in the session
 
 -- an event of the prompt among those of the session
-abbrev pub ShownAs : PromptEvent → List (Event FurtherEvent) → Type 0
+abbrev pub ShownAs : PromptEvent → List (EventWith FurtherEvent) → Type 0
 ShownAs (Called call) shown = Has (Further (Prompt (Called call))) shown
 ShownAs (Notified pid heard) shown = (inquired : Inquired) × SaysNote (without_data (said_by session_lines inquired)) heard × Has (note pid inquired) shown
 ShownAs OutOfMemory shown = Has (Further (Prompt OutOfMemory)) shown
 
-module _ (first : Event FurtherEvent) (shown : List (Event FurtherEvent)) where
+module _ (first : EventWith FurtherEvent) (shown : List (EventWith FurtherEvent)) where
   shown_later : (event : PromptEvent) → ShownAs event shown → ShownAs event (first ∷ shown)
   shown_later (Called call) shows = later shows
   shown_later (Notified pid heard) shows = (shows.0, shows.1, later shows.2)
   shown_later OutOfMemory shows = later shows
 
-pub shown_as : (event : PromptEvent) {prompt : List PromptEvent} {shown : List (Event FurtherEvent)} → AnyInSession session_lines prompt shown → Has event prompt → ShownAs event shown
+pub shown_as : (event : PromptEvent) {prompt : List PromptEvent} {shown : List (EventWith FurtherEvent)} → AnyInSession session_lines prompt shown → Has event prompt → ShownAs event shown
 shown_as event session.none has = elim has [ ]
 shown_as event (session.called more) here = here
 shown_as event (session.called more) (later has) = shown_later _ _ event (shown_as event more has)

@@ -21,7 +21,7 @@ use Rattle.cache_policy.specs.declared.mark.MarkStep.{MarkStep}
 use Rattle.cache_policy.specs.declared.mark.MarkStep.TheVariants.{Clear, Close}
 use Rattle.cache_policy.specs.declared.mode.Mode.TheVariants.{Normal}
 use Rattle.session_options.specs.declared.rules.Rules.{Rules}
-use Rattle.agent_commands.specs.Events.{Event}
+use Rattle.agent_commands.specs.Events.{EventWith}
 use Rattle.agent_commands.specs.declared.request.Request.{Request}
 use Rattle.key_commands.specs.Lines.{grip_text}
 use Rattle.key_commands.specs.Passphrases.{put_key}
@@ -41,7 +41,7 @@ refused_turn asked turn fits is =
     let so : FitsStep asked Refused = subst (FitsStep asked) is fits in
     subst (λ t. turn_refuses (closes asked) t ≡ Some code.NoMemory) (sym is) (ap (λ c. turn_refuses c Refused) (no_close asked so))
 
-wants_refuses : (event : Event FurtherEvent) → FitsTurn event → WantsMemory event → refuses event ≡ Some code.NoMemory
+wants_refuses : (event : EventWith FurtherEvent) → FitsTurn event → WantsMemory event → refuses event ≡ Some code.NoMemory
 wants_refuses (CacheTurn taken) fits wants = refused_turn taken.asked taken.turn fits wants
 wants_refuses (Further NoMemory) fits wants = refl
 wants_refuses (Further (Prompt OutOfMemory)) fits wants = refl
@@ -75,7 +75,7 @@ wants_refuses (Sent text) fits wants = absurd wants
 wants_refuses (Cut text) fits wants = absurd wants
 wants_refuses (Inquiry word params limit inquired) fits wants = absurd wants
 
-fails_refuses : (event : Event FurtherEvent) → FailsAtKeysOrDice event → refuses event ≡ Some code.General
+fails_refuses : (event : EventWith FurtherEvent) → FailsAtKeysOrDice event → refuses event ≡ Some code.General
 fails_refuses (Further (Keys (Read grip key_read.Failed))) fails = refl
 fails_refuses (Further (Keys (Read grip key_read.NoMemory))) fails = absurd fails
 fails_refuses (Further (Keys (Read grip key_read.Absent))) fails = absurd fails
@@ -103,10 +103,10 @@ fails_refuses (Cut text) fails = absurd fails
 fails_refuses (Inquiry word params limit inquired) fails = absurd fails
 
 -- an event among these refuses the request by this code
-pub data HasRefusal (why : Code) (events : List (Event FurtherEvent)) : Type 0 where
-  has_refusal : (event : Event FurtherEvent) → refuses event ≡ Some why → Has event events → HasRefusal why events
+pub data HasRefusal (why : Code) (events : List (EventWith FurtherEvent)) : Type 0 where
+  has_refusal : (event : EventWith FurtherEvent) → refuses event ≡ Some why → Has event events → HasRefusal why events
 
-module _ {events : List (Event FurtherEvent)} (fits : AllByRecursion FitsTurn events) where
+module _ {events : List (EventWith FurtherEvent)} (fits : AllByRecursion FitsTurn events) where
   memory_refuses : HasOne events WantsMemory → HasRefusal code.NoMemory events
   memory_refuses (one event wants has) = has_refusal event (wants_refuses event (each_has FitsTurn events fits has) wants) has
 
@@ -120,30 +120,30 @@ module _ {events : List (Event FurtherEvent)} (fits : AllByRecursion FitsTurn ev
 -- ---- where it stands
 
 -- none of these refuses it
-abbrev Goes : Event FurtherEvent → Type 0
+abbrev Goes : EventWith FurtherEvent → Type 0
 Goes event = refuses event ≡ None
 
-none_refuses : {why : Code} (events : List (Event FurtherEvent)) → AllByRecursion Goes events → HasRefusal why events → ⊥
+none_refuses : {why : Code} (events : List (EventWith FurtherEvent)) → AllByRecursion Goes events → HasRefusal why events → ⊥
 none_refuses events each (has_refusal event is has) = absurd (cc (is, each_has Goes events each has))
 
 -- the first one does, or one behind it
-not_first : {why : Code} {event : Event FurtherEvent} {more : List (Event FurtherEvent)} → Goes event → HasRefusal why (event ∷ more) → HasRefusal why more
+not_first : {why : Code} {event : EventWith FurtherEvent} {more : List (EventWith FurtherEvent)} → Goes event → HasRefusal why (event ∷ more) → HasRefusal why more
 not_first goes (has_refusal event is here) = absurd (cc (is, goes))
 not_first goes (has_refusal event is (later has)) = has_refusal event is has
 
-only_first : {why : Code} {event : Event FurtherEvent} (more : List (Event FurtherEvent)) → AllByRecursion Goes more → HasRefusal why (event ∷ more) → refuses event ≡ Some why
+only_first : {why : Code} {event : EventWith FurtherEvent} (more : List (EventWith FurtherEvent)) → AllByRecursion Goes more → HasRefusal why (event ∷ more) → refuses event ≡ Some why
 only_first more each (has_refusal event is here) = is
 only_first more each (has_refusal event is (later has)) = absurd (none_refuses more each (has_refusal event is has))
 
-last_goes : {last : List (Event FurtherEvent)} → IsLast last → AllByRecursion Goes last
+last_goes : {last : List (EventWith FurtherEvent)} → IsLast last → AllByRecursion Goes last
 last_goes course.gone = tt
 last_goes (course.said is) = (refl, tt)
 
-back_goes : {text : List ℕ} {ending : List (Event FurtherEvent)} → GivesBack (Sent text ∷ []) ending → AllByRecursion Goes ending
+back_goes : {text : List ℕ} {ending : List (EventWith FurtherEvent)} → GivesBack (Sent text ∷ []) ending → AllByRecursion Goes ending
 back_goes course.no_ticket = (refl, tt)
 back_goes (course.with_ticket turn) = (refl, (refl, tt))
 
-shut_goes : (event : Event FurtherEvent) (ending : List (Event FurtherEvent)) → AllByRecursion Goes ending → AllByRecursion Goes (shuts event ++ ending)
+shut_goes : (event : EventWith FurtherEvent) (ending : List (EventWith FurtherEvent)) → AllByRecursion Goes ending → AllByRecursion Goes (shuts event ++ ending)
 shut_goes (Further (Prompt event)) ending each = (refl, each)
 shut_goes (Further (Keys call)) ending each = each
 shut_goes (Further (Dice draw)) ending each = each
@@ -155,17 +155,17 @@ shut_goes (Sent text) ending each = each
 shut_goes (Cut text) ending each = each
 shut_goes (Inquiry word params limit inquired) ending each = each
 
-abbrev unanswered_events : ℕ → Option (List ℕ) → Turn → List (Event FurtherEvent)
+abbrev unanswered_events : ℕ → Option (List ℕ) → Turn → List (EventWith FurtherEvent)
 unanswered_events number keep turn = cache_turn (Close number keep) turn ∷ Further NoMemory ∷ Sent (failed code.NoMemory) ∷ []
 
-abbrev stored_events : Grip → List ℕ → List ℕ → List (Event FurtherEvent)
+abbrev stored_events : Grip → List ℕ → List ℕ → List (EventWith FurtherEvent)
 stored_events grip file pass = Further (Keys (Replaced grip file key_done.Done)) ∷ cache_turn (put_key grip pass) Refused ∷ Sent (failed code.NoMemory) ∷ []
 
-abbrev cleared_events : Grip → List (Event FurtherEvent) → List (Event FurtherEvent)
+abbrev cleared_events : Grip → List (EventWith FurtherEvent) → List (EventWith FurtherEvent)
 cleared_events grip ending = Further (Keys (Removed grip key_done.Done)) ∷ cache_turn (Clear (grip_text grip) Normal) Refused ∷ ending
 
 module _ (request : Request) where
-  refused_end : {why : Code} {last : List (Event FurtherEvent)} → IsEnd request last → HasRefusal why last → RefusedEnd request why last
+  refused_end : {why : Code} {last : List (EventWith FurtherEvent)} → IsEnd request last → HasRefusal why last → RefusedEnd request why last
   refused_end (course.answered is) has = absurd (none_refuses _ (last_goes is) has)
   refused_end (course.given_back turn is) has = absurd (none_refuses _ (refl, last_goes is) has)
   refused_end (course.unanswered {ticket} {keep} turn) has = subst (λ c. RefusedEnd request c (unanswered_events ticket keep turn)) (cc (only_first _ (refl, tt) (not_first refl has))) (at_answer turn)
@@ -183,12 +183,12 @@ module _ (request : Request) where
   refused_end (course.cleared (course.interrupted turns.stopping) back) has = absurd (none_refuses _ (refl, (refl, back_goes back)) has)
   refused_end (course.cleared (course.interrupted turns.late) back) has = absurd (none_refuses _ (refl, (refl, back_goes back)) has)
 
-  in_last : {why : Code} (work : List (Event FurtherEvent)) {last : List (Event FurtherEvent)} → AreWork request work → HasRefusal why (work ++ last) → HasRefusal why last
+  in_last : {why : Code} (work : List (EventWith FurtherEvent)) {last : List (EventWith FurtherEvent)} → AreWork request work → HasRefusal why (work ++ last) → HasRefusal why last
   in_last work each (has_refusal event is has) = elim (has_split work _ has) [
     | inl first ↦ absurd (cc (is, (each_has (IsWork request) work each first).1))
     | inr behind ↦ has_refusal event is behind
   ]
 
-  pub refused_course : {events : List (Event FurtherEvent)} {why : Code} → Course request events → HasRefusal why events → RefusedCourse request why events
+  pub refused_course : {events : List (EventWith FurtherEvent)} {why : Code} → Course request events → HasRefusal why events → RefusedCourse request why events
   refused_course {why} goes has =
       record { work = goes.work; last = goes.last; is = goes.is; each = goes.each; end = refused_end goes.end (in_last goes.work goes.each (subst (HasRefusal why) goes.is has)) }

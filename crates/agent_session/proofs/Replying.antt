@@ -1,11 +1,13 @@
 -- Texts that answer a request, and aren't error lines.
 use Rattle.std.proofs.Common.{◌≡◌, ◌≢◌, ℕ, Bool, true, false, List, [], ◌∷◌, ◌++◌, codes, refl, sym, subst, arith}
 use Rattle.std.specs.Prelude.{if◌then◌else◌}
+use Rattle.assuan_server.specs.Written as written
 use Rattle.agent_commands.specs.Answers as answers
-use Rattle.agent_commands.specs.Answers.{ok, closing, help, comments}
+use Rattle.agent_commands.specs.Answers.{closing, help, comments}
+use Rattle.assuan_server.specs.Written.{ok}
 use Rattle.agent_commands.specs.Names.{command_names}
 use Rattle.assuan_escape.specs.DataLines.{data_text}
-use Rattle.assuan_escape.proofs.EscapeLemmas.{has_lf-hex_text}
+use Rattle.assuan_escape.proofs.EscapeLemmas.{has_lf_hex_text}
 use Rattle.assuan_escape.specs.Escapes.{hex_text}
 use Rattle.assuan_text.specs.LineEnds.{has_lf, line_of}
 use Rattle.key_commands.specs.Lines as lines
@@ -39,10 +41,10 @@ reply_data : (pieces : List (List ℕ)) → IsReply (data_text pieces ++ ok)
 reply_data [] = reply_ok
 reply_data (piece ∷ more) = begins (λ e. omega (arith, e)) (ends_in_ok (data_aside (piece ∷ more)))
 
-pub reply_keys : {bytes text : List ℕ} → lines.IsDataAnswer bytes text → IsReply text
+pub reply_keys : {bytes text : List ℕ} → written.IsDataAnswer bytes text → IsReply text
 reply_keys answer = subst IsReply (sym answer.text_is) (reply_data answer.pieces)
 
-pub reply_cache : {bytes text : List ℕ} → answers.IsDataAnswer bytes text → IsReply text
+pub reply_cache : {bytes text : List ℕ} → written.IsDataAnswer bytes text → IsReply text
 reply_cache answer = subst IsReply (sym answer.text_is) (reply_data answer.pieces)
 
 reply_text : (empty : Bool) (text : List ℕ) → has_lf text ≡ false → IsReply (line_of (if empty then codes "OK" else codes "OK " ++ text))
@@ -51,4 +53,4 @@ reply_text false text short = begins (λ e. omega (arith, e)) (record { before =
 
 pub reply_passphrase : (plain : Bool) (secret text : List ℕ) → answers.IsPassphrase plain secret text → IsReply text
 reply_passphrase true secret text answer = reply_cache answer
-reply_passphrase false secret text answer = subst IsReply (sym answer) (reply_text _ (hex_text secret) (has_lf-hex_text secret))
+reply_passphrase false secret text answer = subst IsReply (sym answer) (reply_text _ (hex_text secret) (has_lf_hex_text secret))

@@ -5,7 +5,7 @@ use Rattle.agent_ask.specs.Prompters.{AtPrompter, IsCall}
 use Rattle.agent_ask.specs.SessionEvents.{Sent, Cut, CutAtLast}
 use Rattle.agent_ask.specs.Worlds.{Outside, Does}
 use Rattle.agent_ask.specs.Worlds as worlds
-use Rattle.agent_commands.specs.Events.{Event}
+use Rattle.agent_commands.specs.Events.{EventWith}
 use Rattle.agent_commands.specs.Outside.{World}
 use Rattle.agent_commands.specs.Requests.{request_of}
 use Rattle.agent_commands.specs.Talks.{WholeOrCut, Talk, Session}
@@ -56,33 +56,33 @@ module _ {w : World} where
   between kept out = record { kept = kept; desk = out.desk; ends = out.ends }
 
   -- the same events, had the last write not failed
-  record Uncut (supply : Supply) (start : Outside w) (events : List (Event w.Further)) (now : Outside w) : Type 0 where
+  record Uncut (supply : Supply) (start : Outside w) (events : List (EventWith w.Further)) (now : Outside w) : Type 0 where
     link : LinkBytes
     leads : Leads (Does w supply) start events (record { input = link.input; source = link.source; output = link.output; desk = now.desk; ends = now.ends })
 
-  uncut_last : {supply : Supply} {start mid now : Outside w} {first : List (Event w.Further)} (sent unsent : List ℕ) → Leads (Does w supply) start first mid → Leads (Does w supply) mid (Cut sent ∷ []) now
+  uncut_last : {supply : Supply} {start mid now : Outside w} {first : List (EventWith w.Further)} (sent unsent : List ℕ) → Leads (Does w supply) start first mid → Leads (Does w supply) mid (Cut sent ∷ []) now
       → Uncut supply start (first ++ Sent (sent ++ unsent) ∷ []) now
   uncut_last {mid} sent unsent leads (one worlds.cut none) =
       record { link = record { input = mid.input; source = mid.source; output = with_bytes mid.output (sent ++ unsent) }; leads = leads_then leads (one worlds.sent none) }
 
-  uncut : {supply : Supply} {start now : Outside w} {events done : List (Event w.Further)} → CutAtLast events done → Leads (Does w supply) start done now → Uncut supply start events now
+  uncut : {supply : Supply} {start now : Outside w} {events done : List (EventWith w.Further)} → CutAtLast events done → Leads (Does w supply) start done now → Uncut supply start events now
   uncut {supply} {start} {now} last leads =
-      let parts = parted last.before (subst (λ (e : List (Event w.Further)). Leads (Does w supply) start e now) last.done_is leads) in
-      subst (λ (e : List (Event w.Further)). Uncut supply start e now) (sym last.whole) (uncut_last last.sent last.unsent parts.leads parts.later)
+      let parts = parted last.before (subst (λ (e : List (EventWith w.Further)). Leads (Does w supply) start e now) last.done_is leads) in
+      subst (λ (e : List (EventWith w.Further)). Uncut supply start e now) (sym last.whole) (uncut_last last.sent last.unsent parts.leads parts.later)
 
   -- what is said of each exchange, at a desk of which this stays so
   module _ {S : Type 0} {supply : Supply} (relation : LineRelation w S) (Says : Saying w S) (Stays : w.Desk → Type 0)
-      (keeps : (before : Outside w) (event : Event w.Further) (after : Outside w) → Does w supply before event after → Stays before.desk → Stays after.desk)
-      (says : (link link_now : LinkBytes) (before : Between w S) (line : List ℕ) (events : List (Event w.Further)) (after : Between w S) (went : Went) → Stays before.desk
+      (keeps : (before : Outside w) (event : EventWith w.Further) (after : Outside w) → Does w supply before event after → Stays before.desk → Stays after.desk)
+      (says : (link link_now : LinkBytes) (before : Between w S) (line : List ℕ) (events : List (EventWith w.Further)) (after : Between w S) (went : Went) → Stays before.desk
       → relation before.kept line events after.kept went → Leads (Does w supply) (with_link link before) events (with_link link_now after) → Says before line events after went) where
     abbrev Here : Saying w S
     Here = ExchangeBetween supply relation Says
 
-    stays : {before after : Outside w} {events : List (Event w.Further)} → Leads (Does w supply) before events after → Stays before.desk → Stays after.desk
+    stays : {before after : Outside w} {events : List (EventWith w.Further)} → Leads (Does w supply) before events after → Stays before.desk → Stays after.desk
     stays none so = so
     stays {before} (one {mid} {event} does leads) so = stays leads (keeps before event mid does so)
 
-    one_between : {kept now : S} {events : List (Event w.Further)} {went : Went} (line : List ℕ) (start mid : Outside w) → Stays start.desk → WholeOrCut (λ k. relation k line) kept events now went
+    one_between : {kept now : S} {events : List (EventWith w.Further)} {went : Went} (line : List ℕ) (start mid : Outside w) → Stays start.desk → WholeOrCut (λ k. relation k line) kept events now went
         → Leads (Does w supply) start events mid → WholeOrCut (λ state. Here state line) (between kept start) events (between now mid) went
     one_between {kept} {now} {events} {went} line start mid so (talks.whole exchanged) leads =
         talks.whole (record {
@@ -102,7 +102,7 @@ module _ {w : World} where
           says = says (link_of start) full.link (between kept start) line events (between now mid) went so exchanged full.leads;
         }) last
 
-    talk_between : {kept : S} {events : List (Event w.Further)} {end : SessionEnd} (before after : Outside w) → Stays before.desk → Talk relation kept events end → Leads (Does w supply) before events after
+    talk_between : {kept : S} {events : List (EventWith w.Further)} {end : SessionEnd} (before after : Outside w) → Stays before.desk → Talk relation kept events end → Leads (Does w supply) before events after
         → Talk Here (between kept before) events end
     talk_between before after so (talks.goes_on {events} line exchanged talk) (one (worlds.received known needed) leads) =
         let parts = parted events leads in
@@ -114,7 +114,7 @@ module _ {w : World} where
     talk_between before after so talks.too_long leads = talks.too_long
     talk_between before after so (talks.cut_too_long last) leads = talks.cut_too_long last
 
-    pub session_between : {start : S} {events : List (Event w.Further)} {end : SessionEnd} (before after : Outside w) → Stays before.desk → Session relation start events end
+    pub session_between : {start : S} {events : List (EventWith w.Further)} {end : SessionEnd} (before after : Outside w) → Stays before.desk → Session relation start events end
         → Leads (Does w supply) before events after → Session Here (between start before) events end
     session_between before after so (talks.greeted talk) (one worlds.sent leads) = talks.greeted (talk_between _ after so talk leads)
     session_between before after so (talks.cut_greeting last) leads = talks.cut_greeting last

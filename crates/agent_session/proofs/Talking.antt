@@ -1,7 +1,7 @@
 -- Sessions whose exchanges are each seen otherwise, by what holds of their events.
 use Rattle.std.proofs.Common.{◌≡◌, ℕ, List, [], ◌∷◌, ◌++◌, refl, sym, subst}
 use Rattle.agent_ask.specs.SessionEvents.{CutAtLast}
-use Rattle.agent_commands.specs.Events.{Event}
+use Rattle.agent_commands.specs.Events.{EventWith}
 use Rattle.agent_commands.specs.Talks.{WholeOrCut, whole, cut, Talk, Session}
 use Rattle.agent_commands.specs.Talks as talks
 use Rattle.agent_commands.specs.declared.went.SessionEnd.{SessionEnd}
@@ -11,7 +11,7 @@ use Rattle.agent_commands.specs.declared.went.Went.TheVariants.{End}
 use Rattle.agent_session.specs.Completeness.{WholeTalk, WholeSession, IsFaultless}
 use Rattle.agent_session.specs.Completeness as faultless
 
-whole_of : {S F : Type 0} {before after : S} {events : List (Event F)} {went : Went} (exchange : S → List (Event F) → S → Went → Type 0) → (went ≡ End WriteFault → ⊥)
+whole_of : {S F : Type 0} {before after : S} {events : List (EventWith F)} {went : Went} (exchange : S → List (EventWith F) → S → Went → Type 0) → (went ≡ End WriteFault → ⊥)
     → WholeOrCut exchange before events after went → exchange before events after went
 whole_of exchange never (whole exchanged) = exchanged
 whole_of exchange never (cut exchanged last) = absurd (never refl)
@@ -19,15 +19,15 @@ whole_of exchange never (cut exchanged last) = absurd (never refl)
 ends_well : (end : SessionEnd) → IsFaultless end → End end ≡ End WriteFault → ⊥
 ends_well end well is = let same : WriteFault ≡ end = cc in subst IsFaultless (sym same) well
 
-module _ {S F : Type 0} (One Other : S → List ℕ → List (Event F) → S → Went → Type 0) (Fine : List (Event F) → Type 0)
-    (left : (first more : List (Event F)) → Fine (first ++ more) → Fine first) (right : (first more : List (Event F)) → Fine (first ++ more) → Fine more)
-    (moves : (before : S) (line : List ℕ) (events : List (Event F)) (after : S) (went : Went) → Fine events → One before line events after went → Other before line events after went) where
-  tail : (event : Event F) (more : List (Event F)) → Fine (event ∷ more) → Fine more
+module _ {S F : Type 0} (One Other : S → List ℕ → List (EventWith F) → S → Went → Type 0) (Fine : List (EventWith F) → Type 0)
+    (left : (first more : List (EventWith F)) → Fine (first ++ more) → Fine first) (right : (first more : List (EventWith F)) → Fine (first ++ more) → Fine more)
+    (moves : (before : S) (line : List ℕ) (events : List (EventWith F)) (after : S) (went : Went) → Fine events → One before line events after went → Other before line events after went) where
+  tail : (event : EventWith F) (more : List (EventWith F)) → Fine (event ∷ more) → Fine more
   tail event more fine = right (event ∷ []) more fine
 
   -- ---- sessions in which no write failed
 
-  talk_whole : {before : S} {events : List (Event F)} {end : SessionEnd} → Talk One before events end → IsFaultless end → Fine events → WholeTalk Other before events end
+  talk_whole : {before : S} {events : List (EventWith F)} {end : SessionEnd} → Talk One before events end → IsFaultless end → Fine events → WholeTalk Other before events end
   talk_whole (talks.goes_on {events} {more} line exchanged talk) well fine =
       let rest = tail _ (events ++ more) fine in
       faultless.goes_on line (moves _ line _ _ _ (left events more rest) (whole_of (λ kept. One kept line) (λ is. absurd (cc is)) exchanged)) (talk_whole talk well (right events more rest))
@@ -38,19 +38,19 @@ module _ {S F : Type 0} (One Other : S → List ℕ → List (Event F) → S →
   talk_whole talks.too_long well fine = faultless.too_long
   talk_whole (talks.cut_too_long last) well fine = absurd well
 
-  pub session_whole : {before : S} {events : List (Event F)} {end : SessionEnd} → Session One before events end → IsFaultless end → Fine events → WholeSession Other before events end
+  pub session_whole : {before : S} {events : List (EventWith F)} {end : SessionEnd} → Session One before events end → IsFaultless end → Fine events → WholeSession Other before events end
   session_whole (talks.greeted {events} talk) well fine = faultless.greeted (talk_whole talk well (tail _ events fine))
   session_whole (talks.cut_greeting last) well fine = absurd well
 
   -- ---- all sessions
 
-  module _ (uncut : (events done : List (Event F)) → CutAtLast events done → Fine done → Fine events) where
-    exchange_moved : {before after : S} {events : List (Event F)} {went : Went} (line : List ℕ) → WholeOrCut (λ kept. One kept line) before events after went → Fine events
+  module _ (uncut : (events done : List (EventWith F)) → CutAtLast events done → Fine done → Fine events) where
+    exchange_moved : {before after : S} {events : List (EventWith F)} {went : Went} (line : List ℕ) → WholeOrCut (λ kept. One kept line) before events after went → Fine events
         → WholeOrCut (λ kept. Other kept line) before events after went
     exchange_moved line (whole exchanged) fine = whole (moves _ line _ _ _ fine exchanged)
     exchange_moved line (cut {events} {done} exchanged last) fine = cut (moves _ line _ _ _ (uncut events done last fine) exchanged) last
 
-    talk_moved : {before : S} {events : List (Event F)} {end : SessionEnd} → Talk One before events end → Fine events → Talk Other before events end
+    talk_moved : {before : S} {events : List (EventWith F)} {end : SessionEnd} → Talk One before events end → Fine events → Talk Other before events end
     talk_moved (talks.goes_on {events} {more} line exchanged talk) fine =
         let rest = tail _ (events ++ more) fine in
         talks.goes_on line (exchange_moved line exchanged (left events more rest)) (talk_moved talk (right events more rest))
@@ -61,6 +61,6 @@ module _ {S F : Type 0} (One Other : S → List ℕ → List (Event F) → S →
     talk_moved talks.too_long fine = talks.too_long
     talk_moved (talks.cut_too_long last) fine = talks.cut_too_long last
 
-    pub session_moved : {before : S} {events : List (Event F)} {end : SessionEnd} → Session One before events end → Fine events → Session Other before events end
+    pub session_moved : {before : S} {events : List (EventWith F)} {end : SessionEnd} → Session One before events end → Fine events → Session Other before events end
     session_moved (talks.greeted {events} talk) fine = talks.greeted (talk_moved talk (tail _ events fine))
     session_moved (talks.cut_greeting last) fine = talks.cut_greeting last

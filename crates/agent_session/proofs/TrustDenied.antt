@@ -3,7 +3,7 @@ use Rattle.std.specs.List.{AllByRecursion}
 use Rattle.std.proofs.Common.{◌≡◌, ◌⊎◌, ◌∙◌, ℕ, Bool, true, false, List, [], ◌∷◌, ◌++◌, Option, Some, None, Ok, Err, refl, sym, subst, inl, inr}
 use Rattle.agent_ask.specs.SessionEvents.{CacheTurn, said_last}
 use Rattle.agent_ask.specs.TrustCalls.{TrustCall}
-use Rattle.agent_commands.specs.Answers.{ok}
+use Rattle.assuan_server.specs.Written.{ok}
 use Rattle.agent_commands.specs.declared.went.Went.{Went}
 use Rattle.agent_ports.specs.declared.grip.Grip.{Grip}
 use Rattle.assuan_server.specs.Written.{failed, refusal_line}
@@ -18,18 +18,19 @@ use Rattle.session_options.specs.declared.options.PinMode.{PinMode}
 use Rattle.session_options.specs.declared.options.PinMode.TheVariants as mode
 use Rattle.session_options.specs.declared.rules.Rules.{Rules}
 use Rattle.trust_list.specs.Trust.{trust}
-use Rattle.agent_origin.specs.Exchanges.{flag_of, trust_question, fingerprint_question, unless_said, TrustedNow, Stores, StoresUnsaid, Consented, asked_in, Marked, Carried, TrustExchange}
-use Rattle.agent_origin.specs.Exchanges as trusts
+use Rattle.agent_origin.specs.TrustExchanges.{flag_of, trust_question, fingerprint_question, unless_said, TrustedNow, Stores, StoresUnsaid, Consented, asked_in, Marked, Carried, TrustExchange}
+use Rattle.agent_ask.specs.PartExchanges as part_exchanges
+use Rattle.agent_origin.specs.TrustExchanges as trusts
 use Rattle.agent_ask.specs.ConsentParts as consent
 use Rattle.agent_ask.specs.Parts.{◌>>=◌, Follows, Returns, Refuses}
 use Rattle.agent_ask.specs.Parts as chain
 use Rattle.agent_ask.specs.TurnParts.{Seats}
 use Rattle.agent_ask.specs.TurnParts as taken
-use Rattle.agent_origin.specs.Parts.{UnderTicket, Agrees, ReadsFile, AddsEntry, Replaces, file_in, trust_called}
+use Rattle.agent_origin.specs.TrustParts.{UnderTicket, Agrees, ReadsFile, AddsEntry, Replaces, file_in, trust_called}
 use Rattle.key_commands.specs.Parts.{Part}
-use Rattle.agent_origin.specs.Parts as parts
-use Rattle.agent_origin.specs.declared.request.TrustPurpose.{TrustPurpose}
-use Rattle.agent_origin.specs.declared.request.TrustRequest.{TrustRequest}
+use Rattle.agent_origin.specs.TrustParts as parts
+use Rattle.agent_origin.specs.declared.trust.request.TrustPurpose.{TrustPurpose}
+use Rattle.agent_origin.specs.declared.trust.request.TrustRequest.{TrustRequest}
 use Rattle.agent_origin.proofs.EachLine.{shown_so}
 use Rattle.agent_session.specs.Causes.{Has, here, later}
 use Rattle.agent_session.specs.Completeness.{HasError}
@@ -235,8 +236,8 @@ none_said events None is_read = elim (split_read events _ is_read) [ inl before 
 module _ (rules : Rules) (options : OptionValues) where
   heeded : (fingerprint : Grip) (file : List ℕ) {request : TrustRequest} → Heeds fingerprint file (Carried rules options request) → {events : List Event} {went : Went}
       → TrustExchange rules options request events went → IsReadTrust events file → HasError code.NotTrusted Agent events
-  heeded fingerprint file heeds (trusts.answered events does) is_read = absurd (heeds.fine events tt does (none_said events (Some ok) is_read))
-  heeded fingerprint file heeds (trusts.refused events why does) is_read = refused_last events (heeds.denies events does (none_said events (refusal_line why) is_read))
+  heeded fingerprint file heeds (part_exchanges.answered events does) is_read = absurd (heeds.fine events tt does (none_said events (Some ok) is_read))
+  heeded fingerprint file heeds (part_exchanges.refused events why does) is_read = refused_last events (heeds.denies events does (none_said events (refusal_line why) is_read))
 
   asked_heeded : {fingerprint : Grip} {said : Option Bool} {request : TrustRequest} {events : List Event} {went : Went} → ¬ (said ≡ Some true) → IsAsked events request fingerprint said
       → TrustExchange rules options request events went → HasError code.NotTrusted Agent events

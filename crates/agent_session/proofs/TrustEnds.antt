@@ -4,7 +4,7 @@ use Rattle.std.proofs.Common.{◌≡◌, ◌∙◌, ℕ, Bool, true, false, List
 use Rattle.agent_ask.specs.Further.{Keys, Dice, NoMemory, Prompt, Trust}
 use Rattle.agent_ask.specs.SessionEvents.{Received, Sent, Cut, Inquiry, CacheTurn, Further, cache_turn, said_last}
 use Rattle.agent_ask.specs.TrustCalls.{Read}
-use Rattle.agent_commands.specs.Answers.{ok}
+use Rattle.assuan_server.specs.Written.{ok}
 use Rattle.agent_commands.specs.Requests.{request_of}
 use Rattle.agent_commands.specs.declared.went.Went.{Went}
 use Rattle.agent_ports.specs.declared.grip.Grip.{Grip}
@@ -20,22 +20,23 @@ use Rattle.session_options.specs.declared.rules.Rules.{Rules}
 use Rattle.trust_list.specs.Trust.{trust}
 use Rattle.agent_origin.specs.DoorSessions.{AllowedExchange, DoorExchange}
 use Rattle.agent_origin.specs.DoorSessions as doors
-use Rattle.agent_origin.specs.Exchanges.{flag_of, trust_question, fingerprint_question, unless_said, TrustedNow, Stores, StoresUnsaid, Consented, asked_in, Marked, Carried, TrustExchange}
-use Rattle.agent_origin.specs.Exchanges as trusts
+use Rattle.agent_origin.specs.TrustExchanges.{flag_of, trust_question, fingerprint_question, unless_said, TrustedNow, Stores, StoresUnsaid, Consented, asked_in, Marked, Carried, TrustExchange}
+use Rattle.agent_ask.specs.PartExchanges as part_exchanges
+use Rattle.agent_origin.specs.TrustExchanges as trusts
 use Rattle.agent_ask.specs.ConsentParts as consent
 use Rattle.agent_ask.specs.Parts.{◌>>=◌, Follows, Returns, Refuses}
 use Rattle.agent_ask.specs.Parts as chain
 use Rattle.agent_ask.specs.TurnParts.{Seats}
 use Rattle.agent_ask.specs.TurnParts as taken
-use Rattle.agent_origin.specs.Parts.{UnderTicket, Agrees, ReadsFile, AddsEntry, Replaces, file_in, trust_called}
+use Rattle.agent_origin.specs.TrustParts.{UnderTicket, Agrees, ReadsFile, AddsEntry, Replaces, file_in, trust_called}
 use Rattle.key_commands.specs.Parts.{Part, refusal_events}
 use Rattle.assuan_server.specs.Written.{refusal_line}
-use Rattle.agent_origin.specs.Parts as parts
+use Rattle.agent_origin.specs.TrustParts as parts
 use Rattle.agent_origin.specs.declared.door.Door.{Door}
 use Rattle.agent_origin.specs.declared.kept.Kept.{Kept}
-use Rattle.agent_origin.specs.declared.request.TrustPurpose.{TrustPurpose}
-use Rattle.agent_origin.specs.declared.request.TrustRequest.{TrustRequest}
-use Rattle.agent_origin.specs.declared.request.TrustRequest.TheVariants.{IsTrusted, MarkTrusted, Bad}
+use Rattle.agent_origin.specs.declared.trust.request.TrustPurpose.{TrustPurpose}
+use Rattle.agent_origin.specs.declared.trust.request.TrustRequest.{TrustRequest}
+use Rattle.agent_origin.specs.declared.trust.request.TrustRequest.TheVariants.{IsTrusted, MarkTrusted, Bad}
 use Rattle.agent_session.specs.TrustCalls.{decided_line, IsLastLine, alone, given_back, EndsAtCalls}
 use Rattle.agent_origin.proofs.EachLine.{shown_so, each_request}
 use Rattle.key_commands.specs.Events.{Event}
@@ -266,8 +267,8 @@ refused_so {events} why (goes each) = none_ends (events ++ refusal_events why) (
 refused_so why (decided work event each is behind answers) = finishes work event (refusal_events why) each is behind (ap said_last answers)
 
 trust_ends : {rules : Rules} {options : OptionValues} (request : TrustRequest) {events : List Event} {went : Went} → TrustExchange rules options request events went → EndsAtCalls events
-trust_ends {rules} {options} request (trusts.answered events does) = answered_ends ((carried rules options request).of does)
-trust_ends {rules} {options} request (trusts.refused events why does) = refused_so why ((carried rules options request).of does)
+trust_ends {rules} {options} request (part_exchanges.answered events does) = answered_ends ((carried rules options request).of does)
+trust_ends {rules} {options} request (part_exchanges.refused events why does) = refused_so why ((carried rules options request).of does)
 
 module _ {rules : Rules} {before : Kept} {line : List ℕ} where
   allowed_ends : {command : _} {events : List Event} {after : Kept} {went : Went} → AllowedExchange rules before line command events after went → EndsAtCalls events

@@ -12,7 +12,7 @@ use Rattle.agent_ask.specs.declared.caller.Heard.{Heard}
 use Rattle.agent_ask.specs.declared.caller.Heard.TheVariants as heard_as
 use Rattle.agent_ask.specs.declared.consent.Agreed.{Agreed}
 use Rattle.agent_ask.specs.declared.consent.Agreed.TheVariants as agreed
-use Rattle.agent_commands.specs.Answers.{ok}
+use Rattle.assuan_server.specs.Written.{ok}
 use Rattle.agent_commands.specs.Endings.{went_after}
 use Rattle.agent_ask.specs.Interrupts.{Interrupts}
 use Rattle.agent_ask.specs.Interrupts as turns
@@ -35,8 +35,10 @@ use Rattle.cache_policy.specs.declared.mark.MarkStep.TheVariants.{Seat}
 use Rattle.assuan_text.specs.Options.{arguments_of}
 use Rattle.assuan_text.specs.Words.{command_of, rest_of, words}
 use Rattle.key_commands.specs.Events.{Event}
+use Rattle.session_client.specs.Fields as fields
 use Rattle.key_commands.specs.Requests as requests
-use Rattle.key_commands.specs.Requests.{needed, grip, first_grip}
+use Rattle.key_commands.specs.Requests.{grip, first_grip}
+use Rattle.session_client.specs.Fields.{in_form}
 use Rattle.key_commands.proofs.EachEvent.{each_append}
 use Rattle.session_client.specs.Asking.{gone_of}
 use Rattle.session_client.specs.declared.refusal.Refusal.{Refusal}
@@ -50,23 +52,24 @@ use Rattle.session_options.specs.declared.options.PinMode.TheVariants as mode
 use Rattle.session_options.specs.declared.rules.Rules.{Rules}
 use Rattle.trust_list.specs.Trust.{trust, with_entry}
 use Rattle.trust_list.specs.declared.TheConstants.{MAX_TRUST_FILE_LEN}
-use Rattle.agent_origin.specs.Exchanges.{flag_of, trust_question, fingerprint_question, unless_said, TrustedNow, Stores, StoresUnsaid, Consented, asked_in, Marked, Carried, TrustExchange}
-use Rattle.agent_origin.specs.Exchanges as trusts
+use Rattle.agent_origin.specs.TrustExchanges.{flag_of, trust_question, fingerprint_question, unless_said, TrustedNow, Stores, StoresUnsaid, Consented, asked_in, Marked, Carried, TrustExchange}
+use Rattle.agent_ask.specs.PartExchanges as part_exchanges
+use Rattle.agent_origin.specs.TrustExchanges as trusts
 use Rattle.agent_ask.specs.ConsentParts.{consent_refusal}
 use Rattle.agent_ask.specs.ConsentParts as consent
 use Rattle.agent_ask.specs.TurnParts.{Seats}
 use Rattle.agent_ask.specs.TurnParts as taken
-use Rattle.agent_origin.specs.Parts.{UnderTicket, Agrees, ReadsFile, AddsEntry, Replaces, refusal_went, trust_called}
+use Rattle.agent_origin.specs.TrustParts.{UnderTicket, Agrees, ReadsFile, AddsEntry, Replaces, refusal_went, trust_called}
 use Rattle.key_commands.specs.Parts.{Part, refusal_events}
-use Rattle.agent_origin.specs.Parts as parts
-use Rattle.agent_origin.specs.Names.{command_named}
-use Rattle.agent_origin.specs.Requests.{purpose, owner, mark_trusted_of, asked_by, either, request_by, trust_request_of}
+use Rattle.agent_origin.specs.TrustParts as parts
+use Rattle.agent_origin.specs.TrustNames.{trust_command_named}
+use Rattle.agent_origin.specs.TrustRequests.{purpose, owner, mark_trusted_of, trust_asked_by, trust_or_bad, trust_request_by, trust_request_of}
 use Rattle.agent_origin.specs.declared.kept.Kept.{Kept}
-use Rattle.agent_origin.specs.declared.names.TrustCommandName.{TrustCommandName}
+use Rattle.agent_origin.specs.declared.trust.names.TrustCommandName.{TrustCommandName}
 use Rattle.agent_origin.specs.declared.names.TrustCommandName.TheVariants as name
-use Rattle.agent_origin.specs.declared.request.TrustPurpose.{TrustPurpose}
-use Rattle.agent_origin.specs.declared.request.TrustRequest.{TrustRequest}
-use Rattle.agent_origin.specs.declared.request.TrustRequest.TheVariants.{IsTrusted, MarkTrusted, Bad}
+use Rattle.agent_origin.specs.declared.trust.request.TrustPurpose.{TrustPurpose}
+use Rattle.agent_origin.specs.declared.trust.request.TrustRequest.{TrustRequest}
+use Rattle.agent_origin.specs.declared.trust.request.TrustRequest.TheVariants.{IsTrusted, MarkTrusted, Bad}
 use Rattle.agent_session.specs.Causes.{StandIn, IsSaid, one, called_trust, turned}
 use Rattle.agent_session.specs.Completeness.{AnswersNothing}
 use Rattle.agent_session.specs.DoorCauses.{IsReadTrust, read_trust, IsMarked, IsTrustCaused, by_mode, by_client, by_stop, unsaid, denied, denied_mark, inquired, too_long, error, loopback}
@@ -247,10 +250,10 @@ module _ (rules : Rules) (kept : Kept) (other : Request) (request : TrustRequest
     carried (Bad why) is = refused Anything (refusals.Agent why) (line_caused why is)
 
     pub trust_explained : {events : List Event} {went : Went} → TrustExchange rules kept.options request events went → StandIn events whole → Here events went
-    trust_explained (trusts.answered events does) stands =
+    trust_explained (part_exchanges.answered events does) stands =
         let comes : ComesHere Anything events (Ok tt) = (carried request refl).of None events (Ok tt) None does (stand_left events _ stands) in
         after_these _ _ events comes.silent (replied [] ok tt reply_ok tt)
-    trust_explained (trusts.refused events why does) stands =
+    trust_explained (part_exchanges.refused events why does) stands =
         let comes : ComesHere Anything events (Err why) = (carried request refl).of None events (Err why) None does (stand_left events _ stands) in
         after_these _ _ events comes.silent (refusal_here why comes.explained)
 
@@ -261,22 +264,22 @@ abbrev IsForm : TrustRequest → Type 0
 IsForm (Bad why) = why ≡ code.Parameter
 IsForm _ = ⊤
 
-needed_form : {A : Type 0} (field : Option A) (next : A → Result TrustRequest Code) → ((value : A) → IsForm (either (next value))) → IsForm (either (requests.◌>>=◌ (needed field) next))
+needed_form : {A : Type 0} (field : Option A) (next : A → Result TrustRequest Code) → ((value : A) → IsForm (trust_or_bad (next value))) → IsForm (trust_or_bad (fields.◌>>=◌ (in_form field) next))
 needed_form None next each = refl
 needed_form (Some value) next each = each value
 
-asked_form : (name : TrustCommandName) (rest : List ℕ) → IsForm (either (asked_by name rest))
+asked_form : (name : TrustCommandName) (rest : List ℕ) → IsForm (trust_or_bad (trust_asked_by name rest))
 asked_form name.IsTrusted rest = needed_form (first_grip (arguments_of (words rest))) (λ fingerprint. Ok (IsTrusted fingerprint)) (λ fingerprint. tt)
 asked_form name.MarkTrusted rest = mark_form (arguments_of (words rest))
   where
-    mark_form : (arguments : List (List ℕ)) → IsForm (either (mark_trusted_of arguments))
+    mark_form : (arguments : List (List ℕ)) → IsForm (trust_or_bad (mark_trusted_of arguments))
     mark_form [] = refl
     mark_form (first ∷ []) = refl
     mark_form (first ∷ second ∷ []) = refl
     mark_form (first ∷ second ∷ third ∷ more) = needed_form (grip first) _ (λ fingerprint. needed_form (purpose second) _ (λ flag. needed_form (owner third) _ (λ text. tt)))
 
-pub trust_line_form : (line : List ℕ) (name : TrustCommandName) → command_named (command_of line) ≡ Some name → (why : Code) → trust_request_of line ≡ Bad why → why ≡ code.Parameter
+pub trust_line_form : (line : List ℕ) (name : TrustCommandName) → trust_command_named (command_of line) ≡ Some name → (why : Code) → trust_request_of line ≡ Bad why → why ≡ code.Parameter
 unfolding trust_request_of
 trust_line_form line name named why is =
-    let form : IsForm (request_by (command_named (command_of line)) line) = subst (λ n. IsForm (request_by n line)) (sym named) (asked_form name (rest_of line)) in
+    let form : IsForm (trust_request_by (trust_command_named (command_of line)) line) = subst (λ n. IsForm (trust_request_by n line)) (sym named) (asked_form name (rest_of line)) in
     subst IsForm is form

@@ -21,13 +21,14 @@ use Rattle.trust_list.specs.Trust.{trust}
 use Rattle.agent_commands.specs.Endings.{went_after, end_of}
 use Rattle.agent_commands.specs.declared.went.Went.{Went}
 use Rattle.agent_commands.specs.declared.went.Went.TheVariants.{End}
-use Rattle.agent_origin.specs.Exchanges.{flag_of, trust_question, fingerprint_question, unless_said, TrustedNow, Stores, StoresUnsaid, Consented, asked_in, Marked, Carried, TrustExchange}
-use Rattle.agent_origin.specs.Exchanges as trusts
-use Rattle.agent_origin.specs.Parts.{UnderTicket, ReadsFile, AddsEntry, Replaces}
-use Rattle.agent_origin.specs.Parts as parts
-use Rattle.agent_origin.specs.declared.request.TrustPurpose.{TrustPurpose}
-use Rattle.agent_origin.specs.declared.request.TrustRequest.{TrustRequest}
-use Rattle.agent_origin.specs.declared.request.TrustRequest.TheVariants.{IsTrusted, MarkTrusted, Bad}
+use Rattle.agent_origin.specs.TrustExchanges.{flag_of, trust_question, fingerprint_question, unless_said, TrustedNow, Stores, StoresUnsaid, Consented, asked_in, Marked, Carried, TrustExchange}
+use Rattle.agent_ask.specs.PartExchanges as part_exchanges
+use Rattle.agent_origin.specs.TrustExchanges as trusts
+use Rattle.agent_origin.specs.TrustParts.{UnderTicket, ReadsFile, AddsEntry, Replaces}
+use Rattle.agent_origin.specs.TrustParts as parts
+use Rattle.agent_origin.specs.declared.trust.request.TrustPurpose.{TrustPurpose}
+use Rattle.agent_origin.specs.declared.trust.request.TrustRequest.{TrustRequest}
+use Rattle.agent_origin.specs.declared.trust.request.TrustRequest.TheVariants.{IsTrusted, MarkTrusted, Bad}
 use Rattle.key_commands.specs.Events.{Event}
 use Rattle.key_commands.specs.Parts.{Part}
 use Rattle.agent_session.specs.Causes.{IsSaid, said}
@@ -126,8 +127,8 @@ carried rules options (Bad code) = heard refuses_heard
 
 pub trust_gone : {rules : Rules} {options : OptionValues} (request : TrustRequest) {events : List Event} {went : Went} {how : Gone} → TrustExchange rules options request events went
     → IsSaid events (unheard.Gone how) → went ≡ End (end_of how)
-trust_gone {rules} {options} request (trusts.answered events does) says = absurd (cc ((carried rules options request).of does (said_before events _ (refl, tt) says)))
-trust_gone {rules} {options} request {how} (trusts.refused events why does) says =
+trust_gone {rules} {options} request (part_exchanges.answered events does) says = absurd (cc ((carried rules options request).of does (said_before events _ (refl, tt) says)))
+trust_gone {rules} {options} request {how} (part_exchanges.refused events why does) says =
     let same : Err why ≡ Err (Client (unheard.Gone how)) = (carried rules options request).of does (said_before events _ (last_heard (refusal_line why)) says) in
     let refusal : why ≡ Client (unheard.Gone how) = cc same in
     ap (λ w. went_after (gone_by w)) refusal

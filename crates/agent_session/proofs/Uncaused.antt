@@ -4,7 +4,7 @@ use Rattle.agent_ask.specs.Further.{FurtherEvent}
 use Rattle.agent_ask.specs.SessionEvents.{Sent}
 use Rattle.session_client.specs.declared.code.Code.{Code}
 use Rattle.assuan_server.specs.declared.errors.Origin.{Origin}
-use Rattle.agent_commands.specs.Events.{Event}
+use Rattle.agent_commands.specs.Events.{EventWith}
 use Rattle.agent_commands.specs.declared.went.SessionEnd.TheVariants.{Bye, Killed, Ended, TooLong, Spent, ReadFault, WriteFault}
 use Rattle.agent_commands.specs.declared.went.Went.{Went}
 use Rattle.agent_commands.specs.declared.went.Went.TheVariants.{On, End}
@@ -12,7 +12,7 @@ use Rattle.agent_session.specs.Causes.{Has, here}
 use Rattle.agent_session.specs.Completeness.{AnswersAtLast, IsAnswer, done, error, IsAnsweredBy, HasError, HasOk, IsAnsweredOk}
 use Rattle.agent_session.proofs.Standing.{has_right}
 
-module _ (events : List (Event FurtherEvent)) (never : (why : Code) (origin : Origin) → HasError why origin events → ⊥) where
+module _ (events : List (EventWith FurtherEvent)) (never : (why : Code) (origin : Origin) → HasError why origin events → ⊥) where
   ok_text : (text : List ℕ) → IsAnswer text → Has (Sent text) events → HasOk events
   ok_text text (done ends) has = (text, has, ends)
   ok_text text (error why origin is) has = absurd (never why origin (subst (λ (t : List ℕ). Has (Sent t) events) is has))

@@ -6,8 +6,8 @@ use Rattle.agent_ask.specs.Further.{Replaced}
 use Rattle.agent_ask.specs.SessionEvents.{Received, Sent, Inquiry, cache_turn}
 use Rattle.agent_ask.specs.ClientParts as client
 use Rattle.agent_ask.specs.PartExchanges as exchanges
-use Rattle.agent_commands.specs.Exchanges.{Exchange as CacheExchange}
-use Rattle.agent_commands.specs.Parts.{limit_line}
+use Rattle.agent_commands.specs.Exchanges.{CacheExchange}
+use Rattle.assuan_server.specs.Written.{limit_line}
 use Rattle.agent_commands.specs.Passphrases.{ask}
 use Rattle.agent_commands.specs.Requests.{GetFields, get_passphrase, request_of}
 use Rattle.agent_commands.specs.Talks as talks
@@ -31,7 +31,8 @@ use Rattle.cache_policy.specs.Turns.{Empty}
 use Rattle.cache_policy.specs.declared.life.Life.{Life}
 use Rattle.cache_policy.specs.declared.secret.TheConstants.{MAX_SECRET_LEN}
 use Rattle.key_commands.specs.Events.{Event, called, read}
-use Rattle.key_commands.specs.Exchanges.{Exchange, KeyInfoReplies, PasswdReplies}
+use Rattle.key_commands.specs.Exchanges.{KeyExchange, KeyInfoReplies, PasswdReplies}
+use Rattle.agent_ask.specs.PartExchanges as part_exchanges
 use Rattle.key_commands.specs.Exchanges as key_exchanges
 use Rattle.key_commands.specs.Files.{FileSays}
 use Rattle.key_commands.specs.KeyParts.{file_in}
@@ -53,13 +54,13 @@ use Rattle.sexp_keys.specs.Key.{Key}
 use Rattle.sexp_keys.specs.Lists.{key_list_of}
 use Rattle.agent_origin.specs.DoorSessions.{DoorExchange}
 use Rattle.agent_origin.specs.Doors.{allowed}
-use Rattle.agent_origin.specs.Names.{command_named}
-use Rattle.agent_origin.specs.Requests.{trust_request_of}
+use Rattle.agent_origin.specs.TrustNames.{trust_command_named}
+use Rattle.agent_origin.specs.TrustRequests.{trust_request_of}
 use Rattle.agent_origin.specs.SessionExchanges.{RequestExchange, cache, keys}
 use Rattle.agent_origin.specs.declared.door.Door.{Door}
 use Rattle.agent_origin.specs.declared.kept.Kept.{Kept}
 use Rattle.agent_origin.specs.declared.names.TrustCommandName.TheVariants as name
-use Rattle.agent_origin.specs.declared.request.TrustRequest.TheVariants.{Bad}
+use Rattle.agent_origin.specs.declared.trust.request.TrustRequest.TheVariants.{Bad}
 use Rattle.agent_session.specs.Causes.{Has, here, later, LacksKeys, empty, IsRead, opens, said}
 use Rattle.agent_session.specs.Causes as causes
 use Rattle.agent_session.specs.Completeness.{Remembers, HasError}
@@ -122,17 +123,17 @@ module _ (one_canon : (file : List ℕ) (a b : Option (List ℕ)) → Canon file
     abbrev lacking : List Event
     lacking = read grip key_read.Absent ∷ Sent (failed code.NoSecKey) ∷ []
 
-    lacks : Exchange rules kept.options kept.wraps (on.KeyInfo grip) lacking kept.wraps key_went.On
+    lacks : KeyExchange rules kept.options kept.wraps (on.KeyInfo grip) lacking kept.wraps key_went.On
     unfolding KeyInfoReplies
-    lacks = key_exchanges.refused (read grip key_read.Absent ∷ []) None (refusals.Agent code.NoSecKey) (chain.stops (key_parts.unread refl)) turning.unheld
+    lacks = part_exchanges.refused (read grip key_read.Absent ∷ []) None (refusals.Agent code.NoSecKey) (chain.stops (key_parts.unread refl)) turning.unheld
 
     no_secret_key : HasError code.NoSecKey Agent lacking
     no_secret_key =
-        cause_answered one_canon rules kept (OnKeys line) (keys (subst (λ a. Exchange rules kept.options kept.wraps a lacking kept.wraps key_went.On) (sym is) lacks)) ((λ none. none), ((λ none. none), tt)) code.NoSecKey
+        cause_answered one_canon rules kept (OnKeys line) (keys (subst (λ a. KeyExchange rules kept.options kept.wraps a lacking kept.wraps key_went.On) (sym is) lacks)) ((λ none. none), ((λ none. none), tt)) code.NoSecKey
         (subst (λ a. LacksKeys lacking (Some a)) (sym is) here)
 
   -- a line for the trust list that is out of form, at a door where its command is allowed
-  module _ (door : Door) (line : List ℕ) (allows : allowed door line ≡ true) (named : command_named (command_of line) ≡ Some name.MarkTrusted) (is : trust_request_of line ≡ Bad code.Parameter) where
+  module _ (door : Door) (line : List ℕ) (allows : allowed door line ≡ true) (named : trust_command_named (command_of line) ≡ Some name.MarkTrusted) (is : trust_request_of line ≡ Bad code.Parameter) where
     abbrev malformed : List Event
     malformed = Sent (failed code.Parameter) ∷ []
 
@@ -149,10 +150,10 @@ module _ (one_canon : (file : List ℕ) (a b : Option (List ℕ)) → Canon file
     open_clear true same = chain.returns
     open_clear false same = absurd (cc same)
 
-    long_run : Exchange rules kept.options kept.wraps (on.Passwd grip old new false) too_long_key kept.wraps key_went.On
+    long_run : KeyExchange rules kept.options kept.wraps (on.Passwd grip old new false) too_long_key kept.wraps key_went.On
     unfolding PasswdReplies
     long_run =
-        key_exchanges.refused (read grip answer ∷ []) None (refusals.Agent code.BadSecKey)
+        part_exchanges.refused (read grip answer ∷ []) None (refusals.Agent code.BadSecKey)
         (chain.goes_on (key_parts.is_key found says) (chain.goes_on {first = []} (open_clear key.is_clear clear_one) (chain.stops (chain.stops (key_parts.long much))))) turning.unheld
 
     same_answer : {other : KeyRead} → Has (read grip other) too_long_key → other ≡ answer
@@ -174,7 +175,7 @@ module _ (one_canon : (file : List ℕ) (a b : Option (List ℕ)) → Canon file
 
     bad_secret_key : HasError code.BadSecKey Agent too_long_key
     bad_secret_key =
-        cause_answered one_canon rules kept (OnKeys line) (keys (subst (λ a. Exchange rules kept.options kept.wraps a too_long_key kept.wraps key_went.On) (sym is) long_run)) (found_recalls grip answer found, ((λ none. none), tt))
+        cause_answered one_canon rules kept (OnKeys line) (keys (subst (λ a. KeyExchange rules kept.options kept.wraps a too_long_key kept.wraps key_went.On) (sym is) long_run)) (found_recalls grip answer found, ((λ none. none), tt))
         code.BadSecKey (inr (long (ap (λ a. Some a) is) (clear (causes.read found says here) (λ other is_read. ap (λ (k : Key). k.is_clear) (same_key is_read) ∙ clear_one)) all_long))
 
   -- ---- sessions

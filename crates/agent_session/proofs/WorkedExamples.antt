@@ -20,7 +20,7 @@ use Rattle.cache_policy.specs.declared.mark.MarkStep.{MarkStep}
 use Rattle.cache_policy.specs.declared.mark.MarkStep.TheVariants.{Close}
 use Rattle.session_options.specs.declared.options.PinMode.TheVariants as mode
 use Rattle.session_options.specs.declared.rules.Rules.{Rules}
-use Rattle.agent_commands.specs.Events.{Event}
+use Rattle.agent_commands.specs.Events.{EventWith}
 use Rattle.agent_commands.specs.Passphrases.{ask, ask_or_open}
 use Rattle.agent_commands.specs.Requests.{GetFields, get_passphrase}
 use Rattle.agent_commands.specs.declared.request.Request.{Request}
@@ -39,12 +39,12 @@ module _ (rules : Rules) (kept : Kept) where
 
   -- the user cancelled a prompt, and the request isn't answered by No pinentry
   module _ (spec : PromptSpec) (id : List ℕ) (pid ticket : ℕ) where
-    abbrev cancelled : List (Event FurtherEvent)
+    abbrev cancelled : List (EventWith FurtherEvent)
     cancelled =
         cache_turn (ask_or_open id) (Open ticket) ∷ Further (Prompt (Called (Start spec (opened.Pid pid)))) ∷ Further (Prompt (Called (GetPin [] outcome.Cancelled)))
         ∷ Further (Prompt (Called Shut)) ∷ cache_turn (Close ticket None) Done ∷ Sent (failed code.NoPinentry) ∷ []
 
-    abbrev IsFine : Event FurtherEvent → Type 0
+    abbrev IsFine : EventWith FurtherEvent → Type 0
     IsFine (Further (Prompt (Called call))) = (is_failed call ≡ false) × (is_broken call ≡ false)
     IsFine _ = ⊤
 
@@ -65,7 +65,7 @@ module _ (rules : Rules) (kept : Kept) where
 
   -- an entry was given, and the request isn't cancelled because its client wants no prompt
   module _ (fields : GetFields) (id : List ℕ) (grant : Grant) (has_id : fields.id ≡ Some id) where
-    abbrev cached : List (Event FurtherEvent)
+    abbrev cached : List (EventWith FurtherEvent)
     cached = cache_turn (ask id) (Given grant) ∷ Sent (failed code.Cancelled) ∷ []
 
     gives_none : (step : MarkStep) → GivesNone cached step → ⊥
@@ -89,7 +89,7 @@ module _ (rules : Rules) (kept : Kept) where
     answered (causes.by_stop (causes.turned asked keeps (later (later has)))) = elim has [ ]
 
 -- a draw that failed, then one that didn't, and a trust file that couldn't be read: one failure on each of two ends
-abbrev failing : List (Event FurtherEvent)
+abbrev failing : List (EventWith FurtherEvent)
 failing = Further (Dice (NotDrawn 32)) ∷ Further (Dice (Drew (0 ∷ []))) ∷ Further (Trust (Read trust_read.Failed)) ∷ []
 
 one_at_the_dice : count_by fails_at_dice failing ≡ 1

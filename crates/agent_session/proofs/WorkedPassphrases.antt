@@ -36,9 +36,9 @@ use Rattle.session_options.specs.declared.options.PinMode.TheVariants as mode
 use Rattle.session_options.specs.declared.rules.Rules.{Rules}
 use Rattle.sexp_keys.specs.Key.{Key}
 use Rattle.sexp_keys.specs.Lists.{grip_of}
-use Rattle.agent_commands.specs.Events.{Event}
+use Rattle.agent_commands.specs.Events.{EventWith}
 use Rattle.agent_commands.specs.Exchanges as exchanges
-use Rattle.agent_commands.specs.Exchanges.{Exchange, Presets, put, reply}
+use Rattle.agent_commands.specs.Exchanges.{CacheExchange, Presets, put, reply}
 use Rattle.agent_commands.specs.Passphrases.{ask_or_open, ByUser, as_wanted}
 use Rattle.agent_commands.specs.Passphrases as passphrases
 use Rattle.agent_commands.specs.Requests.{GetFields, get_passphrase, request_of}
@@ -55,9 +55,10 @@ use Rattle.key_commands.specs.Exchanges as key_exchange
 use Rattle.key_commands.specs.Exchanges.{ImportKeyReplies}
 use Rattle.key_commands.specs.KeyParts as parts
 use Rattle.key_commands.specs.KeyParts.{max_key_data}
-use Rattle.key_commands.specs.Lines.{limit_line}
+use Rattle.assuan_server.specs.Written.{limit_line}
 use Rattle.agent_ask.specs.Interrupts as interrupts
 use Rattle.agent_ask.specs.TurnParts as turning
+use Rattle.agent_ask.specs.ClientParts as client_parts
 use Rattle.key_commands.specs.Parts as small
 use Rattle.agent_ask.specs.PartExchanges as part_exchange
 use Rattle.agent_ask.specs.Parts.{goes_on, stops, returns, wanted}
@@ -94,7 +95,7 @@ module _ (rules : Rules) (kept : Kept) (id pin : List ℕ) (texts : Texts) (spec
   abbrev prompt : List PromptEvent
   prompt = Called (Start spec (opened.Pid pid)) ∷ Called (GetPin texts.error.items (outcome.Pin pin)) ∷ Called Shut ∷ []
 
-  abbrev shown : List (Event FurtherEvent)
+  abbrev shown : List (EventWith FurtherEvent)
   shown = Further (Prompt (Called (Start spec (opened.Pid pid)))) ∷ Further (Prompt (Called (GetPin texts.error.items (outcome.Pin pin)))) ∷ Further (Prompt (Called Shut)) ∷ []
 
   one_try : 1 ≤ 3
@@ -111,16 +112,16 @@ module _ (rules : Rules) (kept : Kept) (id pin : List ℕ) (texts : Texts) (spec
   in_session : AnyInSession session_lines prompt shown
   in_session = under.called (under.called (under.called under.AnyInSession.none))
 
-  abbrev before_close : List (Event FurtherEvent)
+  abbrev before_close : List (EventWith FurtherEvent)
   before_close = cache_turn (ask_or_open id) (Open ticket) ∷ shown
 
-  abbrev events : List (Event FurtherEvent)
+  abbrev events : List (EventWith FurtherEvent)
   events = before_close ++ cache_turn (Close ticket (Some pin)) Done ∷ Sent (line_of (ok_text (hex_text pin))) ∷ []
 
   asked_by : ByUser rules kept.options texts false false 0 (Some id) None (before_close ++ cache_turn (Close ticket (Some pin)) Done ∷ []) (Ok pin) None
   asked_by = goes_on turning.opened (goes_on (passphrases.given spec is_spec (record { prompt = prompt; asks = asks; in_session = in_session })) (goes_on (turning.closed Done) returns))
 
-  asked_so : Exchange rules kept.options request events kept.options On
+  asked_so : CacheExchange rules kept.options request events kept.options On
   asked_so =
       part_exchange.answered (before_close ++ cache_turn (Close ticket (Some pin)) Done ∷ []) None (reply kept.options (line_of (ok_text (hex_text pin))))
       (goes_on (subst (λ m. as_wanted rules kept.options fields m texts None (before_close ++ cache_turn (Close ticket (Some pin)) Done ∷ []) (Ok pin) None) (sym mode_is) asked_by)
@@ -142,7 +143,7 @@ module _ (rules : Rules) (kept : Kept) (id pin : List ℕ) (texts : Texts) (spec
 
   -- and in a session by that of the line that was read last
   module _ (line : List ℕ) (says : request_of line ≡ request) where
-    abbrev all : List (Event FurtherEvent)
+    abbrev all : List (EventWith FurtherEvent)
     all = Sent (line_of greeting) ∷ Received (took.Line line) ∷ (events ++ Received took.End ∷ [])
 
     line_exchange : SessionExchange rules kept line events kept On
@@ -159,11 +160,11 @@ module _ (rules : Rules) (kept : Kept) (id pin : List ℕ) (texts : Texts) (spec
 -- ---- a preset finds no memory, and the session goes on
 
 module _ (rules : Rules) (kept : Kept) (allowed : rules.allow_preset ≡ true) (id pass : List ℕ) (life : Life) (line : List ℕ) (says : request_of line ≡ Cache (PresetPassphrase id life (Some pass))) where
-  abbrev refused : List (Event FurtherEvent)
+  abbrev refused : List (EventWith FurtherEvent)
   refused = cache_turn (put id life pass) Refused ∷ Sent (failed code.NoMemory) ∷ []
 
   refused_so : Presets rules id life (Some pass) None (cache_turn (put id life pass) Refused ∷ []) (Err (Agent code.NoMemory)) None
-  refused_so = goes_on {first = []} (subst (λ so. wanted {E = Event FurtherEvent} code.NotSupported so None [] (Ok tt) None) (sym allowed) returns) (goes_on returns (turning.interrupted interrupts.refused))
+  refused_so = goes_on {first = []} (subst (λ so. wanted {E = EventWith FurtherEvent} code.NotSupported so None [] (Ok tt) None) (sym allowed) returns) (goes_on returns (turning.interrupted interrupts.refused))
 
   refused_exchange : SessionExchange rules kept line refused kept On
   refused_exchange =
@@ -186,7 +187,7 @@ module _ (rules : Rules) (options : OptionValues) (wrap wrapped : List ℕ) (key
   abbrev file : List ℕ
   file = protected_file key (ocb_protection key grant.entry.secret (take 8 drawn) (take 12 (drop 8 drawn)) options.s2k_count None) None
 
-  abbrev imports : List (Event FurtherEvent)
+  abbrev imports : List (EventWith FurtherEvent)
   imports =
       Sent (limit_line max_key_data) ∷ Inquiry (codes "KEYDATA") [] max_key_data (Asked (Data wrapped)) ∷ cache_turn (ask_nonce nonce) (Given grant) ∷ drew drawn
       ∷ cache_turn (put_nonce drawn grant.entry.secret) Done ∷ called (Replaced grip file key_done.Failed) ∷ []
@@ -194,9 +195,9 @@ module _ (rules : Rules) (options : OptionValues) (wrap wrapped : List ℕ) (key
   import_fails : ImportKeyReplies rules options wraps true (Some nonce) None imports (Err (Agent code.General)) None
   unfolding ImportKeyReplies
   import_fails =
-      goes_on returns (goes_on (goes_on small.written (goes_on (parts.asked (small.given refl)) (parts.is_key says))) (goes_on (parts.named named) (goes_on returns
+      goes_on returns (goes_on (goes_on client_parts.written (goes_on (parts.asked (client_parts.given refl)) (parts.is_key says))) (goes_on (parts.named named) (goes_on returns
       (goes_on (goes_on parts.given returns) (stops (goes_on (small.drawn long) (goes_on parts.made (goes_on turning.done (stops (parts.not_done refl))))))))))
 
   -- the passphrase stays under the nonce, and nothing is kept for the key
   import_stores : ImportCourse (imports ++ Sent (failed code.General) ∷ [])
-  import_stores = import_exchange rules options wraps (on.ImportKey true (Some nonce)) refl (key_exchange.Exchange.refused imports None (Agent code.General) import_fails turning.unheld)
+  import_stores = import_exchange rules options wraps (on.ImportKey true (Some nonce)) refl (key_exchange.KeyExchange.refused imports None (Agent code.General) import_fails turning.unheld)

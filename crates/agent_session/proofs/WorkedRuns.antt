@@ -9,7 +9,7 @@ use Rattle.agent_ask.specs.SessionEvents.{Received, Sent}
 use Rattle.agent_ask.specs.TurnParts.{unheld}
 use Rattle.agent_ask.specs.Worlds.{Outside, Does}
 use Rattle.agent_ask.specs.Worlds as worlds
-use Rattle.agent_commands.specs.Answers.{ok}
+use Rattle.assuan_server.specs.Written.{ok}
 use Rattle.agent_commands.specs.Names.{command_named}
 use Rattle.agent_commands.specs.Requests.{request_of}
 use Rattle.agent_commands.specs.Talks.{Session}

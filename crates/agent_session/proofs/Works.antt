@@ -42,10 +42,11 @@ use Rattle.key_commands.specs.Files.{Rewrites}
 use Rattle.key_commands.specs.Files as files
 use Rattle.key_commands.specs.KeyParts.{Tells, tells, ReadsFile, Replaces, KeepsNew, Protects, IsShort, ListsGrips, ReadsListed, max_key_data, AsksKeyData, Unwraps, NamesKey, LooksOver, WrapsKey, file_in, grips_in, change_fault}
 use Rattle.key_commands.specs.KeyParts as parts
-use Rattle.key_commands.specs.Lines.{limit_line}
+use Rattle.assuan_server.specs.Written.{limit_line}
 use Rattle.key_commands.specs.Parts.{Part, Finds, Draws, read_fault}
+use Rattle.agent_ask.specs.ClientParts as client_parts
 use Rattle.key_commands.specs.Parts as small
-use Rattle.key_commands.specs.Passphrases.{LooksForNonce, TakesSeat, Locks, Tries, TriesFound, ask_nonce, put_key, seat_for}
+use Rattle.key_commands.specs.Passphrases.{LooksForNonce, TakesSeat, Locks, TriesPassphrase, TriesFound, ask_nonce, put_key, seat_for}
 use Rattle.key_commands.specs.Passphrases as passphrases
 use Rattle.key_commands.proofs.EachEvent.{each_append}
 use Rattle.agent_session.specs.Refusals.{turn_refuses, change_refuses, refuses, shuts}
@@ -299,9 +300,9 @@ module _ (Fits : Event → Type 0) where
     writes fits _ _ _ _ client.written = (one_works fits refl refl, refl)
     writes fits _ _ _ _ (client.cut unsent is) = (cut_works _, refl)
 
-    pub key_writes : {text : List ℕ} → Fits (Sent text) → Keeps (small.Writes text)
-    key_writes fits _ _ _ _ small.written = (one_works fits refl refl, refl)
-    key_writes fits _ _ _ _ (small.cut unsent is) = (cut_works _, refl)
+    pub key_writes : {text : List ℕ} → Fits (Sent text) → Keeps (client_parts.Writes text)
+    key_writes fits _ _ _ _ client_parts.written = (one_works fits refl refl, refl)
+    key_writes fits _ _ _ _ (client_parts.cut unsent is) = (cut_works _, refl)
 
   module _ {word : List ℕ} {limit : ℕ} (asked : (inquired : _) → Fits (Inquiry word [] limit inquired)) where
     given_works : {A : Type 0} {result : Result A Refusal} {bytes : List ℕ} (inquired : _) → said_by session_lines inquired ≡ Ok bytes → Works (Inquiry word [] limit inquired ∷ []) result
@@ -318,11 +319,11 @@ module _ (Fits : Event → Type 0) where
     asks_client cut told fits = bind (keeps_works (writes cut fits)) (λ wrote. keeps_works inquires)
 
     -- the same over the parts of requests on keys
-    key_inquires : Keeps (small.Inquires word limit)
-    key_inquires _ _ _ _ (small.given {inquired} is) = (given_works inquired is, refl)
-    key_inquires _ _ _ _ (small.not_given {inquired} is) = (unheard_works inquired is, refl)
+    key_inquires : Keeps (client_parts.Inquires word limit)
+    key_inquires _ _ _ _ (client_parts.given {inquired} is) = (given_works inquired is, refl)
+    key_inquires _ _ _ _ (client_parts.not_given {inquired} is) = (unheard_works inquired is, refl)
 
-    pub asks_key_client : ((text : List ℕ) → Fits (Cut text)) → Fits (Sent (limit_line limit)) → WorksSo (small.AsksClient word limit)
+    pub asks_key_client : ((text : List ℕ) → Fits (Cut text)) → Fits (Sent (limit_line limit)) → WorksSo (client_parts.AsksClient word limit)
     asks_key_client cut fits = bind (keeps_works (key_writes cut fits)) (λ told. keeps_works key_inquires)
 
   module _ (asked : (inquired : _) → Fits (Inquiry (codes "KEYDATA") [] max_key_data inquired)) (memory : Fits out_of_memory) where
@@ -446,7 +447,7 @@ module _ (Fits : Event → Type 0) where
     locks _ _ _ _ (passphrases.has_fault is) = (works tt, refl)
     locks _ _ _ _ passphrases.no_memory = (no_memory, refl)
 
-    pub tries : {locked : LockedKey} {pass : List ℕ} → Keeps (Tries locked pass)
+    pub tries : {locked : LockedKey} {pass : List ℕ} → Keeps (TriesPassphrase locked pass)
     tries _ _ _ _ (passphrases.opens to) = (works tt, refl)
     tries _ _ _ _ (passphrases.stays closed) = (works tt, refl)
     tries _ _ _ _ passphrases.no_memory = (no_memory, refl)

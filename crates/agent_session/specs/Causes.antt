@@ -50,7 +50,7 @@ use Rattle.sexp_canonical.specs.Spelling.{most_bytes}
 use Rattle.sexp_keys.specs.Key.{Key}
 use Rattle.sexp_keys.specs.Lists.{grip_of, key_list_of}
 use Rattle.sexp_keys.specs.declared.fault.KeyFault.{KeyFault}
-use Rattle.agent_commands.specs.Events.{Event, Inquired}
+use Rattle.agent_commands.specs.Events.{EventWith, Inquired}
 use Rattle.agent_commands.specs.Exchanges.{is_quiet}
 use Rattle.agent_commands.specs.Passphrases.{ask}
 use Rattle.agent_commands.specs.Requests.{GetFields, get_passphrase}
@@ -110,7 +110,7 @@ FailsAtTrust (trust_call.Replaced file trust_done.Failed) = ⊤
 FailsAtTrust _ = ⊥
 
 -- an event that is a want of memory: a turn that was refused, a test of a passphrase, a call of the keys or of the trust file, or work of the command's own
-abbrev pub WantsMemory : Event FurtherEvent → Type 0
+abbrev pub WantsMemory : EventWith FurtherEvent → Type 0
 WantsMemory (CacheTurn taken) = taken.turn ≡ Refused
 WantsMemory (Further NoMemory) = ⊤
 WantsMemory (Further (Prompt OutOfMemory)) = ⊤
@@ -119,7 +119,7 @@ WantsMemory (Further (Trust call)) = WantsMemoryAtTrust call
 WantsMemory _ = ⊥
 
 -- a call of the keys that failed, or a draw
-abbrev pub FailsAtKeysOrDice : Event FurtherEvent → Type 0
+abbrev pub FailsAtKeysOrDice : EventWith FurtherEvent → Type 0
 FailsAtKeysOrDice (Further (Keys call)) = FailsAtKeys call
 FailsAtKeysOrDice (Further (Dice (NotDrawn count))) = ⊤
 FailsAtKeysOrDice _ = ⊥
@@ -176,12 +176,12 @@ pub data Judges (request : Request) (grip : Grip) : Type 0 where
   tells : on_keys request ≡ Some (on.KeyInfo grip) → Judges request grip
   unlocks : Unlocks request grip → Judges request grip
 
-module _ (events : List (Event FurtherEvent)) where
+module _ (events : List (EventWith FurtherEvent)) where
   -- ---- what happened in an exchange with these events
 
   -- some event is so
-  pub data HasOne (Is : Event FurtherEvent → Type 0) : Type 0 where
-    one : (event : Event FurtherEvent) → Is event → Has event events → HasOne Is
+  pub data HasOne (Is : EventWith FurtherEvent → Type 0) : Type 0 where
+    one : (event : EventWith FurtherEvent) → Is event → Has event events → HasOne Is
 
   -- a call of the prompter was answered so
   pub data HasCall (is : Call → Bool) : Type 0 where
@@ -280,9 +280,9 @@ module _ (events : List (Event FurtherEvent)) where
 
   -- a prompt came to three tries that failed, at which every passphrase was right, or one that opens the request's key
   pub data IsBadPrompt (request : Request) : Type 0 where
-    any : {spec : PromptSpec} {plan : AskPlan} {prompt : List PromptEvent} {shown : List (Event FurtherEvent)} → AsksPin spec plan (λ pin. ⊤) prompt asked.Bad
+    any : {spec : PromptSpec} {plan : AskPlan} {prompt : List PromptEvent} {shown : List (EventWith FurtherEvent)} → AsksPin spec plan (λ pin. ⊤) prompt asked.Bad
         → AnyInSession session_lines prompt shown → StandIn shown events → IsBadPrompt request
-    opening : {grip : Grip} {locked : LockedKey} {spec : PromptSpec} {plan : AskPlan} {prompt : List PromptEvent} {shown : List (Event FurtherEvent)} → Unlocks request grip
+    opening : {grip : Grip} {locked : LockedKey} {spec : PromptSpec} {plan : AskPlan} {prompt : List PromptEvent} {shown : List (EventWith FurtherEvent)} → Unlocks request grip
         → IsReadLocked grip locked → AsksPin spec plan (OpensBy locked) prompt asked.Bad → AnyInSession session_lines prompt shown → StandIn shown events → IsBadPrompt request
 
   module _ (rules : Rules) (kept : Kept) (request : Request) where

@@ -22,8 +22,9 @@ use Rattle.key_commands.specs.Events.{Event}
 use Rattle.session_client.specs.declared.unheard.Gone.TheVariants as gone
 use Rattle.session_client.specs.declared.unheard.Unheard.TheVariants as unheard
 use Rattle.session_options.specs.declared.rules.Rules.{Rules}
-use Rattle.agent_commands.specs.Answers.{ok, IsPassphrase}
-use Rattle.agent_commands.specs.Events.{Event as SessionEvent}
+use Rattle.agent_commands.specs.Answers.{IsPassphrase}
+use Rattle.assuan_server.specs.Written.{ok}
+use Rattle.agent_commands.specs.Events.{EventWith as SessionEvent}
 use Rattle.agent_commands.specs.Exchanges.{put, is_quiet}
 use Rattle.agent_commands.specs.Passphrases.{ask}
 use Rattle.agent_commands.specs.Requests.{request_of}

@@ -14,7 +14,7 @@ use Rattle.agent_ports.specs.declared.keys.KeyRead.TheVariants as key_read
 use Rattle.agent_ports.specs.declared.trust.TrustDone.TheVariants as trust_done
 use Rattle.agent_ports.specs.declared.trust.TrustRead.TheVariants as trust_read
 use Rattle.assuan_server.specs.Clients.{session_lines}
-use Rattle.agent_commands.specs.Events.{Event as EventIn}
+use Rattle.agent_commands.specs.Events.{EventWith as EventIn}
 use Rattle.agent_commands.specs.Outside.{World}
 use Rattle.key_commands.specs.Events.{Event}
 use Rattle.agent_origin.specs.Sessions.{Surroundings}

@@ -22,16 +22,16 @@ use Rattle.session_options.specs.declared.rules.Rules.{Rules}
 use Rattle.trust_list.specs.Trust.{trust, with_entry}
 use Rattle.trust_list.specs.declared.TheConstants.{MAX_TRUST_FILE_LEN}
 use Rattle.agent_origin.specs.Doors.{allowed}
-use Rattle.agent_origin.specs.Exchanges.{flag_of}
-use Rattle.agent_origin.specs.Names.{command_named}
-use Rattle.agent_origin.specs.Parts.{file_in, trust_called}
-use Rattle.agent_origin.specs.Requests.{trust_request_of}
+use Rattle.agent_origin.specs.TrustExchanges.{flag_of}
+use Rattle.agent_origin.specs.TrustNames.{trust_command_named}
+use Rattle.agent_origin.specs.TrustParts.{file_in, trust_called}
+use Rattle.agent_origin.specs.TrustRequests.{trust_request_of}
 use Rattle.agent_origin.specs.declared.door.Door.{Door}
 use Rattle.agent_origin.specs.declared.kept.Kept.{Kept}
-use Rattle.agent_origin.specs.declared.names.TrustCommandName.{TrustCommandName}
-use Rattle.agent_origin.specs.declared.request.TrustPurpose.{TrustPurpose}
-use Rattle.agent_origin.specs.declared.request.TrustRequest.{TrustRequest}
-use Rattle.agent_origin.specs.declared.request.TrustRequest.TheVariants.{IsTrusted, MarkTrusted, Bad}
+use Rattle.agent_origin.specs.declared.trust.names.TrustCommandName.{TrustCommandName}
+use Rattle.agent_origin.specs.declared.trust.request.TrustPurpose.{TrustPurpose}
+use Rattle.agent_origin.specs.declared.trust.request.TrustRequest.{TrustRequest}
+use Rattle.agent_origin.specs.declared.trust.request.TrustRequest.TheVariants.{IsTrusted, MarkTrusted, Bad}
 use Rattle.agent_session.specs.Causes.{Has, HasOne, HasCall, HasTrustCall, HasTurn, IsSaid, WantsMemory, FailsAtTrust, IsCaused, is_broken, is_cancelled, is_disagreed, is_timed_out}
 
 module _ (events : List Event) where
@@ -108,5 +108,5 @@ module _ (rules : Rules) (before : Kept) (line : List ℕ) (events : List Event)
 -- an error line with this code and origin has its cause in this exchange of a line
 pub data IsCausedAtDoor (door : Door) (rules : Rules) (before : Kept) (line : List ℕ) (events : List Event) : Code → Origin → Type 0 where
   forbidden : allowed door line ≡ false → IsCausedAtDoor door rules before line events code.Forbidden Agent
-  is_allowed : {why : Code} {origin : Origin} → allowed door line ≡ true → IsCausedBy rules before line events (command_named (command_of line)) why origin
+  is_allowed : {why : Code} {origin : Origin} → allowed door line ≡ true → IsCausedBy rules before line events (trust_command_named (command_of line)) why origin
       → IsCausedAtDoor door rules before line events why origin

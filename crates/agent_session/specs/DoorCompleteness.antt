@@ -10,7 +10,7 @@ use Rattle.key_commands.specs.Events.{Event}
 use Rattle.session_options.specs.declared.rules.Rules.{Rules}
 use Rattle.agent_origin.specs.DoorSessions.{DoorExchange}
 use Rattle.agent_origin.specs.Doors.{allowed}
-use Rattle.agent_origin.specs.Requests.{trust_request_of}
+use Rattle.agent_origin.specs.TrustRequests.{trust_request_of}
 use Rattle.agent_origin.specs.declared.door.Door.{Door}
 use Rattle.agent_origin.specs.declared.kept.Kept.{Kept}
 use Rattle.agent_session.specs.Causes.{IsUnprompted}

@@ -34,15 +34,16 @@ use Rattle.session_options.specs.declared.rules.Rules.{Rules}
 use Rattle.trust_list.specs.Trust.{trust, with_entry}
 use Rattle.trust_list.specs.declared.TheConstants.{MAX_TRUST_FILE_LEN}
 use Rattle.agent_origin.specs.Doors.{allowed}
-use Rattle.agent_origin.specs.Exchanges.{flag_of}
-use Rattle.agent_origin.specs.Names.{command_named, door_command_named}
-use Rattle.agent_origin.specs.Requests.{trust_request_of}
+use Rattle.agent_origin.specs.TrustExchanges.{flag_of}
+use Rattle.agent_origin.specs.TrustNames.{trust_command_named}
+use Rattle.agent_origin.specs.DoorSessions.{door_command_named}
+use Rattle.agent_origin.specs.TrustRequests.{trust_request_of}
 use Rattle.agent_origin.specs.declared.door.Door.{Door}
 use Rattle.agent_origin.specs.declared.kept.Kept.{Kept}
-use Rattle.agent_origin.specs.declared.names.TrustCommandName.{TrustCommandName}
-use Rattle.agent_origin.specs.declared.request.TrustPurpose.{TrustPurpose}
-use Rattle.agent_origin.specs.declared.request.TrustRequest.{TrustRequest}
-use Rattle.agent_origin.specs.declared.request.TrustRequest.TheVariants.{MarkTrusted, Bad}
+use Rattle.agent_origin.specs.declared.trust.names.TrustCommandName.{TrustCommandName}
+use Rattle.agent_origin.specs.declared.trust.request.TrustPurpose.{TrustPurpose}
+use Rattle.agent_origin.specs.declared.trust.request.TrustRequest.{TrustRequest}
+use Rattle.agent_origin.specs.declared.trust.request.TrustRequest.TheVariants.{MarkTrusted, Bad}
 use Rattle.agent_session.specs.Causes.{Has, IsCaused, IsFaulty, IsSaid, IsRead, IsReadOf, IsReadLocked, IsDrawn, IsListOf, OpensRead, on_keys}
 use Rattle.agent_session.specs.Completeness.{HasError}
 use Rattle.agent_session.specs.DoorCauses.{IsReadTrust, IsNotTrusted}
@@ -124,7 +125,7 @@ module _ (events : List Event) (request : TrustRequest) where
 -- the same causes of a line: it isn't allowed, it is a request on the trust list, or one of any session. HELP is answered by the door itself.
 pub data ExactCauseAtDoor (door : Door) (rules : Rules) (before : Kept) (line : List ℕ) (events : List Event) : Code → Type 0 where
   forbidden : allowed door line ≡ false → ExactCauseAtDoor door rules before line events code.Forbidden
-  on_trust : {name : TrustCommandName} {why : Code} → allowed door line ≡ true → command_named (command_of line) ≡ Some name → ExactTrustCause events (trust_request_of line) why
+  on_trust : {name : TrustCommandName} {why : Code} → allowed door line ≡ true → trust_command_named (command_of line) ≡ Some name → ExactTrustCause events (trust_request_of line) why
       → ExactCauseAtDoor door rules before line events why
   any : {why : Code} → allowed door line ≡ true → door_command_named (command_of line) ≡ None → ExactCause events rules before (request_of line) why
       → ExactCauseAtDoor door rules before line events why

@@ -13,18 +13,18 @@ use Rattle.cache_policy.specs.declared.life.Life.TheVariants.{Default}
 use Rattle.cache_policy.specs.declared.mark.MarkStep.{MarkStep}
 use Rattle.cache_policy.specs.declared.mark.MarkStep.TheVariants.{Close, Put}
 use Rattle.cache_policy.specs.declared.mode.Mode.TheVariants.{Nonce}
-use Rattle.agent_commands.specs.Events.{Event}
+use Rattle.agent_commands.specs.Events.{EventWith}
 use Rattle.key_commands.specs.Events.{drew, called}
 use Rattle.agent_ask.specs.Interrupts.{Interrupts}
 use Rattle.key_commands.specs.Passphrases.{put_key}
 use Rattle.agent_session.specs.OwnPassphrases.{HandsIn}
 
 -- by this event no passphrase is handed to the cache
-abbrev pub HandsNothing : Event FurtherEvent → Type 0
+abbrev pub HandsNothing : EventWith FurtherEvent → Type 0
 HandsNothing (CacheTurn taken) = HandsIn taken.asked → ⊥
 HandsNothing _ = ⊤
 
-abbrev pub HandNothing : List (Event FurtherEvent) → Type 0
+abbrev pub HandNothing : List (EventWith FurtherEvent) → Type 0
 HandNothing events = AllByRecursion HandsNothing events
 
 -- of the 32 bytes that are drawn for a key that came in the last 12 are its nonce, under whose hexadecimal text the key's passphrase is put
@@ -38,11 +38,11 @@ pub data KeepsPass (grip : Grip) (pass : List ℕ) : MarkStep → Type 0 where
 
 -- What is done for it. Nothing is handed in before the bytes are drawn, and then the passphrase under the nonce, at once. Where that is done the
 -- keys are called next, and where they have replaced the file, the passphrase is kept for the key. Nothing else is handed in.
-pub data ImportCourse : List (Event FurtherEvent) → Type 0 where
-  not_drawn : {events : List (Event FurtherEvent)} → HandNothing events → ImportCourse events
-  not_put : (early late : List (Event FurtherEvent)) (drawn pass : List ℕ) {turn : Turn} {why : Code} → HandNothing early → length drawn ≡ 32 → Interrupts turn why → HandNothing late
+pub data ImportCourse : List (EventWith FurtherEvent) → Type 0 where
+  not_drawn : {events : List (EventWith FurtherEvent)} → HandNothing events → ImportCourse events
+  not_put : (early late : List (EventWith FurtherEvent)) (drawn pass : List ℕ) {turn : Turn} {why : Code} → HandNothing early → length drawn ≡ 32 → Interrupts turn why → HandNothing late
       → ImportCourse (early ++ drew drawn ∷ cache_turn (put_nonce drawn pass) turn ∷ late)
-  not_replaced : (early late : List (Event FurtherEvent)) (drawn pass file : List ℕ) (grip : Grip) (answer : KeyDone) → HandNothing early → length drawn ≡ 32 → answer ≢ key_done.Done → HandNothing late
+  not_replaced : (early late : List (EventWith FurtherEvent)) (drawn pass file : List ℕ) (grip : Grip) (answer : KeyDone) → HandNothing early → length drawn ≡ 32 → answer ≢ key_done.Done → HandNothing late
       → ImportCourse (early ++ drew drawn ∷ cache_turn (put_nonce drawn pass) Done ∷ called (Replaced grip file answer) ∷ late)
-  replaced : (early late : List (Event FurtherEvent)) (drawn pass file : List ℕ) {grip : Grip} {step : MarkStep} (turn : Turn) → HandNothing early → length drawn ≡ 32 → KeepsPass grip pass step → HandNothing late
+  replaced : (early late : List (EventWith FurtherEvent)) (drawn pass file : List ℕ) {grip : Grip} {step : MarkStep} (turn : Turn) → HandNothing early → length drawn ≡ 32 → KeepsPass grip pass step → HandNothing late
       → ImportCourse (early ++ drew drawn ∷ cache_turn (put_nonce drawn pass) Done ∷ called (Replaced grip file key_done.Done) ∷ cache_turn step turn ∷ late)

@@ -9,8 +9,9 @@ use Rattle.assuan_server.specs.declared.errors.Origin.{Origin}
 use Rattle.assuan_text.specs.LineEnds.{line_of}
 use Rattle.cache_policy.specs.Turns.{Given}
 use Rattle.cache_policy.specs.declared.grant.Grant.{Grant}
-use Rattle.agent_commands.specs.Answers.{ok, closing, help, IsInfo, IsPassphrase}
-use Rattle.agent_commands.specs.Events.{Event}
+use Rattle.agent_commands.specs.Answers.{closing, help, IsInfo, IsPassphrase}
+use Rattle.assuan_server.specs.Written.{ok}
+use Rattle.agent_commands.specs.Events.{EventWith}
 use Rattle.agent_commands.specs.Passphrases.{ask, ask_or_open}
 use Rattle.agent_commands.specs.Requests.{GetFields, get_passphrase}
 use Rattle.agent_commands.specs.declared.request.Info.{Info}
@@ -19,7 +20,7 @@ use Rattle.agent_commands.specs.declared.request.Request.TheVariants.{Cache}
 use Rattle.session_options.specs.declared.rules.Rules.{Rules}
 use Rattle.agent_session.specs.Causes.{Has, IsSent}
 use Rattle.agent_session.specs.OwnPassphrases.{IsAccepted}
-use Rattle.agent_session.specs.Refusals.{IsNotice}
+use Rattle.key_commands.specs.Lines.{IsNotice}
 
 -- a line that has no passphrase in it
 pub data IsPublic (rules : Rules) : List ℕ → Type 0 where
@@ -30,7 +31,7 @@ pub data IsPublic (rules : Rules) : List ℕ → Type 0 where
   tells : (what : Info) {text : List ℕ} → IsInfo rules what text → IsPublic rules text
   notice : {text : List ℕ} → IsNotice text → IsPublic rules text
 
-module _ (request : Request) (before : List (Event FurtherEvent)) where
+module _ (request : Request) (before : List (EventWith FurtherEvent)) where
   -- the passphrase that a request with these fields asked for
   pub data IsAnswered (fields : GetFields) : List ℕ → Type 0 where
     -- the cache gave it to its question, for itself alone or before a prompt
@@ -44,5 +45,5 @@ module _ (request : Request) (before : List (Event FurtherEvent)) where
     passphrase : {pass text : List ℕ} (fields : GetFields) → request ≡ Cache (get_passphrase fields) → IsAnswered fields pass → IsPassphrase fields.plain pass text → SaysOwn rules text
 
 -- so of each line that is written for a request
-abbrev pub SaysOwnAlone : Rules → Request → List (Event FurtherEvent) → Type 0
-SaysOwnAlone rules request events = (before later : List (Event FurtherEvent)) (text : List ℕ) → events ≡ before ++ Sent text ∷ later → SaysOwn request before rules text
+abbrev pub SaysOwnAlone : Rules → Request → List (EventWith FurtherEvent) → Type 0
+SaysOwnAlone rules request events = (before later : List (EventWith FurtherEvent)) (text : List ℕ) → events ≡ before ++ Sent text ∷ later → SaysOwn request before rules text

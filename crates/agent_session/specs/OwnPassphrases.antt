@@ -23,7 +23,7 @@ use Rattle.cache_policy.specs.declared.mark.Way.TheVariants.{Prompt}
 use Rattle.cache_policy.specs.declared.mode.Mode.{Mode}
 use Rattle.cache_policy.specs.declared.mode.Mode.TheVariants.{Any, Normal, Nonce}
 use Rattle.secret_file.specs.Opens.{LockedKey}
-use Rattle.agent_commands.specs.Events.{Event}
+use Rattle.agent_commands.specs.Events.{EventWith}
 use Rattle.agent_commands.specs.Passphrases.{ask_or_open}
 use Rattle.agent_commands.specs.Requests.{GetFields, get_passphrase, request_of}
 use Rattle.agent_commands.specs.declared.request.CacheCommand.TheVariants.{PresetPassphrase}
@@ -59,7 +59,7 @@ pub data WantsTicket (request : Request) : MarkStep → Type 0 where
   by_seat : {grip : Grip} → IsAbout request grip → WantsTicket request (seat_for grip)
   unkept : WantsTicket request (Seat None None)
 
-module _ (request : Request) (before : List (Event FurtherEvent)) where
+module _ (request : Request) (before : List (EventWith FurtherEvent)) where
   -- ---- what was done for it before
 
   -- it was given this ticket
@@ -68,9 +68,9 @@ module _ (request : Request) (before : List (Event FurtherEvent)) where
 
   -- a prompt accepted this passphrase: one at which every passphrase is right, or one that opens the key whose file was read
   pub data IsAccepted (pin : List ℕ) : Type 0 where
-    any : {spec : PromptSpec} {plan : AskPlan} {prompt : List PromptEvent} {shown : List (Event FurtherEvent)} → AsksPin spec plan (λ pin. ⊤) prompt (asked.Pin pin)
+    any : {spec : PromptSpec} {plan : AskPlan} {prompt : List PromptEvent} {shown : List (EventWith FurtherEvent)} → AsksPin spec plan (λ pin. ⊤) prompt (asked.Pin pin)
         → AnyInSession session_lines prompt shown → StandIn shown before → IsAccepted pin
-    opening : {grip : Grip} {locked : LockedKey} {spec : PromptSpec} {plan : AskPlan} {prompt : List PromptEvent} {shown : List (Event FurtherEvent)} → Unlocks request grip
+    opening : {grip : Grip} {locked : LockedKey} {spec : PromptSpec} {plan : AskPlan} {prompt : List PromptEvent} {shown : List (EventWith FurtherEvent)} → Unlocks request grip
         → IsReadLocked before grip locked → AsksPin spec plan (OpensBy locked) prompt (asked.Pin pin) → AnyInSession session_lines prompt shown → StandIn shown before → IsAccepted pin
 
   -- the cache gave this passphrase under the nonce of a new one
@@ -102,22 +102,22 @@ pub data HandsIn : MarkStep → Type 0 where
   keeps : {ticket : ℕ} {pass : List ℕ} → HandsIn (Close ticket (Some pass))
 
 -- In an exchange each passphrase that is handed to the cache is the request's own.
-abbrev pub StoresOwnAlone : Request → List (Event FurtherEvent) → Type 0
-StoresOwnAlone request events = (before later : List (Event FurtherEvent)) (step : MarkStep) (turn : Turn) → events ≡ before ++ cache_turn step turn ∷ later → HandsIn step → StoresOwn request before step
+abbrev pub StoresOwnAlone : Request → List (EventWith FurtherEvent) → Type 0
+StoresOwnAlone request events = (before later : List (EventWith FurtherEvent)) (step : MarkStep) (turn : Turn) → events ≡ before ++ cache_turn step turn ∷ later → HandsIn step → StoresOwn request before step
 
 -- no line is read by it
-abbrev pub IsUnreceived : Event FurtherEvent → Type 0
+abbrev pub IsUnreceived : EventWith FurtherEvent → Type 0
 IsUnreceived (Received took) = ⊥
 IsUnreceived _ = ⊤
 
 -- The same within a session: it is of the last line that was read before, and of what was done for that line alone.
-pub record StoresOwnIn (before : List (Event FurtherEvent)) (step : MarkStep) : Type 0 where
-  pub front : List (Event FurtherEvent)
+pub record StoresOwnIn (before : List (EventWith FurtherEvent)) (step : MarkStep) : Type 0 where
+  pub front : List (EventWith FurtherEvent)
   pub line : List ℕ
-  pub own : List (Event FurtherEvent)
+  pub own : List (EventWith FurtherEvent)
   pub before_is : before ≡ front ++ Received (Line line) ∷ own
   pub alone : AllByRecursion IsUnreceived own
   pub stores : StoresOwn (request_of line) own step
 
-abbrev pub StoresOwnThroughout : List (Event FurtherEvent) → Type 0
-StoresOwnThroughout events = (before later : List (Event FurtherEvent)) (step : MarkStep) (turn : Turn) → events ≡ before ++ cache_turn step turn ∷ later → HandsIn step → StoresOwnIn before step
+abbrev pub StoresOwnThroughout : List (EventWith FurtherEvent) → Type 0
+StoresOwnThroughout events = (before later : List (EventWith FurtherEvent)) (step : MarkStep) (turn : Turn) → events ≡ before ++ cache_turn step turn ∷ later → HandsIn step → StoresOwnIn before step

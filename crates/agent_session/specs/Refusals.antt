@@ -32,13 +32,14 @@ use Rattle.cache_policy.specs.declared.mark.MarkStep.{MarkStep}
 use Rattle.cache_policy.specs.declared.mark.MarkStep.TheVariants.{Put, Clear, Flush, Stop, Close}
 use Rattle.cache_policy.specs.declared.mode.Mode.{Mode}
 use Rattle.cache_policy.specs.declared.mode.Mode.TheVariants.{Any, User, Normal, Nonce}
-use Rattle.agent_commands.specs.Events.{Event}
+use Rattle.agent_commands.specs.Events.{EventWith}
 use Rattle.agent_commands.specs.Exchanges.{is_quiet}
 use Rattle.agent_commands.specs.Requests.{GetFields, get_passphrase}
 use Rattle.agent_commands.specs.declared.request.CacheCommand.TheVariants.{GetPassphrase, PresetPassphrase, ClearPassphrase, ReloadAgent, KillAgent}
 use Rattle.agent_commands.specs.declared.request.Request.{Request}
 use Rattle.agent_commands.specs.declared.request.Request.TheVariants.{Cache}
-use Rattle.key_commands.specs.Lines.{grip_text, info_line, limit_line}
+use Rattle.key_commands.specs.Lines.{grip_text, info_line}
+use Rattle.assuan_server.specs.Written.{limit_line}
 use Rattle.agent_ask.specs.Interrupts.{Interrupts}
 use Rattle.key_commands.specs.Passphrases.{put_key}
 use Rattle.key_commands.specs.declared.request.KeyRequest.TheVariants as on
@@ -90,7 +91,7 @@ trust_refuses (trust_call.Replaced file trust_done.NoMemory) = Some code.NoMemor
 trust_refuses _ = None
 
 -- the code by which an event refuses its request, where it does: for want of memory, or since the prompter, the keys, the dice or the trust file failed
-abbrev pub refuses : Event FurtherEvent → Option Code
+abbrev pub refuses : EventWith FurtherEvent → Option Code
 refuses (CacheTurn taken) = turn_refuses (closes taken.asked) taken.turn
 refuses (Further (Prompt (Called call))) = call_refuses call
 refuses (Further (Prompt OutOfMemory)) = Some code.NoMemory
@@ -127,7 +128,7 @@ IsWorkStep request (Close ticket keep) = ⊥
 IsWorkStep request _ = ⊤
 
 -- what is done of a request: no key's file is changed by it, the trust file isn't called, and no ticket is given back
-abbrev pub IsAllowed : Request → Event FurtherEvent → Type 0
+abbrev pub IsAllowed : Request → EventWith FurtherEvent → Type 0
 IsAllowed request (Received took) = ⊥
 IsAllowed request (Sent text) = IsNotice text
 IsAllowed request (CacheTurn taken) = IsWorkStep request taken.asked
@@ -137,26 +138,26 @@ IsAllowed request (Further (Trust call)) = ⊥
 IsAllowed request _ = ⊤
 
 -- and it isn't refused by it
-abbrev pub IsWork : Request → Event FurtherEvent → Type 0
+abbrev pub IsWork : Request → EventWith FurtherEvent → Type 0
 IsWork request event = IsAllowed request event × (refuses event ≡ None)
 
-abbrev pub AreWork : Request → List (Event FurtherEvent) → Type 0
+abbrev pub AreWork : Request → List (EventWith FurtherEvent) → Type 0
 AreWork request events = AllByRecursion (IsWork request) events
 
 -- ---- its end
 
 -- the answer, or none where the client is gone
-pub data IsLast : List (Event FurtherEvent) → Type 0 where
+pub data IsLast : List (EventWith FurtherEvent) → Type 0 where
   gone : IsLast []
   said : {text : List ℕ} → IsAnswer text → IsLast (Sent text ∷ [])
 
 -- a ticket that is still held is given back, and nothing is kept
-pub data GivesBack (last : List (Event FurtherEvent)) : List (Event FurtherEvent) → Type 0 where
+pub data GivesBack (last : List (EventWith FurtherEvent)) : List (EventWith FurtherEvent) → Type 0 where
   no_ticket : GivesBack last last
   with_ticket : {ticket : ℕ} (turn : Turn) → GivesBack last (cache_turn (Close ticket None) turn ∷ last)
 
 -- a prompt by which its request is refused is shut
-abbrev pub shuts : Event FurtherEvent → List (Event FurtherEvent)
+abbrev pub shuts : EventWith FurtherEvent → List (EventWith FurtherEvent)
 shuts (Further (Prompt event)) = Further (Prompt (Called Shut)) ∷ []
 shuts _ = []
 
@@ -166,14 +167,14 @@ pub data Settles : Turn → List ℕ → Type 0 where
   interrupted : {turn : Turn} {why : Code} → Interrupts turn why → Settles turn (failed why)
 
 -- How a request ends, once its work is done.
-pub data IsEnd (request : Request) : List (Event FurtherEvent) → Type 0 where
-  answered : {last : List (Event FurtherEvent)} → IsLast last → IsEnd request last
+pub data IsEnd (request : Request) : List (EventWith FurtherEvent) → Type 0 where
+  answered : {last : List (EventWith FurtherEvent)} → IsLast last → IsEnd request last
   -- a prompt's ticket is given back, and its passphrase may be kept
-  given_back : {ticket : ℕ} {keep : Option (List ℕ)} {last : List (Event FurtherEvent)} (turn : Turn) → IsLast last → IsEnd request (cache_turn (Close ticket keep) turn ∷ last)
+  given_back : {ticket : ℕ} {keep : Option (List ℕ)} {last : List (EventWith FurtherEvent)} (turn : Turn) → IsLast last → IsEnd request (cache_turn (Close ticket keep) turn ∷ last)
   -- it is, and then there is no memory for the answer: what was kept stays
   unanswered : {ticket : ℕ} {keep : Option (List ℕ)} (turn : Turn) → IsEnd request (cache_turn (Close ticket keep) turn ∷ Further NoMemory ∷ Sent (failed code.NoMemory) ∷ [])
   -- an event refuses it: nothing is done behind it but to shut the prompt, to give the ticket back and to answer
-  refused : {event : Event FurtherEvent} {why : Code} {ending : List (Event FurtherEvent)} → IsAllowed request event → refuses event ≡ Some why → GivesBack (Sent (failed why) ∷ []) ending
+  refused : {event : EventWith FurtherEvent} {why : Code} {ending : List (EventWith FurtherEvent)} → IsAllowed request event → refuses event ≡ Some why → GivesBack (Sent (failed why) ∷ []) ending
       → IsEnd request (event ∷ (shuts event ++ ending))
   -- a key's file is replaced, and the passphrase kept by the return of the ticket, or by a turn
   kept : {grip : Grip} {file : List ℕ} {ticket : ℕ} {pass text : List ℕ} (turn : Turn) → EndsInOk text
@@ -181,14 +182,14 @@ pub data IsEnd (request : Request) : List (Event FurtherEvent) → Type 0 where
   stored : {grip : Grip} {file pass text : List ℕ} {turn : Turn} → Settles turn text
       → IsEnd request (Further (Keys (Replaced grip file key_done.Done)) ∷ cache_turn (put_key grip pass) turn ∷ Sent text ∷ [])
   -- a key's file is removed, and its passphrase cleared
-  cleared : {grip : Grip} {text : List ℕ} {turn : Turn} {ending : List (Event FurtherEvent)} → Settles turn text → GivesBack (Sent text ∷ []) ending
+  cleared : {grip : Grip} {text : List ℕ} {turn : Turn} {ending : List (EventWith FurtherEvent)} → Settles turn text → GivesBack (Sent text ∷ []) ending
       → IsEnd request (Further (Keys (Removed grip key_done.Done)) ∷ cache_turn (Clear (grip_text grip) Normal) turn ∷ ending)
 
 -- What is done for a request, from its first event to its last: its work, and its end. A failed write of its answer ends the whole session, and is no part
 -- of this.
-pub record Course (request : Request) (events : List (Event FurtherEvent)) : Type 0 where
-  pub work : List (Event FurtherEvent)
-  pub last : List (Event FurtherEvent)
+pub record Course (request : Request) (events : List (EventWith FurtherEvent)) : Type 0 where
+  pub work : List (EventWith FurtherEvent)
+  pub last : List (EventWith FurtherEvent)
   pub is : events ≡ work ++ last
   pub each : AreWork request work
   pub end : IsEnd request last
@@ -196,9 +197,9 @@ pub record Course (request : Request) (events : List (Event FurtherEvent)) : Typ
 -- ---- requests that are refused so
 
 -- how a request ends that an event of its own refuses by this code
-pub data RefusedEnd (request : Request) : Code → List (Event FurtherEvent) → Type 0 where
+pub data RefusedEnd (request : Request) : Code → List (EventWith FurtherEvent) → Type 0 where
   -- at its work: nothing more is done for it
-  at_work : {event : Event FurtherEvent} {why : Code} {ending : List (Event FurtherEvent)} → IsAllowed request event → refuses event ≡ Some why → GivesBack (Sent (failed why) ∷ []) ending
+  at_work : {event : EventWith FurtherEvent} {why : Code} {ending : List (EventWith FurtherEvent)} → IsAllowed request event → refuses event ≡ Some why → GivesBack (Sent (failed why) ∷ []) ending
       → RefusedEnd request why (event ∷ (shuts event ++ ending))
   -- behind the return of its ticket, by which a passphrase may have been kept
   at_answer : {ticket : ℕ} {keep : Option (List ℕ)} (turn : Turn)
@@ -206,12 +207,12 @@ pub data RefusedEnd (request : Request) : Code → List (Event FurtherEvent) →
   -- behind a key's file that was replaced, whose passphrase found no memory to be stored; or that was removed, whose passphrase found none to be cleared
   at_store : {grip : Grip} {file pass : List ℕ}
       → RefusedEnd request code.NoMemory (Further (Keys (Replaced grip file key_done.Done)) ∷ cache_turn (put_key grip pass) Refused ∷ Sent (failed code.NoMemory) ∷ [])
-  at_clear : {grip : Grip} {ending : List (Event FurtherEvent)} → GivesBack (Sent (failed code.NoMemory) ∷ []) ending
+  at_clear : {grip : Grip} {ending : List (EventWith FurtherEvent)} → GivesBack (Sent (failed code.NoMemory) ∷ []) ending
       → RefusedEnd request code.NoMemory (Further (Keys (Removed grip key_done.Done)) ∷ cache_turn (Clear (grip_text grip) Normal) Refused ∷ ending)
 
-pub record RefusedCourse (request : Request) (why : Code) (events : List (Event FurtherEvent)) : Type 0 where
-  pub work : List (Event FurtherEvent)
-  pub last : List (Event FurtherEvent)
+pub record RefusedCourse (request : Request) (why : Code) (events : List (EventWith FurtherEvent)) : Type 0 where
+  pub work : List (EventWith FurtherEvent)
+  pub last : List (EventWith FurtherEvent)
   pub is : events ≡ work ++ last
   pub each : AreWork request work
   pub end : RefusedEnd request why last
@@ -224,17 +225,17 @@ pub data IsOwnCode : Code → Type 0 where
 -- ---- prompts
 
 -- an event that is no call of the prompter
-abbrev pub IsUncalled : Event FurtherEvent → Type 0
+abbrev pub IsUncalled : EventWith FurtherEvent → Type 0
 IsUncalled (Further (Prompt (Called call))) = ⊥
 IsUncalled _ = ⊤
 
 -- one that isn't a turn that may open a prompt
-abbrev pub IsUnopening : Event FurtherEvent → Type 0
+abbrev pub IsUnopening : EventWith FurtherEvent → Type 0
 IsUnopening (CacheTurn taken) = opens taken.asked ≡ false
 IsUnopening _ = ⊤
 
 -- Behind a call of the prompter stands no turn that may open a prompt. So where such a turn is refused, the prompter wasn't called before it.
-abbrev pub OpensFirst : List (Event FurtherEvent) → Type 0
+abbrev pub OpensFirst : List (EventWith FurtherEvent) → Type 0
 OpensFirst [] = ⊤
 OpensFirst (event ∷ more) = (IsUncalled event ⊎ AllByRecursion IsUnopening more) × OpensFirst more
 
@@ -257,7 +258,7 @@ pub record LeavesDesk (before : AtDesk) (asked : MarkStep) (after : AtDesk) : Ty
 -- ---- requests that want no memory
 
 -- what is done for a request that asks the cache alone, or clears it
-abbrev pub AnswersAlone : Request → List (Event FurtherEvent) → Type 0
+abbrev pub AnswersAlone : Request → List (EventWith FurtherEvent) → Type 0
 AnswersAlone (Cache (GetPassphrase plain check no_ask repeat quality id texts)) events = is_quiet no_ask texts ≡ true → AnswersFromCache plain id events
 AnswersAlone (Cache (ClearPassphrase id mode)) events = AnswersDone (Clear id mode) events
 AnswersAlone (Cache ReloadAgent) events = AnswersDone Flush events

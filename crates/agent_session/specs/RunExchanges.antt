@@ -5,7 +5,7 @@ use Rattle.std.specs.Prelude.{ℕ, List, Option}
 use Rattle.agent_ask.specs.Events.{Call}
 use Rattle.agent_ask.specs.Prompters.{AtPrompter}
 use Rattle.agent_ask.specs.Worlds.{Outside, Does}
-use Rattle.agent_commands.specs.Events.{Event}
+use Rattle.agent_commands.specs.Events.{EventWith}
 use Rattle.agent_commands.specs.Outside.{World}
 use Rattle.agent_commands.specs.Requests.{request_of}
 use Rattle.agent_commands.specs.declared.went.Went.{Went}
@@ -45,10 +45,10 @@ module _ {w : World} {S : Type 0} where
 
 -- what is said of an exchange, by what stood before and behind it
 abbrev pub Saying : World → Type 0 → Type 1
-Saying w S = Between w S → List ℕ → List (Event w.Further) → Between w S → Went → Type 0
+Saying w S = Between w S → List ℕ → List (EventWith w.Further) → Between w S → Went → Type 0
 
 -- The exchange of a line, whose events lead from what stands before it to what stands behind it, and of which this is so.
-pub record ExchangeBetween {w : World} {S : Type 0} (supply : Supply) (relation : LineRelation w S) (Says : Saying w S) (before : Between w S) (line : List ℕ) (events : List (Event w.Further))
+pub record ExchangeBetween {w : World} {S : Type 0} (supply : Supply) (relation : LineRelation w S) (Says : Saying w S) (before : Between w S) (line : List ℕ) (events : List (EventWith w.Further))
     (after : Between w S) (went : Went) : Type 0 where
   pub exchange : relation before.kept line events after.kept went
   pub link : LinkBytes

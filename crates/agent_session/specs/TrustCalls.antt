@@ -4,7 +4,7 @@ use Rattle.std.specs.Prelude.{◌≡◌, ℕ, List, [], ◌∷◌, Option, Some,
 use Rattle.agent_ask.specs.Further.{Trust}
 use Rattle.agent_ask.specs.SessionEvents.{Sent, Further, cache_turn}
 use Rattle.agent_ask.specs.TrustCalls.{TrustCall, Read, Replaced}
-use Rattle.agent_commands.specs.Answers.{ok}
+use Rattle.assuan_server.specs.Written.{ok}
 use Rattle.agent_ports.specs.declared.trust.TrustDone.TheVariants as done
 use Rattle.agent_ports.specs.declared.trust.TrustRead.TheVariants as read
 use Rattle.assuan_server.specs.Written.{failed}

@@ -3,7 +3,7 @@ ghost use Rattle.cache_policy.specs.Extending.{ExtendsDesk};
 ghost use Rattle.agent_ask.specs.SessionEvents.{turns_in};
 ghost use Rattle.agent_commands.specs.Names.{key_commands};
 ghost use Rattle.agent_commands.specs.declared.went.SessionEnd.{SessionEnd as Ends};
-ghost use Rattle.key_commands.specs.Names.{commands as read_commands};
+ghost use Rattle.key_commands.specs.Names.{commands_on_keys as read_commands};
 ghost use Rattle.session_options.specs.declared.rules.Rules.{Rules};
 ghost use Rattle.agent_origin.specs.DoorSessions.{ServesDoor};
 ghost use Rattle.agent_origin.specs.FurtherStates.{FurtherWorld};

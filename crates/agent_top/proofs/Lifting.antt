@@ -10,7 +10,7 @@ use Rattle.agent_ports.specs.Leads.{Leads, none, one}
 use Rattle.agent_ports.specs.Readings.{Readings}
 use Rattle.agent_ports.specs.Sides.{Side}
 use Rattle.cache_policy.specs.Extending.{TakesTurn}
-use Rattle.agent_commands.specs.Events.{Event}
+use Rattle.agent_commands.specs.Events.{EventWith}
 use Rattle.agent_ask.specs.SessionEvents.{turns_in}
 use Rattle.agent_commands.specs.Outside.{World}
 use Rattle.assuan_server.specs.Clients.{session_lines}
@@ -46,13 +46,13 @@ module _ {C La : Type 0} (readings : C → Readings) (launches : La → Launches
     ends = record { prompter = at_pinentry launches ends.ends.prompter; keys = ends.ends.keys; dice = ends.ends.dice; trust = ends.ends.trust };
   }
 
-  pub record Lifts (before after : Outside (held_world readings launches)) (events : List (Event FurtherEvent)) : Type 0 where
+  pub record Lifts (before after : Outside (held_world readings launches)) (events : List (EventWith FurtherEvent)) : Type 0 where
     pub leads : Leads (Does seen_world supply) (with_seen before) events (with_seen after)
     pub lent : after.desk.lent ≡ before.desk.lent
     pub launcher : after.ends.prompter.lent ≡ before.ends.prompter.lent
     pub program : after.ends.prompter.program ≡ before.ends.prompter.program
 
-  pub lifts : {before after : Outside (held_world readings launches)} {events : List (Event FurtherEvent)}
+  pub lifts : {before after : Outside (held_world readings launches)} {events : List (EventWith FurtherEvent)}
       → Leads (Does (held_world readings launches) supply) before events after → Lifts before after events
   lifts none = record { leads = none; lent = refl; launcher = refl; program = refl }
   lifts (one (received known needed) more) = let r = lifts more in record { leads = one (received known needed) r.leads; lent = r.lent; launcher = r.launcher; program = r.program }

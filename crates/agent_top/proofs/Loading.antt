@@ -10,7 +10,7 @@ use Rattle.std.specs.List.{AllByRecursion, cons_option, filter_map}
 use Rattle.agent_ask.specs.Events.{Call}
 use Rattle.agent_ask.specs.Further.{FurtherEvent}
 use Rattle.agent_ask.specs.Worlds.{Outside, Does, received, sent, cut, asked, not_asked, turned, further}
-use Rattle.agent_commands.specs.Events.{Event}
+use Rattle.agent_commands.specs.Events.{EventWith}
 use Rattle.agent_origin.specs.FurtherStates.{FurtherWorld}
 use Rattle.agent_core.specs.Solos.{SoloState, SoloTurn}
 use Rattle.agent_ports.specs.Leads.{Leads, none, one}
@@ -57,7 +57,7 @@ module _ {C P : Type 0} (readings : C → Readings) (prompted : P → Call → P
   }
 
   -- a session keeps the run of its desk
-  pub session_keeps : {before after : Outside (FurtherWorld (SoloTurn readings) prompted)} {events : List (Event FurtherEvent)}
+  pub session_keeps : {before after : Outside (FurtherWorld (SoloTurn readings) prompted)} {events : List (EventWith FurtherEvent)}
       → Leads (Does (FurtherWorld (SoloTurn readings) prompted) supply) before events after → KeepsRun before.desk after.desk
   session_keeps {before} none = keeps_itself before.desk
   session_keeps (one (received reads needed) more) = session_keeps more

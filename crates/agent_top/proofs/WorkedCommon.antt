@@ -9,7 +9,8 @@ use Rattle.agent_ask.specs.Parts.{goes_on, stops, returns, refuses}
 use Rattle.agent_ask.specs.Prompters.{IsCall}
 use Rattle.agent_ask.specs.SessionEvents.{Sent, Cut, cache_turn}
 use Rattle.agent_ask.specs.TurnParts as turning
-use Rattle.agent_commands.specs.Answers.{ok, closing}
+use Rattle.agent_commands.specs.Answers.{closing}
+use Rattle.assuan_server.specs.Written.{ok}
 use Rattle.agent_commands.specs.Exchanges.{put, reply, last_reply, tells}
 use Rattle.agent_commands.specs.Names.{command_named}
 use Rattle.agent_commands.specs.Passphrases.{ask}

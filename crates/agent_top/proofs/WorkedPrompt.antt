@@ -44,7 +44,7 @@ use Rattle.assuan_line.specs.declared.reader.Took.TheVariants as took
 use Rattle.assuan_server.specs.Clients.{session_lines}
 use Rattle.assuan_server.specs.Written.{failed, greeting}
 use Rattle.assuan_text.specs.LineEnds.{line_of}
-use Rattle.cache_policy.proofs.GrowingRuns.{legal-run_with_mark}
+use Rattle.cache_policy.proofs.GrowingRuns.{legal_run_with_mark}
 use Rattle.cache_policy.specs.Legal.{IsLegalRun}
 use Rattle.cache_policy.specs.Turns.{Open, Done}
 use Rattle.cache_policy.specs.declared.life.Limits.{Limits}
@@ -85,10 +85,10 @@ legal_0 : IsLegalRun limits (run_with [])
 legal_0 = first_legal limits
 
 legal_1 : IsLegalRun limits (run_with (seated ∷ []))
-legal_1 = legal-run_with_mark limits (run_with []) _ seated legal_0 refl refl (lit≤ tt) (lit≤ tt) (lit< tt)
+legal_1 = legal_run_with_mark limits (run_with []) _ seated legal_0 refl refl (lit≤ tt) (lit≤ tt) (lit< tt)
 
 legal_2 : IsLegalRun limits (run_with (seated ∷ given_back ∷ []))
-legal_2 = legal-run_with_mark limits (run_with (seated ∷ [])) _ given_back legal_1 refl refl (lit≤ tt) (lit≤ tt) (lit< tt)
+legal_2 = legal_run_with_mark limits (run_with (seated ∷ [])) _ given_back legal_1 refl refl (lit≤ tt) (lit≤ tt) (lit< tt)
 
 seats : TurnsSolo (desk_alone limits None [] 0) (Seat None None) (Open 0) (desk_alone limits (Some 0) (seated ∷ []) 1)
 seats =

@@ -7,7 +7,8 @@ use Rattle.hex.proofs.OnLiterals.{hex_on_literals}
 use Rattle.agent_ask.specs.SessionEvents.{Received, Sent, cache_turn}
 use Rattle.agent_ask.specs.Worlds.{Outside, Does}
 use Rattle.agent_ask.specs.Worlds as worlds
-use Rattle.agent_commands.specs.Answers.{ok, closing}
+use Rattle.agent_commands.specs.Answers.{closing}
+use Rattle.assuan_server.specs.Written.{ok}
 use Rattle.agent_commands.specs.Exchanges.{put}
 use Rattle.agent_commands.specs.Outside.{World}
 use Rattle.agent_commands.specs.Passphrases.{ask}
@@ -28,7 +29,7 @@ use Rattle.assuan_line.specs.Next.{next_of}
 use Rattle.assuan_line.specs.declared.reader.Took.TheVariants as took
 use Rattle.assuan_server.specs.Written.{failed, greeting}
 use Rattle.assuan_text.specs.LineEnds.{line_of}
-use Rattle.cache_policy.proofs.GrowingRuns.{legal-run_with_mark}
+use Rattle.cache_policy.proofs.GrowingRuns.{legal_run_with_mark}
 use Rattle.cache_policy.specs.Legal.{IsLegalRun}
 use Rattle.cache_policy.specs.Turns.{Given, Empty, Done}
 use Rattle.cache_policy.specs.declared.entry.Entry.{Entry}
@@ -82,13 +83,13 @@ legal_0 : IsLegalRun limits (run_with [])
 legal_0 = first_legal limits
 
 legal_1 : IsLegalRun limits (run_with (missed ∷ []))
-legal_1 = legal-run_with_mark limits (run_with []) _ missed legal_0 refl refl (lit≤ tt) (lit≤ tt) (lit< tt)
+legal_1 = legal_run_with_mark limits (run_with []) _ missed legal_0 refl refl (lit≤ tt) (lit≤ tt) (lit< tt)
 
 legal_2 : IsLegalRun limits (run_with (missed ∷ stored ∷ []))
-legal_2 = legal-run_with_mark limits (run_with (missed ∷ [])) _ stored legal_1 refl refl (lit≤ tt) (lit≤ tt) (lit< tt)
+legal_2 = legal_run_with_mark limits (run_with (missed ∷ [])) _ stored legal_1 refl refl (lit≤ tt) (lit≤ tt) (lit< tt)
 
 legal_3 : IsLegalRun limits (run_with (missed ∷ stored ∷ got ∷ []))
-legal_3 = legal-run_with_mark limits (run_with (missed ∷ stored ∷ [])) _ got legal_2 refl refl (lit≤ tt) (lit≤ tt) (lit< tt)
+legal_3 = legal_run_with_mark limits (run_with (missed ∷ stored ∷ [])) _ got legal_2 refl refl (lit≤ tt) (lit≤ tt) (lit< tt)
 
 abbrev desk_at : List Mark → ℕ → AtSolo
 desk_at marks count = desk_alone limits None marks count

@@ -6,7 +6,7 @@ use Rattle.agent_core.specs.Solos.{AtSolo, TurnsSolo}
 use Rattle.agent_origin.specs.DoorSessions.{DoorExchange}
 use Rattle.agent_origin.specs.Doors.{allowed}
 use Rattle.agent_origin.specs.FurtherStates.{FurtherWorld}
-use Rattle.agent_origin.specs.Names.{door_command_named}
+use Rattle.agent_origin.specs.DoorSessions.{door_command_named}
 use Rattle.agent_origin.specs.SessionExchanges.{SessionExchange, kept_at_start}
 use Rattle.agent_origin.specs.Sessions.{Surroundings, supply_of}
 use Rattle.agent_origin.specs.declared.door.Door.{Door}

@@ -7,7 +7,7 @@ ghost use Rattle.agent_commands.specs.declared.went.SessionEnd.{SessionEnd as En
 ghost use Rattle.agent_commands.specs.declared.went.Went.{Went};
 ghost use Rattle.agent_origin.specs.DoorSessions.{DoorExchange};
 ghost use Rattle.agent_origin.specs.Doors.{allowed};
-ghost use Rattle.agent_origin.specs.Names.{door_command_named};
+ghost use Rattle.agent_origin.specs.DoorSessions.{door_command_named};
 ghost use Rattle.agent_origin.specs.FurtherStates.{FurtherWorld};
 ghost use Rattle.agent_origin.specs.SessionExchanges.{kept_at_start};
 ghost use Rattle.agent_origin.specs.declared.door.Door.{Door};
