@@ -26,7 +26,7 @@ use Rattle.trust_list.specs.declared.TheConstants.{MAX_TRUST_FILE_LEN}
 use Rattle.agent_origin.specs.TrustExchanges.{flag_of, trust_question, fingerprint_question, unless_said, TrustedNow, Stores, StoresUnsaid, Consented, asked_in, Marked, Carried, TrustExchange}
 use Rattle.agent_ask.specs.PartExchanges as part_exchanges
 use Rattle.agent_origin.specs.TrustExchanges as trusts
-use Rattle.agent_origin.specs.TrustParts.{UnderTicket, Agrees, ReadsFile, AddsEntry, Replaces, file_in, trust_called}
+use Rattle.agent_origin.specs.TrustParts.{ReadsFile, AddsEntry, Replaces, file_in, trust_called}
 use Rattle.agent_origin.specs.TrustParts as parts
 use Rattle.agent_origin.specs.declared.trust.request.TrustPurpose.{TrustPurpose}
 use Rattle.agent_origin.specs.declared.trust.request.TrustRequest.{TrustRequest}
@@ -40,6 +40,9 @@ use Rattle.agent_session.proofs.PromptWorks.{agrees_to}
 use Rattle.agent_session.proofs.Standing.{each_left}
 use Rattle.agent_session.proofs.Works as work
 use Rattle.agent_session.proofs.Works.{Works, works, one_works, refused_by, WorksSo, Keeps, keeps_works, returned, refuses_by, turns_of}
+use Rattle.agent_session.proofs.TrustTold.{Told, answered, refused, told}
+use Rattle.agent_ask.specs.ConsentParts.{AgreesTo}
+use Rattle.assuan_server.specs.Clients.{session_lines}
 
 module _ (deciding : Deciding) where
   abbrev Alone : Event → Type 0
@@ -54,17 +57,7 @@ module _ (deciding : Deciding) where
   refused : {A : Type 0} (refusal : Refusal) → Heeds deciding NoneDue (Refuses {A = A} refusal) NoneOwed
   refused refusal = alone (refuses_by Alone refusal)
 
-  module _ {part : Part (Unit {0})} (heeds : Heeds deciding NoneDue part NoneOwed) where
-    under_of : (before : Option ℕ) (events : List Event) (result : Result (Unit {0}) Refusal) (after : Option ℕ) → UnderTicket part before events result after → AllByRecursion Remembers events → (why : Code)
-        → NoneDue why ⊎ IsDecided deciding events why → SaysTo NoneOwed result why
-    under_of before events result after does remembers why (inl due) = absurd due
-    under_of before events result after (parts.given_back {events = some} turn does) remembers why (inr decided) =
-        heeds.of _ some result _ does (each_left Remembers some _ remembers) why (inr (decided_before deciding some (CacheTurn _ ∷ []) (free deciding, tt) decided))
-
-    under : Heeds deciding NoneDue (UnderTicket part) NoneOwed
-    under = record { of = under_of }
-
-  agrees : (rules : Rules) (options : OptionValues) (question : List ℕ) → Heeds deciding NoneDue (Agrees rules options question) NoneOwed
+  agrees : (rules : Rules) (options : OptionValues) (question : List ℕ) → Heeds deciding NoneDue (AgreesTo session_lines rules options question) NoneOwed
   agrees rules options question = alone (agrees_to Alone (fits_keys deciding).calls (fits_keys deciding).notes rules options question)
 
   -- the user is asked twice, and then a part is done
@@ -74,7 +67,7 @@ module _ (deciding : Deciding) where
     consented = bind deciding NoneOwed (agrees rules options (trust_question name)) (λ trusted. bind deciding NoneOwed (agrees rules options (fingerprint_question fingerprint name)) (λ right. stores))
 
     asked_so : (way : PinMode) → Heeds deciding NoneDue (asked_in rules options fingerprint purpose name way) NoneOwed
-    asked_so mode.Ask = bind deciding NoneOwed (alone (work.seats Alone (turns_of Alone refl (λ turn. free deciding)))) (λ seated. under consented)
+    asked_so mode.Ask = bind deciding NoneOwed (alone (work.seats Alone (turns_of Alone refl (λ turn. free deciding)))) (λ seated. consented)
     asked_so mode.Cancel = refused _
     asked_so mode.Error = refused _
     asked_so mode.Loopback = refused _
@@ -207,7 +200,11 @@ module _ (fingerprint : Grip) (purpose : TrustPurpose) where
 -- ---- the answer
 
 module _ (rules : Rules) (options : OptionValues) where
+  told_answered : {request : TrustRequest} {events : List Event} {went : Went} → Told rules options request events went → AllByRecursion Remembers events → (why : Code)
+      → due_trust request why ⊎ IsDecided BySaid events why → HasError why OfAgent events
+  told_answered {request} (answered events back does closes) remembers why due = absurd (never_ok BySaid (carried rules options request) why (Some ok) closes remembers due does)
+  told_answered {request} (refused events back refusal does closes) remembers why due = error_said BySaid (carried rules options request) why (refusal_line refusal) closes remembers due refl does
+
   pub trust_answered : (request : TrustRequest) {events : List Event} {went : Went} → TrustExchange rules options request events went → AllByRecursion Remembers events → (why : Code)
       → due_trust request why ⊎ IsDecided BySaid events why → HasError why OfAgent events
-  trust_answered request (part_exchanges.answered events does) remembers why due = absurd (never_ok BySaid (carried rules options request) why (Some ok) turning.unheld remembers due does)
-  trust_answered request (part_exchanges.refused events refusal does) remembers why due = error_said BySaid (carried rules options request) why (refusal_line refusal) turning.unheld remembers due refl does
+  trust_answered request exchanged = told_answered (told rules options request exchanged)

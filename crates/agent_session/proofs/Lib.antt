@@ -51,6 +51,7 @@ mod SessionCourses
 mod Standing
 mod Talking
 mod TrustDenied
+mod TrustTold
 mod TrustEnds
 mod TrustExplained
 mod TrustGone

@@ -14,7 +14,7 @@ use Rattle.trust_list.specs.Trust.{trust}
 use Rattle.agent_origin.specs.TrustExchanges.{unless_said, TrustedNow, Stores, StoresUnsaid, Consented, asked_in, Marked, Carried, TrustExchange}
 use Rattle.agent_ask.specs.PartExchanges as part_exchanges
 use Rattle.agent_origin.specs.TrustExchanges as trusts
-use Rattle.agent_origin.specs.TrustParts.{UnderTicket, Agrees, ReadsFile, AddsEntry, Replaces}
+use Rattle.agent_origin.specs.TrustParts.{ReadsFile, AddsEntry, Replaces}
 use Rattle.key_commands.specs.Parts.{Part, refusal_events}
 use Rattle.agent_ask.specs.Parts.{◌>>=◌, Follows, Returns, Refuses}
 use Rattle.agent_ask.specs.TurnParts.{Seats}
@@ -29,6 +29,10 @@ use Rattle.agent_origin.specs.declared.trust.request.TrustRequest.{TrustRequest}
 use Rattle.agent_origin.specs.declared.trust.request.TrustRequest.TheVariants.{IsTrusted, MarkTrusted, Bad}
 use Rattle.agent_session.specs.OwnPassphrases.{IsUnreceived}
 use Rattle.agent_session.proofs.OwnParts.{IsQuiet, kept_none}
+use Rattle.agent_session.proofs.TrustTold.{Told, answered, refused, told}
+use Rattle.agent_ask.specs.ConsentParts.{AgreesTo}
+use Rattle.assuan_server.specs.Clients.{session_lines}
+use Rattle.agent_ask.specs.TurnParts.{Closes}
 
 -- it hands nothing to the cache, and no line is read by it
 abbrev pub IsIdle : Event → Type 0
@@ -69,7 +73,7 @@ seats_of : {before after : Option ℕ} {events : List Event} {result : _} → Se
 seats_of turning.opened = (((λ hands. elim hands [ ]), tt), tt)
 seats_of (turning.interrupted why) = (((λ hands. elim hands [ ]), tt), tt)
 
-agrees_of : {rules : Rules} {options : OptionValues} {question : List ℕ} {before after : Option ℕ} {events : List Event} {result : _} → Agrees rules options question before events result after → Idle events
+agrees_of : {rules : Rules} {options : OptionValues} {question : List ℕ} {before after : Option ℕ} {events : List Event} {result : _} → AgreesTo session_lines rules options question before events result after → Idle events
 agrees_of (consent.consents spec is prompt) = each_shown IsIdle still_idle (λ event. (tt, tt)) prompt.in_session
 agrees_of (consent.refused spec is prompt refusal) = each_shown IsIdle still_idle (λ event. (tt, tt)) prompt.in_session
 
@@ -93,8 +97,9 @@ said_idles (Some true) other = record { of = returns_of }
 said_idles (Some false) other = record { of = refuses_of }
 said_idles None other = other
 
-under_of : {part : Part (Unit {0})} → Idles part → {before after : Option ℕ} {events : List Event} {result : _} → UnderTicket part before events result after → Idle events
-under_of idles (parts.given_back {events} turn does) = each_append IsIdle events _ (idles.of does) ((kept_none _, tt), tt)
+back_idle : {held : Option ℕ} {back : List Event} → Closes None held back (Ok tt) None → Idle back
+back_idle turning.unheld = tt
+back_idle (turning.closed turn) = ((kept_none _, tt), tt)
 
 module _ (rules : Rules) (options : OptionValues) where
   module _ (fingerprint : Grip) where
@@ -117,7 +122,7 @@ module _ (rules : Rules) (options : OptionValues) where
         consented = bind (record { of = agrees_of }) (λ trusted. bind (record { of = agrees_of }) (λ right. stores_unsaid))
 
         asked : (way : PinMode) → Idles (asked_in rules options fingerprint purpose name way)
-        asked mode.Ask = bind (record { of = seats_of }) (λ seated. record { of = under_of consented })
+        asked mode.Ask = bind (record { of = seats_of }) (λ seated. consented)
         asked mode.Cancel = refused_idles
         asked mode.Error = refused_idles
         asked mode.Loopback = refused_idles
@@ -135,6 +140,10 @@ module _ (rules : Rules) (options : OptionValues) where
   said_idle None = tt
   said_idle (Some line) = ((tt, tt), tt)
 
+  told_idle : {request : TrustRequest} {events : List Event} {went : Went} → Told rules options request events went → Idle events
+  told_idle {request} (answered events back does closes) = each_append IsIdle events _ ((carried request).of does) (each_append IsIdle back _ (back_idle closes) ((tt, tt), tt))
+  told_idle {request} (refused events back why does closes) =
+      each_append IsIdle events _ ((carried request).of does) (each_append IsIdle back _ (back_idle closes) (said_idle (refusal_line why)))
+
   pub trust_idle : (request : TrustRequest) {events : List Event} {went : Went} → TrustExchange rules options request events went → Idle events
-  trust_idle request (part_exchanges.answered events does) = each_append IsIdle events _ ((carried request).of does) ((tt, tt), tt)
-  trust_idle request (part_exchanges.refused events why does) = each_append IsIdle events (refusal_events why) ((carried request).of does) (said_idle (refusal_line why))
+  trust_idle request exchanged = told_idle (told rules options request exchanged)

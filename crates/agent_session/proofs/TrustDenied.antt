@@ -26,7 +26,7 @@ use Rattle.agent_ask.specs.Parts.{◌>>=◌, Follows, Returns, Refuses}
 use Rattle.agent_ask.specs.Parts as chain
 use Rattle.agent_ask.specs.TurnParts.{Seats}
 use Rattle.agent_ask.specs.TurnParts as taken
-use Rattle.agent_origin.specs.TrustParts.{UnderTicket, Agrees, ReadsFile, AddsEntry, Replaces, file_in, trust_called}
+use Rattle.agent_origin.specs.TrustParts.{ReadsFile, AddsEntry, Replaces, file_in, trust_called}
 use Rattle.key_commands.specs.Parts.{Part}
 use Rattle.agent_origin.specs.TrustParts as parts
 use Rattle.agent_origin.specs.declared.trust.request.TrustPurpose.{TrustPurpose}
@@ -36,6 +36,11 @@ use Rattle.agent_session.specs.Causes.{Has, here, later}
 use Rattle.agent_session.specs.Completeness.{HasError}
 use Rattle.agent_session.specs.DoorCauses.{IsReadTrust, read_trust, IsAsked, IsNotTrusted, unsaid, denied, denied_mark}
 use Rattle.agent_session.proofs.Standing.{has_right}
+use Rattle.agent_session.proofs.TrustTold.{Told, answered, refused, told}
+use Rattle.agent_ask.specs.ConsentParts.{AgreesTo}
+use Rattle.assuan_server.specs.Clients.{session_lines}
+use Rattle.agent_ask.specs.TurnParts.{Closes}
+use Rattle.agent_ask.specs.TurnParts as turning
 
 -- no call of the trust file is among events that are beside it
 pub none_called : (events : List Event) → AllByRecursion IsBesideTrust events → {call : TrustCall} → Has (trust_called call) events → ⊥
@@ -87,10 +92,10 @@ module _ (fingerprint : Grip) (file : List ℕ) where
       none_of events taken.opened (read_trust is (later has)) = elim has [ ]
       none_of events (taken.interrupted why) (read_trust is (later has)) = elim has [ ]
 
-  agrees_never : (rules : Rules) (options : OptionValues) (question : List ℕ) → ReadsNot (Agrees rules options question)
+  agrees_never : (rules : Rules) (options : OptionValues) (question : List ℕ) → ReadsNot (AgreesTo session_lines rules options question)
   agrees_never rules options question = record { never = none_of }
     where
-      none_of : {before after : Option ℕ} (events : List Event) {result : _} → Agrees rules options question before events result after → ¬ IsReadTrust events file
+      none_of : {before after : Option ℕ} (events : List Event) {result : _} → AgreesTo session_lines rules options question before events result after → ¬ IsReadTrust events file
       none_of events (consent.consents spec is prompt) (read_trust found has) = none_called events (shown_so IsBesideTrust (λ event is. is) prompt.in_session) has
       none_of events (consent.refused spec is prompt refusal) (read_trust found has) = none_called events (shown_so IsBesideTrust (λ event is. is) prompt.in_session) has
 
@@ -123,19 +128,6 @@ module _ (fingerprint : Grip) (file : List ℕ) where
         is_denied _ (chain.goes_on {first} {events = more} {value = mid} does next_does) is_read =
             elim (split_read first more is_read) [ inl before ↦ absurd (reads.never first does before) | inr later_read ↦ (heeds mid).denies more next_does later_read ]
         is_denied events (chain.stops does) is_read = absurd (reads.never events does is_read)
-
-  module _ {A : Type 0} {part : Part A} (heeds : Heeds part) where
-    none_closed : (events : List Event) (turn : Taken) → IsReadTrust (events ++ CacheTurn turn ∷ []) file → IsReadTrust events file
-    none_closed events turn is_read = elim (split_read events _ is_read) [ inl before ↦ before | inr (read_trust is (later has)) ↦ elim has [ ] ]
-
-    under : Heeds (UnderTicket part)
-    under = record { fine = is_fine; denies = is_denied }
-      where
-        is_fine : {before after : Option ℕ} (events : List Event) (value : A) → UnderTicket part before events (Ok value) after → ¬ IsReadTrust events file
-        is_fine _ value (parts.given_back {events} turn does) is_read = heeds.fine events value does (none_closed events _ is_read)
-
-        is_denied : {before after : Option ℕ} (events : List Event) {why : _} → UnderTicket part before events (Err why) after → IsReadTrust events file → refusal_line why ≡ Some (failed code.NotTrusted)
-        is_denied _ (parts.given_back {events} turn does) is_read = heeds.denies events does (none_closed events _ is_read)
 
   -- a part that comes to nothing else than Not trusted
   record Denies {A : Type 0} (part : Part A) : Type 0 where
@@ -212,7 +204,7 @@ module _ (fingerprint : Grip) (file : List ℕ) where
     consented_heeds = behind (agrees_never rules options (trust_question name)) (λ trusted. behind (agrees_never rules options (fingerprint_question fingerprint name)) (λ right. unsaid_heeds))
 
     prompt_heeds : (way : PinMode) → Heeds (asked_in rules options fingerprint purpose name way)
-    prompt_heeds mode.Ask = behind seats_never (λ seated. under consented_heeds)
+    prompt_heeds mode.Ask = behind seats_never (λ seated. consented_heeds)
     prompt_heeds mode.Cancel = by_never refuses_never
     prompt_heeds mode.Error = by_never refuses_never
     prompt_heeds mode.Loopback = by_never refuses_never
@@ -224,20 +216,30 @@ module _ (fingerprint : Grip) (file : List ℕ) where
 -- ---- requests
 
 -- a refusal's line is the last event
-refused_last : (events : List Event) {line : Option (List ℕ)} → line ≡ Some (failed code.NotTrusted) → HasError code.NotTrusted Agent (events ++ said_last line)
-refused_last events is =
-    subst (λ l. HasError code.NotTrusted Agent (events ++ said_last l)) (sym is) (has_right events here)
+refused_last : (events back : List Event) {line : Option (List ℕ)} → line ≡ Some (failed code.NotTrusted) → HasError code.NotTrusted Agent (events ++ (back ++ said_last line))
+refused_last events back is =
+    subst (λ l. HasError code.NotTrusted Agent (events ++ (back ++ said_last l))) (sym is) (has_right events (has_right back here))
 
--- what is said isn't a read
-none_said : (events : List Event) (line : Option (List ℕ)) {file : List ℕ} → IsReadTrust (events ++ said_last line) file → IsReadTrust events file
-none_said events (Some line) is_read = elim (split_read events _ is_read) [ inl before ↦ before | inr (read_trust is (later has)) ↦ elim has [ ] ]
-none_said events None is_read = elim (split_read events _ is_read) [ inl before ↦ before | inr (read_trust is has) ↦ elim has [ ] ]
+-- neither the return of a ticket nor what is said is a read
+none_said : (line : Option (List ℕ)) {file : List ℕ} → IsReadTrust (said_last line) file → ⊥
+none_said None (read_trust is has) = elim has [ ]
+none_said (Some line) (read_trust is (later has)) = elim has [ ]
+
+none_behind : {held : Option ℕ} {back : List Event} (events : List Event) (line : Option (List ℕ)) {file : List ℕ} → Closes None held back (Ok tt) None → IsReadTrust (events ++ (back ++ said_last line)) file
+    → IsReadTrust events file
+none_behind events line turning.unheld is_read = elim (split_read events _ is_read) [ inl before ↦ before | inr said ↦ absurd (none_said line said) ]
+none_behind events line (turning.closed turn) is_read =
+    elim (split_read events _ is_read) [ inl before ↦ before | inr (read_trust is (later has)) ↦ absurd (none_said line (read_trust is has)) ]
 
 module _ (rules : Rules) (options : OptionValues) where
+  told_heeded : (fingerprint : Grip) (file : List ℕ) {request : TrustRequest} → Heeds fingerprint file (Carried rules options request) → {events : List Event} {went : Went}
+      → Told rules options request events went → IsReadTrust events file → HasError code.NotTrusted Agent events
+  told_heeded fingerprint file heeds (answered events back does closes) is_read = absurd (heeds.fine events tt does (none_behind events (Some ok) closes is_read))
+  told_heeded fingerprint file heeds (refused events back why does closes) is_read = refused_last events back (heeds.denies events does (none_behind events (refusal_line why) closes is_read))
+
   heeded : (fingerprint : Grip) (file : List ℕ) {request : TrustRequest} → Heeds fingerprint file (Carried rules options request) → {events : List Event} {went : Went}
       → TrustExchange rules options request events went → IsReadTrust events file → HasError code.NotTrusted Agent events
-  heeded fingerprint file heeds (part_exchanges.answered events does) is_read = absurd (heeds.fine events tt does (none_said events (Some ok) is_read))
-  heeded fingerprint file heeds (part_exchanges.refused events why does) is_read = refused_last events (heeds.denies events does (none_said events (refusal_line why) is_read))
+  heeded fingerprint file {request} heeds exchanged = told_heeded fingerprint file heeds (told rules options request exchanged)
 
   asked_heeded : {fingerprint : Grip} {said : Option Bool} {request : TrustRequest} {events : List Event} {went : Went} → ¬ (said ≡ Some true) → IsAsked events request fingerprint said
       → TrustExchange rules options request events went → HasError code.NotTrusted Agent events

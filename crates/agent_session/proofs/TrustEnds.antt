@@ -28,7 +28,7 @@ use Rattle.agent_ask.specs.Parts.{◌>>=◌, Follows, Returns, Refuses}
 use Rattle.agent_ask.specs.Parts as chain
 use Rattle.agent_ask.specs.TurnParts.{Seats}
 use Rattle.agent_ask.specs.TurnParts as taken
-use Rattle.agent_origin.specs.TrustParts.{UnderTicket, Agrees, ReadsFile, AddsEntry, Replaces, file_in, trust_called}
+use Rattle.agent_origin.specs.TrustParts.{ReadsFile, AddsEntry, Replaces, file_in, trust_called}
 use Rattle.key_commands.specs.Parts.{Part, refusal_events}
 use Rattle.assuan_server.specs.Written.{refusal_line}
 use Rattle.agent_origin.specs.TrustParts as parts
@@ -42,6 +42,10 @@ use Rattle.agent_origin.proofs.EachLine.{shown_so, each_request}
 use Rattle.key_commands.specs.Events.{Event}
 use Rattle.key_commands.proofs.EachEvent.{each_append}
 use Rattle.key_commands.proofs.EachRequest.{IsBesideTrust}
+use Rattle.agent_session.proofs.TrustTold.{Told, answered, refused, told}
+use Rattle.agent_ask.specs.ConsentParts.{AgreesTo}
+use Rattle.assuan_server.specs.Clients.{session_lines}
+use Rattle.agent_ask.specs.TurnParts.{Closes}
 
 -- ---- lists
 
@@ -152,13 +156,13 @@ module _ (Back : List Event → Type 0) (none_back : Back []) where
   seats = record { fine = seats_fine; stops = seats_stops }
 
   module _ (rules : Rules) (options : OptionValues) (question : List ℕ) where
-    agrees_fine : {before after : Option ℕ} {events : List Event} {value : Unit {0}} → Agrees rules options question before events (Ok value) after → Undecided events
+    agrees_fine : {before after : Option ℕ} {events : List Event} {value : Unit {0}} → AgreesTo session_lines rules options question before events (Ok value) after → Undecided events
     agrees_fine {events} (consent.consents spec is prompt) = beside_undecided events (shown_so IsBesideTrust (λ event is. is) prompt.in_session)
 
-    agrees_stops : {before after : Option ℕ} {events : List Event} {why : _} → Agrees rules options question before events (Err why) after → Come Back {A = Unit {0}} events (Err why)
+    agrees_stops : {before after : Option ℕ} {events : List Event} {why : _} → AgreesTo session_lines rules options question before events (Err why) after → Come Back {A = Unit {0}} events (Err why)
     agrees_stops {events} (consent.refused spec is prompt refusal) = goes (beside_undecided events (shown_so IsBesideTrust (λ event is. is) prompt.in_session))
 
-    agrees : Steps (Agrees rules options question)
+    agrees : Steps (AgreesTo session_lines rules options question)
     agrees = record { fine = agrees_fine; stops = agrees_stops }
 
   -- ---- the trust file
@@ -214,32 +218,30 @@ module _ (Back : List Event → Type 0) (none_back : Back []) where
       unfolding Consented
       consented rules options name = bind (agrees rules options (trust_question name)) (λ trusted. bind (agrees rules options (fingerprint_question fingerprint name)) (λ right. stores_unsaid))
 
--- ---- under a ticket
-
-closed : (ticket : ℕ) (turn : Turn) {events : List Event} {result : _} → Come NoBack {A = Unit {0}} events result
-    → Come IsBack {A = Unit {0}} (events ++ cache_turn (Close ticket None) turn ∷ []) result
-closed ticket turn {events} (goes each) = goes (both_undecided events _ each (refl, tt))
-closed ticket turn {result} (decided work event each is no_back answers) =
-    subst (λ e. Come IsBack {A = Unit {0}} e result) (sym (append_assoc work (event ∷ []) (cache_turn (Close ticket None) turn ∷ []))) (decided work event each is (returned turn) answers)
-
-under_of : {part : Part (Unit {0})} → Ends NoBack no_back part → {before after : Option ℕ} {events : List Event} {result : _} → UnderTicket part before events result after → Come IsBack {A = Unit {0}} events result
-under_of ends (parts.given_back {ticket} turn does) = closed ticket turn (ends.of does)
-
 module _ (rules : Rules) (options : OptionValues) (fingerprint : Grip) (purpose : TrustPurpose) (name : List ℕ) where
-  asked : (way : PinMode) → Ends IsBack unheld (asked_in rules options fingerprint purpose name way)
-  asked mode.Ask = bind IsBack unheld (seats IsBack unheld) (λ seated. record { of = under_of (consented NoBack no_back fingerprint purpose rules options name) })
-  asked mode.Cancel = refused_ends IsBack unheld
-  asked mode.Error = refused_ends IsBack unheld
-  asked mode.Loopback = refused_ends IsBack unheld
+  asked : (way : PinMode) → Ends NoBack no_back (asked_in rules options fingerprint purpose name way)
+  asked mode.Ask = bind NoBack no_back (seats NoBack no_back) (λ seated. consented NoBack no_back fingerprint purpose rules options name)
+  asked mode.Cancel = refused_ends NoBack no_back
+  asked mode.Error = refused_ends NoBack no_back
+  asked mode.Loopback = refused_ends NoBack no_back
 
-  marked : Ends IsBack unheld (Marked rules options fingerprint purpose name)
+  marked : Ends NoBack no_back (Marked rules options fingerprint purpose name)
   unfolding Marked
-  marked = bind IsBack unheld (reads IsBack unheld) (λ file. said_ends IsBack unheld (trust file fingerprint.0) (asked options.mode))
+  marked = bind NoBack no_back (reads NoBack no_back) (λ file. said_ends NoBack no_back (trust file fingerprint.0) (asked options.mode))
 
-carried : (rules : Rules) (options : OptionValues) (request : TrustRequest) → Ends IsBack unheld (Carried rules options request)
-carried rules options (IsTrusted fingerprint) = trusted_now IsBack unheld fingerprint
+carried : (rules : Rules) (options : OptionValues) (request : TrustRequest) → Ends NoBack no_back (Carried rules options request)
+carried rules options (IsTrusted fingerprint) = trusted_now NoBack no_back fingerprint
 carried rules options (MarkTrusted fingerprint purpose name) = marked rules options fingerprint purpose name.items
-carried rules options (Bad code) = refused_ends IsBack unheld
+carried rules options (Bad code) = refused_ends NoBack no_back
+
+-- a ticket that is still held is given back
+with_back : {held : Option ℕ} {events back : List Event} {result : _} → Come NoBack {A = Unit {0}} events result → Closes None held back (Ok tt) None → Come IsBack {A = Unit {0}} (events ++ back) result
+with_back {events} (goes each) taken.unheld = goes (both_undecided events [] each tt)
+with_back {events} (goes each) (taken.closed turn) = goes (both_undecided events _ each (refl, tt))
+with_back {result} (decided work event each is no_back answers) taken.unheld =
+    subst (λ e. Come IsBack {A = Unit {0}} e result) (sym (append_assoc work (event ∷ []) [])) (decided work event each is unheld answers)
+with_back {result} (decided work event each is no_back answers) (taken.closed {ticket} turn) =
+    subst (λ e. Come IsBack {A = Unit {0}} e result) (sym (append_assoc work (event ∷ []) (cache_turn (Close ticket None) turn ∷ []))) (decided work event each is (returned turn) answers)
 
 -- ---- the answer
 
@@ -266,9 +268,14 @@ refused_so : {events : List Event} (why : _) → Come IsBack {A = Unit {0}} even
 refused_so {events} why (goes each) = none_ends (events ++ refusal_events why) (both_undecided events (refusal_events why) each (said_undecided (refusal_line why)))
 refused_so why (decided work event each is behind answers) = finishes work event (refusal_events why) each is behind (ap said_last answers)
 
+told_ends : {rules : Rules} {options : OptionValues} {request : TrustRequest} {events : List Event} {went : Went} → Told rules options request events went → EndsAtCalls events
+told_ends {rules} {options} {request} (answered events back does closes) =
+    subst EndsAtCalls (append_assoc events back (Sent ok ∷ [])) (answered_ends (with_back ((carried rules options request).of does) closes))
+told_ends {rules} {options} {request} (refused events back why does closes) =
+    subst EndsAtCalls (append_assoc events back (refusal_events why)) (refused_so why (with_back ((carried rules options request).of does) closes))
+
 trust_ends : {rules : Rules} {options : OptionValues} (request : TrustRequest) {events : List Event} {went : Went} → TrustExchange rules options request events went → EndsAtCalls events
-trust_ends {rules} {options} request (part_exchanges.answered events does) = answered_ends ((carried rules options request).of does)
-trust_ends {rules} {options} request (part_exchanges.refused events why does) = refused_so why ((carried rules options request).of does)
+trust_ends {rules} {options} request exchanged = told_ends (told rules options request exchanged)
 
 module _ {rules : Rules} {before : Kept} {line : List ℕ} where
   allowed_ends : {command : _} {events : List Event} {after : Kept} {went : Went} → AllowedExchange rules before line command events after went → EndsAtCalls events

@@ -59,7 +59,7 @@ use Rattle.agent_ask.specs.ConsentParts.{consent_refusal}
 use Rattle.agent_ask.specs.ConsentParts as consent
 use Rattle.agent_ask.specs.TurnParts.{Seats}
 use Rattle.agent_ask.specs.TurnParts as taken
-use Rattle.agent_origin.specs.TrustParts.{UnderTicket, Agrees, ReadsFile, AddsEntry, Replaces, refusal_went, trust_called}
+use Rattle.agent_origin.specs.TrustParts.{ReadsFile, AddsEntry, Replaces, trust_called}
 use Rattle.key_commands.specs.Parts.{Part, refusal_events}
 use Rattle.agent_origin.specs.TrustParts as parts
 use Rattle.agent_origin.specs.TrustNames.{trust_command_named}
@@ -80,6 +80,10 @@ use Rattle.agent_session.proofs.Prompted as prompted
 use Rattle.agent_session.proofs.Prompted.{ConsentShows, HasHeard, consent_shows}
 use Rattle.agent_session.proofs.Replying.{reply_ok}
 use Rattle.agent_session.proofs.Standing.{has_first, stand_left}
+use Rattle.agent_session.proofs.TrustTold.{Told, told}
+use Rattle.agent_session.proofs.TrustTold as telling
+use Rattle.agent_ask.specs.ConsentParts.{AgreesTo}
+use Rattle.agent_ask.specs.TurnParts.{Closes}
 
 -- `other` is a request of any session, of which nothing is said
 module _ (rules : Rules) (kept : Kept) (other : Request) (request : TrustRequest) (whole : List Event) where
@@ -114,13 +118,9 @@ module _ (rules : Rules) (kept : Kept) (other : Request) (request : TrustRequest
   seats_of before events result after taken.opened stands = record { silent = (tt, tt); explained = tt }
   seats_of before events result after (taken.interrupted why) stands = record { silent = (tt, tt); explained = interrupts (Seat None None) refl why stands }
 
-  under_ticket : {part : Part (Unit {0})} → ExplainsHere part Anything → ExplainsHere (UnderTicket part) Anything
-  under_ticket {part} explains = record { of = under_of }
-    where
-      under_of : (before : Option ℕ) (events : List Event) (result : Result (Unit {0}) Refusal) (after : Option ℕ) → UnderTicket part before events result after → StandIn events whole → ComesHere Anything events result
-      under_of before events result after (parts.given_back {events = some} turn does) stands =
-          let comes : ComesHere Anything some result = explains.of _ some result _ does (stand_left some _ stands) in
-          record { silent = each_append AnswersNothing some (_ ∷ []) comes.silent (tt, tt); explained = comes.explained }
+  back_silent : {held : Option ℕ} {back : List Event} → Closes None held back (Ok tt) None → AllByRecursion AnswersNothing back
+  back_silent taken.unheld = tt
+  back_silent (taken.closed turn) = (tt, tt)
 
   -- ---- the user
 
@@ -134,7 +134,7 @@ module _ (rules : Rules) (kept : Kept) (other : Request) (request : TrustRequest
   client_explained (unheard.Gone gone.ReadFault) is = silent tt is
   client_explained (unheard.Gone gone.WriteFault) is = silent tt tt
 
-  refusal_here : (why : Refusal) → CausedRefusal whole Caused why → Here (refusal_events why) (refusal_went why)
+  refusal_here : (why : Refusal) → CausedRefusal whole Caused why → Here (refusal_events why) (went_after (gone_by why))
   refusal_here (refusals.Agent why) caused = failed [] why Agent tt caused tt
   refusal_here (refusals.Pinentry why) caused = failed [] why Pinentry tt caused tt
   refusal_here (Client why) cut = silent tt tt
@@ -167,7 +167,7 @@ module _ (rules : Rules) (kept : Kept) (other : Request) (request : TrustRequest
     consent_refused agreed.NoPinentry so = unopened so
     consent_refused (agreed.Heard heard) so = heard_refused heard so
 
-  agrees_of : (question : List ℕ) (before : Option ℕ) (events : List Event) (result : Result (Unit {0}) Refusal) (after : Option ℕ) → Agrees rules kept.options question before events result after → StandIn events whole
+  agrees_of : (question : List ℕ) (before : Option ℕ) (events : List Event) (result : Result (Unit {0}) Refusal) (after : Option ℕ) → AgreesTo session_lines rules kept.options question before events result after → StandIn events whole
       → ComesHere Anything events result
   agrees_of question before events result after (consent.consents spec is prompt) stands = record { silent = prompt_silent prompt.in_session; explained = tt }
   agrees_of question before events result after (consent.refused {answer} spec is prompt refusal) stands = record {
@@ -175,7 +175,7 @@ module _ (rules : Rules) (kept : Kept) (other : Request) (request : TrustRequest
     explained = subst (λ o. IfSome o (CausedRefusal whole Caused)) refusal (consent_refused prompt.in_session stands answer (consent_shows prompt.asks));
   }
 
-  agrees : (question : List ℕ) → ExplainsHere (Agrees rules kept.options question) Anything
+  agrees : (question : List ℕ) → ExplainsHere (AgreesTo session_lines rules kept.options question) Anything
   agrees question = record { of = agrees_of question }
 
   -- ---- the trust file
@@ -232,7 +232,7 @@ module _ (rules : Rules) (kept : Kept) (other : Request) (request : TrustRequest
 
     asked : (file : List ℕ) → IsMarked whole request fingerprint purpose file None → (way : PinMode) → kept.options.mode ≡ way
         → ExplainsHere (asked_in rules kept.options fingerprint purpose name.items way) Anything
-    asked file is mode.Ask same = bind Anything Anything (record { of = seats_of }) (λ seated good. under_ticket consented)
+    asked file is mode.Ask same = bind Anything Anything (record { of = seats_of }) (λ seated good. consented)
     asked file is mode.Cancel same = refused Anything (refusals.Agent code.Cancelled) (by_mode is same)
     asked file is mode.Error same = refused Anything (refusals.Agent code.NoPinentry) (inl (error is same))
     asked file is mode.Loopback same = refused Anything (refusals.Agent code.NoPinentry) (inl (loopback is same))
@@ -249,13 +249,16 @@ module _ (rules : Rules) (kept : Kept) (other : Request) (request : TrustRequest
     carried (MarkTrusted fingerprint purpose name) is = marked fingerprint purpose name is
     carried (Bad why) is = refused Anything (refusals.Agent why) (line_caused why is)
 
+    told_explained : {events : List Event} {went : Went} → Told rules kept.options request events went → StandIn events whole → Here events went
+    told_explained (telling.answered events back does closes) stands =
+        let comes : ComesHere Anything events (Ok tt) = (carried request refl).of None events (Ok tt) _ does (stand_left events _ stands) in
+        after_these _ _ events comes.silent (after_these _ _ back (back_silent closes) (replied [] ok tt reply_ok tt))
+    told_explained (telling.refused events back why does closes) stands =
+        let comes : ComesHere Anything events (Err why) = (carried request refl).of None events (Err why) _ does (stand_left events _ stands) in
+        after_these _ _ events comes.silent (after_these _ _ back (back_silent closes) (refusal_here why comes.explained))
+
     pub trust_explained : {events : List Event} {went : Went} → TrustExchange rules kept.options request events went → StandIn events whole → Here events went
-    trust_explained (part_exchanges.answered events does) stands =
-        let comes : ComesHere Anything events (Ok tt) = (carried request refl).of None events (Ok tt) None does (stand_left events _ stands) in
-        after_these _ _ events comes.silent (replied [] ok tt reply_ok tt)
-    trust_explained (part_exchanges.refused events why does) stands =
-        let comes : ComesHere Anything events (Err why) = (carried request refl).of None events (Err why) None does (stand_left events _ stands) in
-        after_these _ _ events comes.silent (refusal_here why comes.explained)
+    trust_explained exchanged = told_explained (told rules kept.options request exchanged)
 
 -- ---- lines that are out of form
 

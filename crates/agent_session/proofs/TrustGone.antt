@@ -24,7 +24,7 @@ use Rattle.agent_commands.specs.declared.went.Went.TheVariants.{End}
 use Rattle.agent_origin.specs.TrustExchanges.{flag_of, trust_question, fingerprint_question, unless_said, TrustedNow, Stores, StoresUnsaid, Consented, asked_in, Marked, Carried, TrustExchange}
 use Rattle.agent_ask.specs.PartExchanges as part_exchanges
 use Rattle.agent_origin.specs.TrustExchanges as trusts
-use Rattle.agent_origin.specs.TrustParts.{UnderTicket, ReadsFile, AddsEntry, Replaces}
+use Rattle.agent_origin.specs.TrustParts.{ReadsFile, AddsEntry, Replaces}
 use Rattle.agent_origin.specs.TrustParts as parts
 use Rattle.agent_origin.specs.declared.trust.request.TrustPurpose.{TrustPurpose}
 use Rattle.agent_origin.specs.declared.trust.request.TrustRequest.{TrustRequest}
@@ -35,6 +35,11 @@ use Rattle.agent_session.specs.Causes.{IsSaid, said}
 use Rattle.agent_session.proofs.Courses.{IsHeard, heard_so, said_before, last_heard, works_said, gone_only}
 use Rattle.agent_session.proofs.Explained.{has_split}
 use Rattle.agent_session.proofs.PromptWorks.{agrees_to}
+use Rattle.agent_session.proofs.TrustTold.{Told, answered, refused, told}
+use Rattle.agent_ask.specs.ConsentParts.{AgreesTo}
+use Rattle.assuan_server.specs.Clients.{session_lines}
+use Rattle.agent_session.proofs.Courses.{answer_heard}
+use Rattle.assuan_server.specs.Written.{ok}
 
 -- a part that is refused so where the client is gone by one of its events
 record GoneSo {A : Type 0} (part : Part A) : Type 0 where
@@ -89,11 +94,7 @@ replaces_heard _ _ _ _ parts.replaced = (refl, tt)
 replaces_heard _ _ _ _ parts.faulted = (refl, tt)
 replaces_heard _ _ _ _ parts.no_memory = (refl, tt)
 
-under_of : {part : Part (Unit {0})} → GoneSo part → {how : Gone} {before after : Option ℕ} {events : List Event} {result : Result (Unit {0}) Refusal} → UnderTicket part before events result after
-    → IsSaid events (unheard.Gone how) → result ≡ Err (Client (unheard.Gone how))
-under_of gone_so (parts.given_back {events} turn does) says = gone_so.of does (said_before events _ (refl, tt) says)
-
-agrees : (rules : Rules) (options : OptionValues) (question : List ℕ) → GoneSo (parts.Agrees rules options question)
+agrees : (rules : Rules) (options : OptionValues) (question : List ℕ) → GoneSo (AgreesTo session_lines rules options question)
 agrees rules options question = record { of = λ {how} {before} {after} {events} {result} does says. gone_only (works_said (λ event. Unit {0}) ((agrees_to (λ event. Unit {0}) (λ event. tt) (λ pid inquired. tt) rules options question).of does) says) }
 
 module _ (fingerprint : Grip) where
@@ -111,7 +112,7 @@ module _ (fingerprint : Grip) where
     consented = bind (agrees rules options (trust_question name)) (λ trusted. bind (agrees rules options (fingerprint_question fingerprint name)) (λ right. stores_unsaid))
 
     asked : (way : PinMode) → GoneSo (asked_in rules options fingerprint purpose name way)
-    asked mode.Ask = bind (heard seats_heard) (λ seated. record { of = under_of consented })
+    asked mode.Ask = bind (heard seats_heard) (λ seated. consented)
     asked mode.Cancel = heard refuses_heard
     asked mode.Error = heard refuses_heard
     asked mode.Loopback = heard refuses_heard
@@ -125,10 +126,14 @@ carried rules options (IsTrusted fingerprint) = trusted_now fingerprint
 carried rules options (MarkTrusted fingerprint purpose name) = marked fingerprint purpose rules options name.items
 carried rules options (Bad code) = heard refuses_heard
 
-pub trust_gone : {rules : Rules} {options : OptionValues} (request : TrustRequest) {events : List Event} {went : Went} {how : Gone} → TrustExchange rules options request events went
+told_gone : {rules : Rules} {options : OptionValues} {request : TrustRequest} {events : List Event} {went : Went} {how : Gone} → Told rules options request events went
     → IsSaid events (unheard.Gone how) → went ≡ End (end_of how)
-trust_gone {rules} {options} request (part_exchanges.answered events does) says = absurd (cc ((carried rules options request).of does (said_before events _ (refl, tt) says)))
-trust_gone {rules} {options} request {how} (part_exchanges.refused events why does) says =
-    let same : Err why ≡ Err (Client (unheard.Gone how)) = (carried rules options request).of does (said_before events _ (last_heard (refusal_line why)) says) in
+told_gone {rules} {options} {request} (answered events back does closes) says = absurd (cc ((carried rules options request).of does (said_before events _ (answer_heard (Some ok) closes) says)))
+told_gone {rules} {options} {request} {how} (refused events back why does closes) says =
+    let same : Err why ≡ Err (Client (unheard.Gone how)) = (carried rules options request).of does (said_before events _ (answer_heard (refusal_line why) closes) says) in
     let refusal : why ≡ Client (unheard.Gone how) = cc same in
     ap (λ w. went_after (gone_by w)) refusal
+
+pub trust_gone : {rules : Rules} {options : OptionValues} (request : TrustRequest) {events : List Event} {went : Went} {how : Gone} → TrustExchange rules options request events went
+    → IsSaid events (unheard.Gone how) → went ≡ End (end_of how)
+trust_gone {rules} {options} request exchanged = told_gone (told rules options request exchanged)
