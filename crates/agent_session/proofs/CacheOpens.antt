@@ -57,7 +57,7 @@ inquires_of word most before events result after (client.given is) = (tt, tt)
 inquires_of word most before events result after (client.not_given is) = (tt, tt)
 
 asks_passphrase : UncalledSo AsksPassphrase
-asks_passphrase = each_bind IsUncalled (record { of = writes_of limit_line }) (λ wrote. record { of = inquires_of (codes "PASSPHRASE") MAX_SECRET_LEN })
+asks_passphrase = each_bind IsUncalled (record { of = writes_of (limit_line MAX_SECRET_LEN) }) (λ wrote. record { of = inquires_of (codes "PASSPHRASE") MAX_SECRET_LEN })
 
 looks_for : (id : Option (List ℕ)) → UncalledSo (LooksFor id)
 looks_for None = each_returned IsUncalled None

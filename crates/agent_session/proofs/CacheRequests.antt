@@ -87,7 +87,7 @@ module _ (rules : Rules) (kept : Kept) (whole : List (EventWith FurtherEvent)) (
 
   -- ---- the client
 
-  writes_of : EachOf (client.Writes limit_line) Anything
+  writes_of : EachOf (client.Writes (limit_line MAX_SECRET_LEN)) Anything
   writes_of before events result after client.written stands = record { silent = (secret_limit, tt); explained = tt }
   writes_of before events result after (client.cut unsent is) stands = record { silent = (tt, tt); explained = cut }
 

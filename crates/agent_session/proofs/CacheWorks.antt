@@ -36,7 +36,7 @@ use Rattle.agent_session.proofs.Works.{Works, works, WorksSo, keeps_works, bind,
 -- each event of such a part is fit, but that a passphrase is put
 pub record FitsCache (Fits : Event → Type 0) : Type 0 where
   pub cut : (text : List ℕ) → Fits (Cut text)
-  pub limits : Fits (Sent limit_line)
+  pub limits : Fits (Sent (limit_line MAX_SECRET_LEN))
   pub clients : (inquired : _) → Fits (Inquiry (codes "PASSPHRASE") [] MAX_SECRET_LEN inquired)
   pub notes : (pid : ℕ) (inquired : _) → Fits (note pid inquired)
   pub calls : (event : PromptEvent) → Fits (Further (Prompt event))
@@ -49,7 +49,7 @@ module _ {Fits : Event → Type 0} (fits : FitsCache Fits) where
   Here = WorksSo Fits
 
   asks_passphrase : Here AsksPassphrase
-  asks_passphrase = work.asks_client Fits fits.clients fits.cut limit_line fits.limits
+  asks_passphrase = work.asks_client Fits fits.clients fits.cut (limit_line MAX_SECRET_LEN) fits.limits
 
   looks_for : (id : Option (List ℕ)) → Here (LooksFor id)
   looks_for None = returned Fits None

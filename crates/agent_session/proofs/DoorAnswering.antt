@@ -28,7 +28,7 @@ use Rattle.agent_origin.specs.SessionExchanges.{SessionExchange}
 use Rattle.agent_origin.specs.declared.door.Door.{Door}
 use Rattle.agent_origin.specs.declared.kept.Kept.{Kept}
 use Rattle.agent_origin.specs.declared.trust.names.TrustCommandName.{TrustCommandName}
-use Rattle.agent_origin.specs.declared.names.TrustCommandName.TheVariants as name
+use Rattle.agent_origin.specs.declared.trust.names.TrustCommandName.TheVariants as name
 use Rattle.agent_origin.specs.declared.trust.request.TrustRequest.TheVariants.{Bad}
 use Rattle.agent_origin.proofs.EachLine.{each_request}
 use Rattle.agent_session.specs.Causes.{HasOne, HasCall, WantsMemory, is_broken}

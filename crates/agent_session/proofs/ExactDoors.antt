@@ -31,19 +31,20 @@ use Rattle.agent_origin.specs.TrustRequests.{trust_request_of}
 use Rattle.agent_origin.specs.declared.door.Door.{Door}
 use Rattle.agent_origin.specs.declared.kept.Kept.{Kept}
 use Rattle.agent_origin.specs.declared.trust.names.TrustCommandName.{TrustCommandName}
-use Rattle.agent_origin.specs.declared.names.TrustCommandName.TheVariants as name
+use Rattle.agent_origin.specs.declared.trust.names.TrustCommandName.TheVariants as name
 use Rattle.agent_origin.specs.declared.trust.request.TrustPurpose.{TrustPurpose}
 use Rattle.agent_origin.specs.declared.trust.request.TrustRequest.{TrustRequest}
 use Rattle.agent_origin.specs.declared.trust.request.TrustRequest.TheVariants.{MarkTrusted}
 use Rattle.agent_session.specs.Causes.{here}
 use Rattle.agent_session.specs.Completeness.{Remembers, HasError}
-use Rattle.agent_session.specs.DoorCauses.{read_trust}
+use Rattle.agent_session.specs.DoorCauses.{IsReadTrust, read_trust}
 use Rattle.agent_session.specs.Exactly.{IsReadAgain, read_again, too_long, ExactTrustCause, ExactCauseAtDoor, forbidden, on_trust, any}
 use Rattle.agent_session.proofs.DoorAnswering.{is_word, no_command, door_is_session}
 use Rattle.agent_session.proofs.Exact.{said_decides, cause_answered}
 use Rattle.agent_session.proofs.ExactKeys.{by_said}
 use Rattle.agent_session.proofs.ExactTrust.{ByLong, marked_long, due_trust, trust_answered}
-use Rattle.agent_session.proofs.ExactParts.{NoneOwed, SaysTo, said_free, decided_before, said_error}
+use Rattle.key_commands.proofs.EachEvent.{each_append}
+use Rattle.agent_session.proofs.ExactParts.{NoneOwed, SaysTo, said_free, decided_before, said_error, IsFree, closes_free}
 use Rattle.agent_session.proofs.Standing.{each_left}
 use Rattle.agent_session.proofs.TrustDenied.{denial_is_said}
 use Rattle.agent_session.proofs.TrustTold.{Told, answered, refused, told}
@@ -86,10 +87,6 @@ none_behind : {held : Option ℕ} {back : List Event} {file : List ℕ} (line : 
 none_behind line turning.unheld again = none_again line again
 none_behind line (turning.closed turn) (read_again is_read) = again_said line is_read
 
-free_behind : (deciding : Deciding) {held : Option ℕ} {back : List Event} (line : Option (List ℕ)) → Closes None held back (Ok tt) None → AllByRecursion (IsFree deciding) (back ++ said_last line)
-free_behind deciding line turning.unheld = said_free deciding line
-free_behind deciding line (turning.closed turn) = (free deciding, said_free deciding line)
-
 module _ (rules : Rules) (before : Kept) where
   -- MARKTRUSTED, whose file is too long with its new entry
   module _ (fingerprint : Grip) (purpose : TrustPurpose) (name : ArrayVec ℕ) (file : List ℕ) (none : trust file fingerprint.0 ≡ None)
@@ -99,7 +96,7 @@ module _ (rules : Rules) (before : Kept) where
     long_said [] line result does closes remembers again = absurd (none_behind line closes again)
     long_said (first ∷ more) line result does closes remembers (read_again (read_trust is has)) =
         marked_long fingerprint purpose rules before.options name.items None (first ∷ more) result _ does remembers code.TooMuch first more refl
-        (decided_before (ByLong fingerprint purpose) more _ (free_behind (ByLong fingerprint purpose) line closes) (record { event = _; has = has; decides = (file, is, (none, many, refl)) }))
+        (decided_before (ByLong fingerprint purpose) more _ (each_append (IsFree (ByLong fingerprint purpose)) _ _ (closes_free (ByLong fingerprint purpose) closes) (said_free (ByLong fingerprint purpose) line)) (record { event = _; has = has; decides = (file, is, (none, many, refl)) }))
 
     told_long : {events : List Event} {went : Went} → Told rules before.options (MarkTrusted fingerprint purpose name) events went → AllByRecursion Remembers events → IsReadAgain file events
         → HasError code.TooMuch Agent events

@@ -1,5 +1,5 @@
 -- A session that ends since a line was too long has told its client so.
-use Rattle.std.proofs.Common.{◌≡◌, ◌∙◌, ◌++◌, ℕ, List, Option, Some, None, Ok, refl, sym}
+use Rattle.std.proofs.Common.{◌≡◌, ◌∙◌, ◌++◌, ℕ, List, Option, Some, None, Ok, refl, sym, ap}
 use Rattle.agent_ask.specs.SessionEvents.{said_last}
 use Rattle.agent_ask.specs.PartExchanges.{answered, refused}
 use Rattle.agent_ask.specs.Parts as chain
@@ -17,6 +17,7 @@ use Rattle.assuan_server.specs.Written.{refusal_line}
 use Rattle.assuan_server.specs.declared.errors.Origin.TheVariants.{Agent}
 use Rattle.key_commands.specs.Events.{Event}
 use Rattle.agent_ask.specs.PartExchanges as part_exchanges
+use Rattle.key_commands.proofs.GoesOn.{goes_on_after}
 use Rattle.key_commands.specs.Exchanges as key_exchanges
 use Rattle.key_commands.specs.Exchanges.{KeyExchange}
 use Rattle.key_commands.specs.Parts.{key_went_after}
@@ -95,11 +96,14 @@ same_end : (how : Option Gone) → went_after_key (key_went_after how) ≡ went_
 same_end None = refl
 same_end (Some how) = refl
 
-keys_told : {rules : Rules} {options : OptionValues} {wraps : WrapKeys} {asked : KeyRequest} {events : List Event} {after : WrapKeys} {went : KeyWent} → KeyExchange rules options wraps asked events after went
+keys_told : (rules : Rules) (options : OptionValues) (wraps : WrapKeys) (asked : KeyRequest) {events : List Event} {after : WrapKeys} {went : KeyWent} → KeyExchange rules options wraps asked events after went
     → IsTold events (went_after_key went)
-keys_told (part_exchanges.answered events held reply does closes) is = absurd (cc is)
-keys_told (part_exchanges.refused events held why {back} does closes) is = refusal_told events back why (sym (same_end (gone_by why)) ∙ is)
+keys_told rules options wraps asked (part_exchanges.answered events held reply does closes) is =
+    let on : went_after_key reply.went ≡ On = ap went_after_key (goes_on_after rules options wraps asked None held events reply does) in
+    let never : On ≡ End TooLong = sym on ∙ is in
+    absurd (cc never)
+keys_told rules options wraps asked (part_exchanges.refused events held why {back} does closes) is = refusal_told events back why (sym (same_end (gone_by why)) ∙ is)
 
 pub end_told : {rules : Rules} {kept : Kept} {request : Request} {events : List Event} {after : Kept} {went : Went} → RequestExchange rules kept request events after went → IsTold events went
 end_told (cache exchange) is = cache_told _ _ _ _ _ _ exchange is
-end_told (keys exchange) is = keys_told exchange is
+end_told (keys exchange) is = keys_told _ _ _ _ exchange is

@@ -237,7 +237,7 @@ module _ (deciding : Deciding) where
   -- ---- the client
 
   -- what is owed behind bytes of a key that were sent
-  pub inquires_of : (word : List ℕ) (limit : ℕ) (before : Option ℕ) (events : List Event) (result : Result (List ℕ) Refusal) (after : Option ℕ) → Inquires word limit before events result after
+  pub inquires_of : (word : List ℕ) (limit : ℕ) (before : Option ℕ) (events : List Event) (result : Result (List ℕ) Refusal) (after : Option ℕ) → Inquires session_lines word limit before events result after
       → AllByRecursion Remembers events → (why : Code) → NoneDue why ⊎ IsDecided deciding events why → SaysTo (λ bytes why. (limit ≡ max_key_data) × deciding.sent bytes why) result why
   inquires_of word limit before events result after does remembers why (inl due) = absurd due
   inquires_of word limit before events result after (client_parts.given {bytes} is) remembers why (inr decided) = subst (λ r. SaidDecides deciding limit r why) is (decided_only decided)

@@ -221,7 +221,7 @@ module _ (force : Bool) (wrap : List ℕ) where
 
   pub receives_key : Heeds ByImport NoneDue (ReceivesKey wrap) NoneOwed
   receives_key =
-      bind ByImport NoneOwed (said_alone ByImport NoneOwed (work.keeps_works (IsSaidAlone ByImport) (work.key_writes (IsSaidAlone ByImport) (λ text. free ByImport) (free ByImport))))
+      bind ByImport NoneOwed (said_alone ByImport NoneOwed (work.keeps_works (IsSaidAlone ByImport) (work.writes (IsSaidAlone ByImport) (λ text. free ByImport) (free ByImport))))
       (λ told. bind ByImport (λ bytes why. SentRefuses (Some wrap) bytes why) (record { of = asks_key_data_of }) (λ wrapped. record { of = unwraps_of wrapped }))
 
 module _ (wrap : List ℕ) where

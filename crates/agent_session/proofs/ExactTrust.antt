@@ -40,7 +40,8 @@ use Rattle.agent_session.proofs.PromptWorks.{agrees_to}
 use Rattle.agent_session.proofs.Standing.{each_left}
 use Rattle.agent_session.proofs.Works as work
 use Rattle.agent_session.proofs.Works.{Works, works, one_works, refused_by, WorksSo, Keeps, keeps_works, returned, refuses_by, turns_of}
-use Rattle.agent_session.proofs.TrustTold.{Told, answered, refused, told}
+use Rattle.agent_session.proofs.TrustTold.{Told, told}
+use Rattle.agent_session.proofs.TrustTold as telling
 use Rattle.agent_ask.specs.ConsentParts.{AgreesTo}
 use Rattle.assuan_server.specs.Clients.{session_lines}
 
@@ -200,11 +201,11 @@ module _ (fingerprint : Grip) (purpose : TrustPurpose) where
 -- ---- the answer
 
 module _ (rules : Rules) (options : OptionValues) where
-  told_answered : {request : TrustRequest} {events : List Event} {went : Went} → Told rules options request events went → AllByRecursion Remembers events → (why : Code)
+  told_answered : (request : TrustRequest) {events : List Event} {went : Went} → Told rules options request events went → AllByRecursion Remembers events → (why : Code)
       → due_trust request why ⊎ IsDecided BySaid events why → HasError why OfAgent events
-  told_answered {request} (answered events back does closes) remembers why due = absurd (never_ok BySaid (carried rules options request) why (Some ok) closes remembers due does)
-  told_answered {request} (refused events back refusal does closes) remembers why due = error_said BySaid (carried rules options request) why (refusal_line refusal) closes remembers due refl does
+  told_answered request (telling.answered events back does closes) remembers why due = absurd (never_ok BySaid (carried rules options request) why (Some ok) closes remembers due does)
+  told_answered request (telling.refused events back refusal does closes) remembers why due = error_said BySaid (carried rules options request) why (refusal_line refusal) closes remembers due refl does
 
   pub trust_answered : (request : TrustRequest) {events : List Event} {went : Went} → TrustExchange rules options request events went → AllByRecursion Remembers events → (why : Code)
       → due_trust request why ⊎ IsDecided BySaid events why → HasError why OfAgent events
-  trust_answered request exchanged = told_answered (told rules options request exchanged)
+  trust_answered request exchanged = told_answered request (told rules options request exchanged)

@@ -8,6 +8,7 @@ use Rattle.agent_ports.specs.declared.grip.Grip.{Grip}
 use Rattle.agent_ports.specs.declared.keys.KeyRead.TheVariants as key_read
 use Rattle.session_client.specs.declared.code.Code.{Code}
 use Rattle.session_client.specs.declared.code.Code.TheVariants as code
+use Rattle.assuan_server.specs.Clients.{session_lines}
 use Rattle.assuan_server.specs.declared.errors.Origin.{Origin}
 use Rattle.assuan_server.specs.declared.errors.Origin.TheVariants.{Agent as OfAgent, Pinentry as OfPinentry}
 use Rattle.cache_policy.specs.declared.mode.Mode.TheVariants.{Normal}
@@ -214,15 +215,15 @@ module _ (rules : Rules) (kept : Kept) (request : Request) (whole : List (EventW
     writes = record { of = writes_of }
 
   module _ (word : List ℕ) (limit : ℕ) where
-    pub inquires_of : (before : Option ℕ) (events : List (EventWith FurtherEvent)) (result : Result (List ℕ) Refusal) (after : Option ℕ) → Inquires word limit before events result after
+    pub inquires_of : (before : Option ℕ) (events : List (EventWith FurtherEvent)) (result : Result (List ℕ) Refusal) (after : Option ℕ) → Inquires session_lines word limit before events result after
         → StandIn events whole → Comes whole (IsCaused whole rules kept request) (IsSent whole word limit) events result
     inquires_of before events result after (client_parts.given is) stands = record { silent = (tt, tt); explained = sent is (has_first stands) }
     inquires_of before events result after (client_parts.not_given is) stands = record { silent = (tt, tt); explained = client_said (said is (has_first stands)) }
 
-    inquires : Explains whole (IsCaused whole rules kept request) (Inquires word limit) (IsSent whole word limit)
+    inquires : Explains whole (IsCaused whole rules kept request) (Inquires session_lines word limit) (IsSent whole word limit)
     inquires = record { of = inquires_of }
 
-    pub asks_client : limit < 2 ^ 64 → Explains whole (IsCaused whole rules kept request) (AsksClient word limit) (IsSent whole word limit)
+    pub asks_client : limit < 2 ^ 64 → Explains whole (IsCaused whole rules kept request) (AsksClient session_lines (limit_line limit) word limit) (IsSent whole word limit)
     asks_client small = bind Anything (IsSent whole word limit) (writes (limit_line limit) (limit_status limit small)) (λ told good. inquires)
 
   -- ---- the keys and the dice

@@ -91,7 +91,7 @@ module _ (request : Request) where
 
   receives_key : (wrap : List ℕ) → Here (ReceivesKey wrap)
   receives_key wrap =
-      bind Fits (so (work.key_writes Fits (λ text. tt) (of_limit max_key_data))) (λ told. bind Fits (so (work.asks_key_data Fits (λ inquired. tt) tt)) (λ wrapped. so (work.unwraps Fits tt)))
+      bind Fits (so (work.writes Fits (λ text. tt) (of_limit max_key_data))) (λ told. bind Fits (so (work.asks_key_data Fits (λ inquired. tt) tt)) (λ wrapped. so (work.unwraps Fits tt)))
 
   is_free : (force : Bool) (grip : Grip) → Here (IsFree force grip)
   is_free true grip = returned Fits tt

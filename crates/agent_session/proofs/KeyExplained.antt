@@ -1,7 +1,7 @@
 -- What a session does for a line has one answer, and each error line in it its cause.
-use Rattle.std.proofs.Common.{◌≡◌, ℕ, List, [], Option, Some, None, refl, sym, subst}
+use Rattle.std.proofs.Common.{◌≡◌, ◌++◌, ℕ, List, [], ◌∷◌, Option, Some, None, refl, sym, subst}
 use Rattle.agent_ask.specs.Further.{FurtherEvent, Keys, Replaced}
-use Rattle.agent_ask.specs.SessionEvents.{Further}
+use Rattle.agent_ask.specs.SessionEvents.{Sent, Further}
 use Rattle.agent_ports.specs.declared.grip.Grip.{Grip}
 use Rattle.agent_ports.specs.declared.keys.KeyDone.TheVariants as key_done
 use Rattle.session_client.specs.declared.code.Code.{Code}
@@ -19,7 +19,8 @@ use Rattle.agent_commands.specs.declared.went.Went.{Went}
 use Rattle.agent_commands.specs.declared.went.Went.TheVariants.{On}
 use Rattle.key_commands.specs.Exchanges.{KeyExchange}
 use Rattle.agent_ask.specs.PartExchanges.{answered, refused}
-use Rattle.key_commands.specs.Parts.{refusal_events, refusal_went, key_went_after as key_went}
+use Rattle.key_commands.specs.Parts.{refusal_events, key_went_after as key_went}
+use Rattle.key_commands.proofs.GoesOn.{goes_on_after}
 use Rattle.session_client.specs.declared.refusal.Refusal.{Refusal}
 use Rattle.key_commands.specs.declared.request.KeyRequest.{KeyRequest}
 use Rattle.key_commands.specs.declared.went.KeyWent.{KeyWent}
@@ -39,7 +40,7 @@ abbrev pub NeverAbsent : List (EventWith FurtherEvent) → Type 0
 NeverAbsent events = (grip : Grip) (file : List ℕ) → Has (Further (Keys (Replaced grip file key_done.Absent))) events → ⊥
 
 -- a session goes on so after a request on keys as after any other
-went_of_refusal : (why : Refusal) → went_after_key (refusal_went why) ≡ went_after (gone_by why)
+went_of_refusal : (why : Refusal) → went_after_key (key_went (gone_by why)) ≡ went_after (gone_by why)
 went_of_refusal why = went_of (gone_by why)
   where
     went_of : (how : Option Gone) → went_after_key (key_went how) ≡ went_after how
@@ -53,8 +54,9 @@ module _ (rules : Rules) (kept : Kept) (request : Request) (whole : List (EventW
   module _ (line_caused : (why : Code) → IsRefusedBy request why → IsCaused whole rules kept request why origin.Agent) (never_absent : NeverAbsent whole) where
     keys_explained : (asked : KeyRequest) → on_keys request ≡ Some asked → {events : List (EventWith FurtherEvent)} {after : WrapKeys} {went : KeyWent}
         → KeyExchange rules kept.options kept.wraps asked events after went → StandIn events whole → Here events (went_after_key went)
-    keys_explained asked is (answered events held reply does closes) stands =
-        in_exchange rules kept whole request (replies rules kept request whole never_absent line_caused asked is) does closes (λ good. replied [] reply.text tt good tt) stands
+    keys_explained asked is (answered events held reply {back} does closes) stands =
+        subst (λ w. Here (events ++ (back ++ Sent reply.text ∷ [])) (went_after_key w)) (sym (goes_on_after rules kept.options kept.wraps asked None held events reply does))
+        (in_exchange rules kept whole request (replies rules kept request whole never_absent line_caused asked is) does closes (λ good. replied [] reply.text tt good tt) stands)
     keys_explained asked is (refused events held why does closes) stands =
         in_exchange rules kept whole request (replies rules kept request whole never_absent line_caused asked is) does closes
         (λ caused. subst (Here (refusal_events why)) (sym (went_of_refusal why)) (refusal_explained rules kept whole request why caused)) stands

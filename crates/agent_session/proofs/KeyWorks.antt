@@ -27,8 +27,7 @@ use Rattle.key_commands.specs.KeyParts.{Consents, HasOne, TellsKeyInfo, WritesIn
 use Rattle.key_commands.specs.Lines.{grip_text, info_line}
 use Rattle.assuan_server.specs.Written.{limit_line}
 use Rattle.key_commands.specs.Parts.{Part}
-use Rattle.agent_ask.specs.ClientParts.{AsksClient}
-use Rattle.key_commands.specs.Passphrases.{PromptsOld, PromptsNew, ClientOld, UncachedOld, OpensLocked, ClientNew, ask_nonce, ask_key, seat_for, put_key, way_of}
+use Rattle.key_commands.specs.Passphrases.{AsksSecret, PromptsOld, PromptsNew, ClientOld, UncachedOld, OpensLocked, ClientNew, ask_nonce, ask_key, seat_for, put_key, way_of}
 use Rattle.key_commands.specs.Passphrases as passphrases
 use Rattle.agent_session.proofs.PromptWorks.{pin_works, pin_comes, agrees_to}
 use Rattle.agent_session.proofs.Works as work
@@ -57,8 +56,8 @@ module _ {Fits : Event → Type 0} (fits : FitsKeys Fits) where
   so : {A : Type 0} {part : Part A} → Keeps Fits part → Here part
   so keeps = keeps_works Fits keeps
 
-  asks_client : (word : List ℕ) → Here (AsksClient word MAX_SECRET_LEN)
-  asks_client word = work.asks_key_client Fits (fits.clients word) fits.cut (fits.limits MAX_SECRET_LEN)
+  asks_client : (word : List ℕ) → Here (AsksSecret word)
+  asks_client word = work.asks_client Fits (fits.clients word) fits.cut (limit_line MAX_SECRET_LEN) (fits.limits MAX_SECRET_LEN)
 
   pub looks_nonce : (id : Option (List ℕ)) → Here (passphrases.LooksForNonce id)
   looks_nonce id = work.looks_for_nonce Fits (λ named. turns_of Fits refl (fits.nonces named)) id
@@ -133,7 +132,7 @@ module _ {Fits : Event → Type 0} (fits : FitsKeys Fits) where
   writes_info_of : (grip : Grip) (key : Option Key) (before : Option ℕ) (events : List Event) (result : Result (Unit {0}) Refusal) (after : Option ℕ) → WritesInfo grip key before events result after → Works Fits events result
   writes_info_of grip None before events result after returns = works Fits tt
   writes_info_of grip (Some key) before events result after (goes_on {first} tells_so writes_so) =
-      behind_work Fits first (ok_works Fits ((tells_info grip key).of tells_so)) ((so (work.key_writes Fits fits.cut (info_fits grip key tells_so))).of writes_so)
+      behind_work Fits first (ok_works Fits ((tells_info grip key).of tells_so)) ((so (work.writes Fits fits.cut (info_fits grip key tells_so))).of writes_so)
   writes_info_of grip (Some key) before events result after (stops tells_so) = err_works Fits ((tells_info grip key).of tells_so)
 
   module _ (reads : (grip : Grip) (answer : KeyRead) → Fits (read grip answer)) where

@@ -241,12 +241,12 @@ door_gone : {door : Door} {rules : Rules} {before after : Kept} {line : List ℕ
 door_gone (doors.forbidden refuses) says = absurd (heard_so _ (refl, tt) says)
 door_gone (doors.is_allowed allows exchanged) says = allowed_gone exchanged says
 
-line_told : {rules : Rules} {options : _} {request : _} {events : List Event} {went : Went} → Told rules options request events went → went ≡ End TooLong → Has long_line events
-line_told (answered some back does closes) is = absurd (cc is)
-line_told (refused some back why does closes) is = refusal_told some back why is
+line_told : (rules : Rules) (options : _) (request : _) {events : List Event} {went : Went} → Told rules options request events went → went ≡ End TooLong → Has long_line events
+line_told rules options request (answered some back does closes) is = absurd (cc is)
+line_told rules options request (refused some back why does closes) is = refusal_told some back why is
 
 trust_told : {rules : Rules} {options : _} {request : _} {events : List Event} {went : Went} → TrustExchange rules options request events went → went ≡ End TooLong → Has long_line events
-trust_told exchanged = line_told (told _ _ _ exchanged)
+trust_told {rules} {options} {request} exchanged = line_told rules options request (told rules options request exchanged)
 
 allowed_told : {rules : Rules} {before after : Kept} {line : List ℕ} {command : _} {events : List Event} {went : Went} → AllowedExchange rules before line command events after went → went ≡ End TooLong
     → Has long_line events

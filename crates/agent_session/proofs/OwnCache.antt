@@ -139,7 +139,7 @@ module _ (rules : Rules) where
     IsSaid pass prior held = IsSent prior (codes "PASSPHRASE") MAX_SECRET_LEN pass
 
     module _ (Pre : Fact) (Post : List ℕ → Fact) (gives : (pass : List ℕ) (prior : List (EventWith FurtherEvent)) (held : Option ℕ) → IsSaid pass prior held → Post pass prior held) where
-      writes_of : Owns Pre (Writes limit_line) (λ wrote. Anything)
+      writes_of : Owns Pre (Writes (limit_line MAX_SECRET_LEN)) (λ wrote. Anything)
       writes_of prior before events result after client.written pre = ((tt, tt), (notice (of_limit MAX_SECRET_LEN), tt), tt)
       writes_of prior before events result after (client.cut unsent is) pre = ((tt, tt), (tt, tt), tt)
 

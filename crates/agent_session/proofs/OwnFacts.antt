@@ -14,6 +14,7 @@ use Rattle.agent_ask.specs.ClientParts.{Writes, Inquires}
 use Rattle.agent_ask.specs.TurnParts.{Asks}
 use Rattle.agent_ask.specs.Parts as chain
 use Rattle.agent_ask.specs.TurnParts as turning
+use Rattle.assuan_server.specs.Clients.{session_lines}
 use Rattle.agent_ask.specs.ClientParts as client_parts
 use Rattle.key_commands.specs.Parts as small
 use Rattle.key_commands.specs.Passphrases.{LooksForNonce, Locks, TriesPassphrase, ask_nonce}
@@ -66,11 +67,11 @@ module _ (id : List ℕ) where
   nonce_of before events result after (turning.interrupted why) fits = (((λ hands. elim hands [ ]), tt), refl)
 
 inquires_of : (word : List ℕ) (limit : ℕ) (prior : List (EventWith FurtherEvent)) (before : Option ℕ) (events : List (EventWith FurtherEvent)) (result : Result (List ℕ) Refusal) (after : Option ℕ)
-    → Inquires word limit before events result after → Fit events → AllByRecursion IsQuiet events × (after ≡ before) × HoldsOf (λ pass. IsSent (prior ++ events) word limit pass) result
+    → Inquires session_lines word limit before events result after → Fit events → AllByRecursion IsQuiet events × (after ≡ before) × HoldsOf (λ pass. IsSent (prior ++ events) word limit pass) result
 inquires_of word limit prior before events result after (client_parts.given is) fits = ((tt, tt), refl, sent is (has_right prior here))
 inquires_of word limit prior before events result after (client_parts.not_given is) fits = ((tt, tt), refl, tt)
 
-pub inquires_quiet : (word : List ℕ) (limit : ℕ) → QuietWith (Inquires word limit) (λ pass prior. IsSent prior word limit pass)
+pub inquires_quiet : (word : List ℕ) (limit : ℕ) → QuietWith (Inquires session_lines word limit) (λ pass prior. IsSent prior word limit pass)
 inquires_quiet word limit = record { of = inquires_of word limit }
 
 draws_of : (count : ℕ) (prior : List (EventWith FurtherEvent)) (before : Option ℕ) (events : List (EventWith FurtherEvent)) (result : Result (List ℕ) Refusal) (after : Option ℕ) → Draws count before events result after → Fit events

@@ -114,8 +114,8 @@ module _ (request : Request) where
   or_own (Some value) some other = own_returned request value (some value refl)
 
   asks_client : {Pre : List (EventWith FurtherEvent) → Option ℕ → Type 0} (word : List ℕ) (limit : ℕ) → Stays Pre
-      → OwnSo request Pre (AsksClient word limit) (λ pass prior held. Pre prior held × IsSent prior word limit pass)
-  asks_client word limit stays = own_bind request (quietly request stays (quiet_keeps (work.key_writes IsQuiet (λ text. tt) tt))) (λ told. quiet_with request stays (quiet.inquires_quiet word limit))
+      → OwnSo request Pre (AsksClient session_lines (limit_line limit) word limit) (λ pass prior held. Pre prior held × IsSent prior word limit pass)
+  asks_client word limit stays = own_bind request (quietly request stays (quiet_keeps (work.writes IsQuiet (λ text. tt) tt))) (λ told. quiet_with request stays (quiet.inquires_quiet word limit))
 
   sent_stays : (word pass : List ℕ) (limit : ℕ) → Stays (λ prior held. Unheld prior held × IsSent prior word limit pass)
   sent_stays word pass limit = record { of = λ prior more held so. (so.0, sent_more more so.1) }
@@ -410,7 +410,7 @@ module _ (request : Request) where
 
   receives_key : (wrap : List ℕ) → OwnSo request Unheld (ReceivesKey wrap) (λ key. Unheld)
   receives_key wrap =
-      own_bind request (quietly request unheld_stays (quiet_keeps (work.key_writes IsQuiet (λ text. tt) tt)))
+      own_bind request (quietly request unheld_stays (quiet_keeps (work.writes IsQuiet (λ text. tt) tt)))
       (λ told. own_bind request (quietly request unheld_stays (quiet_keeps (work.asks_key_data IsQuiet (λ inquired. tt) tt))) (λ wrapped. quietly request unheld_stays (quiet_keeps (work.unwraps IsQuiet tt))))
 
   is_free : (force : Bool) (grip : Grip) → OwnSo request Unheld (IsFree force grip) (λ free. Unheld)

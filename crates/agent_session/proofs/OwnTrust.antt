@@ -140,10 +140,10 @@ module _ (rules : Rules) (options : OptionValues) where
   said_idle None = tt
   said_idle (Some line) = ((tt, tt), tt)
 
-  told_idle : {request : TrustRequest} {events : List Event} {went : Went} → Told rules options request events went → Idle events
-  told_idle {request} (answered events back does closes) = each_append IsIdle events _ ((carried request).of does) (each_append IsIdle back _ (back_idle closes) ((tt, tt), tt))
-  told_idle {request} (refused events back why does closes) =
+  told_idle : (request : TrustRequest) {events : List Event} {went : Went} → Told rules options request events went → Idle events
+  told_idle request (answered events back does closes) = each_append IsIdle events _ ((carried request).of does) (each_append IsIdle back _ (back_idle closes) ((tt, tt), tt))
+  told_idle request (refused events back why does closes) =
       each_append IsIdle events _ ((carried request).of does) (each_append IsIdle back _ (back_idle closes) (said_idle (refusal_line why)))
 
   pub trust_idle : (request : TrustRequest) {events : List Event} {went : Went} → TrustExchange rules options request events went → Idle events
-  trust_idle request exchanged = told_idle (told rules options request exchanged)
+  trust_idle request exchanged = told_idle request (told rules options request exchanged)

@@ -40,7 +40,6 @@ use Rattle.agent_session.proofs.TrustTold.{Told, answered, refused, told}
 use Rattle.agent_ask.specs.ConsentParts.{AgreesTo}
 use Rattle.assuan_server.specs.Clients.{session_lines}
 use Rattle.agent_ask.specs.TurnParts.{Closes}
-use Rattle.agent_ask.specs.TurnParts as turning
 
 -- no call of the trust file is among events that are beside it
 pub none_called : (events : List Event) → AllByRecursion IsBesideTrust events → {call : TrustCall} → Has (trust_called call) events → ⊥
@@ -227,24 +226,24 @@ none_said (Some line) (read_trust is (later has)) = elim has [ ]
 
 none_behind : {held : Option ℕ} {back : List Event} (events : List Event) (line : Option (List ℕ)) {file : List ℕ} → Closes None held back (Ok tt) None → IsReadTrust (events ++ (back ++ said_last line)) file
     → IsReadTrust events file
-none_behind events line turning.unheld is_read = elim (split_read events _ is_read) [ inl before ↦ before | inr said ↦ absurd (none_said line said) ]
-none_behind events line (turning.closed turn) is_read =
+none_behind events line taken.unheld is_read = elim (split_read events _ is_read) [ inl before ↦ before | inr said ↦ absurd (none_said line said) ]
+none_behind events line (taken.closed turn) is_read =
     elim (split_read events _ is_read) [ inl before ↦ before | inr (read_trust is (later has)) ↦ absurd (none_said line (read_trust is has)) ]
 
 module _ (rules : Rules) (options : OptionValues) where
-  told_heeded : (fingerprint : Grip) (file : List ℕ) {request : TrustRequest} → Heeds fingerprint file (Carried rules options request) → {events : List Event} {went : Went}
+  told_heeded : (fingerprint : Grip) (file : List ℕ) (request : TrustRequest) → Heeds fingerprint file (Carried rules options request) → {events : List Event} {went : Went}
       → Told rules options request events went → IsReadTrust events file → HasError code.NotTrusted Agent events
-  told_heeded fingerprint file heeds (answered events back does closes) is_read = absurd (heeds.fine events tt does (none_behind events (Some ok) closes is_read))
-  told_heeded fingerprint file heeds (refused events back why does closes) is_read = refused_last events back (heeds.denies events does (none_behind events (refusal_line why) closes is_read))
+  told_heeded fingerprint file request heeds (answered events back does closes) is_read = absurd (heeds.fine events tt does (none_behind events (Some ok) closes is_read))
+  told_heeded fingerprint file request heeds (refused events back why does closes) is_read = refused_last events back (heeds.denies events does (none_behind events (refusal_line why) closes is_read))
 
-  heeded : (fingerprint : Grip) (file : List ℕ) {request : TrustRequest} → Heeds fingerprint file (Carried rules options request) → {events : List Event} {went : Went}
+  heeded : (fingerprint : Grip) (file : List ℕ) (request : TrustRequest) → Heeds fingerprint file (Carried rules options request) → {events : List Event} {went : Went}
       → TrustExchange rules options request events went → IsReadTrust events file → HasError code.NotTrusted Agent events
-  heeded fingerprint file {request} heeds exchanged = told_heeded fingerprint file heeds (told rules options request exchanged)
+  heeded fingerprint file request heeds exchanged = told_heeded fingerprint file request heeds (told rules options request exchanged)
 
   asked_heeded : {fingerprint : Grip} {said : Option Bool} {request : TrustRequest} {events : List Event} {went : Went} → ¬ (said ≡ Some true) → IsAsked events request fingerprint said
       → TrustExchange rules options request events went → HasError code.NotTrusted Agent events
   asked_heeded {fingerprint} {events} {went} other asked exchanged =
-      heeded fingerprint asked.file (asked_heeds fingerprint asked.file (λ is. other (sym asked.says_so ∙ is))) (subst (λ r. TrustExchange rules options r events went) asked.request_is exchanged)
+      heeded fingerprint asked.file _ (asked_heeds fingerprint asked.file (λ is. other (sym asked.says_so ∙ is))) (subst (λ r. TrustExchange rules options r events went) asked.request_is exchanged)
       asked.is_read
 
   pub denial_is_said : {request : TrustRequest} {events : List Event} {went : Went} → TrustExchange rules options request events went → IsNotTrusted events request
@@ -252,5 +251,5 @@ module _ (rules : Rules) (options : OptionValues) where
   denial_is_said exchanged (unsaid asked) = asked_heeded (λ is. absurd (cc is)) asked exchanged
   denial_is_said exchanged (denied asked) = asked_heeded (λ is. absurd (cc is)) asked exchanged
   denial_is_said {events} {went} exchanged (denied_mark {fingerprint} {purpose} {file} marked) =
-      heeded fingerprint file (marked_heeds fingerprint file rules options purpose marked.name.items marked.says_so)
+      heeded fingerprint file _ (marked_heeds fingerprint file rules options purpose marked.name.items marked.says_so)
       (subst (λ r. TrustExchange rules options r events went) marked.request_is exchanged) marked.is_read

@@ -268,19 +268,19 @@ refused_so : {events : List Event} (why : _) → Come IsBack {A = Unit {0}} even
 refused_so {events} why (goes each) = none_ends (events ++ refusal_events why) (both_undecided events (refusal_events why) each (said_undecided (refusal_line why)))
 refused_so why (decided work event each is behind answers) = finishes work event (refusal_events why) each is behind (ap said_last answers)
 
-told_ends : {rules : Rules} {options : OptionValues} {request : TrustRequest} {events : List Event} {went : Went} → Told rules options request events went → EndsAtCalls events
-told_ends {rules} {options} {request} (answered events back does closes) =
+told_ends : (rules : Rules) (options : OptionValues) (request : TrustRequest) {events : List Event} {went : Went} → Told rules options request events went → EndsAtCalls events
+told_ends rules options request (answered events back does closes) =
     subst EndsAtCalls (append_assoc events back (Sent ok ∷ [])) (answered_ends (with_back ((carried rules options request).of does) closes))
-told_ends {rules} {options} {request} (refused events back why does closes) =
+told_ends rules options request (refused events back why does closes) =
     subst EndsAtCalls (append_assoc events back (refusal_events why)) (refused_so why (with_back ((carried rules options request).of does) closes))
 
-trust_ends : {rules : Rules} {options : OptionValues} (request : TrustRequest) {events : List Event} {went : Went} → TrustExchange rules options request events went → EndsAtCalls events
-trust_ends {rules} {options} request exchanged = told_ends (told rules options request exchanged)
+trust_ends : (rules : Rules) (options : OptionValues) (request : TrustRequest) {events : List Event} {went : Went} → TrustExchange rules options request events went → EndsAtCalls events
+trust_ends rules options request exchanged = told_ends rules options request (told rules options request exchanged)
 
 module _ {rules : Rules} {before : Kept} {line : List ℕ} where
   allowed_ends : {command : _} {events : List Event} {after : Kept} {went : Went} → AllowedExchange rules before line command events after went → EndsAtCalls events
   allowed_ends doors.helped = ((λ text is. absurd (cc is)), tt)
-  allowed_ends (doors.trusts exchanged) = trust_ends _ exchanged
+  allowed_ends (doors.trusts exchanged) = trust_ends _ _ _ exchanged
   allowed_ends (doors.any {events = own} exchanged) = none_ends own (beside_undecided own (each_request IsBesideTrust (λ event is. is) (request_of line) exchanged))
 
   pub door_ends : {door : Door} {events : List Event} {after : Kept} {went : Went} → DoorExchange door rules before line events after went → EndsAtCalls events

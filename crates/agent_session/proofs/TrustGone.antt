@@ -126,14 +126,14 @@ carried rules options (IsTrusted fingerprint) = trusted_now fingerprint
 carried rules options (MarkTrusted fingerprint purpose name) = marked fingerprint purpose rules options name.items
 carried rules options (Bad code) = heard refuses_heard
 
-told_gone : {rules : Rules} {options : OptionValues} {request : TrustRequest} {events : List Event} {went : Went} {how : Gone} → Told rules options request events went
+told_gone : (rules : Rules) (options : OptionValues) (request : TrustRequest) {events : List Event} {went : Went} {how : Gone} → Told rules options request events went
     → IsSaid events (unheard.Gone how) → went ≡ End (end_of how)
-told_gone {rules} {options} {request} (answered events back does closes) says = absurd (cc ((carried rules options request).of does (said_before events _ (answer_heard (Some ok) closes) says)))
-told_gone {rules} {options} {request} {how} (refused events back why does closes) says =
+told_gone rules options request (answered events back does closes) says = absurd (cc ((carried rules options request).of does (said_before events _ (answer_heard (Some ok) closes) says)))
+told_gone rules options request {how} (refused events back why does closes) says =
     let same : Err why ≡ Err (Client (unheard.Gone how)) = (carried rules options request).of does (said_before events _ (answer_heard (refusal_line why) closes) says) in
     let refusal : why ≡ Client (unheard.Gone how) = cc same in
     ap (λ w. went_after (gone_by w)) refusal
 
 pub trust_gone : {rules : Rules} {options : OptionValues} (request : TrustRequest) {events : List Event} {went : Went} {how : Gone} → TrustExchange rules options request events went
     → IsSaid events (unheard.Gone how) → went ≡ End (end_of how)
-trust_gone {rules} {options} request exchanged = told_gone (told rules options request exchanged)
+trust_gone {rules} {options} request exchanged = told_gone rules options request (told rules options request exchanged)

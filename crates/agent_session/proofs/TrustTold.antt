@@ -1,5 +1,6 @@
 -- An exchange on the trust list by what its request came to: its work, the return of a ticket that it still holds, and its line.
 use Rattle.std.proofs.Common.{◌≡◌, ℕ, List, [], ◌∷◌, ◌++◌, Option, None, Result, Ok, Err, sym, subst, append-nil}
+use Rattle.agent_ask.specs.PartExchanges.{AnyExchange}
 use Rattle.agent_ask.specs.PartExchanges as exchange
 use Rattle.agent_ask.specs.Parts.{goes_on, stops, returns}
 use Rattle.agent_ask.specs.SessionEvents.{Sent, said_last}
@@ -13,7 +14,7 @@ use Rattle.agent_commands.specs.Endings.{went_after}
 use Rattle.agent_commands.specs.declared.went.Went.{Went}
 use Rattle.agent_commands.specs.declared.went.Went.TheVariants.{On}
 use Rattle.key_commands.specs.Events.{Event}
-use Rattle.agent_origin.specs.TrustExchanges.{Carried, TrustExchange}
+use Rattle.agent_origin.specs.TrustExchanges.{Carried, TrustReplies, TrustExchange}
 use Rattle.agent_origin.specs.declared.trust.request.TrustRequest.{TrustRequest}
 
 module _ (rules : Rules) (options : OptionValues) (request : TrustRequest) where
@@ -22,7 +23,11 @@ module _ (rules : Rules) (options : OptionValues) (request : TrustRequest) where
     refused : (events back : List Event) {held : Option ℕ} (why : Refusal) → Carried rules options request None events (Err why) held → Closes None held back (Ok tt) None
         → Told (events ++ (back ++ said_last (refusal_line why))) (went_after (gone_by why))
 
-  pub told : {events : List Event} {went : Went} → TrustExchange rules options request events went → Told events went
-  told (exchange.answered _ held _ {back} (goes_on {first} carried returns) closes) =
+  told_at : {events : List Event} {after : OptionValues} {went : Went} → AnyExchange refusal_line went_after (TrustReplies rules options request) options events after went → Told events went
+  told_at (exchange.answered _ held _ {back} (goes_on {first} carried returns) closes) =
       subst (λ (e : List Event). Told (e ++ (back ++ Sent ok ∷ [])) On) (sym (append-nil first)) (answered first back carried closes)
-  told (exchange.refused events held why {back} (stops carried) closes) = refused events back why carried closes
+  told_at (exchange.refused events held why {back} (stops carried) closes) = refused events back why carried closes
+  told_at (exchange.refused _ held why (goes_on carried returned) closes) = elim returned [ ]
+
+  pub told : {events : List Event} {went : Went} → TrustExchange rules options request events went → Told events went
+  told exchanged = told_at exchanged

@@ -32,7 +32,6 @@ use Rattle.cache_policy.specs.declared.life.Life.{Life}
 use Rattle.cache_policy.specs.declared.secret.TheConstants.{MAX_SECRET_LEN}
 use Rattle.key_commands.specs.Events.{Event, called, read}
 use Rattle.key_commands.specs.Exchanges.{KeyExchange, KeyInfoReplies, PasswdReplies}
-use Rattle.agent_ask.specs.PartExchanges as part_exchanges
 use Rattle.key_commands.specs.Exchanges as key_exchanges
 use Rattle.key_commands.specs.Files.{FileSays}
 use Rattle.key_commands.specs.KeyParts.{file_in}
@@ -59,7 +58,7 @@ use Rattle.agent_origin.specs.TrustRequests.{trust_request_of}
 use Rattle.agent_origin.specs.SessionExchanges.{RequestExchange, cache, keys}
 use Rattle.agent_origin.specs.declared.door.Door.{Door}
 use Rattle.agent_origin.specs.declared.kept.Kept.{Kept}
-use Rattle.agent_origin.specs.declared.names.TrustCommandName.TheVariants as name
+use Rattle.agent_origin.specs.declared.trust.names.TrustCommandName.TheVariants as name
 use Rattle.agent_origin.specs.declared.trust.request.TrustRequest.TheVariants.{Bad}
 use Rattle.agent_session.specs.Causes.{Has, here, later, LacksKeys, empty, IsRead, opens, said}
 use Rattle.agent_session.specs.Causes as causes
@@ -109,7 +108,7 @@ module _ (one_canon : (file : List ℕ) (a b : Option (List ℕ)) → Canon file
     allowing = record rules { allow_preset = true }
 
     abbrev long_lines : List Event
-    long_lines = Sent limit_line ∷ Inquiry (codes "PASSPHRASE") [] MAX_SECRET_LEN (Asked TooLong) ∷ []
+    long_lines = Sent (limit_line MAX_SECRET_LEN) ∷ Inquiry (codes "PASSPHRASE") [] MAX_SECRET_LEN (Asked TooLong) ∷ []
 
     long_exchange : CacheExchange allowing kept.options (Cache (PresetPassphrase id life None)) (long_lines ++ Sent (failed code.LineTooLong) ∷ []) kept.options (End ends.TooLong)
     long_exchange =
@@ -125,7 +124,7 @@ module _ (one_canon : (file : List ℕ) (a b : Option (List ℕ)) → Canon file
 
     lacks : KeyExchange rules kept.options kept.wraps (on.KeyInfo grip) lacking kept.wraps key_went.On
     unfolding KeyInfoReplies
-    lacks = part_exchanges.refused (read grip key_read.Absent ∷ []) None (refusals.Agent code.NoSecKey) (chain.stops (key_parts.unread refl)) turning.unheld
+    lacks = exchanges.refused (read grip key_read.Absent ∷ []) None (refusals.Agent code.NoSecKey) (chain.stops (key_parts.unread refl)) turning.unheld
 
     no_secret_key : HasError code.NoSecKey Agent lacking
     no_secret_key =
@@ -153,7 +152,7 @@ module _ (one_canon : (file : List ℕ) (a b : Option (List ℕ)) → Canon file
     long_run : KeyExchange rules kept.options kept.wraps (on.Passwd grip old new false) too_long_key kept.wraps key_went.On
     unfolding PasswdReplies
     long_run =
-        part_exchanges.refused (read grip answer ∷ []) None (refusals.Agent code.BadSecKey)
+        exchanges.refused (read grip answer ∷ []) None (refusals.Agent code.BadSecKey)
         (chain.goes_on (key_parts.is_key found says) (chain.goes_on {first = []} (open_clear key.is_clear clear_one) (chain.stops (chain.stops (key_parts.long much))))) turning.unheld
 
     same_answer : {other : KeyRead} → Has (read grip other) too_long_key → other ≡ answer

@@ -44,7 +44,6 @@ use Rattle.key_commands.specs.KeyParts.{Tells, tells, ReadsFile, Replaces, Keeps
 use Rattle.key_commands.specs.KeyParts as parts
 use Rattle.assuan_server.specs.Written.{limit_line}
 use Rattle.key_commands.specs.Parts.{Part, Finds, Draws, read_fault}
-use Rattle.agent_ask.specs.ClientParts as client_parts
 use Rattle.key_commands.specs.Parts as small
 use Rattle.key_commands.specs.Passphrases.{LooksForNonce, TakesSeat, Locks, TriesPassphrase, TriesFound, ask_nonce, put_key, seat_for}
 use Rattle.key_commands.specs.Passphrases as passphrases
@@ -300,10 +299,6 @@ module _ (Fits : Event → Type 0) where
     writes fits _ _ _ _ client.written = (one_works fits refl refl, refl)
     writes fits _ _ _ _ (client.cut unsent is) = (cut_works _, refl)
 
-    pub key_writes : {text : List ℕ} → Fits (Sent text) → Keeps (client_parts.Writes text)
-    key_writes fits _ _ _ _ client_parts.written = (one_works fits refl refl, refl)
-    key_writes fits _ _ _ _ (client_parts.cut unsent is) = (cut_works _, refl)
-
   module _ {word : List ℕ} {limit : ℕ} (asked : (inquired : _) → Fits (Inquiry word [] limit inquired)) where
     given_works : {A : Type 0} {result : Result A Refusal} {bytes : List ℕ} (inquired : _) → said_by session_lines inquired ≡ Ok bytes → Works (Inquiry word [] limit inquired ∷ []) result
     given_works inquired is = one_works (asked inquired) refl (ap unsaid is)
@@ -318,14 +313,6 @@ module _ (Fits : Event → Type 0) where
     pub asks_client : ((text : List ℕ) → Fits (Cut text)) → (told : List ℕ) → Fits (Sent told) → WorksSo (AsksClient session_lines told word limit)
     asks_client cut told fits = bind (keeps_works (writes cut fits)) (λ wrote. keeps_works inquires)
 
-    -- the same over the parts of requests on keys
-    key_inquires : Keeps (client_parts.Inquires word limit)
-    key_inquires _ _ _ _ (client_parts.given {inquired} is) = (given_works inquired is, refl)
-    key_inquires _ _ _ _ (client_parts.not_given {inquired} is) = (unheard_works inquired is, refl)
-
-    pub asks_key_client : ((text : List ℕ) → Fits (Cut text)) → Fits (Sent (limit_line limit)) → WorksSo (client_parts.AsksClient word limit)
-    asks_key_client cut fits = bind (keeps_works (key_writes cut fits)) (λ told. keeps_works key_inquires)
-
   module _ (asked : (inquired : _) → Fits (Inquiry (codes "KEYDATA") [] max_key_data inquired)) (memory : Fits out_of_memory) where
     at_end_works : {A : Type 0} (outcome : Outcome) → IsAtEnd outcome → Works {A = A} (Inquiry (codes "KEYDATA") [] max_key_data (Asked outcome) ∷ out_of_memory ∷ []) (Err (Agent code.NoMemory))
     at_end_works (outcomes.Data bytes) at_end = refused_second (asked _, refl, refl) memory refl refl
@@ -338,7 +325,7 @@ module _ (Fits : Event → Type 0) where
     at_end_works outcomes.ReadFault at_end = absurd at_end
 
     pub asks_key_data : Keeps AsksKeyData
-    asks_key_data _ _ _ _ (parts.asked inquires_so) = ((key_inquires asked _ _ _ _ inquires_so).0, refl)
+    asks_key_data _ _ _ _ (parts.asked inquires_so) = ((inquires asked _ _ _ _ inquires_so).0, refl)
     asks_key_data _ _ _ _ (parts.no_memory {outcome} at_end) = (at_end_works outcome at_end, refl)
 
   -- ---- the keys and the dice

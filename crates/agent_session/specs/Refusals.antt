@@ -38,8 +38,7 @@ use Rattle.agent_commands.specs.Requests.{GetFields, get_passphrase}
 use Rattle.agent_commands.specs.declared.request.CacheCommand.TheVariants.{GetPassphrase, PresetPassphrase, ClearPassphrase, ReloadAgent, KillAgent}
 use Rattle.agent_commands.specs.declared.request.Request.{Request}
 use Rattle.agent_commands.specs.declared.request.Request.TheVariants.{Cache}
-use Rattle.key_commands.specs.Lines.{grip_text, info_line}
-use Rattle.assuan_server.specs.Written.{limit_line}
+use Rattle.key_commands.specs.Lines.{IsNotice, grip_text}
 use Rattle.agent_ask.specs.Interrupts.{Interrupts}
 use Rattle.key_commands.specs.Passphrases.{put_key}
 use Rattle.key_commands.specs.declared.request.KeyRequest.TheVariants as on
@@ -102,11 +101,6 @@ refuses (Further NoMemory) = Some code.NoMemory
 refuses _ = None
 
 -- ---- the work of a request
-
--- a line that answers nothing: how much the client may send, or what is known of a key
-pub data IsNotice : List ℕ → Type 0 where
-  limit : (limit : ℕ) → IsNotice (limit_line limit)
-  info : (grip : Grip) (cached clear : Bool) → IsNotice (info_line grip cached clear)
 
 -- which requests store a passphrase by a turn of their own, and under which id and mode
 pub data MayStore (request : Request) : List ℕ → Mode → Type 0 where
