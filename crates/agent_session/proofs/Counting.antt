@@ -76,6 +76,9 @@ draw_failed : (before after : Side) (draw : Draw) → DoesDraw before draw after
 draw_failed before after (Drew bytes) does is = absurd (cc is)
 draw_failed before after (NotDrawn count) does is = does.failed
 
+never : {A : Type 0} → false ≡ true → A
+never is = absurd (cc is)
+
 module _ {D P : Type 0} (turned : D → MarkStep → Turn → D → Type 0) (prompted : P → Call → P → Type 0) (at : P → AtPrompter)
     (promise : (before : P) (call : Call) (after : P) → prompted before call after → IsCall (at before) call (at after)) where
   call_failed : {before after : P} {event : PromptEvent} → DoesCall prompted before event after → fails_at_prompter (Further (Prompt event)) ≡ true → Rose (at before).faults (at after).faults
@@ -85,67 +88,31 @@ module _ {D P : Type 0} (turned : D → MarkStep → Turn → D → Type 0) (pro
   abbrev DoesHere : Supply → Outside (FurtherWorld turned prompted) → Event → Outside (FurtherWorld turned prompted) → Type 0
   DoesHere = Does (FurtherWorld turned prompted)
 
+  -- where it failed at one of the ends, that one's count rises
+  record Rises (before : Outside (FurtherWorld turned prompted)) (event : Event) (after : Outside (FurtherWorld turned prompted)) : Type 0 where
+    prompter : fails_at_prompter event ≡ true → Rose (at before.ends.prompter).faults (at after.ends.prompter).faults
+    keys : fails_at_keys event ≡ true → Rose before.ends.keys.faults after.ends.keys.faults
+    dice : fails_at_dice event ≡ true → Rose before.ends.dice.faults after.ends.dice.faults
+    trust : fails_at_trust event ≡ true → Rose before.ends.trust.faults after.ends.trust.faults
+
   module _ {supply : Supply} where
-    prompter_rises : (before : Outside (FurtherWorld turned prompted)) (event : Event) (after : Outside (FurtherWorld turned prompted)) → DoesHere supply before event after → fails_at_prompter event ≡ true
-        → Rose (at before.ends.prompter).faults (at after.ends.prompter).faults
-    prompter_rises before event after (worlds.further (further.prompt does)) is = call_failed does is
-    prompter_rises before event after (worlds.further (further.keys does)) is = absurd (cc is)
-    prompter_rises before event after (worlds.further (further.dice does)) is = absurd (cc is)
-    prompter_rises before event after (worlds.further (further.trust does)) is = absurd (cc is)
-    prompter_rises before event after (worlds.further further.no_memory) is = absurd (cc is)
-    prompter_rises before event after (worlds.received known needed) is = absurd (cc is)
-    prompter_rises before event after worlds.sent is = absurd (cc is)
-    prompter_rises before event after worlds.cut is = absurd (cc is)
-    prompter_rises before event after (worlds.asked known needed) is = absurd (cc is)
-    prompter_rises before event after (worlds.not_asked unsent split) is = absurd (cc is)
-    prompter_rises before event after (worlds.turned does) is = absurd (cc is)
-
-    keys_rise_by : (before : Outside (FurtherWorld turned prompted)) (event : Event) (after : Outside (FurtherWorld turned prompted)) → DoesHere supply before event after → fails_at_keys event ≡ true
-        → Rose before.ends.keys.faults after.ends.keys.faults
-    keys_rise_by before event after (worlds.further (further.keys {call} {files} does)) is = keys_rise before.ends.keys files call does (keys_failed call is)
-    keys_rise_by before event after (worlds.further (further.prompt does)) is = absurd (cc is)
-    keys_rise_by before event after (worlds.further (further.dice does)) is = absurd (cc is)
-    keys_rise_by before event after (worlds.further (further.trust does)) is = absurd (cc is)
-    keys_rise_by before event after (worlds.further further.no_memory) is = absurd (cc is)
-    keys_rise_by before event after (worlds.received known needed) is = absurd (cc is)
-    keys_rise_by before event after worlds.sent is = absurd (cc is)
-    keys_rise_by before event after worlds.cut is = absurd (cc is)
-    keys_rise_by before event after (worlds.asked known needed) is = absurd (cc is)
-    keys_rise_by before event after (worlds.not_asked unsent split) is = absurd (cc is)
-    keys_rise_by before event after (worlds.turned does) is = absurd (cc is)
-
-    dice_rise : (before : Outside (FurtherWorld turned prompted)) (event : Event) (after : Outside (FurtherWorld turned prompted)) → DoesHere supply before event after → fails_at_dice event ≡ true
-        → Rose before.ends.dice.faults after.ends.dice.faults
-    dice_rise before event after (worlds.further (further.dice {draw} {side} does)) is = draw_failed before.ends.dice side draw does is
-    dice_rise before event after (worlds.further (further.prompt does)) is = absurd (cc is)
-    dice_rise before event after (worlds.further (further.keys does)) is = absurd (cc is)
-    dice_rise before event after (worlds.further (further.trust does)) is = absurd (cc is)
-    dice_rise before event after (worlds.further further.no_memory) is = absurd (cc is)
-    dice_rise before event after (worlds.received known needed) is = absurd (cc is)
-    dice_rise before event after worlds.sent is = absurd (cc is)
-    dice_rise before event after worlds.cut is = absurd (cc is)
-    dice_rise before event after (worlds.asked known needed) is = absurd (cc is)
-    dice_rise before event after (worlds.not_asked unsent split) is = absurd (cc is)
-    dice_rise before event after (worlds.turned does) is = absurd (cc is)
-
-    trust_rises_by : (before : Outside (FurtherWorld turned prompted)) (event : Event) (after : Outside (FurtherWorld turned prompted)) → DoesHere supply before event after → fails_at_trust event ≡ true
-        → Rose before.ends.trust.faults after.ends.trust.faults
-    trust_rises_by before event after (worlds.further (further.trust {call} {file} does)) is = trust_rises before.ends.trust file call does (trust_failed call is)
-    trust_rises_by before event after (worlds.further (further.prompt does)) is = absurd (cc is)
-    trust_rises_by before event after (worlds.further (further.keys does)) is = absurd (cc is)
-    trust_rises_by before event after (worlds.further (further.dice does)) is = absurd (cc is)
-    trust_rises_by before event after (worlds.further further.no_memory) is = absurd (cc is)
-    trust_rises_by before event after (worlds.received known needed) is = absurd (cc is)
-    trust_rises_by before event after worlds.sent is = absurd (cc is)
-    trust_rises_by before event after worlds.cut is = absurd (cc is)
-    trust_rises_by before event after (worlds.asked known needed) is = absurd (cc is)
-    trust_rises_by before event after (worlds.not_asked unsent split) is = absurd (cc is)
-    trust_rises_by before event after (worlds.turned does) is = absurd (cc is)
+    rises : (before : Outside (FurtherWorld turned prompted)) (event : Event) (after : Outside (FurtherWorld turned prompted)) → DoesHere supply before event after → Rises before event after
+    rises before event after (worlds.further (further.prompt does)) = record { prompter = λ is. call_failed does is; keys = never; dice = never; trust = never }
+    rises before event after (worlds.further (further.keys {call} {files} does)) = record { prompter = never; keys = λ is. keys_rise before.ends.keys files call does (keys_failed call is); dice = never; trust = never }
+    rises before event after (worlds.further (further.dice {draw} {side} does)) = record { prompter = never; keys = never; dice = λ is. draw_failed before.ends.dice side draw does is; trust = never }
+    rises before event after (worlds.further (further.trust {call} {file} does)) = record { prompter = never; keys = never; dice = never; trust = λ is. trust_rises before.ends.trust file call does (trust_failed call is) }
+    rises before event after (worlds.further further.no_memory) = record { prompter = never; keys = never; dice = never; trust = never }
+    rises before event after (worlds.received known needed) = record { prompter = never; keys = never; dice = never; trust = never }
+    rises before event after worlds.sent = record { prompter = never; keys = never; dice = never; trust = never }
+    rises before event after worlds.cut = record { prompter = never; keys = never; dice = never; trust = never }
+    rises before event after (worlds.asked known needed) = record { prompter = never; keys = never; dice = never; trust = never }
+    rises before event after (worlds.not_asked unsent split) = record { prompter = never; keys = never; dice = never; trust = never }
+    rises before event after (worlds.turned does) = record { prompter = never; keys = never; dice = never; trust = never }
 
     pub counts_failures : (before after : Outside (FurtherWorld turned prompted)) (events : List Event) → Leads (DoesHere supply) before events after → CountsFailures at events before.ends after.ends
     counts_failures before after events leads = record {
-      prompter = failures_counted (DoesHere supply) fails_at_prompter (λ out. (at out.ends.prompter).faults) (λ b e a does. (event_moves turned prompted at promise does).prompter) prompter_rises before after events leads;
-      keys = failures_counted (DoesHere supply) fails_at_keys (λ out. out.ends.keys.faults) (λ b e a does. (event_moves turned prompted at promise does).keys) keys_rise_by before after events leads;
-      dice = failures_counted (DoesHere supply) fails_at_dice (λ out. out.ends.dice.faults) (λ b e a does. (event_moves turned prompted at promise does).dice) dice_rise before after events leads;
-      trust = failures_counted (DoesHere supply) fails_at_trust (λ out. out.ends.trust.faults) (λ b e a does. (event_moves turned prompted at promise does).trust) trust_rises_by before after events leads;
+      prompter = failures_counted (DoesHere supply) fails_at_prompter (λ out. (at out.ends.prompter).faults) (λ b e a does. (event_moves turned prompted at promise does).prompter) (λ b e a does. (rises b e a does).prompter) before after events leads;
+      keys = failures_counted (DoesHere supply) fails_at_keys (λ out. out.ends.keys.faults) (λ b e a does. (event_moves turned prompted at promise does).keys) (λ b e a does. (rises b e a does).keys) before after events leads;
+      dice = failures_counted (DoesHere supply) fails_at_dice (λ out. out.ends.dice.faults) (λ b e a does. (event_moves turned prompted at promise does).dice) (λ b e a does. (rises b e a does).dice) before after events leads;
+      trust = failures_counted (DoesHere supply) fails_at_trust (λ out. out.ends.trust.faults) (λ b e a does. (event_moves turned prompted at promise does).trust) (λ b e a does. (rises b e a does).trust) before after events leads;
     }

@@ -1,8 +1,8 @@
--- Each code is answered wherever its cause stands.
+-- Each code is answered wherever its cause stands, in a session and at a door.
 use Rattle.std.specs.List.{AllByRecursion}
-use Rattle.std.proofs.Common.{◌≡◌, ◌⊎◌, ℕ, List, [], Option, Some, None, Result, Err, refl, sym, subst, inl, inr}
+use Rattle.std.proofs.Common.{◌≡◌, ◌⊎◌, ℕ, List, [], Option, Some, None, Result, Err, refl, sym, subst, inl, inr, ◌<◌, Bool, true, false, cond, ◌∷◌, ◌++◌, length, Ok, bytes_eq, codes}
 use Rattle.agent_ask.specs.Further.{Keys, Read, Removed}
-use Rattle.agent_ask.specs.SessionEvents.{Inquiry, Further}
+use Rattle.agent_ask.specs.SessionEvents.{Inquiry, Further, said_last}
 use Rattle.arrayvec.specs.ArrayVec.{ArrayVec}
 use Rattle.agent_ports.specs.declared.grip.Grip.{Grip}
 use Rattle.agent_ports.specs.declared.keys.KeyDone.TheVariants as key_done
@@ -38,16 +38,39 @@ use Rattle.key_commands.specs.declared.wrap_keys.WrapKeys.{WrapKeys}
 use Rattle.agent_origin.specs.SessionExchanges.{RequestExchange, cache, keys}
 use Rattle.agent_origin.specs.declared.kept.Kept.{Kept}
 use Rattle.agent_session.specs.Causes.{Has, IsSaid, said, IsSent, sent, IsRead, read, on_keys, IsRefusedBy, Judges, tells, unlocks, Unlocks, exports, changes, LacksKeys, AreUnread}
-use Rattle.agent_session.specs.Causes.{IsOption, option, KeyDataSays, data_says, IsFaulty, file, protection, key_data, HasNoData, no_id, empty, IsMalformed, no_import, no_export, IsThere, there}
+use Rattle.agent_session.specs.Causes.{IsOption, option, KeyDataSays, data_says, IsFaulty, file, protection, key_data, HasNoData, no_id, empty, IsMalformed, no_import, no_export, IsThere, there, here}
 use Rattle.agent_session.specs.Causes as causes
 use Rattle.agent_session.specs.Completeness.{Remembers, HasError}
-use Rattle.agent_session.specs.Exactly.{ExactCause, IsLong, long, long_file}
+use Rattle.agent_session.specs.Exactly.{ExactCause, IsLong, long, long_file, IsReadAgain, read_again, too_long, ExactTrustCause, ExactCauseAtDoor, forbidden, on_trust, any}
 use Rattle.agent_session.proofs.ExactCache.{option_due, cache_due, cache_answered, none_without, none_cached}
-use Rattle.agent_session.proofs.ExactHave.{have_answered}
-use Rattle.agent_session.proofs.ExactKeys.{by_said, NoFault, due_of, deciding_of, keys_answered}
+use Rattle.agent_session.proofs.ExactKeys.{have_answered, by_said, NoFault, due_of, deciding_of, keys_answered}
 use Rattle.agent_session.proofs.ExactLong.{long_answered}
-use Rattle.agent_session.proofs.ExactParts.{Deciding, SaidDecides, IsDecided}
+use Rattle.agent_session.proofs.ExactParts.{Deciding, SaidDecides, IsDecided, NoneOwed, SaysTo, said_free, decided_before, said_error}
 use Rattle.agent_session.proofs.ExactReads.{SentRefuses, IsUnlockable, FileRefuses, faulty, owes, read_refuses, by_file}
+use Rattle.std.specs.Str.{str_to_ascii_lowercase}
+use Rattle.std.proofs.lemmas.Slice.Eq.{bytes_eq-Decides}
+use Rattle.agent_commands.specs.Requests.{request_of}
+use Rattle.assuan_text.specs.Words.{command_of}
+use Rattle.trust_list.specs.Trust.{trust, with_entry}
+use Rattle.trust_list.specs.declared.TheConstants.{MAX_TRUST_FILE_LEN}
+use Rattle.agent_origin.specs.DoorSessions.{AllowedExchange, DoorExchange}
+use Rattle.agent_origin.specs.DoorSessions as doors
+use Rattle.agent_origin.specs.Exchanges.{flag_of, Marked, TrustExchange}
+use Rattle.agent_origin.specs.Exchanges as trusts
+use Rattle.agent_origin.specs.Names.{command_named, door_command_named}
+use Rattle.assuan_server.specs.Written.{refusal_line}
+use Rattle.agent_origin.specs.Requests.{trust_request_of}
+use Rattle.agent_origin.specs.declared.door.Door.{Door}
+use Rattle.agent_origin.specs.declared.names.TrustCommandName.{TrustCommandName}
+use Rattle.agent_origin.specs.declared.names.TrustCommandName.TheVariants as name
+use Rattle.agent_origin.specs.declared.request.TrustPurpose.{TrustPurpose}
+use Rattle.agent_origin.specs.declared.request.TrustRequest.{TrustRequest}
+use Rattle.agent_origin.specs.declared.request.TrustRequest.TheVariants.{MarkTrusted}
+use Rattle.agent_session.specs.DoorCauses.{read_trust}
+use Rattle.agent_session.proofs.DoorAnswering.{is_word, no_command, door_is_session}
+use Rattle.agent_session.proofs.ExactTrust.{ByLong, marked_long, due_trust, trust_answered}
+use Rattle.agent_session.proofs.Standing.{each_left}
+use Rattle.agent_session.proofs.TrustDenied.{denial_is_said}
 
 -- what the client said decides its request
 pub said_decides : (deciding : Deciding) {events : List Event} {why : Code} (unheard : Unheard) → refusal_code unheard ≡ Some why → IsSaid events unheard → IsDecided deciding events why
@@ -219,3 +242,84 @@ module _ (one_canon : (file : List ℕ) (a b : Option (List ℕ)) → Canon file
   cause_answered (OnKeys line) {events} (keys exchange) remembers why cause =
       by_cause rules kept (OnKeys line) events (keys_decide line events exchange remembers) (keys_without line events exchange remembers) (keys_lack line events exchange remembers)
       (long_answered one_canon rules kept (OnKeys line) refl exchange remembers) why cause
+
+-- ---- names of commands
+
+-- one that is HELP is none on the trust list
+help_only : {X : Type 0} {help trust_it : X} → ¬ (trust_it ≡ help) → (first second third : Bool) → (first ≡ true → second ≡ false) → (first ≡ true → third ≡ false)
+    → cond first (Some help) (cond second (Some trust_it) (cond third (Some trust_it) None)) ≡ Some help → cond second (Some name.IsTrusted) (cond third (Some name.MarkTrusted) None) ≡ None
+help_only other true true third so so_too is = absurd (cc (so refl))
+help_only other true false true so so_too is = absurd (cc (so_too refl))
+help_only other true false false so so_too is = refl
+help_only {help} {trust_it} other false true third so so_too is = absurd (other (let same : trust_it ≡ help = cc is in same))
+help_only {help} {trust_it} other false false true so so_too is = absurd (other (let same : trust_it ≡ help = cc is in same))
+help_only other false false false so so_too is = absurd (cc is)
+
+help_by : (small : List ℕ) → bytes_eq (str_to_ascii_lowercase (codes "HELP")) small ≡ true → str_to_ascii_lowercase (codes "HELP") ≡ small
+help_by small is = (bytes_eq-Decides (str_to_ascii_lowercase (codes "HELP")) small).0 is
+
+other_trusted : (word : List ℕ) → is_word (codes "HELP") word ≡ true → is_word (codes "ISTRUSTED") word ≡ false
+other_trusted word is = subst (λ (s : List ℕ). bytes_eq (str_to_ascii_lowercase (codes "ISTRUSTED")) s ≡ false) (help_by (str_to_ascii_lowercase word) is) refl
+
+other_marked : (word : List ℕ) → is_word (codes "HELP") word ≡ true → is_word (codes "MARKTRUSTED") word ≡ false
+other_marked word is = subst (λ (s : List ℕ). bytes_eq (str_to_ascii_lowercase (codes "MARKTRUSTED")) s ≡ false) (help_by (str_to_ascii_lowercase word) is) refl
+
+-- ---- requests
+
+-- no file is read again among these
+none_again : {file : List ℕ} (line : Option (List ℕ)) → IsReadAgain file (said_last line) → ⊥
+none_again None again = elim again [ ]
+none_again (Some text) (read_again (read_trust is has)) = elim has [ ]
+
+module _ (rules : Rules) (before : Kept) where
+  -- MARKTRUSTED, whose file is too long with its new entry
+  module _ (fingerprint : Grip) (purpose : TrustPurpose) (name : ArrayVec ℕ) (file : List ℕ) (none : trust file fingerprint.0 ≡ None)
+      (many : MAX_TRUST_FILE_LEN < length (with_entry file fingerprint.0 (flag_of purpose))) where
+    long_said : (events : List Event) (line : Option (List ℕ)) (result : _) → Marked rules before.options fingerprint purpose name.items None events result None
+        → AllByRecursion Remembers events → IsReadAgain file (events ++ said_last line) → SaysTo NoneOwed result code.TooMuch
+    long_said [] line result does remembers again = absurd (none_again line again)
+    long_said (first ∷ more) line result does remembers (read_again (read_trust is has)) =
+        marked_long fingerprint purpose rules before.options name.items None (first ∷ more) result None does remembers code.TooMuch first more refl
+        (decided_before (ByLong fingerprint purpose) more (said_last line) (said_free (ByLong fingerprint purpose) line) (record { event = _; has = has; decides = (file, is, (none, many, refl)) }))
+
+    long_file_answered : {events : List Event} {went : Went} → TrustExchange rules before.options (MarkTrusted fingerprint purpose name) events went → AllByRecursion Remembers events → IsReadAgain file events
+        → HasError code.TooMuch Agent events
+    long_file_answered (trusts.answered events does) remembers again = absurd (long_said events (Some _) (Ok tt) does (each_left Remembers events _ remembers) again)
+    long_file_answered (trusts.refused events why does) remembers again =
+        said_error events [] (refusal_line why) code.TooMuch (long_said events (refusal_line why) (Err why) does (each_left Remembers events _ remembers) again)
+
+  trust_cause : (request : TrustRequest) {events : List Event} {went : Went} → TrustExchange rules before.options request events went → AllByRecursion Remembers events → (why : Code)
+      → ExactTrustCause events request why → HasError why Agent events
+  trust_cause request exchanged remembers code.NotTrusted cause = denial_is_said rules before.options exchanged cause
+  trust_cause request exchanged remembers code.Parameter cause =
+      trust_answered rules before.options request exchanged remembers code.Parameter (inl (subst (λ r. due_trust r code.Parameter) (sym cause) refl))
+  trust_cause request exchanged remembers code.TooMuch (inl says) = trust_answered rules before.options request exchanged remembers code.TooMuch (inr (said_decides (by_said None) unheard.TooMuch refl says))
+  trust_cause request {events} {went} exchanged remembers code.TooMuch (inr (too_long {fingerprint} {purpose} {name} {file} is again none many)) =
+      long_file_answered fingerprint purpose name file none many (subst (λ r. TrustExchange rules before.options r events went) is exchanged) remembers again
+  trust_cause request exchanged remembers code.Unexpected cause =
+      trust_answered rules before.options request exchanged remembers code.Unexpected (inr (said_decides (by_said None) unheard.Unexpected refl cause))
+  trust_cause request exchanged remembers code.LineTooLong cause =
+      trust_answered rules before.options request exchanged remembers code.LineTooLong (inr (said_decides (by_said None) (unheard.Gone gone.TooLong) refl cause))
+  trust_cause request exchanged remembers _ cause = absurd cause
+
+  module _ (one_canon : (file : List ℕ) (a b : Option (List ℕ)) → Canon file a → Canon file b → a ≡ b) (line : List ℕ) where
+    trust_allowed : {command : _} {found : TrustCommandName} {events : List Event} {after : Kept} {went : Went} → AllowedExchange rules before line command events after went → door_command_named (command_of line) ≡ command
+        → command_named (command_of line) ≡ Some found → TrustExchange rules before.options (trust_request_of line) events went
+    unfolding door_command_named command_named
+    trust_allowed {found} doors.helped is named =
+        let word = command_of line in
+        let none : command_named (command_of line) ≡ None = help_only (λ e. absurd (cc e)) (is_word (codes "HELP") word) (is_word (codes "ISTRUSTED") word) (is_word (codes "MARKTRUSTED") word) (λ help. other_trusted word help)
+        (λ help. other_marked word help) is in
+        absurd (cc (none, named))
+    trust_allowed (doors.trusts exchanged) is named = exchanged
+    trust_allowed {found} (doors.any exchanged) is named = let none : command_named (command_of line) ≡ None = no_command (command_of line) is in absurd (cc (none, named))
+
+    pub door_cause : (door : Door) {events : List Event} {after : Kept} {went : Went} → DoorExchange door rules before line events after went → AllByRecursion Remembers events → (why : Code)
+        → ExactCauseAtDoor door rules before line events why → HasError why Agent events
+    door_cause door (doors.forbidden refuses) remembers why (forbidden refuses_too) = here
+    door_cause door (doors.forbidden refuses) remembers why (on_trust allows named cause) = absurd (cc (refuses, allows))
+    door_cause door (doors.forbidden refuses) remembers why (any allows named cause) = absurd (cc (refuses, allows))
+    door_cause door (doors.is_allowed allows exchanged) remembers why (forbidden refuses) = absurd (cc (refuses, allows))
+    door_cause door (doors.is_allowed allows exchanged) remembers why (on_trust allows_too named cause) = trust_cause _ (trust_allowed exchanged refl named) remembers why cause
+    door_cause door (doors.is_allowed allows exchanged) remembers why (any allows_too named cause) =
+        cause_answered one_canon rules before (request_of line) (door_is_session (doors.is_allowed allows exchanged) allows named) remembers why cause

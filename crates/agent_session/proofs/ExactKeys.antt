@@ -1,7 +1,7 @@
--- Requests on keys: what decides one is what it is refused by.
+-- Requests on keys: what decides one is what it is refused by; and HAVEKEY, where the reads of all its keys said that none is there.
 use Rattle.std.specs.List.{AllByRecursion}
-use Rattle.std.proofs.Common.{◌≡◌, ◌⊎◌, ℕ, Bool, true, false, List, [], Option, Some, None, Result, refl, subst, inl, inr}
-use Rattle.std.specs.Prelude.{drop}
+use Rattle.std.proofs.Common.{◌≡◌, ◌⊎◌, ℕ, Bool, true, false, List, [], Option, Some, None, Result, refl, subst, inl, inr, ◌+◌, ◌<◌, ◌∷◌, ◌++◌, length, Ok, Err, arith, sym, ap}
+use Rattle.std.specs.Prelude.{drop, map}
 use Rattle.agent_ask.specs.Parts.{◌>>=◌, Follows, goes_on, stops, needed}
 use Rattle.agent_ask.specs.Parts as chain
 use Rattle.agent_ports.specs.declared.grip.Grip.{Grip}
@@ -18,10 +18,9 @@ use Rattle.session_options.specs.OptionValues.{OptionValues}
 use Rattle.session_options.specs.declared.rules.Rules.{Rules}
 use Rattle.sexp_keys.specs.Key.{Key}
 use Rattle.key_commands.specs.Events.{Event}
-use Rattle.key_commands.specs.Exchanges.{KeyExchange, KeyReplies, HaveKeyReplies, KeyInfoReplies, ListKeysReplies, KeyWrapReplies, ImportKeyReplies, ExportKeyReplies, PasswdReplies, VerifyReplies, DeleteKeyReplies}
-use Rattle.agent_ask.specs.PartExchanges.{answered, refused}
-use Rattle.key_commands.specs.Exchanges.{wrap_key, StoresKey, FoundOrNew, RewritesFile, ChangesOpened}
-use Rattle.key_commands.specs.Parts.{Part}
+use Rattle.key_commands.specs.Exchanges.{Exchange, answered, refused, Replies, HaveKeyReplies, KeyInfoReplies, ListKeysReplies, KeyWrapReplies, ImportKeyReplies}
+use Rattle.key_commands.specs.Exchanges.{ExportKeyReplies, PasswdReplies, VerifyReplies, DeleteKeyReplies, wrap_key, StoresKey, FoundOrNew, RewritesFile, ChangesOpened, KeyReply}
+use Rattle.key_commands.specs.Parts.{Part, refusal_events}
 use Rattle.key_commands.specs.Passphrases.{OldPassphrase, VerifiesPassphrase}
 use Rattle.key_commands.specs.declared.request.Direction.{Direction}
 use Rattle.key_commands.specs.declared.request.KeyRequest.{KeyRequest}
@@ -29,11 +28,20 @@ use Rattle.key_commands.specs.declared.request.KeyRequest.TheVariants as on
 use Rattle.key_commands.specs.declared.went.KeyWent.{KeyWent}
 use Rattle.key_commands.specs.declared.wrap_keys.WrapKeys.{WrapKeys}
 use Rattle.agent_session.specs.Completeness.{Remembers, HasError}
-use Rattle.agent_session.proofs.ExactParts.{Deciding, IsDecided, never_decided, NoneDue, NoneOwed, SaysTo, Heeds, bind, undue, is_needed, refuses_due, IsSaidAlone, free, said_alone, fits_keys, never_ok, error_said}
+use Rattle.agent_session.proofs.ExactParts.{Deciding, IsDecided, never_decided, NoneDue, NoneOwed, SaysTo, Heeds, bind, undue, is_needed, refuses_due, IsSaidAlone, free, said_alone, fits_keys, never_ok, error_said, said_error}
 use Rattle.agent_session.proofs.ExactReads.{SentRefuses, IsUnlockable, by_file, reads_file, locks, by_absence, IsLacking, finds, is_there, removes, by_import, receives_key, is_free}
 use Rattle.agent_session.proofs.KeyWorks.{looks_nonce, uncached_old, opens_locked, new_here, consents, tells_info, writes_infos, has_one}
 use Rattle.agent_session.proofs.Works as work
 use Rattle.agent_session.proofs.Works.{WorksSo, Keeps, keeps_works, returned, or_otherwise, turns_of}
+use Rattle.agent_ask.specs.Further.{Keys, Read}
+use Rattle.agent_ask.specs.SessionEvents.{Sent, Further, said_last}
+use Rattle.agent_ports.specs.declared.keys.KeyRead.TheVariants as key_read
+use Rattle.key_commands.specs.KeyParts.{HasOne}
+use Rattle.agent_ask.specs.TurnParts.{Closes}
+use Rattle.agent_ask.specs.TurnParts as turning
+use Rattle.key_commands.specs.Parts as small
+use Rattle.session_client.specs.declared.refusal.Refusal.TheVariants.{Agent}
+use Rattle.agent_session.specs.Causes.{AreUnread}
 
 -- nothing but what the client said, and the bytes of a key that it sent
 abbrev pub by_said : Option (List ℕ) → Deciding
@@ -232,3 +240,87 @@ module _ (one_canon : (file : List ℕ) (a b : Option (List ℕ)) → Canon file
       absurd (never_ok (deciding_of wraps asked) (replies one_canon rules options wraps asked) why (Some reply.text) closes remembers due does)
   keys_answered asked (refused events held refusal does closes) remembers why due =
       error_said (deciding_of wraps asked) (replies one_canon rules options wraps asked) why (refusal_line refusal) closes remembers due refl does
+
+unread : Grip → Event
+unread grip = Further (Keys (Read grip key_read.Absent))
+
+-- how many reads said that a key isn't there
+abbrev is_absent : Event → ℕ
+is_absent (Further (Keys (Read grip key_read.Absent))) = 1
+is_absent _ = 0
+
+abbrev absents : List Event → ℕ
+absents [] = 0
+absents (event ∷ more) = is_absent event + absents more
+
+absents_append : (first more : List Event) → absents (first ++ more) ≡ absents first + absents more
+absents_append [] more = omega arith
+absents_append (event ∷ first) more = let e = absents_append first more in omega arith
+
+absents_all : (grips : List Grip) → absents (map (λ grip. Further (Keys (Read grip key_read.Absent))) grips) ≡ length grips
+absents_all [] = refl
+absents_all (grip ∷ more) = let e = absents_all more in omega arith
+
+absents_closed : {held : Option ℕ} {back : List Event} → Closes None held back (Ok tt) None → absents back ≡ 0
+absents_closed turning.unheld = refl
+absents_closed (turning.closed turn) = refl
+
+-- where the request goes on, or is refused otherwise, fewer reads said so than it names keys
+found_first : (grips : List Grip) (before : Option ℕ) (events : List Event) (value : Unit {0}) (after : Option ℕ) → HasOne grips before events (Ok value) after → absents events < length grips
+found_first [] before events value after does = elim does [ ]
+found_first (grip ∷ more) before events value after (goes_on small.found chain.returns) = omega arith
+found_first (grip ∷ more) before events value after (goes_on {events = rest} {mid} small.absent does) = let e = found_first more mid rest value after does in omega arith
+
+refused_first : (grips : List Grip) (before : Option ℕ) (events : List Event) (why : Refusal) (after : Option ℕ) → HasOne grips before events (Err why) after
+    → (Agent code.NoSecKey ≡ why) ⊎ (absents events < length grips)
+refused_first [] before events why after chain.refuses = inl refl
+refused_first (grip ∷ more) before events why after (goes_on small.found does) = elim does [ ]
+refused_first (grip ∷ more) before events why after (goes_on {events = rest} {mid} small.absent does) =
+    elim (refused_first more mid rest why after does) [ inl is ↦ inl is | inr fewer ↦ inr (omega arith) ]
+refused_first (grip ∷ more) before events why after (stops small.faulted) = inr (omega arith)
+refused_first (grip ∷ more) before events why after (stops small.no_memory) = inr (omega arith)
+
+-- but as many reads said so
+none_fewer : (grips : List Grip) {whole : List Event} → AreUnread whole grips → absents whole < length grips → ⊥
+none_fewer grips {whole} all fewer =
+    let reads = map (λ grip. Further (Keys (Read grip key_read.Absent))) grips in
+    let parts_are : absents whole ≡ absents (all.before ++ (reads ++ all.after)) = ap absents all.is in
+    let first = absents_append all.before (reads ++ all.after) in
+    let second = absents_append reads all.after in
+    let each = absents_all grips in
+    let no : ⊥ = omega arith in
+    no
+
+-- the events of an answer, behind those of the reads
+rest_absents : {held : Option ℕ} (events : List Event) {back : List Event} (last : List Event) → Closes None held back (Ok tt) None → absents last ≡ 0 → absents (events ++ (back ++ last)) ≡ absents events
+rest_absents events {back} last closes none =
+    let closed = absents_closed closes in
+    let first = absents_append events (back ++ last) in
+    let second = absents_append back last in
+    omega arith
+
+said_absents : (line : Option (List ℕ)) → absents (said_last line) ≡ 0
+said_absents None = refl
+said_absents (Some text) = refl
+
+module _ (rules : Rules) (options : OptionValues) (wraps : WrapKeys) (grips : List Grip) where
+  replied : (events : List Event) (held : Option ℕ) (reply : KeyReply) → HaveKeyReplies rules options wraps grips None events (Ok reply) held → absents events < length grips
+  unfolding HaveKeyReplies
+  replied events held reply (goes_on {first} does chain.returns) = let fewer = found_first grips _ first _ _ does in let joined = absents_append first [] in omega arith
+
+  denied : (events : List Event) (held : Option ℕ) (why : Refusal) → HaveKeyReplies rules options wraps grips None events (Err why) held → (Agent code.NoSecKey ≡ why) ⊎ (absents events < length grips)
+  unfolding HaveKeyReplies
+  denied events held why (goes_on does next) = elim next [ ]
+  denied events held why (stops does) = refused_first grips _ _ _ _ does
+
+  pub have_answered : {events : List Event} {after : WrapKeys} {went : KeyWent} → Exchange rules options wraps (on.HaveKey grips) events after went → AreUnread events grips → HasError code.NoSecKey OfAgent events
+  have_answered (answered events held reply {back} does closes) all =
+      let fewer = replied events held reply does in
+      let same = rest_absents events (Sent reply.text ∷ []) closes refl in
+      absurd (none_fewer grips all (omega arith))
+  have_answered (refused events held why {back} does closes) all =
+      let same = rest_absents events (refusal_events why) closes (said_absents (refusal_line why)) in
+      elim (denied events held why does) [
+        | inl is ↦ said_error events back (refusal_line why) code.NoSecKey (ap (λ r. refusal_line r) (sym is))
+        | inr fewer ↦ absurd (none_fewer grips all (omega arith))
+      ]

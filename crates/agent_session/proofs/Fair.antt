@@ -62,13 +62,7 @@ module _ {D P : Type 0} (turned : D → MarkStep → Turn → D → Type 0) (pro
 module _ {D P : Type 0} (turned : D → MarkStep → Turn → D → Type 0) (prompted : P → Call → P → Type 0)
     (wants : (before after : D) (asked : MarkStep) → turned before asked Refused after → MayWantMemory asked) {supply : Supply} where
   event_fair : {before after : Outside (FurtherWorld turned prompted)} {event : EventWith FurtherEvent} → Does (FurtherWorld turned prompted) supply before event after → IsFair event
-  event_fair (worlds.received known needed) = tt
-  event_fair worlds.sent = tt
-  event_fair worlds.cut = tt
-  event_fair (worlds.asked known needed) = tt
-  event_fair (worlds.not_asked unsent split) = tt
-  event_fair {before} (worlds.turned {taken} {desk} does) = λ refused. wants before.desk desk taken.asked (subst (λ t. turned before.desk taken.asked t desk) refused does)
-  event_fair (worlds.further does) = tt
+  event_fair {before} does = fair_at turned prompted (λ asked desk refused. wants before.desk desk asked refused) does
 
   pub all_fair : {before after : Outside (FurtherWorld turned prompted)} {events : List (EventWith FurtherEvent)} → Leads (Does (FurtherWorld turned prompted) supply) before events after → AllByRecursion IsFair events
   all_fair none = tt

@@ -12,10 +12,8 @@ pub mod DoorAnswering
 mod ErrorLines
 mod Exact
 mod ExactCache
-mod ExactDoors
 mod ExactEnds
 mod ExactFiles
-mod ExactHave
 mod ExactKeys
 mod ExactLong
 mod ExactParts

@@ -65,7 +65,7 @@ use Rattle.agent_session.specs.Causes as causes
 use Rattle.agent_session.specs.Completeness.{Remembers, HasError}
 use Rattle.agent_session.specs.Exactly.{on_trust, clear, long, HasLongList, EndsTooLong, at_inquiry}
 use Rattle.agent_session.proofs.Exact.{cause_answered}
-use Rattle.agent_session.proofs.ExactDoors.{door_cause}
+use Rattle.agent_session.proofs.Exact.{door_cause}
 use Rattle.agent_session.proofs.ExactEnds.{end_told}
 use Rattle.agent_session.proofs.ExactFiles.{one_says}
 use Rattle.agent_session.proofs.KeyExplained.{exchange_caused}

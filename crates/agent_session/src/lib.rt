@@ -5,7 +5,8 @@
 //! it leaves no ticket out and no prompt open. The laws say when a request is answered: each error
 //! has its cause ([`each_error_has_its_cause`]), mostly exactly where that stands
 //! ([`each_cause_has_its_error`]), and without one there is an answer
-//! ([`a_session_without_faults_is_answered`]). At a door it is the same
+//! ([`a_session_without_faults_is_answered`]). A line that is too long ends its session
+//! ([`a_line_that_is_too_long_ends_its_session`]). At a door it is the same
 //! ([`each_error_at_a_door_has_its_cause`]). Definitions begin in `specs/Sessions`, the causes in
 //! `specs/Causes`.
 #![tactic(auto)]
@@ -28,8 +29,8 @@ pub use doors::{
     each_error_at_a_door_has_its_cause, without_a_cause_the_answer_at_a_door_is_ok,
 };
 pub use exactly::{
-    a_line_that_ends_a_session_is_answered, each_cause_at_a_door_has_its_error,
-    each_cause_has_its_error,
+    a_line_that_ends_a_session_is_answered, a_line_that_is_too_long_ends_its_session,
+    each_cause_at_a_door_has_its_error, each_cause_has_its_error,
 };
 pub use laws::{a_session_at_a_door_extends_a_run, a_session_extends_a_run, key_commands_are_read};
 pub use own_passphrases::{

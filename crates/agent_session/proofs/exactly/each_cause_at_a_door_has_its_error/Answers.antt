@@ -1,4 +1,4 @@
-use Rattle.agent_session.proofs.ExactDoors.{door_cause}
+use Rattle.agent_session.proofs.Exact.{door_cause}
 use Rattle.agent_session.proofs.exactly.each_cause_at_a_door_has_its_error.Goals as goal
 
 pub returns : goal.returns
