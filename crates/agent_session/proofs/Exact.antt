@@ -55,17 +55,19 @@ use Rattle.trust_list.specs.Trust.{trust, with_entry}
 use Rattle.trust_list.specs.declared.TheConstants.{MAX_TRUST_FILE_LEN}
 use Rattle.agent_origin.specs.DoorSessions.{AllowedExchange, DoorExchange}
 use Rattle.agent_origin.specs.DoorSessions as doors
-use Rattle.agent_origin.specs.Exchanges.{flag_of, Marked, TrustExchange}
-use Rattle.agent_origin.specs.Exchanges as trusts
-use Rattle.agent_origin.specs.Names.{command_named, door_command_named}
+use Rattle.agent_origin.specs.TrustExchanges.{flag_of, Marked, TrustExchange}
+use Rattle.agent_ask.specs.PartExchanges as part_exchanges
+use Rattle.agent_origin.specs.TrustExchanges as trusts
+use Rattle.agent_origin.specs.TrustNames.{trust_command_named}
+use Rattle.agent_origin.specs.DoorSessions.{door_command_named}
 use Rattle.assuan_server.specs.Written.{refusal_line}
-use Rattle.agent_origin.specs.Requests.{trust_request_of}
+use Rattle.agent_origin.specs.TrustRequests.{trust_request_of}
 use Rattle.agent_origin.specs.declared.door.Door.{Door}
-use Rattle.agent_origin.specs.declared.names.TrustCommandName.{TrustCommandName}
+use Rattle.agent_origin.specs.declared.trust.names.TrustCommandName.{TrustCommandName}
 use Rattle.agent_origin.specs.declared.names.TrustCommandName.TheVariants as name
-use Rattle.agent_origin.specs.declared.request.TrustPurpose.{TrustPurpose}
-use Rattle.agent_origin.specs.declared.request.TrustRequest.{TrustRequest}
-use Rattle.agent_origin.specs.declared.request.TrustRequest.TheVariants.{MarkTrusted}
+use Rattle.agent_origin.specs.declared.trust.request.TrustPurpose.{TrustPurpose}
+use Rattle.agent_origin.specs.declared.trust.request.TrustRequest.{TrustRequest}
+use Rattle.agent_origin.specs.declared.trust.request.TrustRequest.TheVariants.{MarkTrusted}
 use Rattle.agent_session.specs.DoorCauses.{read_trust}
 use Rattle.agent_session.proofs.DoorAnswering.{is_word, no_command, door_is_session}
 use Rattle.agent_session.proofs.ExactTrust.{ByLong, marked_long, due_trust, trust_answered}
@@ -284,8 +286,8 @@ module _ (rules : Rules) (before : Kept) where
 
     long_file_answered : {events : List Event} {went : Went} → TrustExchange rules before.options (MarkTrusted fingerprint purpose name) events went → AllByRecursion Remembers events → IsReadAgain file events
         → HasError code.TooMuch Agent events
-    long_file_answered (trusts.answered events does) remembers again = absurd (long_said events (Some _) (Ok tt) does (each_left Remembers events _ remembers) again)
-    long_file_answered (trusts.refused events why does) remembers again =
+    long_file_answered (part_exchanges.answered events does) remembers again = absurd (long_said events (Some _) (Ok tt) does (each_left Remembers events _ remembers) again)
+    long_file_answered (part_exchanges.refused events why does) remembers again =
         said_error events [] (refusal_line why) code.TooMuch (long_said events (refusal_line why) (Err why) does (each_left Remembers events _ remembers) again)
 
   trust_cause : (request : TrustRequest) {events : List Event} {went : Went} → TrustExchange rules before.options request events went → AllByRecursion Remembers events → (why : Code)
@@ -304,15 +306,15 @@ module _ (rules : Rules) (before : Kept) where
 
   module _ (one_canon : (file : List ℕ) (a b : Option (List ℕ)) → Canon file a → Canon file b → a ≡ b) (line : List ℕ) where
     trust_allowed : {command : _} {found : TrustCommandName} {events : List Event} {after : Kept} {went : Went} → AllowedExchange rules before line command events after went → door_command_named (command_of line) ≡ command
-        → command_named (command_of line) ≡ Some found → TrustExchange rules before.options (trust_request_of line) events went
-    unfolding door_command_named command_named
+        → trust_command_named (command_of line) ≡ Some found → TrustExchange rules before.options (trust_request_of line) events went
+    unfolding door_command_named trust_command_named
     trust_allowed {found} doors.helped is named =
         let word = command_of line in
-        let none : command_named (command_of line) ≡ None = help_only (λ e. absurd (cc e)) (is_word (codes "HELP") word) (is_word (codes "ISTRUSTED") word) (is_word (codes "MARKTRUSTED") word) (λ help. other_trusted word help)
+        let none : trust_command_named (command_of line) ≡ None = help_only (λ e. absurd (cc e)) (is_word (codes "HELP") word) (is_word (codes "ISTRUSTED") word) (is_word (codes "MARKTRUSTED") word) (λ help. other_trusted word help)
         (λ help. other_marked word help) is in
         absurd (cc (none, named))
     trust_allowed (doors.trusts exchanged) is named = exchanged
-    trust_allowed {found} (doors.any exchanged) is named = let none : command_named (command_of line) ≡ None = no_command (command_of line) is in absurd (cc (none, named))
+    trust_allowed {found} (doors.any exchanged) is named = let none : trust_command_named (command_of line) ≡ None = no_command (command_of line) is in absurd (cc (none, named))
 
     pub door_cause : (door : Door) {events : List Event} {after : Kept} {went : Went} → DoorExchange door rules before line events after went → AllByRecursion Remembers events → (why : Code)
         → ExactCauseAtDoor door rules before line events why → HasError why Agent events

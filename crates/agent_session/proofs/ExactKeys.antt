@@ -18,7 +18,8 @@ use Rattle.session_options.specs.OptionValues.{OptionValues}
 use Rattle.session_options.specs.declared.rules.Rules.{Rules}
 use Rattle.sexp_keys.specs.Key.{Key}
 use Rattle.key_commands.specs.Events.{Event}
-use Rattle.key_commands.specs.Exchanges.{Exchange, answered, refused, Replies, HaveKeyReplies, KeyInfoReplies, ListKeysReplies, KeyWrapReplies, ImportKeyReplies}
+use Rattle.key_commands.specs.Exchanges.{KeyExchange, KeyReplies, HaveKeyReplies, KeyInfoReplies, ListKeysReplies, KeyWrapReplies, ImportKeyReplies}
+use Rattle.agent_ask.specs.PartExchanges.{answered, refused}
 use Rattle.key_commands.specs.Exchanges.{ExportKeyReplies, PasswdReplies, VerifyReplies, DeleteKeyReplies, wrap_key, StoresKey, FoundOrNew, RewritesFile, ChangesOpened, KeyReply}
 use Rattle.key_commands.specs.Parts.{Part, refusal_events}
 use Rattle.key_commands.specs.Passphrases.{OldPassphrase, VerifiesPassphrase}
@@ -313,7 +314,7 @@ module _ (rules : Rules) (options : OptionValues) (wraps : WrapKeys) (grips : Li
   denied events held why (goes_on does next) = elim next [ ]
   denied events held why (stops does) = refused_first grips _ _ _ _ does
 
-  pub have_answered : {events : List Event} {after : WrapKeys} {went : KeyWent} → Exchange rules options wraps (on.HaveKey grips) events after went → AreUnread events grips → HasError code.NoSecKey OfAgent events
+  pub have_answered : {events : List Event} {after : WrapKeys} {went : KeyWent} → KeyExchange rules options wraps (on.HaveKey grips) events after went → AreUnread events grips → HasError code.NoSecKey OfAgent events
   have_answered (answered events held reply {back} does closes) all =
       let fewer = replied events held reply does in
       let same = rest_absents events (Sent reply.text ∷ []) closes refl in

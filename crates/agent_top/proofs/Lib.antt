@@ -19,4 +19,5 @@ mod WorkedCommon
 mod WorkedServer
 mod WorkedDaemon
 mod WorkedPrompt
+mod WorkedRestricted
 mod WorkedLoad

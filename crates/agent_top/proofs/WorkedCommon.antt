@@ -1,7 +1,7 @@
--- What worked runs share: what they have to do with, a desk at which a session is alone, and lines: how they stand in the bytes, what each asks for, and its exchange in a session in which nothing was set before.
-use Rattle.std.specs.List.{flat_map}
-use Rattle.std.specs.Prelude.{◌≡◌, ◌≤◌, ◌+◌, ◌*◌, ◌-◌, ℕ, List, [], ◌∷◌, length, codes, true, false, Option, Some, None, refl}
-use Rattle.std.proofs.Common.{ap, sym, subst, arith, inr, append-nil}
+-- What worked runs share: what they have to do with, desks and their turns, and lines: how they stand in the bytes, what each asks for, and its exchange in a session in which nothing was set before.
+use Rattle.std.specs.List.{AllByRecursion, flat_map}
+use Rattle.std.specs.Prelude.{◌≡◌, ◌≤◌, ◌+◌, ◌*◌, ◌-◌, ℕ, List, [], ◌∷◌, ◌++◌, length, codes, true, false, Option, Some, None, refl, min, IfSome}
+use Rattle.std.proofs.Common.{ap, sym, subst, arith, inr, append-nil, ◌∙◌, append_assoc}
 use Rattle.hex.proofs.OnLiterals.{hex_on_literals}
 use Rattle.agent_ask.specs.Events.{Call}
 use Rattle.agent_ask.specs.PartExchanges as exchanges
@@ -44,7 +44,7 @@ use Rattle.assuan_server.specs.Written.{failed, greeting, ok_text}
 use Rattle.assuan_text.specs.Forms.{is_ignored}
 use Rattle.assuan_text.specs.LineEnds.{line_of}
 use Rattle.cache_policy.specs.Histories.{History}
-use Rattle.cache_policy.specs.Turns.{Turn, Given, Empty, Done, since_of}
+use Rattle.cache_policy.specs.Turns.{Turn, Given, Empty, Done, Refused, FitsStep, out_after, since_of}
 use Rattle.cache_policy.specs.declared.grant.Grant.{Grant}
 use Rattle.cache_policy.specs.declared.life.Life.TheVariants.{Endless}
 use Rattle.cache_policy.specs.declared.life.Limits.{Limits}
@@ -52,6 +52,16 @@ use Rattle.cache_policy.specs.declared.mark.Mark.{Mark}
 use Rattle.cache_policy.specs.declared.mark.MarkStep.{MarkStep}
 use Rattle.cache_policy.specs.declared.mark.MarkStep.TheVariants.{Clear, Stop}
 use Rattle.cache_policy.specs.declared.mode.Mode.TheVariants.{User}
+use Rattle.agent_ports.specs.Readings as readings
+use Rattle.agent_ports.specs.declared.session.SessionId.{SessionId}
+use Rattle.cache_policy.specs.Desks.{MakesMarks, is_of}
+use Rattle.cache_policy.specs.Legal.{IsLegalRun}
+use Rattle.cache_policy.specs.Runs.{joined, moment_before, moment_of}
+use Rattle.cache_policy.specs.declared.bounds.TheConstants.{MAX_MOMENT}
+use Rattle.counted_lock.proofs.LogLemmas.{joined_log, start_log}
+use Rattle.counted_lock.specs.Logs.{run_of_log, marks_by}
+use Rattle.counted_lock.specs.Passes.{AtPass, mine}
+use Rattle.counted_lock.specs.Turns.{AtCountedDesk, CountedTurn}
 use Rattle.key_commands.specs.Events.{Event}
 use Rattle.pinentry_client.proofs.Calling.{is_call}
 use Rattle.pinentry_client.specs.Dialogues.{PinentryDoes}
@@ -113,6 +123,72 @@ desk_alone limits out marks count = record { limits = limits; session = session;
 -- a turn there is its own step
 pub turns_alone : {asked : MarkStep} {turn : Turn} (before after : AtSolo) → before.script ≡ [] → since_of asked ≡ None → IsSettled turn → OwnStep before asked turn after → TurnsSolo before asked turn after
 turns_alone {asked} {turn} before after no_script untried settled step = turns_by_own_step asked before false before turn after untried (at_end no_script refl) (at_once step) settled
+
+-- ---- a turn at the lock
+
+-- the desk of a session with this ticket
+abbrev pub desk_with : Option ℕ → AtPass → SessionId → Readings → AtCountedDesk Readings
+desk_with out pass session clock = record { pass = pass; session = session; out = out; clock = clock }
+
+module _ (session : SessionId) (count : ℕ) (out out_now : Option ℕ) (before : AtPass) (others : List Mark) (asked : MarkStep) (turn : Turn) (mark : Mark) where
+  -- the pass has seen the marks of others, and then the turn's own
+  abbrev pub then : AtPass
+  then = record before { seen = (before.seen ++ others) ++ mark ∷ [] }
+
+  -- what makes it a turn, which is tried once
+  pub record IsMarked : Type 0 where
+    pub foreign : marks_by before.number others ≡ []
+    pub unowned : AllByRecursion (λ other. is_of session other ≡ false) others
+    pub mine_is : mine then ≡ mine before ++ mark ∷ []
+    pub makes : (called : ℕ) → MakesMarks before.limits session called asked (run_of_log then.seen) turn (mark ∷ [])
+    pub unrefused : turn ≡ Refused → ⊥
+    pub moment : mark.moment ≡ moment_of (moment_before (before.seen ++ others)) (60 * count)
+    pub untried : since_of mark.step ≡ None
+    pub fits : FitsStep asked turn
+    pub held : out_now ≡ out_after out asked turn
+    pub legal : IsLegalRun before.limits (run_of_log then.seen)
+
+  -- it made a mark
+  pub none_less : mark ∷ [] ≡ [] → ⊥
+  none_less is_empty = cc is_empty
+
+  abbrev pub turn_at : IsMarked → CountedTurn (λ (clock : Readings). clock) (desk_with out before session (clock_at count)) asked turn (desk_with out_now then session (clock_at (count + 1)))
+  turn_at is = record {
+    turns = record {
+      others = others;
+      foreign = is.foreign;
+      found = before.seen ++ others;
+      found_is = refl;
+      own = mark ∷ [];
+      now = refl;
+      mine_is = is.mine_is;
+      makes = is.makes (moment_before before.seen);
+      spent = λ is_empty. absurd (none_less is_empty);
+      memory = λ refused. absurd (is.unrefused refused);
+      first_reading = 60 * count;
+      later_readings = [];
+      given = readings.one (is_read count) readings.none;
+      rose = omega arith;
+      never_falls = omega arith;
+      moment = (is.moment ∙ ap (λ (n : ℕ). moment_of (moment_before (before.seen ++ others)) n) (omega arith), tt);
+      since = (subst (λ (since : Option ℕ). IfSome since (λ first. min (60 * count) MAX_MOMENT ≤ first)) (sym is.untried) tt, tt);
+    };
+    is = record {
+      fits = is.fits;
+      run = record {
+        start = start_log then.seen ∙ sym (start_log before.seen);
+        others = others;
+        foreign = is.unowned;
+        own = mark ∷ [];
+        makes = is.makes (moment_before (joined (run_of_log before.seen)));
+        marks = joined_log then.seen ∙ (append_assoc before.seen others (mark ∷ []) ∙ ap (λ (log : List Mark). log ++ (others ++ mark ∷ [])) (sym (joined_log before.seen)));
+        legal = λ was. is.legal;
+      };
+      limits = refl;
+      session = refl;
+      out = is.held;
+    };
+  }
 
 -- ---- lines
 

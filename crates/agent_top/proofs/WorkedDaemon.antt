@@ -2,14 +2,13 @@
 -- and stops the agent. The laws on a daemon and on its sessions hold of it.
 use Rattle.std.specs.Fmt.{digits}
 use Rattle.std.specs.List.{AllByRecursion}
-use Rattle.std.specs.Prelude.{◌≡◌, ◌≤◌, ◌<◌, ◌+◌, ◌*◌, ℕ, zero, suc, min, nat_eq, List, [], ◌∷◌, ◌++◌, length, codes, true, false, Option, Some, None, IfSome, refl, ⊤}
-use Rattle.std.proofs.Common.{inl, lit<, lit≤, sym, ap, ◌∙◌, subst, append_assoc, arith}
+use Rattle.std.specs.Prelude.{◌≡◌, ◌≤◌, ◌<◌, ℕ, zero, suc, nat_eq, List, [], ◌∷◌, ◌++◌, length, codes, true, false, Some, None, refl, ⊤}
+use Rattle.std.proofs.Common.{inl, lit<, lit≤, sym, subst, arith}
 use Rattle.std.proofs.lemmas.Bool.Decides.{nat_tests}
 use Rattle.agent_ask.specs.SessionEvents.{Received, Sent, cache_turn}
 use Rattle.agent_ask.specs.Worlds.{Outside, Does}
 use Rattle.agent_ask.specs.Worlds as worlds
-use Rattle.agent_commands.specs.Answers.{closing}
-use Rattle.assuan_server.specs.Written.{ok}
+use Rattle.agent_commands.specs.Answers.{ok, closing}
 use Rattle.agent_commands.specs.Exchanges.{put}
 use Rattle.agent_commands.specs.Outside.{World}
 use Rattle.agent_commands.specs.Passphrases.{ask}
@@ -21,7 +20,7 @@ use Rattle.agent_commands.specs.declared.went.Went.{Went}
 use Rattle.agent_core.specs.Cores.{mark_of}
 use Rattle.agent_origin.specs.DoorSessions.{DoorExchange, AllowedExchange, any, is_allowed}
 use Rattle.agent_origin.specs.FurtherStates.{FurtherWorld}
-use Rattle.agent_origin.specs.DoorSessions.{door_command_named}
+use Rattle.agent_origin.specs.Names.{door_command_named}
 use Rattle.agent_origin.specs.SessionExchanges.{SessionExchange}
 use Rattle.agent_origin.specs.Sessions.{ends_with, supply_of}
 use Rattle.agent_origin.specs.declared.door.Door.TheVariants.{Home}
@@ -29,7 +28,6 @@ use Rattle.agent_ports.specs.KeyFiles.{KeyFiles}
 use Rattle.agent_ports.specs.Launches.{Launches}
 use Rattle.agent_ports.specs.Leads.{Leads, none, one}
 use Rattle.agent_ports.specs.Readings.{Readings}
-use Rattle.agent_ports.specs.Readings as readings
 use Rattle.agent_ports.specs.Sides.{Side}
 use Rattle.agent_ports.specs.TrustFiles.{TrustState}
 use Rattle.agent_ports.specs.declared.host.Parts.{Parts}
@@ -53,26 +51,22 @@ use Rattle.assuan_line.specs.declared.reader.Took.TheVariants as took
 use Rattle.assuan_server.specs.Written.{failed, greeting}
 use Rattle.assuan_text.specs.LineEnds.{line_of}
 use Rattle.assuan_text.specs.Words.{command_of}
-use Rattle.cache_policy.proofs.GrowingRuns.{legal_run_with_mark}
-use Rattle.cache_policy.specs.Desks.{MakesMarks, is_of, marked}
+use Rattle.cache_policy.proofs.GrowingRuns.{legal-run_with_mark}
+use Rattle.cache_policy.specs.Desks.{marked}
 use Rattle.cache_policy.specs.Histories.{History}
 use Rattle.cache_policy.specs.Legal.{IsLegalRun}
-use Rattle.cache_policy.specs.Runs.{joined, moment_before, moment_of}
-use Rattle.cache_policy.specs.Turns.{Turn, Given, Empty, Done, Refused, FitsStep, out_after, since_of}
-use Rattle.cache_policy.specs.declared.bounds.TheConstants.{MAX_MOMENT}
+use Rattle.cache_policy.specs.Turns.{Given, Empty, Done}
 use Rattle.cache_policy.specs.declared.entry.Entry.{Entry}
 use Rattle.cache_policy.specs.declared.grant.Grant.{Grant}
 use Rattle.cache_policy.specs.declared.life.Life.TheVariants.{Endless}
 use Rattle.cache_policy.specs.declared.life.Limits.{Limits}
 use Rattle.cache_policy.specs.declared.mark.Mark.{Mark}
 use Rattle.cache_policy.specs.declared.mark.MarkReply.TheVariants as answer
-use Rattle.cache_policy.specs.declared.mark.MarkStep.{MarkStep}
 use Rattle.cache_policy.specs.declared.mark.MarkStep.TheVariants.{Clear, Stop}
 use Rattle.cache_policy.specs.declared.mode.Mode.TheVariants.{Any, User}
 use Rattle.cache_policy.specs.declared.tally.Tally.{Tally}
 use Rattle.counted_lock.specs.Logs.{run_of_log, marks_by}
-use Rattle.counted_lock.proofs.LogLemmas.{joined_log, start_log}
-use Rattle.counted_lock.specs.Passes.{AtCounted, AtPass, IsClosed, mine, numbered}
+use Rattle.counted_lock.specs.Passes.{AtCounted, AtPass, IsClosed, numbered}
 use Rattle.counted_lock.specs.Turns.{CountedTurn}
 use Rattle.key_commands.specs.Events.{Event}
 use Rattle.pinentry_client.specs.Dialogues.{PinentryDoes}
@@ -85,7 +79,7 @@ use Rattle.agent_top.proofs.EndingWell.{daemon_ends_well}
 use Rattle.agent_top.proofs.OwnPassphrases.{own_turn, of_session}
 use Rattle.agent_top.proofs.Replays.{first_legal}
 use Rattle.agent_top.proofs.RunLaws.{daemon_lawful, daemon_alone}
-use Rattle.agent_top.proofs.WorkedCommon.{is_prompter, unread, unwritten, uncut, side, launches, keys, dice, clock_at, is_read, lines, get, get_is, preset}
+use Rattle.agent_top.proofs.WorkedCommon.{is_prompter, unread, unwritten, uncut, side, launches, keys, dice, clock_at, IsMarked, turn_at, lines, get, get_is, preset}
 use Rattle.agent_top.proofs.WorkedCommon.{clear, bye, kill, reads, takes_all, id, pass, told, kept, is_empty, is_given, is_cleared, is_left, is_stopped, allowing, is_stored}
 use Rattle.agent_top.specs.Cache.{limits_of}
 use Rattle.agent_top.specs.Completeness.{NoFaultOfOne, DaemonEndsWell}
@@ -142,84 +136,22 @@ legal_0 : IsLegalRun limits (run_of_log [])
 legal_0 = first_legal limits
 
 legal_1 : IsLegalRun limits (run_of_log (stored ∷ []))
-legal_1 = legal_run_with_mark limits (run_of_log []) _ stored legal_0 refl refl (lit≤ tt) (lit≤ tt) (lit< tt)
+legal_1 = legal-run_with_mark limits (run_of_log []) _ stored legal_0 refl refl (lit≤ tt) (lit≤ tt) (lit< tt)
 
 legal_2 : IsLegalRun limits (run_of_log (stored ∷ got ∷ []))
-legal_2 = legal_run_with_mark limits (run_of_log (stored ∷ [])) _ got legal_1 refl refl (lit≤ tt) (lit≤ tt) (lit< tt)
+legal_2 = legal-run_with_mark limits (run_of_log (stored ∷ [])) _ got legal_1 refl refl (lit≤ tt) (lit≤ tt) (lit< tt)
 
 legal_3 : IsLegalRun limits (run_of_log (stored ∷ got ∷ cleared ∷ []))
-legal_3 = legal_run_with_mark limits (run_of_log (stored ∷ got ∷ [])) _ cleared legal_2 refl refl (lit≤ tt) (lit≤ tt) (lit< tt)
+legal_3 = legal-run_with_mark limits (run_of_log (stored ∷ got ∷ [])) _ cleared legal_2 refl refl (lit≤ tt) (lit≤ tt) (lit< tt)
 
 legal_4 : IsLegalRun limits (run_of_log (stored ∷ got ∷ cleared ∷ missed ∷ []))
-legal_4 = legal_run_with_mark limits (run_of_log (stored ∷ got ∷ cleared ∷ [])) _ missed legal_3 refl refl (lit≤ tt) (lit≤ tt) (lit< tt)
+legal_4 = legal-run_with_mark limits (run_of_log (stored ∷ got ∷ cleared ∷ [])) _ missed legal_3 refl refl (lit≤ tt) (lit≤ tt) (lit< tt)
 
 legal_5 : IsLegalRun limits (run_of_log log)
-legal_5 = legal_run_with_mark limits (run_of_log (stored ∷ got ∷ cleared ∷ missed ∷ [])) _ ended legal_4 refl refl (lit≤ tt) (lit≤ tt) (lit< tt)
+legal_5 = legal-run_with_mark limits (run_of_log (stored ∷ got ∷ cleared ∷ missed ∷ [])) _ ended legal_4 refl refl (lit≤ tt) (lit≤ tt) (lit< tt)
 
 abbrev world : World
 world = FurtherWorld (CountedTurn (λ (clock : Readings). clock)) PinentryDoes
-
--- ---- a turn at the lock
-
-module _ (session : SessionId) (count : ℕ) (before : AtPass) (others : List Mark) (asked : MarkStep) (turn : Turn) (mark : Mark) where
-  -- the pass has seen the marks of others, and then the turn's own
-  abbrev then : AtPass
-  then = record before { seen = (before.seen ++ others) ++ mark ∷ [] }
-
-  -- what makes it a turn, at which no ticket is held, and which is tried once
-  record IsMarked : Type 0 where
-    foreign : marks_by before.number others ≡ []
-    unowned : AllByRecursion (λ other. is_of session other ≡ false) others
-    mine_is : mine then ≡ mine before ++ mark ∷ []
-    makes : (called : ℕ) → MakesMarks before.limits session called asked (run_of_log then.seen) turn (mark ∷ [])
-    unrefused : turn ≡ Refused → ⊥
-    moment : mark.moment ≡ moment_of (moment_before (before.seen ++ others)) (60 * count)
-    untried : since_of mark.step ≡ None
-    fits : FitsStep asked turn
-    unheld : out_after None asked turn ≡ None
-    legal : IsLegalRun before.limits (run_of_log then.seen)
-
-  -- it made a mark
-  none_less : mark ∷ [] ≡ [] → ⊥
-  none_less is_empty = cc is_empty
-
-  abbrev turn_at : IsMarked → CountedTurn (λ (clock : Readings). clock) (desk_at before session (clock_at count)) asked turn (desk_at then session (clock_at (count + 1)))
-  turn_at is = record {
-    turns = record {
-      others = others;
-      foreign = is.foreign;
-      found = before.seen ++ others;
-      found_is = refl;
-      own = mark ∷ [];
-      now = refl;
-      mine_is = is.mine_is;
-      makes = is.makes (moment_before before.seen);
-      spent = λ is_empty. absurd (none_less is_empty);
-      memory = λ refused. absurd (is.unrefused refused);
-      first_reading = 60 * count;
-      later_readings = [];
-      given = readings.one (is_read count) readings.none;
-      rose = omega arith;
-      never_falls = omega arith;
-      moment = (is.moment ∙ ap (λ (n : ℕ). moment_of (moment_before (before.seen ++ others)) n) (omega arith), tt);
-      since = (subst (λ (since : Option ℕ). IfSome since (λ first. min (60 * count) MAX_MOMENT ≤ first)) (sym is.untried) tt, tt);
-    };
-    is = record {
-      fits = is.fits;
-      run = record {
-        start = start_log then.seen ∙ sym (start_log before.seen);
-        others = others;
-        foreign = is.unowned;
-        own = mark ∷ [];
-        makes = is.makes (moment_before (joined (run_of_log before.seen)));
-        marks = joined_log then.seen ∙ (append_assoc before.seen others (mark ∷ []) ∙ ap (λ (log : List Mark). log ++ (others ++ mark ∷ [])) (sym (joined_log before.seen)));
-        legal = λ was. is.legal;
-      };
-      limits = refl;
-      session = refl;
-      out = sym is.unheld;
-    };
-  }
 
 -- ---- lines at the daemon's own door
 
@@ -308,7 +240,7 @@ module _ (some : AtCounted) where
 
   -- ---- the first session
 
-  stores_so : IsMarked first 0 (pass_at 0 1 []) [] (put id Endless pass) Done stored
+  stores_so : IsMarked first 0 None None (pass_at 0 1 []) [] (put id Endless pass) Done stored
   stores_so = record {
     foreign = refl;
     unowned = tt;
@@ -318,15 +250,15 @@ module _ (some : AtCounted) where
     moment = refl;
     untried = refl;
     fits = tt;
-    unheld = refl;
+    held = refl;
     legal = legal_1;
   }
 
   abbrev stores : CountedTurn (λ (clock : Readings). clock) (desk_at (pass_at 0 1 []) first (clock_at 0)) (put id Endless pass) Done (desk_at (pass_at 0 1 (stored ∷ [])) first (clock_at 1))
-  stores = turn_at first 0 (pass_at 0 1 []) [] (put id Endless pass) Done stored stores_so
+  stores = turn_at first 0 None None (pass_at 0 1 []) [] (put id Endless pass) Done stored stores_so
 
   -- between its turns the second session was given the passphrase
-  clears_so : IsMarked first 1 (pass_at 0 1 (stored ∷ [])) (got ∷ []) (Clear id User) Done cleared
+  clears_so : IsMarked first 1 None None (pass_at 0 1 (stored ∷ [])) (got ∷ []) (Clear id User) Done cleared
   clears_so = record {
     foreign = refl;
     unowned = (refl, tt);
@@ -336,12 +268,12 @@ module _ (some : AtCounted) where
     moment = refl;
     untried = refl;
     fits = tt;
-    unheld = refl;
+    held = refl;
     legal = legal_3;
   }
 
   abbrev clears : CountedTurn (λ (clock : Readings). clock) (desk_at (pass_at 0 1 (stored ∷ [])) first (clock_at 1)) (Clear id User) Done (desk_at (pass_at 0 1 (stored ∷ got ∷ cleared ∷ [])) first (clock_at 2))
-  clears = turn_at first 1 (pass_at 0 1 (stored ∷ [])) (got ∷ []) (Clear id User) Done cleared clears_so
+  clears = turn_at first 1 None None (pass_at 0 1 (stored ∷ [])) (got ∷ []) (Clear id User) Done cleared clears_so
 
   abbrev first_events : List Event
   first_events =
@@ -405,7 +337,7 @@ module _ (some : AtCounted) where
 
   -- ---- the second session
 
-  gets_so : IsMarked second 0 (pass_at 1 1 []) (stored ∷ []) (ask id) (Given grant) got
+  gets_so : IsMarked second 0 None None (pass_at 1 1 []) (stored ∷ []) (ask id) (Given grant) got
   gets_so = record {
     foreign = refl;
     unowned = (refl, tt);
@@ -415,15 +347,15 @@ module _ (some : AtCounted) where
     moment = refl;
     untried = refl;
     fits = (refl, refl);
-    unheld = refl;
+    held = refl;
     legal = legal_2;
   }
 
   abbrev gets : CountedTurn (λ (clock : Readings). clock) (desk_at (pass_at 1 1 []) second (clock_at 0)) (ask id) (Given grant) (desk_at (pass_at 1 1 (stored ∷ got ∷ [])) second (clock_at 1))
-  gets = turn_at second 0 (pass_at 1 1 []) (stored ∷ []) (ask id) (Given grant) got gets_so
+  gets = turn_at second 0 None None (pass_at 1 1 []) (stored ∷ []) (ask id) (Given grant) got gets_so
 
   -- and the first has cleared it
-  misses_so : IsMarked second 1 (pass_at 1 1 (stored ∷ got ∷ [])) (cleared ∷ []) (ask id) Empty missed
+  misses_so : IsMarked second 1 None None (pass_at 1 1 (stored ∷ got ∷ [])) (cleared ∷ []) (ask id) Empty missed
   misses_so = record {
     foreign = refl;
     unowned = (refl, tt);
@@ -433,15 +365,15 @@ module _ (some : AtCounted) where
     moment = refl;
     untried = refl;
     fits = tt;
-    unheld = refl;
+    held = refl;
     legal = legal_4;
   }
 
   abbrev misses : CountedTurn (λ (clock : Readings). clock) (desk_at (pass_at 1 1 (stored ∷ got ∷ [])) second (clock_at 1)) (ask id) Empty
       (desk_at (pass_at 1 1 (stored ∷ got ∷ cleared ∷ missed ∷ [])) second (clock_at 2))
-  misses = turn_at second 1 (pass_at 1 1 (stored ∷ got ∷ [])) (cleared ∷ []) (ask id) Empty missed misses_so
+  misses = turn_at second 1 None None (pass_at 1 1 (stored ∷ got ∷ [])) (cleared ∷ []) (ask id) Empty missed misses_so
 
-  stops_so : IsMarked second 2 (pass_at 1 1 (stored ∷ got ∷ cleared ∷ missed ∷ [])) [] Stop Done ended
+  stops_so : IsMarked second 2 None None (pass_at 1 1 (stored ∷ got ∷ cleared ∷ missed ∷ [])) [] Stop Done ended
   stops_so = record {
     foreign = refl;
     unowned = tt;
@@ -451,12 +383,12 @@ module _ (some : AtCounted) where
     moment = refl;
     untried = refl;
     fits = tt;
-    unheld = refl;
+    held = refl;
     legal = legal_5;
   }
 
   abbrev stops : CountedTurn (λ (clock : Readings). clock) (desk_at (pass_at 1 1 (stored ∷ got ∷ cleared ∷ missed ∷ [])) second (clock_at 2)) Stop Done (desk_at (pass_at 1 1 log) second (clock_at 3))
-  stops = turn_at second 2 (pass_at 1 1 (stored ∷ got ∷ cleared ∷ missed ∷ [])) [] Stop Done ended stops_so
+  stops = turn_at second 2 None None (pass_at 1 1 (stored ∷ got ∷ cleared ∷ missed ∷ [])) [] Stop Done ended stops_so
 
   abbrev second_events : List Event
   second_events =

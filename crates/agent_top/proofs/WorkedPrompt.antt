@@ -102,7 +102,7 @@ gives_back =
 
 -- ---- its events
 
-abbrev confirm : List ℕ
+abbrev pub confirm : List ℕ
 confirm = codes "GET_CONFIRMATION X"
 
 abbrev question : List ℕ
@@ -113,7 +113,7 @@ unfolding request_of command_named
 confirm_is = refl
 
 -- what the prompt would have shown
-abbrev spec : PromptSpec
+abbrev pub spec : PromptSpec
 spec = record {
   title = text [];
   description = text question;
@@ -149,10 +149,10 @@ disagrees =
       asks = record { before = Called (Start spec opened.Failed) ∷ []; whole = refl; asks = consents.unopened prompts.failed };
     }) refl
 
-abbrev unconfirmed : List Event
+abbrev pub unconfirmed : List Event
 unconfirmed = cache_turn (Seat None None) (Open 0) ∷ (shown ++ cache_turn (Close 0 None) Done ∷ Sent (failed code.NoPinentry) ∷ [])
 
-is_unconfirmed : SessionExchange rules (kept rules) confirm unconfirmed (kept rules) On
+pub is_unconfirmed : SessionExchange rules (kept rules) confirm unconfirmed (kept rules) On
 is_unconfirmed =
     subst (λ (r : Request). RequestExchange rules (kept rules) r unconfirmed (kept rules) On) (sym confirm_is)
     (cache (whole.refused (cache_turn (Seat None None) (Open 0) ∷ shown) (Some 0) (Agent code.NoPinentry) (stops (goes_on taken.opened disagrees)) (taken.closed Done)))
@@ -177,7 +177,7 @@ unfolding next_of
 next_bye = refl
 
 -- the launch failed
-abbrev launches_now : Launches
+abbrev pub launches_now : Launches
 launches_now = record launches { faults = 1 }
 
 abbrev before : Machine
