@@ -73,6 +73,14 @@ use Rattle.agent_session.proofs.DoorAnswering.{is_word, no_command, door_is_sess
 use Rattle.agent_session.proofs.ExactTrust.{ByLong, marked_long, due_trust, trust_answered}
 use Rattle.agent_session.proofs.Standing.{each_left}
 use Rattle.agent_session.proofs.TrustDenied.{denial_is_said}
+use Rattle.agent_session.proofs.TrustTold.{Told, told}
+use Rattle.agent_session.proofs.TrustTold as telling
+use Rattle.agent_ask.specs.TurnParts.{Closes}
+use Rattle.agent_session.proofs.ExactParts.{IsFree}
+use Rattle.agent_session.proofs.ExactParts.{closes_free}
+use Rattle.agent_session.specs.DoorCauses.{IsReadTrust}
+use Rattle.key_commands.proofs.EachEvent.{each_append}
+use Rattle.agent_ask.specs.TurnParts as turning
 
 -- what the client said decides its request
 pub said_decides : (deciding : Deciding) {events : List Event} {why : Code} (unheard : Unheard) → refusal_code unheard ≡ Some why → IsSaid events unheard → IsDecided deciding events why
@@ -268,27 +276,39 @@ other_marked word is = subst (λ (s : List ℕ). bytes_eq (str_to_ascii_lowercas
 
 -- ---- requests
 
--- no file is read again among these
+-- no file is read again behind a request's work
 none_again : {file : List ℕ} (line : Option (List ℕ)) → IsReadAgain file (said_last line) → ⊥
 none_again None again = elim again [ ]
 none_again (Some text) (read_again (read_trust is has)) = elim has [ ]
+
+again_said : {file : List ℕ} (line : Option (List ℕ)) → IsReadTrust (said_last line) file → ⊥
+again_said None (read_trust is has) = elim has [ ]
+again_said (Some text) (read_trust is (later has)) = elim has [ ]
+
+none_behind : {held : Option ℕ} {back : List Event} {file : List ℕ} (line : Option (List ℕ)) → Closes None held back (Ok tt) None → IsReadAgain file (back ++ said_last line) → ⊥
+none_behind line turning.unheld again = none_again line again
+none_behind line (turning.closed turn) (read_again is_read) = again_said line is_read
 
 module _ (rules : Rules) (before : Kept) where
   -- MARKTRUSTED, whose file is too long with its new entry
   module _ (fingerprint : Grip) (purpose : TrustPurpose) (name : ArrayVec ℕ) (file : List ℕ) (none : trust file fingerprint.0 ≡ None)
       (many : MAX_TRUST_FILE_LEN < length (with_entry file fingerprint.0 (flag_of purpose))) where
-    long_said : (events : List Event) (line : Option (List ℕ)) (result : _) → Marked rules before.options fingerprint purpose name.items None events result None
-        → AllByRecursion Remembers events → IsReadAgain file (events ++ said_last line) → SaysTo NoneOwed result code.TooMuch
-    long_said [] line result does remembers again = absurd (none_again line again)
-    long_said (first ∷ more) line result does remembers (read_again (read_trust is has)) =
-        marked_long fingerprint purpose rules before.options name.items None (first ∷ more) result None does remembers code.TooMuch first more refl
-        (decided_before (ByLong fingerprint purpose) more (said_last line) (said_free (ByLong fingerprint purpose) line) (record { event = _; has = has; decides = (file, is, (none, many, refl)) }))
+    long_said : {held : Option ℕ} {back : List Event} (events : List Event) (line : Option (List ℕ)) (result : _) → Marked rules before.options fingerprint purpose name.items None events result held
+        → Closes None held back (Ok tt) None → AllByRecursion Remembers events → IsReadAgain file (events ++ (back ++ said_last line)) → SaysTo NoneOwed result code.TooMuch
+    long_said [] line result does closes remembers again = absurd (none_behind line closes again)
+    long_said (first ∷ more) line result does closes remembers (read_again (read_trust is has)) =
+        marked_long fingerprint purpose rules before.options name.items None (first ∷ more) result _ does remembers code.TooMuch first more refl
+        (decided_before (ByLong fingerprint purpose) more _ (each_append (IsFree (ByLong fingerprint purpose)) _ _ (closes_free (ByLong fingerprint purpose) closes) (said_free (ByLong fingerprint purpose) line)) (record { event = _; has = has; decides = (file, is, (none, many, refl)) }))
+
+    told_long : {events : List Event} {went : Went} → Told rules before.options (MarkTrusted fingerprint purpose name) events went → AllByRecursion Remembers events → IsReadAgain file events
+        → HasError code.TooMuch Agent events
+    told_long (telling.answered events back does closes) remembers again = absurd (long_said events (Some _) (Ok tt) does closes (each_left Remembers events _ remembers) again)
+    told_long (telling.refused events back why does closes) remembers again =
+        said_error events back (refusal_line why) code.TooMuch (long_said events (refusal_line why) (Err why) does closes (each_left Remembers events _ remembers) again)
 
     long_file_answered : {events : List Event} {went : Went} → TrustExchange rules before.options (MarkTrusted fingerprint purpose name) events went → AllByRecursion Remembers events → IsReadAgain file events
         → HasError code.TooMuch Agent events
-    long_file_answered (part_exchanges.answered events does) remembers again = absurd (long_said events (Some _) (Ok tt) does (each_left Remembers events _ remembers) again)
-    long_file_answered (part_exchanges.refused events why does) remembers again =
-        said_error events [] (refusal_line why) code.TooMuch (long_said events (refusal_line why) (Err why) does (each_left Remembers events _ remembers) again)
+    long_file_answered exchanged = told_long (told rules before.options (MarkTrusted fingerprint purpose name) exchanged)
 
   trust_cause : (request : TrustRequest) {events : List Event} {went : Went} → TrustExchange rules before.options request events went → AllByRecursion Remembers events → (why : Code)
       → ExactTrustCause events request why → HasError why Agent events

@@ -8,7 +8,8 @@ use Rattle.std.proofs.lemmas.Bool.Decides.{nat_tests}
 use Rattle.agent_ask.specs.SessionEvents.{Received, Sent, cache_turn}
 use Rattle.agent_ask.specs.Worlds.{Outside, Does}
 use Rattle.agent_ask.specs.Worlds as worlds
-use Rattle.agent_commands.specs.Answers.{ok, closing}
+use Rattle.agent_commands.specs.Answers.{closing}
+use Rattle.assuan_server.specs.Written.{ok}
 use Rattle.agent_commands.specs.Exchanges.{put}
 use Rattle.agent_commands.specs.Outside.{World}
 use Rattle.agent_commands.specs.Passphrases.{ask}
@@ -20,7 +21,7 @@ use Rattle.agent_commands.specs.declared.went.Went.{Went}
 use Rattle.agent_core.specs.Cores.{mark_of}
 use Rattle.agent_origin.specs.DoorSessions.{DoorExchange, AllowedExchange, any, is_allowed}
 use Rattle.agent_origin.specs.FurtherStates.{FurtherWorld}
-use Rattle.agent_origin.specs.Names.{door_command_named}
+use Rattle.agent_origin.specs.DoorSessions.{door_command_named}
 use Rattle.agent_origin.specs.SessionExchanges.{SessionExchange}
 use Rattle.agent_origin.specs.Sessions.{ends_with, supply_of}
 use Rattle.agent_origin.specs.declared.door.Door.TheVariants.{Home}
@@ -51,7 +52,7 @@ use Rattle.assuan_line.specs.declared.reader.Took.TheVariants as took
 use Rattle.assuan_server.specs.Written.{failed, greeting}
 use Rattle.assuan_text.specs.LineEnds.{line_of}
 use Rattle.assuan_text.specs.Words.{command_of}
-use Rattle.cache_policy.proofs.GrowingRuns.{legal-run_with_mark}
+use Rattle.cache_policy.proofs.GrowingRuns.{legal_run_with_mark}
 use Rattle.cache_policy.specs.Desks.{marked}
 use Rattle.cache_policy.specs.Histories.{History}
 use Rattle.cache_policy.specs.Legal.{IsLegalRun}
@@ -136,19 +137,19 @@ legal_0 : IsLegalRun limits (run_of_log [])
 legal_0 = first_legal limits
 
 legal_1 : IsLegalRun limits (run_of_log (stored ∷ []))
-legal_1 = legal-run_with_mark limits (run_of_log []) _ stored legal_0 refl refl (lit≤ tt) (lit≤ tt) (lit< tt)
+legal_1 = legal_run_with_mark limits (run_of_log []) _ stored legal_0 refl refl (lit≤ tt) (lit≤ tt) (lit< tt)
 
 legal_2 : IsLegalRun limits (run_of_log (stored ∷ got ∷ []))
-legal_2 = legal-run_with_mark limits (run_of_log (stored ∷ [])) _ got legal_1 refl refl (lit≤ tt) (lit≤ tt) (lit< tt)
+legal_2 = legal_run_with_mark limits (run_of_log (stored ∷ [])) _ got legal_1 refl refl (lit≤ tt) (lit≤ tt) (lit< tt)
 
 legal_3 : IsLegalRun limits (run_of_log (stored ∷ got ∷ cleared ∷ []))
-legal_3 = legal-run_with_mark limits (run_of_log (stored ∷ got ∷ [])) _ cleared legal_2 refl refl (lit≤ tt) (lit≤ tt) (lit< tt)
+legal_3 = legal_run_with_mark limits (run_of_log (stored ∷ got ∷ [])) _ cleared legal_2 refl refl (lit≤ tt) (lit≤ tt) (lit< tt)
 
 legal_4 : IsLegalRun limits (run_of_log (stored ∷ got ∷ cleared ∷ missed ∷ []))
-legal_4 = legal-run_with_mark limits (run_of_log (stored ∷ got ∷ cleared ∷ [])) _ missed legal_3 refl refl (lit≤ tt) (lit≤ tt) (lit< tt)
+legal_4 = legal_run_with_mark limits (run_of_log (stored ∷ got ∷ cleared ∷ [])) _ missed legal_3 refl refl (lit≤ tt) (lit≤ tt) (lit< tt)
 
 legal_5 : IsLegalRun limits (run_of_log log)
-legal_5 = legal-run_with_mark limits (run_of_log (stored ∷ got ∷ cleared ∷ missed ∷ [])) _ ended legal_4 refl refl (lit≤ tt) (lit≤ tt) (lit< tt)
+legal_5 = legal_run_with_mark limits (run_of_log (stored ∷ got ∷ cleared ∷ missed ∷ [])) _ ended legal_4 refl refl (lit≤ tt) (lit≤ tt) (lit< tt)
 
 abbrev world : World
 world = FurtherWorld (CountedTurn (λ (clock : Readings). clock)) PinentryDoes
