@@ -44,8 +44,6 @@ use Rattle.key_commands.proofs.EachEvent.{EachSo, each_bind, each_returned, each
 use Rattle.agent_origin.specs.DoorSessions.{AllowedExchange, DoorExchange}
 use Rattle.agent_origin.specs.DoorSessions as door
 use Rattle.agent_origin.specs.TrustExchanges.{TrustedNow, Stores, StoresUnsaid, Consented, Marked, Carried, TrustExchange, unless_said, asked_in, flag_of, trust_question, fingerprint_question}
-use Rattle.agent_ask.specs.PartExchanges as part_exchanges
-use Rattle.agent_origin.specs.TrustExchanges as trusting
 use Rattle.agent_origin.specs.TrustParts as trusts
 use Rattle.agent_origin.specs.SessionExchanges.{RequestExchange, cache, keys}
 use Rattle.agent_origin.specs.declared.door.Door.{Door}
@@ -77,7 +75,7 @@ inquires_of word limit before events result after (client.given is) = (tt, tt)
 inquires_of word limit before events result after (client.not_given is) = (tt, tt)
 
 asks_passphrase : EachSo IsUncalled AsksPassphrase
-asks_passphrase = each_bind IsUncalled (record { of = writes_of limit_line }) (λ wrote. record { of = inquires_of (codes "PASSPHRASE") MAX_SECRET_LEN })
+asks_passphrase = each_bind IsUncalled (record { of = writes_of (limit_line MAX_SECRET_LEN) }) (λ wrote. record { of = inquires_of (codes "PASSPHRASE") MAX_SECRET_LEN })
 
 changes : {step : MarkStep} → EachSo IsUncalled (Changes step)
 changes = each_changes IsUncalled (λ turn. tt)
@@ -209,14 +207,6 @@ replaces_of file before events result after trusts.replaced = (tt, tt)
 replaces_of file before events result after trusts.faulted = (tt, tt)
 replaces_of file before events result after trusts.no_memory = (tt, tt)
 
-module _ {A : Type 0} {part : Part A} (so : PromptedSo part) where
-  gives_back_of : (before : Option ℕ) (events : List Event) (result : Result A Refusal) (after : Option ℕ) → trusts.UnderTicket part before events result after → Prompted events
-  gives_back_of before events result after (trusts.given_back {events = more} turn does) =
-      prompted_append more _ (so.of _ more result _ does) (uncalled (cache_turn (Close _ None) turn ∷ []) (tt, tt))
-
-  gives_back : PromptedSo (trusts.UnderTicket part)
-  gives_back = record { of = gives_back_of }
-
 module _ (rules : Rules) (options : OptionValues) where
   trusted_now : (fingerprint : Grip) → PromptedSo (TrustedNow fingerprint)
   unfolding TrustedNow
@@ -236,7 +226,7 @@ module _ (rules : Rules) (options : OptionValues) where
     consented = bind (agrees_to rules options (trust_question name)) (λ trusted. bind (agrees_to rules options (fingerprint_question fingerprint name)) (λ right. stores_unsaid fingerprint purpose))
 
     asks_in : (way : PinMode) → PromptedSo (asked_in rules options fingerprint purpose name way)
-    asks_in mode.Ask = behind (each_seats IsUncalled (λ turn. tt)) (λ seated. gives_back consented)
+    asks_in mode.Ask = behind (each_seats IsUncalled (λ turn. tt)) (λ seated. consented)
     asks_in mode.Cancel = uncalled_so (each_refused IsUncalled _)
     asks_in mode.Error = uncalled_so (each_refused IsUncalled _)
     asks_in mode.Loopback = uncalled_so (each_refused IsUncalled _)
@@ -251,8 +241,7 @@ module _ (rules : Rules) (options : OptionValues) where
   carried (Bad why) = uncalled_so (each_refused IsUncalled _)
 
   trust_prompted : (request : TrustRequest) {events : List Event} {went : Went} → TrustExchange rules options request events went → Prompted events
-  trust_prompted request (part_exchanges.answered events does) = prompted_append events _ ((carried request).of None events _ None does) (uncalled _ (tt, tt))
-  trust_prompted request (part_exchanges.refused events why does) = prompted_append events _ ((carried request).of None events _ None does) (uncalled _ (said_uncalled (refusal_line why)))
+  trust_prompted request exchange = exchanged (before_it (carried request) (λ done. each_returned IsUncalled _)) exchange
 
 -- ---- at a door
 

@@ -64,7 +64,7 @@ use Rattle.assuan_server.specs.Written.{refusal_line}
 use Rattle.agent_origin.specs.TrustRequests.{trust_request_of}
 use Rattle.agent_origin.specs.declared.door.Door.{Door}
 use Rattle.agent_origin.specs.declared.trust.names.TrustCommandName.{TrustCommandName}
-use Rattle.agent_origin.specs.declared.names.TrustCommandName.TheVariants as name
+use Rattle.agent_origin.specs.declared.trust.names.TrustCommandName.TheVariants as name
 use Rattle.agent_origin.specs.declared.trust.request.TrustPurpose.{TrustPurpose}
 use Rattle.agent_origin.specs.declared.trust.request.TrustRequest.{TrustRequest}
 use Rattle.agent_origin.specs.declared.trust.request.TrustRequest.TheVariants.{MarkTrusted}

@@ -50,7 +50,8 @@ use Rattle.agent_session.proofs.KeyCourses.{key_gone}
 use Rattle.agent_session.proofs.Replying.{begins}
 use Rattle.agent_session.proofs.Standing.{has_left, has_right, each_has}
 use Rattle.agent_session.proofs.TrustGone.{trust_gone}
-use Rattle.agent_session.proofs.TrustTold.{Told, answered, refused, told}
+use Rattle.agent_session.proofs.TrustTold.{Told, told}
+use Rattle.agent_session.proofs.TrustTold as telling
 
 -- ---- lists
 
@@ -233,7 +234,7 @@ request_gone {rules} {before} (Key line) (keys exchange) says = ap went_after_ke
 allowed_gone : {rules : Rules} {before after : Kept} {line : List ℕ} {command : _} {events : List Event} {went : Went} {how : Gone} → AllowedExchange rules before line command events after went
     → IsSaid events (unheard.Gone how) → went ≡ End (end_of how)
 allowed_gone doors.helped says = absurd (heard_so _ (refl, tt) says)
-allowed_gone (doors.trusts exchanged) says = trust_gone _ exchanged says
+allowed_gone (doors.trusts exchanged) says = trust_gone _ _ _ exchanged says
 allowed_gone {line} (doors.any exchanged) says = request_gone (request_of line) exchanged says
 
 door_gone : {door : Door} {rules : Rules} {before after : Kept} {line : List ℕ} {events : List Event} {went : Went} {how : Gone} → DoorExchange door rules before line events after went
@@ -242,16 +243,16 @@ door_gone (doors.forbidden refuses) says = absurd (heard_so _ (refl, tt) says)
 door_gone (doors.is_allowed allows exchanged) says = allowed_gone exchanged says
 
 line_told : (rules : Rules) (options : _) (request : _) {events : List Event} {went : Went} → Told rules options request events went → went ≡ End TooLong → Has long_line events
-line_told rules options request (answered some back does closes) is = absurd (cc is)
-line_told rules options request (refused some back why does closes) is = refusal_told some back why is
+line_told rules options request (telling.answered some back does closes) is = absurd (cc is)
+line_told rules options request (telling.refused some back why does closes) is = refusal_told some back why is
 
-trust_told : {rules : Rules} {options : _} {request : _} {events : List Event} {went : Went} → TrustExchange rules options request events went → went ≡ End TooLong → Has long_line events
-trust_told {rules} {options} {request} exchanged = line_told rules options request (told rules options request exchanged)
+trust_told : (rules : Rules) (options : _) (request : _) {events : List Event} {went : Went} → TrustExchange rules options request events went → went ≡ End TooLong → Has long_line events
+trust_told rules options request exchanged = line_told rules options request (told rules options request exchanged)
 
 allowed_told : {rules : Rules} {before after : Kept} {line : List ℕ} {command : _} {events : List Event} {went : Went} → AllowedExchange rules before line command events after went → went ≡ End TooLong
     → Has long_line events
 allowed_told doors.helped is = absurd (cc is)
-allowed_told (doors.trusts exchanged) is = trust_told exchanged is
+allowed_told (doors.trusts exchanged) is = trust_told _ _ _ exchanged is
 allowed_told (doors.any exchanged) is = end_told exchanged is
 
 door_told : {door : Door} {rules : Rules} {before after : Kept} {line : List ℕ} {events : List Event} {went : Went} → DoorExchange door rules before line events after went → went ≡ End TooLong → Has long_line events

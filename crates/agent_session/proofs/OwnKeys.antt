@@ -30,7 +30,7 @@ use Rattle.key_commands.specs.Parts.{Part, refusal_events}
 use Rattle.agent_ask.specs.ClientParts.{AsksClient}
 use Rattle.agent_ask.specs.TurnParts.{Asks, Changes, Closes}
 use Rattle.agent_ask.specs.Parts.{or_else}
-use Rattle.assuan_server.specs.Written.{refusal_line}
+use Rattle.assuan_server.specs.Written.{refusal_line, limit_line}
 use Rattle.agent_ask.specs.Parts as chain
 use Rattle.agent_ask.specs.TurnParts as turning
 use Rattle.key_commands.specs.Passphrases.{PromptsOld, PromptsNew, ClientOld, UncachedOld, OpensLocked, ClientNew, TakesSeat, TriesFound, Locks, ask_key, put_key, way_of}

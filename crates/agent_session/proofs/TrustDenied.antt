@@ -243,7 +243,7 @@ module _ (rules : Rules) (options : OptionValues) where
   asked_heeded : {fingerprint : Grip} {said : Option Bool} {request : TrustRequest} {events : List Event} {went : Went} → ¬ (said ≡ Some true) → IsAsked events request fingerprint said
       → TrustExchange rules options request events went → HasError code.NotTrusted Agent events
   asked_heeded {fingerprint} {events} {went} other asked exchanged =
-      heeded fingerprint asked.file _ (asked_heeds fingerprint asked.file (λ is. other (sym asked.says_so ∙ is))) (subst (λ r. TrustExchange rules options r events went) asked.request_is exchanged)
+      heeded fingerprint asked.file (IsTrusted fingerprint) (asked_heeds fingerprint asked.file (λ is. other (sym asked.says_so ∙ is))) (subst (λ r. TrustExchange rules options r events went) asked.request_is exchanged)
       asked.is_read
 
   pub denial_is_said : {request : TrustRequest} {events : List Event} {went : Went} → TrustExchange rules options request events went → IsNotTrusted events request
@@ -251,5 +251,5 @@ module _ (rules : Rules) (options : OptionValues) where
   denial_is_said exchanged (unsaid asked) = asked_heeded (λ is. absurd (cc is)) asked exchanged
   denial_is_said exchanged (denied asked) = asked_heeded (λ is. absurd (cc is)) asked exchanged
   denial_is_said {events} {went} exchanged (denied_mark {fingerprint} {purpose} {file} marked) =
-      heeded fingerprint file _ (marked_heeds fingerprint file rules options purpose marked.name.items marked.says_so)
+      heeded fingerprint file (MarkTrusted fingerprint purpose marked.name) (marked_heeds fingerprint file rules options purpose marked.name.items marked.says_so)
       (subst (λ r. TrustExchange rules options r events went) marked.request_is exchanged) marked.is_read

@@ -134,6 +134,6 @@ told_gone rules options request {how} (refused events back why does closes) says
     let refusal : why ≡ Client (unheard.Gone how) = cc same in
     ap (λ w. went_after (gone_by w)) refusal
 
-pub trust_gone : {rules : Rules} {options : OptionValues} (request : TrustRequest) {events : List Event} {went : Went} {how : Gone} → TrustExchange rules options request events went
+pub trust_gone : (rules : Rules) (options : OptionValues) (request : TrustRequest) {events : List Event} {went : Went} {how : Gone} → TrustExchange rules options request events went
     → IsSaid events (unheard.Gone how) → went ≡ End (end_of how)
-trust_gone {rules} {options} request exchanged = told_gone rules options request (told rules options request exchanged)
+trust_gone rules options request exchanged = told_gone rules options request (told rules options request exchanged)

@@ -1,6 +1,7 @@
 -- Worked exchanges: whose their passphrases are, and what stands after a refusal.
 use Rattle.std.specs.Prelude.{⊤, take, drop}
 use Rattle.std.proofs.Common.{◌≡◌, ◌≤◌, ℕ, false, true, List, [], ◌∷◌, ◌++◌, length, Some, None, Ok, Err, refl, sym, subst, arith, codes}
+use Rattle.agent_ask.specs.PartExchanges as part_exchanges
 use Rattle.agent_ask.specs.Events.{PromptEvent, Start, GetPin, Shut, Called}
 use Rattle.agent_ask.specs.Further.{FurtherEvent, Prompt, Replaced}
 use Rattle.agent_ask.specs.Plans.{IsSpec, plan_of}
@@ -200,4 +201,4 @@ module _ (rules : Rules) (options : OptionValues) (wrap wrapped : List ℕ) (key
 
   -- the passphrase stays under the nonce, and nothing is kept for the key
   import_stores : ImportCourse (imports ++ Sent (failed code.General) ∷ [])
-  import_stores = import_exchange rules options wraps (on.ImportKey true (Some nonce)) refl (key_exchange.KeyExchange.refused imports None (Agent code.General) import_fails turning.unheld)
+  import_stores = import_exchange rules options wraps (on.ImportKey true (Some nonce)) refl (part_exchanges.refused imports None (Agent code.General) import_fails turning.unheld)
