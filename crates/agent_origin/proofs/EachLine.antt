@@ -25,6 +25,7 @@ use Rattle.agent_commands.specs.declared.request.Texts.{Texts}
 use Rattle.agent_commands.specs.declared.went.Went.{Went}
 use Rattle.arrayvec.specs.ArrayVec.{ArrayVec}
 use Rattle.assuan_server.specs.Clients.{session_lines}
+use Rattle.cache_policy.specs.declared.secret.TheConstants.{MAX_SECRET_LEN}
 use Rattle.cache_policy.specs.declared.life.Life.{Life}
 use Rattle.cache_policy.specs.declared.mark.MarkStep.{MarkStep}
 use Rattle.session_client.specs.declared.code.Code.TheVariants as code
@@ -57,7 +58,7 @@ module _ (Is : Event → Type 0) (every : (event : Event) → IsBesideTrust even
   inquires_of word most before events result after (not_given is) = (every _ tt, tt)
 
   asks_client : EachSo Is AsksPassphrase
-  asks_client = each_bind Is (record { of = writes_of limit_line }) (λ told. record { of = inquires_of _ _ })
+  asks_client = each_bind Is (record { of = writes_of (limit_line MAX_SECRET_LEN) }) (λ told. record { of = inquires_of _ _ })
 
   -- ---- prompts
 

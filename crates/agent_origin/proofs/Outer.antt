@@ -42,6 +42,7 @@ use Rattle.session_client.specs.declared.code.Code.TheVariants as code
 use Rattle.session_client.specs.declared.refusal.Refusal.{Refusal}
 use Rattle.session_client.specs.declared.refusal.Refusal.TheVariants.{Agent}
 use Rattle.session_client.specs.declared.unheard.Gone.{Gone}
+use Rattle.cache_policy.specs.declared.secret.TheConstants.{MAX_SECRET_LEN}
 use Rattle.cache_policy.specs.declared.mark.MarkStep.TheVariants.{Seat}
 use Rattle.session_options.specs.declared.options.OptionAnswer.{OptionAnswer}
 use Rattle.session_options.specs.declared.options.OptionAnswer.TheVariants as option
@@ -158,7 +159,7 @@ seats_of events result after opened later owes = owes
 seats_of events result after (interrupted by) later owes = unseated by owes
 
 asks_client : (held : Option ℕ) → Leaves held AsksPassphrase
-asks_client held = bind (record { of = writes_of held limit_line }) (λ told mid. record { of = inquires_of mid _ _ })
+asks_client held = bind (record { of = writes_of held (limit_line MAX_SECRET_LEN) }) (λ told mid. record { of = inquires_of mid _ _ })
 
 -- ---- passphrases that aren't cached
 
