@@ -3,7 +3,7 @@ use Rattle.std.proofs.Common.{◌≡◌, ℕ, Bool, true, false, not, cond, List
 use Rattle.std.specs.Prelude.{codes}
 use Rattle.std.specs.Str.{str_eq_ignore_ascii_case}
 use Rattle.agent_ask.specs.Further.{FurtherEvent}
-use Rattle.agent_ask.specs.SessionEvents.{Sent}
+use Rattle.agent_ask.specs.SessionEvents.{turns_in}
 use Rattle.agent_commands.specs.Events.{EventWith}
 use Rattle.agent_ask.specs.Plans.{text}
 use Rattle.agent_commands.specs.Names.{commands as cache_commands, prompt_commands, command_named as cache_command_named, is_key_command}
@@ -15,22 +15,24 @@ use Rattle.agent_ports.specs.declared.grip.Grip.{Grip}
 use Rattle.arrayvec.specs.ArrayVec.{ArrayVec}
 use Rattle.session_client.specs.declared.code.Code.{Code}
 use Rattle.session_client.specs.declared.code.Code.TheVariants.{UnknownCommand}
+use Rattle.session_client.specs.declared.code.Code.TheVariants as code
 use Rattle.assuan_text.specs.Options.{options_of, arguments_of, has_option}
 use Rattle.assuan_text.specs.Rows.{found_in_any_case}
 use Rattle.assuan_text.specs.Words.{command_of, rest_of, words}
+use Rattle.key_commands.specs.Events.{Event}
 use Rattle.key_commands.specs.Exchanges.{KeyExchange, KeyReply, KeyReplies, HaveKeyReplies, KeyInfoReplies}
-use Rattle.agent_ask.specs.PartExchanges.{answered, refused}
 use Rattle.key_commands.specs.KeyParts.{HasOne, is_key, faulty, no_memory as no_key_memory, unread}
 use Rattle.key_commands.specs.Names.{commands_on_keys, key_command_named}
-use Rattle.agent_ask.specs.Parts.{goes_on, stops, returns, refuses}
-use Rattle.key_commands.specs.Parts.{Finds, found, absent, faulted, no_memory}
-use Rattle.agent_ask.specs.TurnParts.{peeked, interrupted, Closes, unheld, closed}
-use Rattle.assuan_server.specs.Written.{refusal_line}
+use Rattle.agent_ask.specs.Parts.{goes_on, stops, returns, unless}
+use Rattle.key_commands.specs.Parts.{Part, Finds, found, absent, faulted, no_memory}
+use Rattle.agent_ask.specs.TurnParts.{peeked, interrupted}
+use Rattle.cache_policy.specs.Extending.{Taken}
 use Rattle.key_commands.specs.Requests.{key_or_bad, some_grips, first_grip, key_request_by, key_request_of}
 use Rattle.session_client.specs.Fields.{◌>>=◌, in_form}
 use Rattle.key_commands.specs.declared.names.KeyCommandName.{KeyCommandName}
 use Rattle.key_commands.specs.declared.names.KeyCommandName.TheVariants as name
 use Rattle.session_client.specs.declared.refusal.Refusal.{Refusal}
+use Rattle.session_client.specs.declared.refusal.Refusal.TheVariants.{Agent}
 use Rattle.key_commands.specs.declared.request.KeyRequest.{KeyRequest}
 use Rattle.key_commands.specs.declared.request.KeyRequest.TheVariants.{HaveKey, KeyInfo, ListKeys, KeyWrap, ImportKey, ExportKey, Passwd, DeleteKey, Bad}
 use Rattle.key_commands.specs.declared.went.KeyWent.{KeyWent}
@@ -38,57 +40,44 @@ use Rattle.key_commands.specs.declared.wrap_keys.WrapKeys.{WrapKeys}
 use Rattle.session_options.specs.OptionValues.{OptionValues}
 use Rattle.session_options.specs.declared.rules.Rules.{Rules}
 use Rattle.agent_origin.specs.Doors.{key_rules, trust_rules, rule_named, passes, passes_by, allowed}
-use Rattle.agent_origin.specs.OuterTurns.{no_turns, peeks, LeavesCache}
+use Rattle.agent_origin.specs.OuterTurns.{peeks, LeavesCache}
 use Rattle.agent_origin.specs.declared.door.Door.TheVariants.{Outer}
 use Rattle.agent_origin.specs.declared.door.Rule.{Rule}
 use Rattle.agent_origin.specs.declared.door.Rule.TheVariants.{Always, OneKey, Never}
-use Rattle.agent_origin.proofs.Outer.{leaves_then, said_leaves, found_mapped, found_joined, cache_rule, request_is}
+use Rattle.agent_origin.proofs.Outer.{Owes, Leaves, bind, returned, refused_by, parts_leave, found_mapped, found_joined, cache_rule, request_is}
 
 -- ---- what is done
 
--- it leaves the cache, and the request holds the ticket that it held before, if any
-abbrev Leaves : Option ℕ → Option ℕ → List (EventWith FurtherEvent) → Type 0
-Leaves held after events = LeavesCache events × (after ≡ held)
+finds_of : (grip : Grip) (held : Option ℕ) (events : List Event) (result : Result Bool Refusal) (after : Option ℕ) → Finds grip held events result after → (later : List Taken) → Owes after later
+    → Owes held (turns_in events ++ later)
+finds_of grip held events result after found later owes = owes
+finds_of grip held events result after absent later owes = owes
+finds_of grip held events result after faulted later owes = owes
+finds_of grip held events result after no_memory later owes = owes
 
-finds_leave : (grip : Grip) (held after : Option ℕ) (events : List (EventWith FurtherEvent)) (result : Result Bool Refusal) → Finds grip held events result after → Leaves held after events
-finds_leave grip held after events result found = (no_turns, refl)
-finds_leave grip held after events result absent = (no_turns, refl)
-finds_leave grip held after events result faulted = (no_turns, refl)
-finds_leave grip held after events result no_memory = (no_turns, refl)
+unless_leaves : (there : Bool) {held : Option ℕ} {other : Part (Unit {0})} → Leaves held other → Leaves held (unless there other)
+unless_leaves true other = returned tt
+unless_leaves false other = other
 
-one_leaves : (grips : List Grip) (held after : Option ℕ) (events : List (EventWith FurtherEvent)) (result : Result (Unit {0}) Refusal) → HasOne grips held events result after → Leaves held after events
-one_leaves [] held after events result refuses = (no_turns, refl)
-one_leaves (grip ∷ more) held after events result (goes_on {first} {events = others} {value = true} {mid} finds returns) =
-    let one = finds_leave grip held mid first _ finds in
-    (leaves_then first [] one.0 no_turns, one.1)
-one_leaves (grip ∷ more) held after events result (goes_on {first} {events = others} {value = false} {mid} finds later) =
-    let one = finds_leave grip held mid first _ finds in
-    let rest = one_leaves more mid after others result later in
-    (leaves_then first others one.0 rest.0, rest.1 ∙ one.1)
-one_leaves (grip ∷ more) held after events result (stops finds) = finds_leave grip held after events _ finds
-
-closes_leave : (held after : Option ℕ) (back : List (EventWith FurtherEvent)) (result : Result (Unit {0}) Refusal) → held ≡ None → Closes None held back result after → LeavesCache back
-closes_leave held after back result is unheld = no_turns
-closes_leave held after back result is (closed turn) = cc is
+one_leaves : (grips : List Grip) (held : Option ℕ) → Leaves held (HasOne grips)
+one_leaves [] held = refused_by (Agent code.NoSecKey)
+one_leaves (grip ∷ more) held = bind (record { of = finds_of grip held }) (λ there mid. unless_leaves there (one_leaves more mid))
 
 module _ (agent : Rules) (options : OptionValues) (wraps : WrapKeys) where
-  have_leaves : (grips : List Grip) (held after : Option ℕ) (events : List (EventWith FurtherEvent)) (result : Result KeyReply Refusal) → HaveKeyReplies agent options wraps grips held events result after
-      → Leaves held after events
+  have_leaves : (grips : List Grip) → Leaves None (HaveKeyReplies agent options wraps grips)
   unfolding HaveKeyReplies
-  have_leaves grips held after events result (goes_on {first} {mid} one returns) =
-      let leaves = one_leaves grips held mid first _ one in
-      (leaves_then first [] leaves.0 no_turns, leaves.1)
-  have_leaves grips held after events result (stops one) = one_leaves grips held after events _ one
+  have_leaves grips = bind (one_leaves grips None) (λ one mid. returned _)
 
-  info_leaves : (grip : Grip) (held after : Option ℕ) (events : List (EventWith FurtherEvent)) (result : Result KeyReply Refusal) → KeyInfoReplies agent options wraps grip held events result after
-      → Leaves held after events
+  -- no ticket is held by who looks whether a passphrase is cached
+  info_of : (grip : Grip) (events : List Event) (result : Result KeyReply Refusal) (after : Option ℕ) → KeyInfoReplies agent options wraps grip None events result after → (later : List Taken) → Owes after later
+      → Owes None (turns_in events ++ later)
   unfolding KeyInfoReplies
-  info_leaves grip held after events result (goes_on (is_key file says) (goes_on (goes_on peeked returns) returns)) = (peeks no_turns, refl)
-  info_leaves grip held after events result (goes_on (is_key file says) (stops (stops (interrupted by)))) = (peeks no_turns, refl)
-  info_leaves grip held after events result (goes_on (is_key file says) (stops (goes_on asks never))) = elim never [ ]
-  info_leaves grip held after events result (stops (faulty file says)) = (no_turns, refl)
-  info_leaves grip held after events result (stops (no_key_memory file)) = (no_turns, refl)
-  info_leaves grip held after events result (stops (unread is)) = (no_turns, refl)
+  info_of grip events result after (goes_on (is_key file says) (goes_on (goes_on peeked returns) returns)) later owes = peeks owes
+  info_of grip events result after (goes_on (is_key file says) (stops (stops (interrupted by)))) later owes = peeks owes
+  info_of grip events result after (goes_on (is_key file says) (stops (goes_on asks never))) later owes = elim never [ ]
+  info_of grip events result after (stops (faulty file says)) later owes = owes
+  info_of grip events result after (stops (no_key_memory file)) later owes = owes
+  info_of grip events result after (stops (unread is)) later owes = owes
 
   abbrev IsOuterKey : KeyRequest → Type 0
   IsOuterKey (HaveKey grips) = Unit {0}
@@ -96,26 +85,16 @@ module _ (agent : Rules) (options : OptionValues) (wraps : WrapKeys) where
   IsOuterKey (Bad code) = Unit {0}
   IsOuterKey _ = ⊥
 
-  replies_leave : (request : KeyRequest) → IsOuterKey request → (held after : Option ℕ) (events : List (EventWith FurtherEvent)) (result : Result KeyReply Refusal)
-      → KeyReplies agent options wraps request held events result after → Leaves held after events
-  replies_leave (HaveKey grips) outer held after events result does = have_leaves grips held after events result does
-  replies_leave (KeyInfo grip) outer held after events result does = info_leaves grip held after events result does
-  replies_leave (Bad code) outer held after events result refuses = (no_turns, refl)
-  replies_leave ListKeys outer held after events result does = absurd outer
-  replies_leave (KeyWrap way) outer held after events result does = absurd outer
-  replies_leave (ImportKey force nonce) outer held after events result does = absurd outer
-  replies_leave (ExportKey grip nonce) outer held after events result does = absurd outer
-  replies_leave (Passwd grip old new verify) outer held after events result does = absurd outer
-  replies_leave (DeleteKey grip force) outer held after events result does = absurd outer
-
-  exchange_leaves : (request : KeyRequest) → IsOuterKey request → {events : List (EventWith FurtherEvent)} {after : WrapKeys} {went : KeyWent} → KeyExchange agent options wraps request events after went
-      → LeavesCache events
-  exchange_leaves request outer (answered events held reply {back} does gives) =
-      let leaves = replies_leave request outer None held events _ does in
-      leaves_then events _ leaves.0 (leaves_then back (Sent reply.text ∷ []) (closes_leave held None back _ leaves.1 gives) no_turns)
-  exchange_leaves request outer (refused events held why {back} does gives) =
-      let leaves = replies_leave request outer None held events _ does in
-      leaves_then events _ leaves.0 (leaves_then back _ (closes_leave held None back _ leaves.1 gives) (said_leaves _ _ _ (refusal_line why)))
+  key_replies_leave : (request : KeyRequest) → IsOuterKey request → Leaves None (KeyReplies agent options wraps request)
+  key_replies_leave (HaveKey grips) outer = have_leaves grips
+  key_replies_leave (KeyInfo grip) outer = record { of = info_of grip }
+  key_replies_leave (Bad code) outer = refused_by (Agent code)
+  key_replies_leave ListKeys outer = absurd outer
+  key_replies_leave (KeyWrap way) outer = absurd outer
+  key_replies_leave (ImportKey force id) outer = absurd outer
+  key_replies_leave (ExportKey grip id) outer = absurd outer
+  key_replies_leave (Passwd grip old new verify) outer = absurd outer
+  key_replies_leave (DeleteKey grip force) outer = absurd outer
 
 -- ---- lines
 
@@ -195,4 +174,5 @@ module _ (agent : Rules) (options : OptionValues) (wraps : WrapKeys) (line : Lis
       → KeyExchange agent options wraps (key_request_of line) events after went → LeavesCache events
   unfolding key_request_of
   key_leaves allows handed key exchanged =
-      exchange_leaves agent options wraps (key_request_by (key_command_named (command_of line)) line) (named_outer (key_command_named (command_of line)) refl (other_command line handed key) allows) exchanged
+      parts_leave
+      (key_replies_leave agent options wraps (key_request_by (key_command_named (command_of line)) line) (named_outer (key_command_named (command_of line)) refl (other_command line handed key) allows)) exchanged
