@@ -40,6 +40,7 @@ use Rattle.agent_session.proofs.TrustTold.{Told, answered, refused, told}
 use Rattle.agent_ask.specs.ConsentParts.{AgreesTo}
 use Rattle.assuan_server.specs.Clients.{session_lines}
 use Rattle.agent_ask.specs.TurnParts.{Closes}
+use Rattle.agent_origin.specs.declared.trust.request.TrustRequest.TheVariants.{IsTrusted, MarkTrusted}
 
 -- no call of the trust file is among events that are beside it
 pub none_called : (events : List Event) → AllByRecursion IsBesideTrust events → {call : TrustCall} → Has (trust_called call) events → ⊥
