@@ -35,6 +35,7 @@ mod Opens
 mod OwnCache
 mod OwnFacts
 mod OwnKeys
+mod OwnKeyLines
 mod OwnLines
 mod OwnParts
 pub mod OwnSessions

@@ -1,6 +1,7 @@
 -- To whom a passphrase is written: each line of a request on the cache or on the session has no passphrase in it, or it has the one that the request itself
--- asked for: what the cache gave to its own question, what its own prompt accepted, or what its own client gave. This is the project's own.
-use Rattle.std.specs.Prelude.{◌≡◌, ℕ, List, ◌∷◌, ◌++◌, Some}
+-- asked for: what the cache gave to its own question, what its own prompt accepted, or what its own client gave. No line of a request on keys has one. This is the
+-- project's own.
+use Rattle.std.specs.Prelude.{◌≡◌, ℕ, Bool, List, ◌∷◌, ◌++◌, drop, Option, Some}
 use Rattle.agent_ask.specs.Further.{FurtherEvent}
 use Rattle.agent_ask.specs.SessionEvents.{Sent, cache_turn}
 use Rattle.assuan_server.specs.Errors.{error_text}
@@ -17,8 +18,19 @@ use Rattle.agent_commands.specs.Requests.{GetFields, get_passphrase}
 use Rattle.agent_commands.specs.declared.request.Info.{Info}
 use Rattle.agent_commands.specs.declared.request.Request.{Request}
 use Rattle.agent_commands.specs.declared.request.Request.TheVariants.{Cache}
+use Rattle.agent_ports.specs.declared.grip.Grip.{Grip}
+use Rattle.assuan_escape.specs.Escapes.{hex_text}
+use Rattle.assuan_server.specs.Written.{IsDataAnswer}
+use Rattle.sexp_keys.specs.Key.{Key}
+use Rattle.key_commands.specs.Exchanges.{wrap_key}
+use Rattle.key_commands.specs.Lines.{info_line, nonce_line}
+use Rattle.key_commands.specs.Wrapping.{wrapped_key}
+use Rattle.key_commands.specs.declared.request.Direction.{Direction}
+use Rattle.key_commands.specs.declared.request.KeyRequest.{KeyRequest}
+use Rattle.key_commands.specs.declared.request.KeyRequest.TheVariants as on
+use Rattle.key_commands.specs.declared.wrap_keys.WrapKeys.{WrapKeys}
 use Rattle.session_options.specs.declared.rules.Rules.{Rules}
-use Rattle.agent_session.specs.Causes.{Has, IsSent}
+use Rattle.agent_session.specs.Causes.{Has, IsSent, IsDrawn}
 use Rattle.agent_session.specs.OwnPassphrases.{IsAccepted}
 use Rattle.key_commands.specs.Lines.{IsNotice}
 
@@ -47,3 +59,27 @@ module _ (request : Request) (before : List (EventWith FurtherEvent)) where
 -- so of each line that is written for a request
 abbrev pub SaysOwnAlone : Rules → Request → List (EventWith FurtherEvent) → Type 0
 SaysOwnAlone rules request events = (before later : List (EventWith FurtherEvent)) (text : List ℕ) → events ≡ before ++ Sent text ∷ later → SaysOwn request before rules text
+
+-- ---- requests on keys, none of whose lines has a passphrase in it
+
+module _ (wraps : WrapKeys) (before : List (EventWith FurtherEvent)) where
+  -- the wrapping key of a direction: the one that the session keeps, or else one that the request drew
+  pub data IsWrapKey (way : Direction) (key : List ℕ) : Type 0 where
+    kept : wrap_key way wraps ≡ Some key → IsWrapKey way key
+    drew : IsDrawn before 16 key → IsWrapKey way key
+
+  -- what such a request is told
+  pub data TellsOfKeys (rules : Rules) (asked : KeyRequest) : List ℕ → Type 0 where
+    plain : {text : List ℕ} → IsPublic rules text → TellsOfKeys rules asked text
+    -- what is known of a key
+    known : {grip : Grip} {cached clear : Bool} → asked ≡ on.KeyInfo grip → TellsOfKeys rules asked (info_line grip cached clear ++ ok)
+    -- the nonce that was drawn for it
+    drawn : {force : Bool} {id : Option (List ℕ)} {bytes : List ℕ} → asked ≡ on.ImportKey force id → IsDrawn before 32 bytes → TellsOfKeys rules asked (nonce_line (hex_text (drop 20 bytes)) ++ ok)
+    -- the wrapping key of its session, and a key that this one wrapped
+    wrap : {way : Direction} {key text : List ℕ} → asked ≡ on.KeyWrap way → IsWrapKey way key → IsDataAnswer key text → TellsOfKeys rules asked text
+    wrapped : {grip : Grip} {id : Option (List ℕ)} {by text : List ℕ} {key : Key} → asked ≡ on.ExportKey grip id → wraps.export ≡ Some by → IsDataAnswer (wrapped_key by key) text → TellsOfKeys rules asked text
+
+-- so of each line that is written for it
+abbrev pub TellsOfKeysAlone : Rules → WrapKeys → KeyRequest → List (EventWith FurtherEvent) → Type 0
+TellsOfKeysAlone rules wraps asked events =
+    (before later : List (EventWith FurtherEvent)) (text : List ℕ) → events ≡ before ++ Sent text ∷ later → TellsOfKeys wraps before rules asked text

@@ -1,0 +1,183 @@
+-- No line of a request on keys has a passphrase in it: what is written before its reply are notices, and the reply is one of these.
+use Rattle.std.specs.List.{AllByRecursion}
+use Rattle.std.specs.Prelude.{⊤, drop}
+use Rattle.std.proofs.Common.{◌≡◌, ℕ, Bool, true, false, List, [], ◌∷◌, ◌++◌, Option, Some, None, Result, Ok, Err, refl, sym, ap, ◌∙◌, subst, append-nil, append_assoc}
+use Rattle.std.specs.Option.{option_map}
+use Rattle.agent_ask.specs.Further.{Further, Trust, FurtherEvent}
+use Rattle.agent_ask.specs.PartExchanges.{answered, refused}
+use Rattle.agent_ask.specs.Parts.{goes_on, returns, needed, or_else}
+use Rattle.agent_ask.specs.SessionEvents.{Received, Sent, Cut, Inquiry, CacheTurn, said_last}
+use Rattle.agent_ask.specs.SessionEvents as events
+use Rattle.agent_ask.specs.TurnParts.{Closes, unheld, closed}
+use Rattle.agent_ports.specs.declared.grip.Grip.{Grip}
+use Rattle.assuan_server.specs.Written.{failed, refusal_line}
+use Rattle.assuan_server.specs.declared.errors.Origin.TheVariants as origin
+use Rattle.session_client.specs.Refusals.{refusal_code}
+use Rattle.session_client.specs.declared.code.Code.{Code}
+use Rattle.session_client.specs.declared.refusal.Refusal.{Refusal}
+use Rattle.session_client.specs.declared.refusal.Refusal.TheVariants.{Agent, Pinentry, Client}
+use Rattle.session_options.specs.OptionValues.{OptionValues}
+use Rattle.session_options.specs.declared.rules.Rules.{Rules}
+use Rattle.sexp_keys.specs.Key.{Key}
+use Rattle.key_commands.specs.Events.{Event}
+use Rattle.key_commands.specs.Exchanges.{KeyExchange, KeyReply, KeyReplies, HaveKeyReplies, KeyInfoReplies, ListKeysReplies, KeyWrapReplies, ImportKeyReplies, ExportKeyReplies, PasswdReplies, VerifyReplies}
+use Rattle.key_commands.specs.Exchanges.{DeleteKeyReplies, wrap_key, StoresKey}
+use Rattle.key_commands.specs.KeyParts.{tells, is_wrapped}
+use Rattle.key_commands.specs.Lines.{IsNotice}
+use Rattle.key_commands.specs.Parts.{Draws}
+use Rattle.key_commands.specs.Parts as parts
+use Rattle.key_commands.specs.declared.request.Direction.{Direction}
+use Rattle.key_commands.specs.declared.request.KeyRequest.{KeyRequest}
+use Rattle.key_commands.specs.declared.request.KeyRequest.TheVariants as on
+use Rattle.key_commands.specs.declared.went.KeyWent.{KeyWent}
+use Rattle.key_commands.specs.declared.wrap_keys.WrapKeys.{WrapKeys}
+use Rattle.key_commands.proofs.EachEvent.{each_append}
+use Rattle.key_commands.proofs.EachRequest.{IsKeyWork, replies}
+use Rattle.agent_session.specs.Causes.{here, IsDrawn}
+use Rattle.agent_session.specs.OwnAnswers.{error, done, notice, IsWrapKey, kept, drew, TellsOfKeys, plain, known, drawn, wrap, wrapped, TellsOfKeysAlone}
+use Rattle.agent_session.proofs.OwnFacts.{drawn_more}
+use Rattle.agent_session.proofs.OwnLines.{in_either, in_first, in_second}
+use Rattle.agent_session.proofs.Standing.{has_right, each_right}
+
+-- ---- what is written before the reply
+
+abbrev IsNoted : Event → Type 0
+IsNoted (Sent text) = IsNotice text
+IsNoted _ = ⊤
+
+work_noted : (event : Event) → IsKeyWork event → IsNoted event
+work_noted (Sent text) work = work
+work_noted (Received took) work = tt
+work_noted (Cut text) work = tt
+work_noted (Inquiry word params limit inquired) work = tt
+work_noted (CacheTurn taken) work = tt
+work_noted (events.Further what) work = tt
+
+back_noted : {held : Option ℕ} {back : List Event} → Closes None held back (Ok tt) None → AllByRecursion IsNoted back
+back_noted unheld = tt
+back_noted (closed turn) = (tt, tt)
+
+-- ---- what was drawn
+
+drawn_by : {count : ℕ} {before after : Option ℕ} {more : List Event} {bytes : List ℕ} → Draws count before more (Ok bytes) after → IsDrawn more count bytes
+drawn_by (parts.drawn long) = record { long = long; has = here }
+
+drawn_behind : (first : List Event) {more : List Event} {count : ℕ} {bytes : List ℕ} → IsDrawn more count bytes → IsDrawn (first ++ more) count bytes
+drawn_behind first drawn_so = record { long = drawn_so.long; has = has_right first drawn_so.has }
+
+module _ (rules : Rules) (options : OptionValues) (wraps : WrapKeys) where
+  -- ---- the reply
+
+  wrap_of : (way : Direction) (had : Option (List ℕ)) → wrap_key way wraps ≡ had → {before after : Option ℕ} {more : List Event} {key : List ℕ} → or_else had (Draws 16) before more (Ok key) after
+      → IsWrapKey wraps more way key
+  wrap_of way None is draws = drew (drawn_by draws)
+  wrap_of way (Some key) is returns = kept is
+
+  there_is : {why : Code} (found : Option (List ℕ)) {before after : Option ℕ} {more : List Event} {value : List ℕ} → needed why found before more (Ok value) after → found ≡ Some value
+  there_is (Some value) returns = refl
+  there_is None does = elim does [ ]
+
+  more_wrap : {way : Direction} {key : List ℕ} {some : List Event} (more : List Event) → IsWrapKey wraps some way key → IsWrapKey wraps (some ++ more) way key
+  more_wrap more (kept is) = kept is
+  more_wrap more (drew drawn_so) = drew (drawn_more more drawn_so)
+
+  -- the nonce of a key that was stored is what was drawn for it
+  stored_nonce : (count : ℕ) (key : Key) (grip : Grip) (pass : List ℕ) {before after : Option ℕ} {more : List Event} {nonce : List ℕ} → StoresKey count key grip pass before more (Ok nonce) after
+      → (bytes : List ℕ) × IsDrawn more 32 bytes × (nonce ≡ drop 20 bytes)
+  stored_nonce count key grip pass (goes_on {value = bytes} draws (goes_on protects (goes_on puts (goes_on replaces (goes_on keeps returns))))) = (bytes, drawn_more _ (drawn_by draws), refl)
+
+  module _ {more : List Event} {reply : KeyReply} {held : Option ℕ} where
+    have_key : (grips : List Grip) → HaveKeyReplies rules options wraps grips None more (Ok reply) held → TellsOfKeys wraps more rules (on.HaveKey grips) reply.text
+    unfolding HaveKeyReplies
+    have_key grips (goes_on has returns) = plain done
+
+    key_info : (grip : Grip) → KeyInfoReplies rules options wraps grip None more (Ok reply) held → TellsOfKeys wraps more rules (on.KeyInfo grip) reply.text
+    unfolding KeyInfoReplies
+    key_info grip (goes_on reads (goes_on (goes_on peeks returns) returns)) = known refl
+
+    list_keys : ListKeysReplies rules options wraps None more (Ok reply) held → TellsOfKeys wraps more rules on.ListKeys reply.text
+    unfolding ListKeysReplies
+    list_keys (goes_on lists (goes_on writes returns)) = plain done
+
+    key_wrap : (way : Direction) → KeyWrapReplies rules options wraps way None more (Ok reply) held → TellsOfKeys wraps more rules (on.KeyWrap way) reply.text
+    unfolding KeyWrapReplies
+    key_wrap way (goes_on draws (goes_on (tells data_so) returns)) = wrap refl (more_wrap _ (wrap_of way (wrap_key way wraps) refl draws)) data_so
+
+    import_key : (force : Bool) (id : Option (List ℕ)) → ImportKeyReplies rules options wraps force id None more (Ok reply) held → TellsOfKeys wraps more rules (on.ImportKey force id) reply.text
+    unfolding ImportKeyReplies
+    import_key force id (goes_on {first = a} wants (goes_on {first = b} receives (goes_on {first = c} names (goes_on {first = d} free (goes_on {first = e} finds (goes_on {first = f} stores returns)))))) =
+        let found = stored_nonce _ _ _ _ stores in
+        rw found.2 (drawn refl (drawn_behind a (drawn_behind b (drawn_behind c (drawn_behind d (drawn_behind e (drawn_more _ found.1)))))))
+
+    export_key : (grip : Grip) (id : Option (List ℕ)) → ExportKeyReplies rules options wraps grip id None more (Ok reply) held → TellsOfKeys wraps more rules (on.ExportKey grip id) reply.text
+    unfolding ExportKeyReplies
+    export_key grip id (goes_on wants (goes_on reads (goes_on opens (goes_on closes (goes_on is_wrapped (goes_on (tells data_so) returns)))))) = wrapped refl (there_is wraps.export wants) data_so
+
+    passwd : (grip : Grip) (id new_id : Option (List ℕ)) → PasswdReplies rules options wraps grip id new_id None more (Ok reply) held → TellsOfKeys wraps more rules (on.Passwd grip id new_id false) reply.text
+    unfolding PasswdReplies
+    passwd grip id new_id (goes_on reads (goes_on opens (goes_on changes returns))) = plain done
+
+    verify : (grip : Grip) (id new_id : Option (List ℕ)) → VerifyReplies rules options wraps grip None more (Ok reply) held → TellsOfKeys wraps more rules (on.Passwd grip id new_id true) reply.text
+    unfolding VerifyReplies
+    verify grip id new_id (goes_on reads (goes_on opens (goes_on closes returns))) = plain done
+
+    delete_key : (force : Bool) (grip : Grip) → DeleteKeyReplies rules options wraps force grip None more (Ok reply) held → TellsOfKeys wraps more rules (on.DeleteKey grip force) reply.text
+    unfolding DeleteKeyReplies
+    delete_key force grip (goes_on finds (goes_on there (goes_on agrees (goes_on removes (goes_on clears returns))))) = plain done
+
+    reply_of : (asked : KeyRequest) → KeyReplies rules options wraps asked None more (Ok reply) held → TellsOfKeys wraps more rules asked reply.text
+    reply_of (on.HaveKey grips) does = have_key grips does
+    reply_of (on.KeyInfo grip) does = key_info grip does
+    reply_of on.ListKeys does = list_keys does
+    reply_of (on.KeyWrap way) does = key_wrap way does
+    reply_of (on.ImportKey force id) does = import_key force id does
+    reply_of (on.ExportKey grip id) does = export_key grip id does
+    reply_of (on.Passwd grip old new true) does = verify grip old new does
+    reply_of (on.Passwd grip old new false) does = passwd grip old new does
+    reply_of (on.DeleteKey grip force) does = delete_key force grip does
+    reply_of (on.Bad why) does = elim does [ ]
+
+  -- ---- the exchange
+
+  module _ (asked : KeyRequest) where
+    more_told : {some : List Event} {text : List ℕ} (more : List Event) → TellsOfKeys wraps some rules asked text → TellsOfKeys wraps (some ++ more) rules asked text
+    more_told more (plain public) = plain public
+    more_told more (known is) = known is
+    more_told more (drawn is drawn_so) = drawn is (drawn_more more drawn_so)
+    more_told more (wrap is wraps_so data_so) = wrap is (more_wrap more wraps_so) data_so
+    more_told more (wrapped is there data_so) = wrapped is there data_so
+
+    noted_told : (some : List Event) → AllByRecursion IsNoted some → TellsOfKeysAlone rules wraps asked some
+    noted_told some each front later text is = plain (notice ((each_right IsNoted front (Sent text ∷ later) (subst (AllByRecursion IsNoted) is each)).0))
+
+    last_told : (first : List Event) (text : List ℕ) → AllByRecursion IsNoted first → TellsOfKeys wraps first rules asked text → TellsOfKeysAlone rules wraps asked (first ++ Sent text ∷ [])
+    last_told first text each tells_so front later said is =
+        elim (in_either first (Sent text ∷ []) front (Sent said) later is) [
+          | in_first rest here_is ↦ noted_told first each front rest said here_is
+          | in_second rest there here_is ↦ subst (λ f. TellsOfKeys wraps f rules asked said) (sym there) (at_last rest here_is)
+        ]
+      where
+        at_last : (rest : List Event) → Sent text ∷ [] ≡ rest ++ Sent said ∷ later → TellsOfKeys wraps (first ++ rest) rules asked said
+        at_last [] here_is = let same : text ≡ said = cc here_is in subst (λ t. TellsOfKeys wraps (first ++ []) rules asked t) same (more_told [] tells_so)
+        at_last (event ∷ []) here_is = cc here_is
+        at_last (event ∷ second ∷ rest) here_is = cc here_is
+
+    code_told : (first : List Event) (why : Option Code) → AllByRecursion IsNoted first → TellsOfKeysAlone rules wraps asked (first ++ said_last (option_map failed why))
+    code_told first None each = subst (TellsOfKeysAlone rules wraps asked) (sym (append-nil first)) (noted_told first each)
+    code_told first (Some why) each = last_told first (failed why) each (plain (error why origin.Agent))
+
+    refusal_told : (first : List Event) (why : Refusal) → AllByRecursion IsNoted first → TellsOfKeysAlone rules wraps asked (first ++ said_last (refusal_line why))
+    refusal_told first (Agent why) each = last_told first _ each (plain (error why origin.Agent))
+    refusal_told first (Pinentry why) each = last_told first _ each (plain (error why origin.Pinentry))
+    refusal_told first (Client why) each = code_told first (refusal_code why) each
+
+    noted : {some : List Event} {result : Result KeyReply Refusal} {held : Option ℕ} → KeyReplies rules options wraps asked None some result held → AllByRecursion IsNoted some
+    noted {some} {result} {held} does = (replies IsNoted work_noted rules options wraps asked).of None some result held does
+
+    pub keys_told : {some : List Event} {after : WrapKeys} {went : KeyWent} → KeyExchange rules options wraps asked some after went → TellsOfKeysAlone rules wraps asked some
+    keys_told (answered some held reply {back} does closes) =
+        subst (TellsOfKeysAlone rules wraps asked) (append_assoc some back (Sent reply.text ∷ []))
+        (last_told (some ++ back) reply.text (each_append IsNoted some back (noted does) (back_noted closes)) (more_told back (reply_of asked does)))
+    keys_told (refused some held why {back} does closes) =
+        subst (TellsOfKeysAlone rules wraps asked) (append_assoc some back (said_last (refusal_line why)))
+        (refusal_told (some ++ back) why (each_append IsNoted some back (noted does) (back_noted closes)))
