@@ -3,7 +3,6 @@ use Rattle.std.specs.List.{AllByRecursion}
 use Rattle.std.specs.Prelude.{⊤, drop}
 use Rattle.std.proofs.Common.{◌≡◌, ℕ, Bool, true, false, List, [], ◌∷◌, ◌++◌, Option, Some, None, Result, Ok, Err, refl, sym, ap, ◌∙◌, subst, append-nil, append_assoc}
 use Rattle.std.specs.Option.{option_map}
-use Rattle.agent_ask.specs.Further.{Further, Trust, FurtherEvent}
 use Rattle.agent_ask.specs.PartExchanges.{answered, refused}
 use Rattle.agent_ask.specs.Parts.{goes_on, returns, needed, or_else}
 use Rattle.agent_ask.specs.SessionEvents.{Received, Sent, Cut, Inquiry, CacheTurn, said_last}
@@ -68,14 +67,14 @@ drawn_behind first drawn_so = record { long = drawn_so.long; has = has_right fir
 module _ (rules : Rules) (options : OptionValues) (wraps : WrapKeys) where
   -- ---- the reply
 
-  wrap_of : (way : Direction) (had : Option (List ℕ)) → wrap_key way wraps ≡ had → {before after : Option ℕ} {more : List Event} {key : List ℕ} → or_else had (Draws 16) before more (Ok key) after
+  wrap_of : (way : Direction) (had : Option (List ℕ)) → wrap_key way wraps ≡ had → (before after : Option ℕ) {more : List Event} {key : List ℕ} → or_else had (Draws 16) before more (Ok key) after
       → IsWrapKey wraps more way key
-  wrap_of way None is draws = drew (drawn_by draws)
-  wrap_of way (Some key) is returns = kept is
+  wrap_of way None is before after draws = drew (drawn_by draws)
+  wrap_of way (Some key) is before after returns = kept is
 
-  there_is : {why : Code} (found : Option (List ℕ)) {before after : Option ℕ} {more : List Event} {value : List ℕ} → needed why found before more (Ok value) after → found ≡ Some value
-  there_is (Some value) returns = refl
-  there_is None does = elim does [ ]
+  there_is : (why : Code) (found : Option (List ℕ)) (before after : Option ℕ) (more : List Event) {value : List ℕ} → needed why found before more (Ok value) after → found ≡ Some value
+  there_is why (Some value) before after more returns = refl
+  there_is why None before after more does = elim does [ ]
 
   more_wrap : {way : Direction} {key : List ℕ} {some : List Event} (more : List Event) → IsWrapKey wraps some way key → IsWrapKey wraps (some ++ more) way key
   more_wrap more (kept is) = kept is
@@ -93,7 +92,7 @@ module _ (rules : Rules) (options : OptionValues) (wraps : WrapKeys) where
 
     key_info : (grip : Grip) → KeyInfoReplies rules options wraps grip None more (Ok reply) held → TellsOfKeys wraps more rules (on.KeyInfo grip) reply.text
     unfolding KeyInfoReplies
-    key_info grip (goes_on reads (goes_on (goes_on peeks returns) returns)) = known refl
+    key_info grip (goes_on {value = file} reads (goes_on (goes_on {value = is_cached} peeks returns) returns)) = known is_cached file.key.is_clear refl
 
     list_keys : ListKeysReplies rules options wraps None more (Ok reply) held → TellsOfKeys wraps more rules on.ListKeys reply.text
     unfolding ListKeysReplies
@@ -101,7 +100,7 @@ module _ (rules : Rules) (options : OptionValues) (wraps : WrapKeys) where
 
     key_wrap : (way : Direction) → KeyWrapReplies rules options wraps way None more (Ok reply) held → TellsOfKeys wraps more rules (on.KeyWrap way) reply.text
     unfolding KeyWrapReplies
-    key_wrap way (goes_on draws (goes_on (tells data_so) returns)) = wrap refl (more_wrap _ (wrap_of way (wrap_key way wraps) refl draws)) data_so
+    key_wrap way (goes_on draws (goes_on (tells data_so) returns)) = wrap refl (more_wrap _ (wrap_of way (wrap_key way wraps) refl _ _ draws)) data_so
 
     import_key : (force : Bool) (id : Option (List ℕ)) → ImportKeyReplies rules options wraps force id None more (Ok reply) held → TellsOfKeys wraps more rules (on.ImportKey force id) reply.text
     unfolding ImportKeyReplies
@@ -111,7 +110,7 @@ module _ (rules : Rules) (options : OptionValues) (wraps : WrapKeys) where
 
     export_key : (grip : Grip) (id : Option (List ℕ)) → ExportKeyReplies rules options wraps grip id None more (Ok reply) held → TellsOfKeys wraps more rules (on.ExportKey grip id) reply.text
     unfolding ExportKeyReplies
-    export_key grip id (goes_on wants (goes_on reads (goes_on opens (goes_on closes (goes_on is_wrapped (goes_on (tells data_so) returns)))))) = wrapped refl (there_is wraps.export wants) data_so
+    export_key grip id (goes_on wants (goes_on reads (goes_on opens (goes_on closes (goes_on is_wrapped (goes_on (tells data_so) returns)))))) = wrapped refl (there_is _ wraps.export _ _ _ wants) data_so
 
     passwd : (grip : Grip) (id new_id : Option (List ℕ)) → PasswdReplies rules options wraps grip id new_id None more (Ok reply) held → TellsOfKeys wraps more rules (on.Passwd grip id new_id false) reply.text
     unfolding PasswdReplies
@@ -142,7 +141,7 @@ module _ (rules : Rules) (options : OptionValues) (wraps : WrapKeys) where
   module _ (asked : KeyRequest) where
     more_told : {some : List Event} {text : List ℕ} (more : List Event) → TellsOfKeys wraps some rules asked text → TellsOfKeys wraps (some ++ more) rules asked text
     more_told more (plain public) = plain public
-    more_told more (known is) = known is
+    more_told more (known is_cached clear is) = known is_cached clear is
     more_told more (drawn is drawn_so) = drawn is (drawn_more more drawn_so)
     more_told more (wrap is wraps_so data_so) = wrap is (more_wrap more wraps_so) data_so
     more_told more (wrapped is there data_so) = wrapped is there data_so
@@ -171,13 +170,13 @@ module _ (rules : Rules) (options : OptionValues) (wraps : WrapKeys) where
     refusal_told first (Pinentry why) each = last_told first _ each (plain (error why origin.Pinentry))
     refusal_told first (Client why) each = code_told first (refusal_code why) each
 
-    noted : {some : List Event} {result : Result KeyReply Refusal} {held : Option ℕ} → KeyReplies rules options wraps asked None some result held → AllByRecursion IsNoted some
-    noted {some} {result} {held} does = (replies IsNoted work_noted rules options wraps asked).of None some result held does
+    noted : (some : List Event) (result : Result KeyReply Refusal) (held : Option ℕ) → KeyReplies rules options wraps asked None some result held → AllByRecursion IsNoted some
+    noted some result held does = (replies IsNoted work_noted rules options wraps asked).of None some result held does
 
     pub keys_told : {some : List Event} {after : WrapKeys} {went : KeyWent} → KeyExchange rules options wraps asked some after went → TellsOfKeysAlone rules wraps asked some
     keys_told (answered some held reply {back} does closes) =
         subst (TellsOfKeysAlone rules wraps asked) (append_assoc some back (Sent reply.text ∷ []))
-        (last_told (some ++ back) reply.text (each_append IsNoted some back (noted does) (back_noted closes)) (more_told back (reply_of asked does)))
+        (last_told (some ++ back) reply.text (each_append IsNoted some back (noted some (Ok reply) held does) (back_noted closes)) (more_told back (reply_of asked does)))
     keys_told (refused some held why {back} does closes) =
         subst (TellsOfKeysAlone rules wraps asked) (append_assoc some back (said_last (refusal_line why)))
-        (refusal_told (some ++ back) why (each_append IsNoted some back (noted does) (back_noted closes)))
+        (refusal_told (some ++ back) why (each_append IsNoted some back (noted some (Err why) held does) (back_noted closes)))

@@ -1,7 +1,6 @@
 -- Worked exchanges: whose their passphrases are, and what stands after a refusal.
 use Rattle.std.specs.Prelude.{⊤, take, drop}
 use Rattle.std.proofs.Common.{◌≡◌, ◌≤◌, ℕ, false, true, List, [], ◌∷◌, ◌++◌, length, Some, None, Ok, Err, refl, sym, subst, arith, codes}
-use Rattle.agent_ask.specs.PartExchanges as part_exchanges
 use Rattle.agent_ask.specs.Events.{PromptEvent, Start, GetPin, Shut, Called}
 use Rattle.agent_ask.specs.Further.{FurtherEvent, Prompt, Replaced}
 use Rattle.agent_ask.specs.Plans.{IsSpec, plan_of}

@@ -72,7 +72,7 @@ module _ (wraps : WrapKeys) (before : List (EventWith FurtherEvent)) where
   pub data TellsOfKeys (rules : Rules) (asked : KeyRequest) : List ℕ → Type 0 where
     plain : {text : List ℕ} → IsPublic rules text → TellsOfKeys rules asked text
     -- what is known of a key
-    known : {grip : Grip} {cached clear : Bool} → asked ≡ on.KeyInfo grip → TellsOfKeys rules asked (info_line grip cached clear ++ ok)
+    known : {grip : Grip} (is_cached clear : Bool) → asked ≡ on.KeyInfo grip → TellsOfKeys rules asked (info_line grip is_cached clear ++ ok)
     -- the nonce that was drawn for it
     drawn : {force : Bool} {id : Option (List ℕ)} {bytes : List ℕ} → asked ≡ on.ImportKey force id → IsDrawn before 32 bytes → TellsOfKeys rules asked (nonce_line (hex_text (drop 20 bytes)) ++ ok)
     -- the wrapping key of its session, and a key that this one wrapped
