@@ -31,7 +31,7 @@ use Rattle.agent_commands.specs.declared.request.Texts.{Texts}
 use Rattle.key_commands.specs.Events.{Event}
 use Rattle.agent_session.proofs.PromptWorks.{pin_works, pin_comes, agrees_to}
 use Rattle.agent_session.proofs.Works as work
-use Rattle.agent_session.proofs.Works.{Works, works, WorksSo, keeps_works, bind, returned, refuses_by, is_needed, or_otherwise, is_wanted, turns_of}
+use Rattle.agent_session.proofs.Works.{WorksTo, works, WorksSo, keeps_works, bind, returned, refuses_by, is_needed, or_otherwise, is_wanted, turns_of}
 
 -- each event of such a part is fit, but that a passphrase is put
 pub record FitsCache (Fits : Event → Type 0) : Type 0 where
@@ -81,7 +81,7 @@ module _ {Fits : Event → Type 0} (fits : FitsCache Fits) where
 
   module _ (rules : Rules) (options : OptionValues) where
     prompts_any_of : {texts : Texts} {check quality : Bool} {repeat : ℕ} {before after : Option ℕ} {events : List Event} {result : Result (List ℕ) Refusal}
-        → PromptsAny rules options texts check quality repeat before events result after → Works Fits events result
+        → PromptsAny rules options texts check quality repeat before events result after → WorksTo Fits events result
     prompts_any_of (passphrases.given spec is prompt) = pin_works Fits fits.calls fits.notes prompt.asks refl prompt.in_session
     prompts_any_of (passphrases.refused {answer} spec is prompt other refusal) = pin_works Fits fits.calls fits.notes prompt.asks (pin_comes answer refusal) prompt.in_session
 
@@ -98,7 +98,7 @@ module _ {Fits : Event → Type 0} (fits : FitsCache Fits) where
     presets id life secret stores =
         bind Fits (is_wanted Fits code.NotSupported rules.allow_preset) (λ allowed. bind Fits (or_otherwise Fits secret asks_passphrase) (λ given. changes _ refl (stores given)))
 
-    tells_info_of : {what : Info} {before after : Option ℕ} {events : List Event} {result : Result (List ℕ) Refusal} → TellsInfo rules what before events result after → Works Fits events result
+    tells_info_of : {what : Info} {before after : Option ℕ} {events : List Event} {result : Result (List ℕ) Refusal} → TellsInfo rules what before events result after → WorksTo Fits events result
     tells_info_of (exchanges.tells is) = works Fits tt
 
     pub tells_info : (what : Info) → Here (TellsInfo rules what)

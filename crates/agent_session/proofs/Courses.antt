@@ -36,7 +36,7 @@ use Rattle.agent_session.specs.Refusals as course
 use Rattle.agent_session.proofs.Explained.{has_split}
 use Rattle.agent_session.proofs.Replying.{IsReply, begins}
 use Rattle.agent_session.proofs.Standing.{each_has}
-use Rattle.agent_session.proofs.Works.{unsaid, unheard_by, lost_goes, GoesOn, WorkEnd, no_more, refused, lost, forgot, Works, ok_works, err_works, WorksSo}
+use Rattle.agent_session.proofs.Works.{unsaid, unheard_by, lost_goes, GoesOn, WorkEnd, no_more, refused, lost, forgot, WorksTo, ok_works, err_works, WorksSo}
 
 -- ---- answers
 
@@ -126,7 +126,7 @@ module _ (Fits : Event → Type 0) where
     | inr behind_it ↦ says_so says behind_it
   ]
 
-  pub works_said : {A : Type 0} {events : List Event} {result : Result A Refusal} {why : Unheard} → Works Fits events result → IsSaid events why → ComesTo why result
+  pub works_said : {A : Type 0} {events : List Event} {result : Result A Refusal} {why : Unheard} → WorksTo Fits events result → IsSaid events why → ComesTo why result
   works_said {why} does says = work_said does.end (said_behind does.work does.last does.each (subst (λ e. IsSaid e why) does.is says))
 
 module _ (request : Request) where
@@ -159,7 +159,7 @@ module _ (request : Request) where
     pub each : AllByRecursion Fine work
     pub end : RequestEnd last result held
 
-  pub working_ends : {A : Type 0} {events : List Event} {result : Result A Refusal} {held : Option ℕ} → Works (IsAllowed request) events result → Ends events result held
+  pub working_ends : {A : Type 0} {events : List Event} {result : Result A Refusal} {held : Option ℕ} → WorksTo (IsAllowed request) events result → Ends events result held
   working_ends does = record { work = does.work; last = does.last; is = does.is; each = does.each; end = working does.end }
 
   -- nothing is left of the work

@@ -36,7 +36,7 @@ use Rattle.agent_session.proofs.AtOnce.{LooksAlone, answers, interrupted, looked
 use Rattle.agent_session.proofs.CacheWorks.{FitsCache, wants_prompt, changes, by_cache, without_prompt, prompts_any, confirmed, presets, tells_info}
 use Rattle.agent_session.proofs.ExactParts.{Deciding, IsDecided, NoneDue, NoneOwed, Heeds, refuses_due, IsSaidAlone, free, said_alone, fits_cache, never_ok, error_said}
 use Rattle.agent_session.proofs.Works as work
-use Rattle.agent_session.proofs.Works.{Works, works, WorksSo, returned, or_otherwise}
+use Rattle.agent_session.proofs.Works.{WorksTo, works, WorksSo, returned, or_otherwise}
 
 -- the request is refused by this, which is due before all else
 abbrev pub option_due : OptionAnswer → Code → Type 0
@@ -79,7 +79,7 @@ module _ (deciding : Deciding) where
 
   -- ---- requests
 
-  tells_of : {plain : Bool} {secret : List ℕ} {before after : Option ℕ} {events : List Event} {result : Result (List ℕ) Refusal} → TellsPassphrase plain secret before events result after → Works Alone events result
+  tells_of : {plain : Bool} {secret : List ℕ} {before after : Option ℕ} {events : List Event} {result : Result (List ℕ) Refusal} → TellsPassphrase plain secret before events result after → WorksTo Alone events result
   tells_of (exchanges.tells is) = works Alone tt
 
   option_answered : (answer : OptionAnswer) (values : OptionValues) → Heeds deciding (option_due answer) (option_replies answer values) NoneOwed

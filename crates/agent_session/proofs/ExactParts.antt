@@ -37,7 +37,7 @@ use Rattle.agent_session.proofs.CacheWorks.{FitsCache}
 use Rattle.agent_session.proofs.Explained.{has_split}
 use Rattle.agent_session.proofs.KeyWorks.{FitsKeys}
 use Rattle.agent_session.proofs.Standing.{each_left, each_right, each_has, has_right}
-use Rattle.agent_session.proofs.Works.{unsaid, unheard_by, GoesOn, WorkEnd, no_more, refused, lost, forgot, Works, WorksSo, returned, shuts_fit}
+use Rattle.agent_session.proofs.Works.{unsaid, unheard_by, GoesOn, WorkEnd, no_more, refused, lost, forgot, WorksTo, WorksSo, returned, shuts_fit}
 
 -- the bytes of a key that a client sent, the reads of a key's file, the removals of one, and the calls of the trust file by which a request is refused by a code
 pub record Deciding : Type 1 where
@@ -193,7 +193,7 @@ module _ (deciding : Deciding) where
           | inr has ↦ end_says why so.end (each_right Remembers so.work so.last (subst (AllByRecursion Remembers) so.is remembers)) (record { event = decided.event; has = has; decides = decided.decides })
         ]
       where
-        so : Works IsSaidAlone events result
+        so : WorksTo IsSaidAlone events result
         so = work.of does
 
     -- a part that is work of such events

@@ -39,7 +39,7 @@ use Rattle.agent_session.proofs.ExactParts.{Deciding, IsDecided, never_decided, 
 use Rattle.agent_session.proofs.PromptWorks.{agrees_to}
 use Rattle.agent_session.proofs.Standing.{each_left}
 use Rattle.agent_session.proofs.Works as work
-use Rattle.agent_session.proofs.Works.{Works, works, one_works, refused_by, WorksSo, Keeps, keeps_works, returned, refuses_by, turns_of}
+use Rattle.agent_session.proofs.Works.{WorksTo, works, one_works, refused_by, WorksSo, Keeps, keeps_works, returned, refuses_by, turns_of}
 use Rattle.agent_session.proofs.TrustTold.{Told, told}
 use Rattle.agent_session.proofs.TrustTold as telling
 use Rattle.agent_ask.specs.ConsentParts.{AgreesTo}
@@ -92,7 +92,7 @@ BySaid = by_said None
 reads_so : Keeps (Alone BySaid) ReadsFile
 reads_so _ _ _ _ (parts.has_read {answer} is) = (has_read answer is, refl)
   where
-    has_read : (answer : TrustRead) {file : List ℕ} → file_in answer ≡ Some file → Works (Alone BySaid) (trust_called (Read answer) ∷ []) (Ok file)
+    has_read : (answer : TrustRead) {file : List ℕ} → file_in answer ≡ Some file → WorksTo (Alone BySaid) (trust_called (Read answer) ∷ []) (Ok file)
     has_read (trust_read.Found file) is = one_works (Alone BySaid) (free BySaid) refl refl
     has_read trust_read.Absent is = one_works (Alone BySaid) (free BySaid) refl refl
     has_read trust_read.Failed is = absurd (cc is)

@@ -51,7 +51,7 @@ use Rattle.agent_session.proofs.Courses.{Ends, ends_with, EndsSo, working_ends, 
 use Rattle.agent_session.proofs.KeyWorks.{FitsKeys, looks_nonce, old_here, verified_here, new_here, consents, tells_info, writes_infos, has_one}
 use Rattle.agent_session.proofs.Replying.{ends_in_ok, reply_keys}
 use Rattle.agent_session.proofs.Works as work
-use Rattle.agent_session.proofs.Works.{Works, works, ok_works, err_works, behind_work, WorksSo, Keeps, keeps_works, bind, returned, refuses_by, is_needed, or_otherwise, is_unless, is_wanted, turns_of}
+use Rattle.agent_session.proofs.Works.{WorksTo, works, ok_works, err_works, behind_work, WorksSo, Keeps, keeps_works, bind, returned, refuses_by, is_needed, or_otherwise, is_unless, is_wanted, turns_of}
 
 module _ (request : Request) where
   abbrev Fits : Event → Type 0
@@ -100,7 +100,7 @@ module _ (request : Request) where
   -- ---- files that are changed
 
   module _ (grip : Grip) (file pass : List ℕ) where
-    not_done : {A : Type 0} (answer : KeyDone) {why : Code} → parts.change_fault answer ≡ Some why → Works Fits {A = A} (Further (Keys (Replaced grip file answer)) ∷ []) (Err (Agent why))
+    not_done : {A : Type 0} (answer : KeyDone) {why : Code} → parts.change_fault answer ≡ Some why → WorksTo Fits {A = A} (Further (Keys (Replaced grip file answer)) ∷ []) (Err (Agent why))
     not_done answer is = work.not_replaced Fits tt answer (λ given other. other) is
 
     replaces_so_of : (before : Option ℕ) {after : Option ℕ} {events : List Event} {result : Result (Unit {0}) Refusal} → (Replaces grip file >>= λ replaced. KeepsNew grip pass) before events result after

@@ -31,7 +31,7 @@ use Rattle.key_commands.specs.Passphrases.{AsksSecret, PromptsOld, PromptsNew, C
 use Rattle.key_commands.specs.Passphrases as passphrases
 use Rattle.agent_session.proofs.PromptWorks.{pin_works, pin_comes, agrees_to}
 use Rattle.agent_session.proofs.Works as work
-use Rattle.agent_session.proofs.Works.{Works, works, ok_works, err_works, behind_work, WorksSo, Keeps, keeps_works, bind, returned, refuses_by, is_needed, or_otherwise, is_unless, is_wanted, turns_of}
+use Rattle.agent_session.proofs.Works.{WorksTo, works, ok_works, err_works, behind_work, WorksSo, Keeps, keeps_works, bind, returned, refuses_by, is_needed, or_otherwise, is_unless, is_wanted, turns_of}
 
 -- each event of such a part is fit, but that a passphrase is put for a key
 pub record FitsKeys (Fits : Event → Type 0) : Type 0 where
@@ -65,11 +65,11 @@ module _ {Fits : Event → Type 0} (fits : FitsKeys Fits) where
   -- ---- prompts
 
   module _ (rules : Rules) (options : OptionValues) (grip : Grip) where
-    prompts_old_of : {locked : LockedKey} {before after : Option ℕ} {events : List Event} {result : Result _ Refusal} → PromptsOld rules options grip locked before events result after → Works Fits events result
+    prompts_old_of : {locked : LockedKey} {before after : Option ℕ} {events : List Event} {result : Result _ Refusal} → PromptsOld rules options grip locked before events result after → WorksTo Fits events result
     prompts_old_of (passphrases.opens_by spec is prompt to) = pin_works Fits fits.calls fits.notes prompt.asks refl prompt.in_session
     prompts_old_of (passphrases.refused {answer} spec is prompt refusal) = pin_works Fits fits.calls fits.notes prompt.asks (pin_comes answer refusal) prompt.in_session
 
-    prompts_new_of : {before after : Option ℕ} {events : List Event} {result : Result (List ℕ) Refusal} → PromptsNew rules options grip before events result after → Works Fits events result
+    prompts_new_of : {before after : Option ℕ} {events : List Event} {result : Result (List ℕ) Refusal} → PromptsNew rules options grip before events result after → WorksTo Fits events result
     prompts_new_of (passphrases.given spec is prompt) = pin_works Fits fits.calls fits.notes prompt.asks refl prompt.in_session
     prompts_new_of (passphrases.refused {answer} spec is prompt refusal) = pin_works Fits fits.calls fits.notes prompt.asks (pin_comes answer refusal) prompt.in_session
 
@@ -129,7 +129,7 @@ module _ {Fits : Event → Type 0} (fits : FitsKeys Fits) where
   info_fits : (grip : Grip) (key : Key) {before mid : Option ℕ} {events : List Event} {line : List ℕ} → TellsKeyInfo grip key before events (Ok line) mid → Fits (Sent line)
   info_fits grip key (goes_on looked returns) = fits.infos grip _ _
 
-  writes_info_of : (grip : Grip) (key : Option Key) (before : Option ℕ) (events : List Event) (result : Result (Unit {0}) Refusal) (after : Option ℕ) → WritesInfo grip key before events result after → Works Fits events result
+  writes_info_of : (grip : Grip) (key : Option Key) (before : Option ℕ) (events : List Event) (result : Result (Unit {0}) Refusal) (after : Option ℕ) → WritesInfo grip key before events result after → WorksTo Fits events result
   writes_info_of grip None before events result after returns = works Fits tt
   writes_info_of grip (Some key) before events result after (goes_on {first} tells_so writes_so) =
       behind_work Fits first (ok_works Fits ((tells_info grip key).of tells_so)) ((so (work.writes Fits fits.cut (info_fits grip key tells_so))).of writes_so)

@@ -54,10 +54,10 @@ mod TrustTold
 mod TrustEnds
 mod TrustExplained
 mod TrustGone
-mod Works
 mod Uncaused
 mod WorkedExact
 mod WorkedExamples
 mod WorkedLink
 mod WorkedPassphrases
 mod WorkedRuns
+mod Works

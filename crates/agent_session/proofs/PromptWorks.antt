@@ -39,7 +39,7 @@ use Rattle.session_options.specs.declared.rules.Rules.{Rules}
 use Rattle.key_commands.specs.Events.{Event}
 use Rattle.key_commands.proofs.EachEvent.{each_append}
 use Rattle.agent_session.specs.Refusals.{call_refuses}
-use Rattle.agent_session.proofs.Works.{unsaid, GoesOn, refused, lost, Works, works, WorksSo}
+use Rattle.agent_session.proofs.Works.{unsaid, GoesOn, refused, lost, WorksTo, works, WorksSo}
 
 -- ---- single events
 
@@ -209,52 +209,52 @@ module _ (Fits : Event → Type 0) (calls : (event : PromptEvent) → Fits (Furt
   shut_goes = (calls _, refl, refl)
 
   module _ {A : Type 0} where
-    shut_works : {result : Result A Refusal} {shown : List Event} → Split (Called Shut ∷ []) shown → Works Fits shown result
+    shut_works : {result : Result A Refusal} {shown : List Event} → Split (Called Shut ∷ []) shown → WorksTo Fits shown result
     shut_works (split work each (session.called session.none)) = works Fits (each_append (GoesOn Fits) work _ each (shut_goes, tt))
 
     call_works : (call : Call) (work : List Event) {why : Refusal} (stop : Option Code) → call_refuses call ≡ stop → option_map Agent stop ≡ Some why → AllByRecursion (GoesOn Fits) work
-        → Works Fits {A = A} (work ++ Further (Prompt (Called call)) ∷ Further (Prompt (Called Shut)) ∷ []) (Err why)
+        → WorksTo Fits {A = A} (work ++ Further (Prompt (Called call)) ∷ Further (Prompt (Called Shut)) ∷ []) (Err why)
     call_works call work None same is each = absurd (cc is)
     call_works call work (Some given) same is each =
         let why_is : Agent given ≡ _ = cc is in
-        subst (λ w. Works Fits {A = A} (work ++ Further (Prompt (Called call)) ∷ Further (Prompt (Called Shut)) ∷ []) (Err w)) why_is
+        subst (λ w. WorksTo Fits {A = A} (work ++ Further (Prompt (Called call)) ∷ Further (Prompt (Called Shut)) ∷ []) (Err w)) why_is
         (record { work = work; last = _; is = refl; each = each; end = refused (calls _) same })
 
     note_works : (pid : ℕ) (inquired : _) (work : List Event) (heard : Heard) {why : Refusal} (said : Option Unheard) → SaysNote (without_data (said_by session_lines inquired)) heard → unheard_of heard ≡ said
-        → option_map Client said ≡ Some why → AllByRecursion (GoesOn Fits) work → Works Fits {A = A} (work ++ session.note pid inquired ∷ Further (Prompt (Called Shut)) ∷ []) (Err why)
+        → option_map Client said ≡ Some why → AllByRecursion (GoesOn Fits) work → WorksTo Fits {A = A} (work ++ session.note pid inquired ∷ Further (Prompt (Called Shut)) ∷ []) (Err why)
     note_works pid inquired work heard None says same is each = absurd (cc is)
     note_works pid inquired work heard (Some given) says same is each =
         let why_is : Client given ≡ _ = cc is in
-        subst (λ w. Works Fits {A = A} (work ++ session.note pid inquired ∷ Further (Prompt (Called Shut)) ∷ []) (Err w)) why_is
+        subst (λ w. WorksTo Fits {A = A} (work ++ session.note pid inquired ∷ Further (Prompt (Called Shut)) ∷ []) (Err w)) why_is
         (record { work = work; last = _; is = refl; each = each; end = lost (notes _ inquired) (note_lost (said_by session_lines inquired) heard says same) (shut_goes, tt) })
 
-    stop_works : (event : PromptEvent) {why : Refusal} {shown : List Event} → prompt_stops event ≡ Some why → Split (event ∷ Called Shut ∷ []) shown → Works Fits {A = A} shown (Err why)
+    stop_works : (event : PromptEvent) {why : Refusal} {shown : List Event} → prompt_stops event ≡ Some why → Split (event ∷ Called Shut ∷ []) shown → WorksTo Fits {A = A} shown (Err why)
     stop_works OutOfMemory is (split work each (session.out_of_memory (session.called session.none))) =
         let why_is : Agent code.NoMemory ≡ _ = cc is in
-        subst (λ w. Works Fits {A = A} (work ++ Further (Prompt OutOfMemory) ∷ Further (Prompt (Called Shut)) ∷ []) (Err w)) why_is
+        subst (λ w. WorksTo Fits {A = A} (work ++ Further (Prompt OutOfMemory) ∷ Further (Prompt (Called Shut)) ∷ []) (Err w)) why_is
         (record { work = work; last = _; is = refl; each = each; end = refused {why = code.NoMemory} (calls _) refl })
     stop_works (Called call) is (split work each (session.called (session.called session.none))) = call_works call work (call_refuses call) refl is each
     stop_works (Notified pid heard) is (split work each (session.noted {inquired} says (session.called session.none))) = note_works pid inquired work heard (unheard_of heard) says refl is each
 
     prompt_works : {events : List PromptEvent} {stop : Option Refusal} {result : Result A Refusal} {shown : List Event} → GoesOrStops events stop → ComesBy stop result
-        → AnyInSession session_lines (events ++ Called Shut ∷ []) shown → Works Fits shown result
+        → AnyInSession session_lines (events ++ Called Shut ∷ []) shown → WorksTo Fits shown result
     prompt_works (goes {events} each) by in_session = shut_works (split_shown events (Called Shut ∷ []) each in_session)
     prompt_works {result} {shown} (stops work event each is) by in_session =
-        subst (λ r. Works Fits shown r) (refused_so result by)
+        subst (λ r. WorksTo Fits shown r) (refused_so result by)
         (stop_works event is (split_shown work (event ∷ Called Shut ∷ []) each (subst (λ p. AnyInSession session_lines p shown) (append_assoc work (event ∷ []) (Called Shut ∷ [])) in_session)))
 
     pub pin_works : {spec : PromptSpec} {plan : AskPlan} {Rule : List ℕ → Type 0} {prompt : List PromptEvent} {end : Asked} {result : Result A Refusal} {shown : List Event} → AsksPin spec plan Rule prompt end
-        → ComesBy (pin_stop end) result → AnyInSession session_lines prompt shown → Works Fits shown result
+        → ComesBy (pin_stop end) result → AnyInSession session_lines prompt shown → WorksTo Fits shown result
     pin_works {shown} asks by in_session = prompt_works (before_goes asks.asks) by (subst (λ p. AnyInSession session_lines p shown) asks.whole in_session)
 
     pub consent_works : {spec : PromptSpec} {notify : _} {prompt : List PromptEvent} {end : Agreed} {result : Result A Refusal} {shown : List Event} → AsksConsent spec notify prompt end
-        → ComesBy (consent_stop end) result → AnyInSession session_lines prompt shown → Works Fits shown result
+        → ComesBy (consent_stop end) result → AnyInSession session_lines prompt shown → WorksTo Fits shown result
     consent_works {shown} asks by in_session = prompt_works (consent_goes asks.asks) by (subst (λ p. AnyInSession session_lines p shown) asks.whole in_session)
 
   -- ---- consent
 
   agrees_of : {rules : Rules} {options : OptionValues} {question : List ℕ} {before after : Option ℕ} {events : List Event} {result : Result (Unit {0}) Refusal}
-      → AgreesTo session_lines rules options question before events result after → Works Fits events result
+      → AgreesTo session_lines rules options question before events result after → WorksTo Fits events result
   agrees_of (consenting.consents spec is prompt) = consent_works prompt.asks refl prompt.in_session
   agrees_of (consenting.refused {answer} spec is prompt refusal) = consent_works prompt.asks (consent_comes answer refusal) prompt.in_session
 

@@ -90,14 +90,14 @@ module _ (Fits : Event → Type 0) where
     -- too much was said, and there was no memory for it
     forgot : {event : Event} → Fits event → unheard_by event ≡ Some unheard.TooMuch → Fits out_of_memory → WorkEnd (event ∷ out_of_memory ∷ []) (Err (Agent code.NoMemory))
 
-  pub record Works {A : Type 0} (events : List Event) (result : Result A Refusal) : Type 0 where
+  pub record WorksTo {A : Type 0} (events : List Event) (result : Result A Refusal) : Type 0 where
     pub work : List Event
     pub last : List Event
     pub is : events ≡ work ++ last
     pub each : AllByRecursion GoesOn work
     pub end : WorkEnd last result
 
-  pub works : {A : Type 0} {events : List Event} {result : Result A Refusal} → AllByRecursion GoesOn events → Works events result
+  pub works : {A : Type 0} {events : List Event} {result : Result A Refusal} → AllByRecursion GoesOn events → WorksTo events result
   works {events} each = record { work = events; last = []; is = sym (append-nil events); each = each; end = no_more }
 
   ok_last : {A : Type 0} {last : List Event} {value : A} → WorkEnd last (Ok value) → last ≡ []
@@ -109,14 +109,14 @@ module _ (Fits : Event → Type 0) where
   err_last (lost fits is each) = lost fits is each
   err_last (forgot fits is memory) = forgot fits is memory
 
-  pub ok_works : {A : Type 0} {events : List Event} {value : A} → Works events (Ok value) → AllByRecursion GoesOn events
+  pub ok_works : {A : Type 0} {events : List Event} {value : A} → WorksTo events (Ok value) → AllByRecursion GoesOn events
   ok_works does = subst (AllByRecursion GoesOn) (sym (does.is ∙ ap (λ l. does.work ++ l) (ok_last does.end) ∙ append-nil does.work)) does.each
 
-  pub err_works : {A B : Type 0} {events : List Event} {why : Refusal} → Works {A = A} events (Err why) → Works {A = B} events (Err why)
+  pub err_works : {A B : Type 0} {events : List Event} {why : Refusal} → WorksTo {A = A} events (Err why) → WorksTo {A = B} events (Err why)
   err_works does = record { work = does.work; last = does.last; is = does.is; each = does.each; end = err_last does.end }
 
   -- behind other work
-  pub behind_work : {A : Type 0} {result : Result A Refusal} {events : List Event} (first : List Event) → AllByRecursion GoesOn first → Works events result → Works (first ++ events) result
+  pub behind_work : {A : Type 0} {result : Result A Refusal} {events : List Event} (first : List Event) → AllByRecursion GoesOn first → WorksTo events result → WorksTo (first ++ events) result
   behind_work first each does = record {
     work = first ++ does.work;
     last = does.last;
@@ -126,13 +126,13 @@ module _ (Fits : Event → Type 0) where
   }
 
   -- one event alone, which goes on, or refuses its request, also behind one that goes on
-  pub one_works : {A : Type 0} {result : Result A Refusal} {event : Event} → Fits event → refuses event ≡ None → unheard_by event ≡ None → Works (event ∷ []) result
+  pub one_works : {A : Type 0} {result : Result A Refusal} {event : Event} → Fits event → refuses event ≡ None → unheard_by event ≡ None → WorksTo (event ∷ []) result
   one_works fits goes heard = works ((fits, goes, heard), tt)
 
-  pub refused_by : {A : Type 0} {event : Event} {why : Code} → Fits event → refuses event ≡ Some why → shuts event ≡ [] → Works {A = A} (event ∷ []) (Err (Agent why))
+  pub refused_by : {A : Type 0} {event : Event} {why : Code} → Fits event → refuses event ≡ Some why → shuts event ≡ [] → WorksTo {A = A} (event ∷ []) (Err (Agent why))
   refused_by {event} fits is alone = record { work = []; last = event ∷ shuts event; is = ap (λ e. event ∷ e) (sym alone); each = tt; end = refused fits is }
 
-  pub refused_second : {A : Type 0} {first event : Event} {why : Code} → GoesOn first → Fits event → refuses event ≡ Some why → shuts event ≡ [] → Works {A = A} (first ∷ event ∷ []) (Err (Agent why))
+  pub refused_second : {A : Type 0} {first event : Event} {why : Code} → GoesOn first → Fits event → refuses event ≡ Some why → shuts event ≡ [] → WorksTo {A = A} (first ∷ event ∷ []) (Err (Agent why))
   refused_second {first} goes fits is alone = behind_work (first ∷ []) (goes, tt) (refused_by fits is alone)
 
   pub shuts_fit : Fits (Further (Prompt (Called Shut))) → (event : Event) → AllByRecursion Fits (shuts event)
@@ -145,7 +145,7 @@ module _ (Fits : Event → Type 0) where
   shuts_fit shut (Inquiry word params limit inquired) = tt
 
   -- all events are so, where the end of a prompt is
-  pub each_fits : {A : Type 0} {events : List Event} {result : Result A Refusal} → Fits (Further (Prompt (Called Shut))) → Works events result → AllByRecursion Fits events
+  pub each_fits : {A : Type 0} {events : List Event} {result : Result A Refusal} → Fits (Further (Prompt (Called Shut))) → WorksTo events result → AllByRecursion Fits events
   each_fits shut does = subst (AllByRecursion Fits) (sym does.is) (each_append Fits does.work does.last (all_fit does.work does.each) (last_fits does.end))
     where
       all_fit : (events : List Event) → AllByRecursion GoesOn events → AllByRecursion Fits events
@@ -161,11 +161,11 @@ module _ (Fits : Event → Type 0) where
   -- ---- parts
 
   pub record WorksSo {A : Type 0} (part : Part A) : Type 0 where
-    pub of : {before after : Option ℕ} {events : List Event} {result : Result A Refusal} → part before events result after → Works events result
+    pub of : {before after : Option ℕ} {events : List Event} {result : Result A Refusal} → part before events result after → WorksTo events result
 
   -- one that leaves the ticket, too
   abbrev pub Kept : {A : Type 0} → Option ℕ → List Event → Result A Refusal → Option ℕ → Type 0
-  Kept before events result after = Works events result × (after ≡ before)
+  Kept before events result after = WorksTo events result × (after ≡ before)
 
   abbrev pub Keeps : {A : Type 0} → Part A → Type 0
   Keeps {A} part = (before : Option ℕ) (events : List Event) (result : Result A Refusal) (after : Option ℕ) → part before events result after → Kept before events result after
@@ -175,7 +175,7 @@ module _ (Fits : Event → Type 0) where
 
   -- a part, and then what follows on its value
   module _ {A B : Type 0} {part : Part A} {next : A → Part B} (first : WorksSo part) (then : (value : A) → WorksSo (next value)) where
-    bind_of : {before after : Option ℕ} {events : List Event} {result : Result B Refusal} → Follows part next before events result after → Works events result
+    bind_of : {before after : Option ℕ} {events : List Event} {result : Result B Refusal} → Follows part next before events result after → WorksTo events result
     bind_of (goes_on {first = some} {value} does next_does) = behind_work some (ok_works (first.of does)) ((then value).of next_does)
     bind_of (stops does) = err_works (first.of does)
 
@@ -222,15 +222,15 @@ module _ (Fits : Event → Type 0) where
   turns_of no_close fits = record { no_close = no_close; fits = fits }
 
   module _ {step : MarkStep} (each : Turns step) where
-    goes_turn : {A : Type 0} {result : Result A Refusal} (turn : Turn) → turn_refuses None turn ≡ None → Works (cache_turn step turn ∷ []) result
+    goes_turn : {A : Type 0} {result : Result A Refusal} (turn : Turn) → turn_refuses None turn ≡ None → WorksTo (cache_turn step turn ∷ []) result
     goes_turn turn is = one_works (each.fits turn) (by_turn step turn each.no_close is) refl
 
-    interrupted_turn : {A : Type 0} {turn : Turn} {why : Code} → Interrupts turn why → Works {A = A} (cache_turn step turn ∷ []) (Err (Agent why))
+    interrupted_turn : {A : Type 0} {turn : Turn} {why : Code} → Interrupts turn why → WorksTo {A = A} (cache_turn step turn ∷ []) (Err (Agent why))
     interrupted_turn turns.refused = refused_by (each.fits _) (by_turn step _ each.no_close refl) refl
     interrupted_turn turns.stopping = goes_turn _ refl
     interrupted_turn turns.late = goes_turn _ refl
 
-    asks_of : {before after : Option ℕ} {events : List Event} {result : Result (Option (List ℕ)) Refusal} → Asks step before events result after → Works events result
+    asks_of : {before after : Option ℕ} {events : List Event} {result : Result (Option (List ℕ)) Refusal} → Asks step before events result after → WorksTo events result
     asks_of taken.given = goes_turn _ refl
     asks_of taken.empty = goes_turn _ refl
     asks_of taken.opened = goes_turn _ refl
@@ -239,7 +239,7 @@ module _ (Fits : Event → Type 0) where
     pub asks : WorksSo (Asks step)
     asks = record { of = asks_of }
 
-    seats_of : {before after : Option ℕ} {events : List Event} {result : Result (Unit {0}) Refusal} → Seats step before events result after → Works events result
+    seats_of : {before after : Option ℕ} {events : List Event} {result : Result (Unit {0}) Refusal} → Seats step before events result after → WorksTo events result
     seats_of taken.opened = goes_turn _ refl
     seats_of (taken.interrupted why) = interrupted_turn why
 
@@ -266,7 +266,7 @@ module _ (Fits : Event → Type 0) where
     looks_over _ _ _ _ (parts.stopping {nonce}) = (goes_turn (each nonce) _ refl, refl)
     looks_over _ _ _ _ (parts.no_memory {nonce}) = (interrupted_turn (each nonce) turns.refused, refl)
 
-  takes_seat_of : (grip : Grip) → Turns (seat_for grip) → (before : Option ℕ) (events : List Event) (result : Result (Unit {0}) Refusal) (after : Option ℕ) → TakesSeat grip before events result after → Works events result
+  takes_seat_of : (grip : Grip) → Turns (seat_for grip) → (before : Option ℕ) (events : List Event) (result : Result (Unit {0}) Refusal) (after : Option ℕ) → TakesSeat grip before events result after → WorksTo events result
   takes_seat_of grip each None events result after does = (seats each).of does
   takes_seat_of grip each (Some ticket) events result after does = (returned tt).of does
 
@@ -274,7 +274,7 @@ module _ (Fits : Event → Type 0) where
   takes_seat grip each = record { of = λ {before} {after} {events} {result} does. takes_seat_of grip each before events result after does }
 
   closes_of : {keep : Option (List ℕ)} → ((ticket : ℕ) (turn : Turn) → Fits (cache_turn (Close ticket keep) turn)) → {before after : Option ℕ} {events : List Event} {result : Result (Unit {0}) Refusal}
-      → Closes keep before events result after → Works events result
+      → Closes keep before events result after → WorksTo events result
   closes_of fits taken.unheld = works tt
   closes_of fits (taken.closed turn) = one_works (fits _ turn) refl refl
 
@@ -282,7 +282,7 @@ module _ (Fits : Event → Type 0) where
   closes_ticket fits = record { of = closes_of fits }
 
   keeps_new_of : (grip : Grip) (pass : List ℕ) → Turns (put_key grip pass) → ((ticket : ℕ) (turn : Turn) → Fits (cache_turn (Close ticket (Some pass)) turn))
-      → (before : Option ℕ) (events : List Event) (result : Result (Unit {0}) Refusal) (after : Option ℕ) → KeepsNew grip pass before events result after → Works events result
+      → (before : Option ℕ) (events : List Event) (result : Result (Unit {0}) Refusal) (after : Option ℕ) → KeepsNew grip pass before events result after → WorksTo events result
   keeps_new_of grip pass puts fits None events result after does = (changes puts None events result after does).0
   keeps_new_of grip pass puts fits (Some ticket) events result after does = closes_of fits does
 
@@ -292,7 +292,7 @@ module _ (Fits : Event → Type 0) where
   -- ---- the client
 
   module _ (cut : (text : List ℕ) → Fits (Cut text)) where
-    cut_works : {A : Type 0} (text : List ℕ) → Works {A = A} (Cut text ∷ []) (Err (Client (unheard.Gone gone.WriteFault)))
+    cut_works : {A : Type 0} (text : List ℕ) → WorksTo {A = A} (Cut text ∷ []) (Err (Client (unheard.Gone gone.WriteFault)))
     cut_works text = record { work = []; last = _; is = refl; each = tt; end = lost (cut text) refl tt }
 
     pub writes : {text : List ℕ} → Fits (Sent text) → Keeps (Writes text)
@@ -300,10 +300,10 @@ module _ (Fits : Event → Type 0) where
     writes fits _ _ _ _ (client.cut unsent is) = (cut_works _, refl)
 
   module _ {word : List ℕ} {limit : ℕ} (asked : (inquired : _) → Fits (Inquiry word [] limit inquired)) where
-    given_works : {A : Type 0} {result : Result A Refusal} {bytes : List ℕ} (inquired : _) → said_by session_lines inquired ≡ Ok bytes → Works (Inquiry word [] limit inquired ∷ []) result
+    given_works : {A : Type 0} {result : Result A Refusal} {bytes : List ℕ} (inquired : _) → said_by session_lines inquired ≡ Ok bytes → WorksTo (Inquiry word [] limit inquired ∷ []) result
     given_works inquired is = one_works (asked inquired) refl (ap unsaid is)
 
-    unheard_works : {A : Type 0} {why : Unheard} (inquired : _) → said_by session_lines inquired ≡ Err why → Works {A = A} (Inquiry word [] limit inquired ∷ []) (Err (Client why))
+    unheard_works : {A : Type 0} {why : Unheard} (inquired : _) → said_by session_lines inquired ≡ Err why → WorksTo {A = A} (Inquiry word [] limit inquired ∷ []) (Err (Client why))
     unheard_works inquired is = record { work = []; last = _; is = refl; each = tt; end = lost (asked inquired) (ap unsaid is) tt }
 
     pub inquires : Keeps (Inquires session_lines word limit)
@@ -314,7 +314,7 @@ module _ (Fits : Event → Type 0) where
     asks_client cut told fits = bind (keeps_works (writes cut fits)) (λ wrote. keeps_works inquires)
 
   module _ (asked : (inquired : _) → Fits (Inquiry (codes "KEYDATA") [] max_key_data inquired)) (memory : Fits out_of_memory) where
-    at_end_works : {A : Type 0} (outcome : Outcome) → IsAtEnd outcome → Works {A = A} (Inquiry (codes "KEYDATA") [] max_key_data (Asked outcome) ∷ out_of_memory ∷ []) (Err (Agent code.NoMemory))
+    at_end_works : {A : Type 0} (outcome : Outcome) → IsAtEnd outcome → WorksTo {A = A} (Inquiry (codes "KEYDATA") [] max_key_data (Asked outcome) ∷ out_of_memory ∷ []) (Err (Agent code.NoMemory))
     at_end_works (outcomes.Data bytes) at_end = refused_second (asked _, refl, refl) memory refl refl
     at_end_works outcomes.TooMuch at_end = record { work = []; last = _; is = refl; each = tt; end = forgot (asked _) refl memory }
     at_end_works outcomes.Cancelled at_end = absurd at_end
@@ -331,7 +331,7 @@ module _ (Fits : Event → Type 0) where
   -- ---- the keys and the dice
 
   module _ (memory : Fits out_of_memory) where
-    pub no_memory : {A : Type 0} → Works {A = A} (out_of_memory ∷ []) (Err (Agent code.NoMemory))
+    pub no_memory : {A : Type 0} → WorksTo {A = A} (out_of_memory ∷ []) (Err (Agent code.NoMemory))
     no_memory = refused_by memory refl refl
 
     pub draws : {count : ℕ} → ((draw : Draw) → Fits (Further (Dice draw))) → Keeps (Draws count)
@@ -351,7 +351,7 @@ module _ (Fits : Event → Type 0) where
       found_read key_read.Failed is = absurd (cc is)
       found_read key_read.NoMemory is = absurd (cc is)
 
-      unread : {A : Type 0} (answer : KeyRead) {why : Code} → read_fault answer ≡ Some why → Works {A = A} (read grip answer ∷ []) (Err (Agent why))
+      unread : {A : Type 0} (answer : KeyRead) {why : Code} → read_fault answer ≡ Some why → WorksTo {A = A} (read grip answer ∷ []) (Err (Agent why))
       unread (key_read.Found bytes) is = absurd (cc is)
       unread key_read.Absent is = one_works (reads _) refl refl
       unread key_read.Failed is = refused_by (reads _) is refl
@@ -383,14 +383,14 @@ module _ (Fits : Event → Type 0) where
     -- a change that isn't done
     pub unchanged : {A : Type 0} (answer : KeyDone) {why : Code} (event : KeyDone → Event) → ((given : KeyDone) → given ≢ key_done.Done → Fits (event given))
         → ((given : KeyDone) → refuses (event given) ≡ change_refuses given) → ((given : KeyDone) → unheard_by (event given) ≡ None) → ((given : KeyDone) → shuts (event given) ≡ [])
-        → change_fault answer ≡ Some why → Works {A = A} (event answer ∷ []) (Err (Agent why))
+        → change_fault answer ≡ Some why → WorksTo {A = A} (event answer ∷ []) (Err (Agent why))
     unchanged key_done.Done event fits same heard alone is = absurd (cc is)
     unchanged key_done.Absent event fits same heard alone is = one_works (fits key_done.Absent (λ e. absurd (cc e))) (same key_done.Absent) (heard key_done.Absent)
     unchanged key_done.Failed event fits same heard alone is = refused_by (fits key_done.Failed (λ e. absurd (cc e))) (same key_done.Failed ∙ is) (alone key_done.Failed)
     unchanged key_done.NoMemory event fits same heard alone is = refused_by (fits key_done.NoMemory (λ e. absurd (cc e))) (same key_done.NoMemory ∙ is) (alone key_done.NoMemory)
 
     pub not_replaced : {A : Type 0} {grip : Grip} {file : List ℕ} (answer : KeyDone) {why : Code} → ((given : KeyDone) → given ≢ key_done.Done → Fits (called (Replaced grip file given)))
-        → change_fault answer ≡ Some why → Works {A = A} (called (Replaced grip file answer) ∷ []) (Err (Agent why))
+        → change_fault answer ≡ Some why → WorksTo {A = A} (called (Replaced grip file answer) ∷ []) (Err (Agent why))
     not_replaced answer fits is = unchanged answer _ fits (λ given. refl) (λ given. refl) (λ given. refl) is
 
     pub replaces : {grip : Grip} {file : List ℕ} → ((answer : KeyDone) → Fits (called (Replaced grip file answer))) → Keeps (Replaces grip file)
