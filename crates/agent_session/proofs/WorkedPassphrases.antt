@@ -200,4 +200,4 @@ module _ (rules : Rules) (options : OptionValues) (wrap wrapped : List ℕ) (key
 
   -- the passphrase stays under the nonce, and nothing is kept for the key
   import_stores : ImportCourse (imports ++ Sent (failed code.General) ∷ [])
-  import_stores = import_exchange rules options wraps (on.ImportKey true (Some nonce)) refl (part_exchanges.refused imports None (Agent code.General) import_fails turning.unheld)
+  import_stores = import_exchange rules options wraps (on.ImportKey true (Some nonce)) refl (part_exchange.refused imports None (Agent code.General) import_fails turning.unheld)
