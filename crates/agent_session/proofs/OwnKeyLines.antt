@@ -110,7 +110,7 @@ module _ (rules : Rules) (options : OptionValues) (wraps : WrapKeys) where
 
     export_key : (grip : Grip) (id : Option (List ℕ)) → ExportKeyReplies rules options wraps grip id None more (Ok reply) held → TellsOfKeys wraps more rules (on.ExportKey grip id) reply.text
     unfolding ExportKeyReplies
-    export_key grip id (goes_on wants (goes_on reads (goes_on opens (goes_on closes (goes_on is_wrapped (goes_on (tells data_so) returns)))))) = wrapped refl (there_is _ wraps.export _ _ _ wants) data_so
+    export_key grip id (goes_on wants (goes_on reads (goes_on {value = opened} opens (goes_on closes (goes_on is_wrapped (goes_on (tells data_so) returns)))))) = wrapped opened.key refl (there_is _ wraps.export _ _ _ wants) data_so
 
     passwd : (grip : Grip) (id new_id : Option (List ℕ)) → PasswdReplies rules options wraps grip id new_id None more (Ok reply) held → TellsOfKeys wraps more rules (on.Passwd grip id new_id false) reply.text
     unfolding PasswdReplies
@@ -144,7 +144,7 @@ module _ (rules : Rules) (options : OptionValues) (wraps : WrapKeys) where
     more_told more (known is_cached clear is) = known is_cached clear is
     more_told more (drawn is drawn_so) = drawn is (drawn_more more drawn_so)
     more_told more (wrap is wraps_so data_so) = wrap is (more_wrap more wraps_so) data_so
-    more_told more (wrapped is there data_so) = wrapped is there data_so
+    more_told more (wrapped key is there data_so) = wrapped key is there data_so
 
     noted_told : (some : List Event) → AllByRecursion IsNoted some → TellsOfKeysAlone rules wraps asked some
     noted_told some each front later text is = plain (notice ((each_right IsNoted front (Sent text ∷ later) (subst (AllByRecursion IsNoted) is each)).0))

@@ -77,7 +77,7 @@ module _ (wraps : WrapKeys) (before : List (EventWith FurtherEvent)) where
     drawn : {force : Bool} {id : Option (List ℕ)} {bytes : List ℕ} → asked ≡ on.ImportKey force id → IsDrawn before 32 bytes → TellsOfKeys rules asked (nonce_line (hex_text (drop 20 bytes)) ++ ok)
     -- the wrapping key of its session, and a key that this one wrapped
     wrap : {way : Direction} {key text : List ℕ} → asked ≡ on.KeyWrap way → IsWrapKey way key → IsDataAnswer key text → TellsOfKeys rules asked text
-    wrapped : {grip : Grip} {id : Option (List ℕ)} {by text : List ℕ} {key : Key} → asked ≡ on.ExportKey grip id → wraps.export ≡ Some by → IsDataAnswer (wrapped_key by key) text → TellsOfKeys rules asked text
+    wrapped : {grip : Grip} {id : Option (List ℕ)} {by text : List ℕ} (key : Key) → asked ≡ on.ExportKey grip id → wraps.export ≡ Some by → IsDataAnswer (wrapped_key by key) text → TellsOfKeys rules asked text
 
 -- so of each line that is written for it
 abbrev pub TellsOfKeysAlone : Rules → WrapKeys → KeyRequest → List (EventWith FurtherEvent) → Type 0
