@@ -85,56 +85,55 @@ module _ (rules : Rules) (options : OptionValues) (wraps : WrapKeys) where
       → (bytes : List ℕ) × IsDrawn more 32 bytes × (nonce ≡ drop 20 bytes)
   stored_nonce count key grip pass (goes_on {value = bytes} draws (goes_on protects (goes_on puts (goes_on replaces (goes_on keeps returns))))) = (bytes, drawn_more _ (drawn_by draws), refl)
 
-  module _ {more : List Event} {reply : KeyReply} {held : Option ℕ} where
-    have_key : (grips : List Grip) → HaveKeyReplies rules options wraps grips None more (Ok reply) held → TellsOfKeys wraps more rules (on.HaveKey grips) reply.text
-    unfolding HaveKeyReplies
-    have_key grips (goes_on has returns) = plain done
+  have_key : (grips : List Grip) (more : List Event) (reply : KeyReply) (held : Option ℕ) → HaveKeyReplies rules options wraps grips None more (Ok reply) held → TellsOfKeys wraps more rules (on.HaveKey grips) reply.text
+  unfolding HaveKeyReplies
+  have_key grips _ _ _ (goes_on has returns) = plain done
 
-    key_info : (grip : Grip) → KeyInfoReplies rules options wraps grip None more (Ok reply) held → TellsOfKeys wraps more rules (on.KeyInfo grip) reply.text
-    unfolding KeyInfoReplies
-    key_info grip (goes_on {value = file} reads (goes_on (goes_on {value = is_cached} peeks returns) returns)) = known is_cached file.key.is_clear refl
+  key_info : (grip : Grip) (more : List Event) (reply : KeyReply) (held : Option ℕ) → KeyInfoReplies rules options wraps grip None more (Ok reply) held → TellsOfKeys wraps more rules (on.KeyInfo grip) reply.text
+  unfolding KeyInfoReplies
+  key_info grip _ _ _ (goes_on {value = file} reads (goes_on (goes_on {value = is_cached} peeks returns) returns)) = known is_cached file.key.is_clear refl
 
-    list_keys : ListKeysReplies rules options wraps None more (Ok reply) held → TellsOfKeys wraps more rules on.ListKeys reply.text
-    unfolding ListKeysReplies
-    list_keys (goes_on lists (goes_on writes returns)) = plain done
+  list_keys : (more : List Event) (reply : KeyReply) (held : Option ℕ) → ListKeysReplies rules options wraps None more (Ok reply) held → TellsOfKeys wraps more rules on.ListKeys reply.text
+  unfolding ListKeysReplies
+  list_keys _ _ _ (goes_on lists (goes_on writes returns)) = plain done
 
-    key_wrap : (way : Direction) → KeyWrapReplies rules options wraps way None more (Ok reply) held → TellsOfKeys wraps more rules (on.KeyWrap way) reply.text
-    unfolding KeyWrapReplies
-    key_wrap way (goes_on draws (goes_on (tells data_so) returns)) = wrap refl (more_wrap _ (wrap_of way (wrap_key way wraps) refl _ _ draws)) data_so
+  key_wrap : (way : Direction) (more : List Event) (reply : KeyReply) (held : Option ℕ) → KeyWrapReplies rules options wraps way None more (Ok reply) held → TellsOfKeys wraps more rules (on.KeyWrap way) reply.text
+  unfolding KeyWrapReplies
+  key_wrap way _ _ _ (goes_on draws (goes_on (tells data_so) returns)) = wrap refl (more_wrap _ (wrap_of way (wrap_key way wraps) refl _ _ draws)) data_so
 
-    import_key : (force : Bool) (id : Option (List ℕ)) → ImportKeyReplies rules options wraps force id None more (Ok reply) held → TellsOfKeys wraps more rules (on.ImportKey force id) reply.text
-    unfolding ImportKeyReplies
-    import_key force id (goes_on {first = a} wants (goes_on {first = b} receives (goes_on {first = c} names (goes_on {first = d} free (goes_on {first = e} finds (goes_on {first = f} stores returns)))))) =
-        let found = stored_nonce _ _ _ _ stores in
-        rw found.2 (drawn refl (drawn_behind a (drawn_behind b (drawn_behind c (drawn_behind d (drawn_behind e (drawn_more _ found.1)))))))
+  import_key : (force : Bool) (id : Option (List ℕ)) (more : List Event) (reply : KeyReply) (held : Option ℕ) → ImportKeyReplies rules options wraps force id None more (Ok reply) held → TellsOfKeys wraps more rules (on.ImportKey force id) reply.text
+  unfolding ImportKeyReplies
+  import_key force id _ _ _ (goes_on {first = a} wants (goes_on {first = b} receives (goes_on {first = c} names (goes_on {first = d} free (goes_on {first = e} finds (goes_on {first = f} stores returns)))))) =
+      let found = stored_nonce _ _ _ _ stores in
+      rw found.2 (drawn refl (drawn_behind a (drawn_behind b (drawn_behind c (drawn_behind d (drawn_behind e (drawn_more _ found.1)))))))
 
-    export_key : (grip : Grip) (id : Option (List ℕ)) → ExportKeyReplies rules options wraps grip id None more (Ok reply) held → TellsOfKeys wraps more rules (on.ExportKey grip id) reply.text
-    unfolding ExportKeyReplies
-    export_key grip id (goes_on wants (goes_on reads (goes_on {value = opened} opens (goes_on closes (goes_on is_wrapped (goes_on (tells data_so) returns)))))) = wrapped opened.key refl (there_is _ wraps.export _ _ _ wants) data_so
+  export_key : (grip : Grip) (id : Option (List ℕ)) (more : List Event) (reply : KeyReply) (held : Option ℕ) → ExportKeyReplies rules options wraps grip id None more (Ok reply) held → TellsOfKeys wraps more rules (on.ExportKey grip id) reply.text
+  unfolding ExportKeyReplies
+  export_key grip id _ _ _ (goes_on wants (goes_on reads (goes_on {value = opened} opens (goes_on closes (goes_on is_wrapped (goes_on (tells data_so) returns)))))) = wrapped opened.key refl (there_is _ wraps.export _ _ _ wants) data_so
 
-    passwd : (grip : Grip) (id new_id : Option (List ℕ)) → PasswdReplies rules options wraps grip id new_id None more (Ok reply) held → TellsOfKeys wraps more rules (on.Passwd grip id new_id false) reply.text
-    unfolding PasswdReplies
-    passwd grip id new_id (goes_on reads (goes_on opens (goes_on changes returns))) = plain done
+  passwd : (grip : Grip) (id new_id : Option (List ℕ)) (more : List Event) (reply : KeyReply) (held : Option ℕ) → PasswdReplies rules options wraps grip id new_id None more (Ok reply) held → TellsOfKeys wraps more rules (on.Passwd grip id new_id false) reply.text
+  unfolding PasswdReplies
+  passwd grip id new_id _ _ _ (goes_on reads (goes_on opens (goes_on changes returns))) = plain done
 
-    verify : (grip : Grip) (id new_id : Option (List ℕ)) → VerifyReplies rules options wraps grip None more (Ok reply) held → TellsOfKeys wraps more rules (on.Passwd grip id new_id true) reply.text
-    unfolding VerifyReplies
-    verify grip id new_id (goes_on reads (goes_on opens (goes_on closes returns))) = plain done
+  verify : (grip : Grip) (id new_id : Option (List ℕ)) (more : List Event) (reply : KeyReply) (held : Option ℕ) → VerifyReplies rules options wraps grip None more (Ok reply) held → TellsOfKeys wraps more rules (on.Passwd grip id new_id true) reply.text
+  unfolding VerifyReplies
+  verify grip id new_id _ _ _ (goes_on reads (goes_on opens (goes_on closes returns))) = plain done
 
-    delete_key : (force : Bool) (grip : Grip) → DeleteKeyReplies rules options wraps force grip None more (Ok reply) held → TellsOfKeys wraps more rules (on.DeleteKey grip force) reply.text
-    unfolding DeleteKeyReplies
-    delete_key force grip (goes_on finds (goes_on there (goes_on agrees (goes_on removes (goes_on clears returns))))) = plain done
+  delete_key : (force : Bool) (grip : Grip) (more : List Event) (reply : KeyReply) (held : Option ℕ) → DeleteKeyReplies rules options wraps force grip None more (Ok reply) held → TellsOfKeys wraps more rules (on.DeleteKey grip force) reply.text
+  unfolding DeleteKeyReplies
+  delete_key force grip _ _ _ (goes_on finds (goes_on there (goes_on agrees (goes_on removes (goes_on clears returns))))) = plain done
 
-    reply_of : (asked : KeyRequest) → KeyReplies rules options wraps asked None more (Ok reply) held → TellsOfKeys wraps more rules asked reply.text
-    reply_of (on.HaveKey grips) does = have_key grips does
-    reply_of (on.KeyInfo grip) does = key_info grip does
-    reply_of on.ListKeys does = list_keys does
-    reply_of (on.KeyWrap way) does = key_wrap way does
-    reply_of (on.ImportKey force id) does = import_key force id does
-    reply_of (on.ExportKey grip id) does = export_key grip id does
-    reply_of (on.Passwd grip old new true) does = verify grip old new does
-    reply_of (on.Passwd grip old new false) does = passwd grip old new does
-    reply_of (on.DeleteKey grip force) does = delete_key force grip does
-    reply_of (on.Bad why) does = elim does [ ]
+  reply_of : (asked : KeyRequest) (more : List Event) (reply : KeyReply) (held : Option ℕ) → KeyReplies rules options wraps asked None more (Ok reply) held → TellsOfKeys wraps more rules asked reply.text
+  reply_of (on.HaveKey grips) more reply held does = have_key grips more reply held does
+  reply_of (on.KeyInfo grip) more reply held does = key_info grip more reply held does
+  reply_of on.ListKeys more reply held does = list_keys more reply held does
+  reply_of (on.KeyWrap way) more reply held does = key_wrap way more reply held does
+  reply_of (on.ImportKey force id) more reply held does = import_key force id more reply held does
+  reply_of (on.ExportKey grip id) more reply held does = export_key grip id more reply held does
+  reply_of (on.Passwd grip old new true) more reply held does = verify grip old new more reply held does
+  reply_of (on.Passwd grip old new false) more reply held does = passwd grip old new more reply held does
+  reply_of (on.DeleteKey grip force) more reply held does = delete_key force grip more reply held does
+  reply_of (on.Bad why) more reply held does = elim does [ ]
 
   -- ---- the exchange
 
@@ -176,7 +175,7 @@ module _ (rules : Rules) (options : OptionValues) (wraps : WrapKeys) where
     pub keys_told : {some : List Event} {after : WrapKeys} {went : KeyWent} → KeyExchange rules options wraps asked some after went → TellsOfKeysAlone rules wraps asked some
     keys_told (answered some held reply {back} does closes) =
         subst (TellsOfKeysAlone rules wraps asked) (append_assoc some back (Sent reply.text ∷ []))
-        (last_told (some ++ back) reply.text (each_append IsNoted some back (noted some (Ok reply) held does) (back_noted closes)) (more_told back (reply_of asked does)))
+        (last_told (some ++ back) reply.text (each_append IsNoted some back (noted some (Ok reply) held does) (back_noted closes)) (more_told back (reply_of asked some reply held does)))
     keys_told (refused some held why {back} does closes) =
         subst (TellsOfKeysAlone rules wraps asked) (append_assoc some back (said_last (refusal_line why)))
         (refusal_told (some ++ back) why (each_append IsNoted some back (noted some (Err why) held does) (back_noted closes)))
