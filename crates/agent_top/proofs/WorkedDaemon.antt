@@ -160,50 +160,6 @@ own_way : (line : List ℕ) → door_command_named (command_of line) ≡ None �
     → DoorExchange Home rules (kept rules) line events (kept rules) went
 own_way line named_none {events} {went} exchange = is_allowed refl (subst (λ c. AllowedExchange rules (kept rules) line c events (kept rules) went) (sym named_none) (any exchange))
 
-no_preset : door_command_named (command_of preset) ≡ None
-unfolding door_command_named
-no_preset = refl
-
-no_get : door_command_named (command_of get) ≡ None
-unfolding door_command_named
-no_get = refl
-
-no_clear : door_command_named (command_of clear) ≡ None
-unfolding door_command_named
-no_clear = refl
-
-no_bye : door_command_named (command_of bye) ≡ None
-unfolding door_command_named
-no_bye = refl
-
-no_kill : door_command_named (command_of kill) ≡ None
-unfolding door_command_named
-no_kill = refl
-
-next_preset : next_of (lines (preset ∷ clear ∷ bye ∷ [])) ≡ took.Line preset
-unfolding next_of
-next_preset = refl
-
-next_clear : next_of (lines (clear ∷ bye ∷ [])) ≡ took.Line clear
-unfolding next_of
-next_clear = refl
-
-next_bye : next_of (lines (bye ∷ [])) ≡ took.Line bye
-unfolding next_of
-next_bye = refl
-
-next_get : next_of (lines (get ∷ get ∷ kill ∷ [])) ≡ took.Line get
-unfolding next_of
-next_get = refl
-
-next_get_again : next_of (lines (get ∷ kill ∷ [])) ≡ took.Line get
-unfolding next_of
-next_get_again = refl
-
-next_kill : next_of (lines (kill ∷ [])) ≡ took.Line kill
-unfolding next_of
-next_kill = refl
-
 -- ---- the host
 
 abbrev trust_file : TrustState
@@ -243,10 +199,10 @@ module _ (some : AtCounted) where
 
   stores_so : IsMarked first 0 None None (pass_at 0 1 []) [] (put id Endless pass) Done stored
   stores_so = record {
+    makes = λ called. marked stored (record { by = refl; asked_is = refl; waited = tt; before = history []; last = refl; shows = refl });
     foreign = refl;
     unowned = tt;
     mine_is = refl;
-    makes = λ called. marked stored (record { by = refl; asked_is = refl; waited = tt; before = history []; last = refl; shows = refl });
     unrefused = λ is. absurd (cc is);
     moment = refl;
     untried = refl;
@@ -261,10 +217,10 @@ module _ (some : AtCounted) where
   -- between its turns the second session was given the passphrase
   clears_so : IsMarked first 1 None None (pass_at 0 1 (stored ∷ [])) (got ∷ []) (Clear id User) Done cleared
   clears_so = record {
+    makes = λ called. marked cleared (record { by = refl; asked_is = refl; waited = tt; before = history (stored ∷ got ∷ []); last = refl; shows = refl });
     foreign = refl;
     unowned = (refl, tt);
     mine_is = refl;
-    makes = λ called. marked cleared (record { by = refl; asked_is = refl; waited = tt; before = history (stored ∷ got ∷ []); last = refl; shows = refl });
     unrefused = λ is. absurd (cc is);
     moment = refl;
     untried = refl;
@@ -282,9 +238,10 @@ module _ (some : AtCounted) where
       ∷ Received (took.Line bye) ∷ Sent closing ∷ []
 
   first_talk : Session (DoorExchange Home rules) (kept rules) first_events Bye
+  unfolding door_command_named
   first_talk =
-      talks.greeted (talks.goes_on preset (talks.whole (own_way preset no_preset (is_stored of_two))) (talks.goes_on clear (talks.whole (own_way clear no_clear (is_cleared rules)))
-      (talks.over bye (talks.whole (own_way bye no_bye (is_left rules))))))
+      talks.greeted (talks.goes_on preset (talks.whole (own_way preset refl (is_stored of_two))) (talks.goes_on clear (talks.whole (own_way clear refl (is_cleared rules)))
+      (talks.over bye (talks.whole (own_way bye refl (is_left rules))))))
 
   abbrev first_link : LinkSides
   first_link = link_of (side (lines (preset ∷ clear ∷ bye ∷ []))) (side [])
@@ -295,13 +252,14 @@ module _ (some : AtCounted) where
   first_leads : Leads (Does world (supply_of first_link.input.bytes))
       (ends_with first_link.input.bytes (at_pass rules first first_link (pass_at 0 1 []) (clock_at 0) launches keys dice trust_file)) first_events
       (ends_with (Some []) (at_pass rules first first_link_now (pass_at 0 1 (stored ∷ got ∷ cleared ∷ [])) (clock_at 2) launches keys dice trust_file))
+  unfolding next_of
   first_leads =
       one worlds.sent
-      (one (worlds.received {input = Some (lines (clear ∷ bye ∷ []))} {source = Some []} (reads preset next_preset refl) (takes_all (lines (preset ∷ clear ∷ bye ∷ [])) (lit≤ tt)))
+      (one (worlds.received {input = Some (lines (clear ∷ bye ∷ []))} {source = Some []} (reads preset refl refl) (takes_all (lines (preset ∷ clear ∷ bye ∷ [])) (lit≤ tt)))
       (one (worlds.turned stores) (one worlds.sent
-      (one (worlds.received {input = Some (lines (bye ∷ []))} {source = Some []} (reads clear next_clear refl) (inl refl))
+      (one (worlds.received {input = Some (lines (bye ∷ []))} {source = Some []} (reads clear refl refl) (inl refl))
       (one (worlds.turned clears) (one worlds.sent
-      (one (worlds.received {input = Some []} {source = Some []} (reads bye next_bye refl) (inl refl)) (one worlds.sent none))))))))
+      (one (worlds.received {input = Some []} {source = Some []} (reads bye refl refl) (inl refl)) (one worlds.sent none))))))))
 
   abbrev first_served : ServesOne host.parts host.trust host.folder rules Home first first_link (pass_at 0 0 []) Bye first_link_now (pass_at 0 1 (stored ∷ got ∷ cleared ∷ []))
   first_served = record {
@@ -340,10 +298,10 @@ module _ (some : AtCounted) where
 
   gets_so : IsMarked second 0 None None (pass_at 1 1 []) (stored ∷ []) (ask id) (Given grant) got
   gets_so = record {
+    makes = λ called. marked got (record { by = refl; asked_is = refl; waited = tt; before = history (stored ∷ []); last = refl; shows = (refl, refl, refl, refl) });
     foreign = refl;
     unowned = (refl, tt);
     mine_is = refl;
-    makes = λ called. marked got (record { by = refl; asked_is = refl; waited = tt; before = history (stored ∷ []); last = refl; shows = (refl, refl, refl, refl) });
     unrefused = λ is. absurd (cc is);
     moment = refl;
     untried = refl;
@@ -358,10 +316,10 @@ module _ (some : AtCounted) where
   -- and the first has cleared it
   misses_so : IsMarked second 1 None None (pass_at 1 1 (stored ∷ got ∷ [])) (cleared ∷ []) (ask id) Empty missed
   misses_so = record {
+    makes = λ called. marked missed (record { by = refl; asked_is = refl; waited = tt; before = history (stored ∷ got ∷ cleared ∷ []); last = refl; shows = refl });
     foreign = refl;
     unowned = (refl, tt);
     mine_is = refl;
-    makes = λ called. marked missed (record { by = refl; asked_is = refl; waited = tt; before = history (stored ∷ got ∷ cleared ∷ []); last = refl; shows = refl });
     unrefused = λ is. absurd (cc is);
     moment = refl;
     untried = refl;
@@ -376,10 +334,10 @@ module _ (some : AtCounted) where
 
   stops_so : IsMarked second 2 None None (pass_at 1 1 (stored ∷ got ∷ cleared ∷ missed ∷ [])) [] Stop Done ended
   stops_so = record {
+    makes = λ called. marked ended (record { by = refl; asked_is = refl; waited = tt; before = history (stored ∷ got ∷ cleared ∷ missed ∷ []); last = refl; shows = refl });
     foreign = refl;
     unowned = tt;
     mine_is = refl;
-    makes = λ called. marked ended (record { by = refl; asked_is = refl; waited = tt; before = history (stored ∷ got ∷ cleared ∷ missed ∷ []); last = refl; shows = refl });
     unrefused = λ is. absurd (cc is);
     moment = refl;
     untried = refl;
@@ -397,9 +355,10 @@ module _ (some : AtCounted) where
       ∷ Received (took.Line kill) ∷ cache_turn Stop Done ∷ Sent closing ∷ []
 
   second_talk : Session (DoorExchange Home rules) (kept rules) second_events Killed
+  unfolding door_command_named
   second_talk =
-      talks.greeted (talks.goes_on get (talks.whole (own_way get no_get (is_given rules grant refl))) (talks.goes_on get (talks.whole (own_way get no_get (is_empty rules)))
-      (talks.over kill (talks.whole (own_way kill no_kill (is_stopped rules))))))
+      talks.greeted (talks.goes_on get (talks.whole (own_way get refl (is_given rules grant refl))) (talks.goes_on get (talks.whole (own_way get refl (is_empty rules)))
+      (talks.over kill (talks.whole (own_way kill refl (is_stopped rules))))))
 
   abbrev second_link : LinkSides
   second_link = link_of (side (lines (get ∷ get ∷ kill ∷ []))) (side [])
@@ -410,13 +369,14 @@ module _ (some : AtCounted) where
   second_leads : Leads (Does world (supply_of second_link.input.bytes))
       (ends_with second_link.input.bytes (at_pass rules second second_link (pass_at 1 1 []) (clock_at 0) launches keys dice trust_file)) second_events
       (ends_with (Some []) (at_pass rules second second_link_now (pass_at 1 1 log) (clock_at 3) launches keys dice trust_file))
+  unfolding next_of
   second_leads =
       one worlds.sent
-      (one (worlds.received {input = Some (lines (get ∷ kill ∷ []))} {source = Some []} (reads get next_get refl) (takes_all (lines (get ∷ get ∷ kill ∷ [])) (lit≤ tt)))
+      (one (worlds.received {input = Some (lines (get ∷ kill ∷ []))} {source = Some []} (reads get refl refl) (takes_all (lines (get ∷ get ∷ kill ∷ [])) (lit≤ tt)))
       (one (worlds.turned gets) (one worlds.sent
-      (one (worlds.received {input = Some (lines (kill ∷ []))} {source = Some []} (reads get next_get_again refl) (inl refl))
+      (one (worlds.received {input = Some (lines (kill ∷ []))} {source = Some []} (reads get refl refl) (inl refl))
       (one (worlds.turned misses) (one worlds.sent
-      (one (worlds.received {input = Some []} {source = Some []} (reads kill next_kill refl) (inl refl))
+      (one (worlds.received {input = Some []} {source = Some []} (reads kill refl refl) (inl refl))
       (one (worlds.turned stops) (one worlds.sent none)))))))))
 
   abbrev second_served : ServesOne host.parts host.trust host.folder rules Home second second_link (pass_at 1 0 []) Killed second_link_now (pass_at 1 1 log)
@@ -592,10 +552,11 @@ module _ (some : AtCounted) where
 
   -- GET_PASSPHRASE asks the cache alone, and wanted no memory
   gets_want_no_memory : AnswersFromCache false (Some id) (cache_turn (ask id) (Given grant) ∷ Sent told ∷ [])
+  unfolding door_command_named
   gets_want_no_memory =
       subst (λ (r : Request). AnswersAlone r (cache_turn (ask id) (Given grant) ∷ Sent told ∷ [])) get_is
       (daemon_alone {supply = supply_of (Some [])} {before = ends_with (Some []) (at_pass rules second second_link (pass_at 1 1 []) (clock_at 0) launches keys dice trust_file)}
-      (own_way get no_get (is_given rules grant refl)) refl no_get (one (worlds.turned gets) (one worlds.sent none)) ((λ is. cc is), ((λ never. never), tt))) refl
+      (own_way get refl (is_given rules grant refl)) refl refl (one (worlds.turned gets) (one worlds.sent none)) ((λ is. cc is), ((λ never. never), tt))) refl
 
   -- ---- what agent_serve says of its workers and sessions
 

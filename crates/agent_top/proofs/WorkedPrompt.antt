@@ -168,14 +168,6 @@ talk = talks.greeted (talks.goes_on confirm (talks.whole is_unconfirmed) (talks.
 abbrev input : List ℕ
 input = lines (confirm ∷ bye ∷ [])
 
-next_confirm : next_of input ≡ took.Line confirm
-unfolding next_of
-next_confirm = refl
-
-next_bye : next_of (lines (bye ∷ [])) ≡ took.Line bye
-unfolding next_of
-next_bye = refl
-
 -- the launch failed
 abbrev pub launches_now : Launches
 launches_now = record launches { faults = 1 }
@@ -191,14 +183,15 @@ desk = desk_alone limits None (seated ∷ given_back ∷ []) 2
 
 leads : Leads (Does (FurtherWorld TurnsSolo PinentryDoes) (supply_of (Some input))) (ends_with (Some input) (with_desk rules (fresh_desk limits before.clock) before)) events
     (ends_with (Some []) (with_desk rules desk after))
+unfolding next_of
 leads =
     one worlds.sent
-    (one (worlds.received {input = Some (lines (bye ∷ []))} {source = Some []} (reads confirm next_confirm refl) (takes_all input (lit≤ tt)))
+    (one (worlds.received {input = Some (lines (bye ∷ []))} {source = Some []} (reads confirm refl refl) (takes_all input (lit≤ tt)))
     (one (worlds.turned seats)
     (one (worlds.further (further.prompt (called (unlaunched {launches = launches_now} (record { coming = refl; launched = refl; finished = refl; rose = lit≤ tt; faults = lit≤ tt })))))
     (one (worlds.further (further.prompt (called shut_alone)))
     (one (worlds.turned gives_back) (one worlds.sent
-    (one (worlds.received {input = Some []} {source = Some []} (reads bye next_bye refl) (inl refl)) (one worlds.sent none))))))))
+    (one (worlds.received {input = Some []} {source = Some []} (reads bye refl refl) (inl refl)) (one worlds.sent none))))))))
 
 abbrev served : ServesRules TurnsSolo PinentryDoes rules (with_desk rules (fresh_desk limits before.clock) before) Bye (with_desk rules desk after)
 served = record {

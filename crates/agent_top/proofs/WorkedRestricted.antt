@@ -100,50 +100,19 @@ legal_2 = legal_run_with_mark limits (run_of_log (seated ∷ [])) _ given_back l
 
 -- ---- lines at the outer door
 
-get_is_forbidden : allowed Outer get ≡ false
-unfolding rule_named request_of command_named
-get_is_forbidden = refl
-
-confirm_is_allowed : allowed Outer confirm ≡ true
-unfolding rule_named
-confirm_is_allowed = refl
-
-bye_is_allowed : allowed Outer bye ≡ true
-unfolding rule_named
-bye_is_allowed = refl
-
-no_confirm : door_command_named (command_of confirm) ≡ None
-unfolding door_command_named
-no_confirm = refl
-
-no_bye : door_command_named (command_of bye) ≡ None
-unfolding door_command_named
-no_bye = refl
-
 own_way : (line : List ℕ) → allowed Outer line ≡ true → door_command_named (command_of line) ≡ None → {events : List Event} {went : Went} → SessionExchange rules (kept rules) line events (kept rules) went
     → DoorExchange Outer rules (kept rules) line events (kept rules) went
 own_way line allows named_none {events} {went} exchange = is_allowed allows (subst (λ c. AllowedExchange rules (kept rules) line c events (kept rules) went) (sym named_none) (any exchange))
-
-next_get : next_of (lines (get ∷ confirm ∷ bye ∷ [])) ≡ took.Line get
-unfolding next_of
-next_get = refl
-
-next_confirm : next_of (lines (confirm ∷ bye ∷ [])) ≡ took.Line confirm
-unfolding next_of
-next_confirm = refl
-
-next_bye : next_of (lines (bye ∷ [])) ≡ took.Line bye
-unfolding next_of
-next_bye = refl
 
 abbrev events : List Event
 events =
     Sent (line_of greeting) ∷ Received (took.Line get) ∷ Sent (failed code.Forbidden) ∷ Received (took.Line confirm) ∷ (unconfirmed ++ Received (took.Line bye) ∷ Sent closing ∷ [])
 
 talk : Session (DoorExchange Outer rules) (kept rules) events Bye
+unfolding command_named door_command_named request_of rule_named
 talk =
-    talks.greeted (talks.goes_on get (talks.whole (forbidden get_is_forbidden)) (talks.goes_on confirm (talks.whole (own_way confirm confirm_is_allowed no_confirm is_unconfirmed))
-    (talks.over bye (talks.whole (own_way bye bye_is_allowed no_bye (is_left rules))))))
+    talks.greeted (talks.goes_on get (talks.whole (forbidden refl)) (talks.goes_on confirm (talks.whole (own_way confirm refl refl is_unconfirmed))
+    (talks.over bye (talks.whole (own_way bye refl refl (is_left rules))))))
 
 -- ---- what it has to do with
 
@@ -169,10 +138,10 @@ module _ (some : AtCounted) where
 
   seats_so : IsMarked session 0 None (Some 0) (pass_at 1 []) [] (Seat None None) (Open 0) seated
   seats_so = record {
+    makes = λ called. marked seated (record { by = refl; asked_is = refl; waited = tt; before = history []; last = refl; shows = (refl, refl) });
     foreign = refl;
     unowned = tt;
     mine_is = refl;
-    makes = λ called. marked seated (record { by = refl; asked_is = refl; waited = tt; before = history []; last = refl; shows = (refl, refl) });
     unrefused = λ is. absurd (cc is);
     moment = refl;
     untried = refl;
@@ -186,10 +155,10 @@ module _ (some : AtCounted) where
 
   gives_back_so : IsMarked session 1 (Some 0) None (pass_at 1 (seated ∷ [])) [] (Close 0 None) Done given_back
   gives_back_so = record {
+    makes = λ called. marked given_back (record { by = refl; asked_is = refl; waited = tt; before = history (seated ∷ []); last = refl; shows = refl });
     foreign = refl;
     unowned = tt;
     mine_is = refl;
-    makes = λ called. marked given_back (record { by = refl; asked_is = refl; waited = tt; before = history (seated ∷ []); last = refl; shows = refl });
     unrefused = λ is. absurd (cc is);
     moment = refl;
     untried = refl;
@@ -205,16 +174,17 @@ module _ (some : AtCounted) where
   leads : Leads (Does (FurtherWorld (CountedTurn (λ (clock : Readings). clock)) PinentryDoes) (supply_of link.input.bytes))
       (ends_with link.input.bytes (at_pass rules session link (pass_at 1 []) (clock_at 0) launches keys dice trust_file)) events
       (ends_with (Some []) (at_pass rules session link_now (pass_at 1 (seated ∷ given_back ∷ [])) (clock_at 2) launches_now keys dice trust_file))
+  unfolding next_of
   leads =
       one worlds.sent
-      (one (worlds.received {input = Some (lines (confirm ∷ bye ∷ []))} {source = Some []} (reads get next_get refl) (takes_all (lines (get ∷ confirm ∷ bye ∷ [])) (lit≤ tt)))
+      (one (worlds.received {input = Some (lines (confirm ∷ bye ∷ []))} {source = Some []} (reads get refl refl) (takes_all (lines (get ∷ confirm ∷ bye ∷ [])) (lit≤ tt)))
       (one worlds.sent
-      (one (worlds.received {input = Some (lines (bye ∷ []))} {source = Some []} (reads confirm next_confirm refl) (inl refl))
+      (one (worlds.received {input = Some (lines (bye ∷ []))} {source = Some []} (reads confirm refl refl) (inl refl))
       (one (worlds.turned seats)
       (one (worlds.further (further.prompt (called (unlaunched {launches = launches_now} (record { coming = refl; launched = refl; finished = refl; rose = lit≤ tt; faults = lit≤ tt })))))
       (one (worlds.further (further.prompt (called shut_alone)))
       (one (worlds.turned gives_back) (one worlds.sent
-      (one (worlds.received {input = Some []} {source = Some []} (reads bye next_bye refl) (inl refl)) (one worlds.sent none))))))))))
+      (one (worlds.received {input = Some []} {source = Some []} (reads bye refl refl) (inl refl)) (one worlds.sent none))))))))))
 
   abbrev served : ServesOne views (λ (file : TrustState). file) folder rules Outer session link (pass_at 0 []) Bye link_now (pass_at 1 (seated ∷ given_back ∷ []))
   served = record {

@@ -140,22 +140,6 @@ replies_are = refl
 abbrev world : World
 world = FurtherWorld TurnsSolo PinentryDoes
 
-next_get : next_of text ≡ took.Line get
-unfolding next_of
-next_get = refl
-
-next_preset : next_of (lines (preset ∷ get ∷ bye ∷ [])) ≡ took.Line preset
-unfolding next_of
-next_preset = refl
-
-next_get_again : next_of (lines (get ∷ bye ∷ [])) ≡ took.Line get
-unfolding next_of
-next_get_again = refl
-
-next_bye : next_of (lines (bye ∷ [])) ≡ took.Line bye
-unfolding next_of
-next_bye = refl
-
 abbrev before : Machine
 before = machine (side text) (side []) (clock_at 0) launches keys dice
 
@@ -166,15 +150,16 @@ abbrev desk : AtSolo
 desk = desk_at (missed ∷ stored ∷ got ∷ []) 3
 
 leads : Leads (Does world (supply_of (Some text))) (ends_with (Some text) (with_desk rules (fresh_desk limits before.clock) before)) events (ends_with (Some []) (with_desk rules desk after))
+unfolding next_of
 leads =
     one worlds.sent
-    (one (worlds.received {input = Some (lines (preset ∷ get ∷ bye ∷ []))} {source = Some []} (reads get next_get refl) (takes_all text (lit≤ tt)))
+    (one (worlds.received {input = Some (lines (preset ∷ get ∷ bye ∷ []))} {source = Some []} (reads get refl refl) (takes_all text (lit≤ tt)))
     (one (worlds.turned misses) (one worlds.sent
-    (one (worlds.received {input = Some (lines (get ∷ bye ∷ []))} {source = Some []} (reads preset next_preset refl) (inl refl))
+    (one (worlds.received {input = Some (lines (get ∷ bye ∷ []))} {source = Some []} (reads preset refl refl) (inl refl))
     (one (worlds.turned stores) (one worlds.sent
-    (one (worlds.received {input = Some (lines (bye ∷ []))} {source = Some []} (reads get next_get_again refl) (inl refl))
+    (one (worlds.received {input = Some (lines (bye ∷ []))} {source = Some []} (reads get refl refl) (inl refl))
     (one (worlds.turned gets) (one worlds.sent
-    (one (worlds.received {input = Some []} {source = Some []} (reads bye next_bye refl) (inl refl)) (one worlds.sent none)))))))))))
+    (one (worlds.received {input = Some []} {source = Some []} (reads bye refl refl) (inl refl)) (one worlds.sent none)))))))))))
 
 abbrev served : ServesRules TurnsSolo PinentryDoes rules (with_desk rules (fresh_desk limits before.clock) before) Bye (with_desk rules desk after)
 served = record {
