@@ -284,6 +284,8 @@ module _ (some : AtCounted) where
       greeted = λ part is. absurd (uncut part is);
       read_fault = λ is. absurd (unread Bye tt is);
       write_fault = λ is. absurd (unwritten Bye tt is);
+      reads = lit≤ tt;
+      writes = lit≤ tt;
       input_faults = lit≤ tt;
       output_faults = lit≤ tt;
     };
@@ -402,6 +404,8 @@ module _ (some : AtCounted) where
       greeted = λ part is. absurd (uncut part is);
       read_fault = λ is. absurd (unread Killed tt is);
       write_fault = λ is. absurd (unwritten Killed tt is);
+      reads = lit≤ tt;
+      writes = lit≤ tt;
       input_faults = lit≤ tt;
       output_faults = lit≤ tt;
     };

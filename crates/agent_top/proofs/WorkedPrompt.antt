@@ -204,6 +204,8 @@ served = record {
   greeted = λ part is. absurd (uncut part is);
   read_fault = λ is. absurd (unread Bye tt is);
   write_fault = λ is. absurd (unwritten Bye tt is);
+  reads = lit≤ tt;
+  writes = lit≤ tt;
   input_faults = lit≤ tt;
   output_faults = lit≤ tt;
 }

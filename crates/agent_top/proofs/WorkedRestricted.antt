@@ -209,6 +209,8 @@ module _ (some : AtCounted) where
       greeted = λ part is. absurd (uncut part is);
       read_fault = λ is. absurd (unread Bye tt is);
       write_fault = λ is. absurd (unwritten Bye tt is);
+      reads = lit≤ tt;
+      writes = lit≤ tt;
       input_faults = lit≤ tt;
       output_faults = lit≤ tt;
     };
