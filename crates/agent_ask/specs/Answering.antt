@@ -23,7 +23,7 @@ pub data WholeOrCut {T O F S W : Type 0} (went_after : Option Gone → W) (excha
       → WholeOrCut went_after exchange done kept (went_after (Some WriteFault))
 
 module _ {lines : Lines} {C : Type 0} (views : Views lines C) where
-  -- how the reader stands then
+  -- how the reader stands behind a request, by how its client is gone
   abbrev pub ReaderLeft : Option Gone → C → C → Type 0
   ReaderLeft None start now = (views.ended now ≡ None) × (views.held now ≤ views.held start)
   ReaderLeft (Some how) start now = HasEnded lines.ended_by how (views.ended now)

@@ -1,4 +1,4 @@
--- Which events of a session failed at its link: a read that gave nothing, and a write that went in part. This is the project's own.
+-- Which events of a session failed at its link: a read that failed, and a write that went in part. This is the project's own.
 use Rattle.std.specs.List.{count_by}
 use Rattle.std.specs.Prelude.{ℕ, Bool, true, false, List}
 use Rattle.agent_ports.specs.Counts.{RoseBy}

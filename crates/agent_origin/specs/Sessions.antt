@@ -62,7 +62,7 @@ pub record ServesSession {w : World} {S : Type 0} (exchange : LineRelation w S) 
   -- a fault is given only where its count has risen
   pub read_fault : end ≡ ReadFault → Rose before.input.faults after.input.faults
   pub write_fault : end ≡ WriteFault → Rose before.output.faults after.output.faults
-  -- of the events at the link at most as many failed as its counts rose by, and these never fall
+  -- of the events at the link at most as many failed as its counts rose by, as long as these are below their last value, and they never fall
   pub reads : CountsFailed (fails_at_input session_lines) events before.input.faults after.input.faults
   pub writes : CountsFailed (fails_at_output session_lines) events before.output.faults after.output.faults
   pub input_faults : before.input.faults ≤ after.input.faults

@@ -45,7 +45,7 @@ use Rattle.agent_session.proofs.Standing.{stand_all}
 use Rattle.agent_session.proofs.TrustDenied.{none_called, denial_is_said}
 use Rattle.agent_session.proofs.TrustExplained.{trust_explained, trust_line_form}
 
--- ---- names of commands_on_trust
+-- ---- names of commands
 
 -- a command of the door's own that isn't HELP is one on the trust list, and one that is none of the door's own isn't
 trust_by : {X : Type 0} {help trust : X} → ¬ (help ≡ trust) → (first second third : Bool) → cond first (Some help) (cond second (Some trust) (cond third (Some trust) None)) ≡ Some trust

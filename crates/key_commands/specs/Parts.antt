@@ -1,4 +1,4 @@
--- The parts of a request on keys that are done with the keys and with the dice alone. This is the project's own.
+-- The parts of a request on keys that are done with the keys and with the dice alone, and how a session goes on behind one. This is the project's own.
 use Rattle.std.specs.Prelude.{◌≡◌, ℕ, List, [], ◌∷◌, Option, Some, None, Result, Ok, Err, Bool, true, false, length}
 use Rattle.agent_ask.specs.Parts.{PartOf}
 use Rattle.agent_ask.specs.SessionEvents.{said_last}

@@ -23,7 +23,7 @@ abbrev pub grip_of_bytes : Result (List ℕ) FromHexError → Option Grip
 grip_of_bytes (Ok bytes) = Some (record { 0 = bytes })
 grip_of_bytes (Err fault) = None
 
--- a key is named by its grip: 40 hexadecimal digits, of key_or_bad case
+-- a key is named by its grip: 40 hexadecimal digits, of either case
 abbrev pub grip : List ℕ → Option Grip
 grip word = if length word == 40 then grip_of_bytes (decode_of word) else None
 

@@ -59,7 +59,7 @@ pub(crate) fn mark_trusted<L: Link, D: Desk, P: Prompter, T: TrustFile>(
     }
 }
 
-/// Asks the user, where the client wants prompts. The ticket of the prompts is held when it
+/// Asks the user, where the client wants prompts. The ticket of the prompts may be held when it
 /// returns.
 fn ask<L: Link, D: Desk, P: Prompter, T: TrustFile>(
     marking: &Marking<'_>,
