@@ -67,6 +67,7 @@ use Rattle.agent_origin.specs.declared.kept.Kept.{Kept}
 use Rattle.agent_session.specs.Causes.{Has, here, IsRead, read, IsReadOf, read_of, IsDrawn, protected, OpensRead, on_keys, StandIn, changed, changes}
 use Rattle.agent_session.specs.Completeness.{HasError, Remembers}
 use Rattle.agent_session.specs.Exactly.{OpensIt, IsOpened, clear, by_nonce, cached, typed, given, HasLongList, HasLongFile, IsLong, long, long_file}
+use Rattle.agent_session.proofs.ImportCourses.{some_key}
 use Rattle.agent_session.proofs.ExactParts.{Deciding, IsDecided, IsFree, NoneOwed, SaysTo, closes_free, said_free, decided_before, said_error}
 use Rattle.agent_session.proofs.ExactReads.{by_file, reads_file, read_refuses, owes}
 use Rattle.agent_session.proofs.KeyRequests.{old_passphrase}
@@ -304,9 +305,6 @@ undrawn_said None taken.unheld = tt
 undrawn_said (Some line) taken.unheld = (tt, tt)
 undrawn_said None (taken.closed turn) = (tt, tt)
 undrawn_said (Some line) (taken.closed turn) = (tt, (tt, tt))
-
-some_key : {one other : KeyRequest} → Some one ≡ Some other → one ≡ other
-some_key is = cc is
 
 -- ---- the request
 

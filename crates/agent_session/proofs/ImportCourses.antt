@@ -137,7 +137,7 @@ module _ (rules : Rules) (options : OptionValues) (wraps : WrapKeys) where
   import_exchange (on.DeleteKey grip force) is exchanged = absurd (cc is)
   import_exchange (on.Bad why) is exchanged = absurd (cc is)
 
-some_key : {one other : KeyRequest} → Some one ≡ Some other → one ≡ other
+pub some_key : {one other : KeyRequest} → Some one ≡ Some other → one ≡ other
 some_key is = cc is
 
 pub import_course : (request : Request) {force : Bool} {nonce : Option (List ℕ)} → on_keys request ≡ Some (on.ImportKey force nonce) → {rules : Rules} {kept now : Kept} {events : List (EventWith FurtherEvent)} {went : Went}

@@ -1,6 +1,7 @@
 -- Worked exchanges: whose their passphrases are, and what stands after a refusal.
 use Rattle.std.specs.Prelude.{⊤, take, drop}
-use Rattle.std.proofs.Common.{◌≡◌, ◌≤◌, ℕ, false, true, List, [], ◌∷◌, ◌++◌, length, Some, None, Ok, Err, refl, sym, subst, arith, codes}
+use Rattle.arrayvec.specs.ArrayVec.{ArrayVec}
+use Rattle.std.proofs.Common.{◌≡◌, ◌≤◌, ℕ, false, true, List, [], ◌∷◌, ◌++◌, length, Some, None, Ok, Err, refl, sym, ap, subst, arith, codes}
 use Rattle.agent_ask.specs.Events.{PromptEvent, Start, GetPin, Shut, Called}
 use Rattle.agent_ask.specs.Further.{FurtherEvent, Prompt, Replaced}
 use Rattle.agent_ask.specs.Plans.{IsSpec, plan_of}
@@ -46,36 +47,41 @@ use Rattle.agent_commands.specs.Talks.{Session, whole, greeted}
 use Rattle.agent_commands.specs.Talks as talks
 use Rattle.agent_commands.specs.declared.request.CacheCommand.TheVariants.{PresetPassphrase}
 use Rattle.agent_commands.specs.declared.request.Request.{Request}
-use Rattle.agent_commands.specs.declared.request.Request.TheVariants.{Cache}
+use Rattle.agent_commands.specs.declared.request.Request.TheVariants.{Cache, Key as OnKeys}
 use Rattle.agent_commands.specs.declared.request.Texts.{Texts}
 use Rattle.agent_commands.specs.declared.went.SessionEnd.TheVariants.{Ended}
 use Rattle.agent_commands.specs.declared.went.Went.TheVariants.{On}
 use Rattle.key_commands.specs.Events.{drew, called}
 use Rattle.key_commands.specs.Exchanges as key_exchange
-use Rattle.key_commands.specs.Exchanges.{ImportKeyReplies}
+use Rattle.key_commands.specs.Exchanges.{KeyExchange, KeyWrapReplies, ImportKeyReplies, key_reply, wrap_key, with_wrap_key}
+use Rattle.key_commands.specs.Parts.{Draws}
+use Rattle.key_commands.specs.Requests.{key_request_of}
+use Rattle.key_commands.specs.declared.request.Direction.{Direction}
+use Rattle.key_commands.specs.declared.went.KeyWent.TheVariants as key_went
 use Rattle.key_commands.specs.KeyParts as parts
 use Rattle.key_commands.specs.KeyParts.{max_key_data}
-use Rattle.assuan_server.specs.Written.{limit_line}
+use Rattle.assuan_server.specs.Written.{limit_line, IsDataAnswer}
 use Rattle.agent_ask.specs.Interrupts as interrupts
 use Rattle.agent_ask.specs.TurnParts as turning
 use Rattle.agent_ask.specs.ClientParts as client_parts
 use Rattle.key_commands.specs.Parts as small
 use Rattle.agent_ask.specs.PartExchanges as part_exchange
-use Rattle.agent_ask.specs.Parts.{goes_on, stops, returns, wanted}
+use Rattle.agent_ask.specs.Parts.{goes_on, stops, returns, wanted, or_else}
 use Rattle.key_commands.specs.Passphrases.{ask_nonce}
 use Rattle.key_commands.specs.Wrapping.{WrappedSays}
 use Rattle.session_client.specs.declared.refusal.Refusal.TheVariants.{Agent}
 use Rattle.key_commands.specs.declared.request.KeyRequest.TheVariants as on
 use Rattle.key_commands.specs.declared.wrap_keys.WrapKeys.{WrapKeys}
-use Rattle.agent_origin.specs.SessionExchanges.{SessionExchange, RequestExchange, cache}
+use Rattle.agent_origin.specs.SessionExchanges.{SessionExchange, RequestExchange, cache, keys}
 use Rattle.agent_origin.specs.declared.kept.Kept.{Kept}
 use Rattle.agent_session.specs.Causes.{Has, here, later}
 use Rattle.agent_session.specs.Imports.{put_nonce, ImportCourse}
-use Rattle.agent_session.specs.OwnAnswers.{SaysOwn}
+use Rattle.agent_session.specs.OwnAnswers.{SaysOwn, TellsOfKeys}
 use Rattle.agent_session.specs.OwnPassphrases.{StoresOwn, StoresOwnIn, keeps}
 use Rattle.agent_session.proofs.ImportCourses.{import_exchange}
 use Rattle.agent_session.proofs.KeyExplained.{exchange_goes_on}
 use Rattle.agent_session.proofs.OwnCache.{cache_own, request_own}
+use Rattle.agent_session.proofs.OwnKeyLines.{request_told}
 use Rattle.agent_session.proofs.OwnParts.{Fit, own_at}
 use Rattle.agent_session.proofs.OwnSessions.{exchange_own, session_own}
 
@@ -201,3 +207,23 @@ module _ (rules : Rules) (options : OptionValues) (wrap wrapped : List ℕ) (key
   -- the passphrase stays under the nonce, and nothing is kept for the key
   import_stores : ImportCourse (imports ++ Sent (failed code.General) ∷ [])
   import_stores = import_exchange rules options wraps (on.ImportKey true (Some nonce)) refl (part_exchange.refused imports None (Agent code.General) import_fails turning.unheld)
+
+-- ---- a wrapping key is drawn, and is told
+
+module _ (rules : Rules) (kept : Kept) (way : Direction) (line : ArrayVec ℕ) (says : key_request_of line.items ≡ on.KeyWrap way) (fresh : wrap_key way kept.wraps ≡ None) (key text : List ℕ) (long : length key ≡ 16)
+    (shows : IsDataAnswer key text) where
+  abbrev wraps_now : WrapKeys
+  wraps_now = with_wrap_key way key kept.wraps
+
+  draws : KeyWrapReplies rules kept.options kept.wraps way None (drew key ∷ []) (Ok (key_reply wraps_now text)) None
+  unfolding KeyWrapReplies
+  draws = goes_on (subst (λ had. or_else had (Draws 16) None (drew key ∷ []) (Ok key) None) (sym fresh) (small.drawn long)) (goes_on (parts.tells shows) returns)
+
+  wrap_exchange : KeyExchange rules kept.options kept.wraps (on.KeyWrap way) (drew key ∷ Sent text ∷ []) wraps_now key_went.On
+  wrap_exchange = part_exchange.answered (drew key ∷ []) None (key_reply wraps_now text) draws turning.unheld
+
+  -- it is all that is written for the request
+  wrap_is_told : TellsOfKeys kept.wraps (drew key ∷ []) (on.KeyWrap way) text
+  wrap_is_told =
+      request_told rules kept (OnKeys line) (ap Some says) (keys (subst (λ asked. KeyExchange rules kept.options kept.wraps asked (drew key ∷ Sent text ∷ []) wraps_now key_went.On) (sym says) wrap_exchange))
+      (drew key ∷ []) [] text refl

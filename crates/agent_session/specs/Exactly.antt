@@ -85,7 +85,7 @@ module _ (events : List Event) (rules : Rules) (kept : Kept) (request : Request)
   CausedBy why = IsCaused events rules kept request why Agent
 
   -- The cause of each of these codes: it is what causes the error line, and wherever it stands in the exchange the answer is that line. Of a bad key it is a
-  -- fault of the key, or a length, where it was seen.
+  -- fault of the key; or a length, which each key to which the file opens has, where the cause of the error line names one.
   abbrev pub ExactCause : Code → Type 0
   ExactCause code.NoData = CausedBy code.NoData
   ExactCause code.NoSecKey = CausedBy code.NoSecKey

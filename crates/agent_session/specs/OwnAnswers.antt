@@ -30,7 +30,7 @@ use Rattle.key_commands.specs.declared.request.KeyRequest.{KeyRequest}
 use Rattle.key_commands.specs.declared.request.KeyRequest.TheVariants as on
 use Rattle.key_commands.specs.declared.wrap_keys.WrapKeys.{WrapKeys}
 use Rattle.session_options.specs.declared.rules.Rules.{Rules}
-use Rattle.agent_session.specs.Causes.{Has, IsSent, IsDrawn}
+use Rattle.agent_session.specs.Causes.{Has, IsSent, IsDrawn, OpensRead}
 use Rattle.agent_session.specs.OwnPassphrases.{IsAccepted}
 use Rattle.key_commands.specs.Lines.{IsNotice}
 
@@ -65,21 +65,23 @@ SaysOwnAlone rules request events = (before later : List (EventWith FurtherEvent
 module _ (wraps : WrapKeys) (before : List (EventWith FurtherEvent)) where
   -- the wrapping key of a direction: the one that the session keeps, or else one that the request drew
   pub data IsWrapKey (way : Direction) (key : List ℕ) : Type 0 where
-    kept : wrap_key way wraps ≡ Some key → IsWrapKey way key
+    had : wrap_key way wraps ≡ Some key → IsWrapKey way key
     drew : IsDrawn before 16 key → IsWrapKey way key
 
   -- what such a request is told
-  pub data TellsOfKeys (rules : Rules) (asked : KeyRequest) : List ℕ → Type 0 where
-    plain : {text : List ℕ} → IsPublic rules text → TellsOfKeys rules asked text
+  pub data TellsOfKeys (asked : KeyRequest) : List ℕ → Type 0 where
+    fails : (why : Code) (origin : Origin) → TellsOfKeys asked (line_of (error_text why origin))
+    succeeds : TellsOfKeys asked ok
+    notes : {text : List ℕ} → IsNotice text → TellsOfKeys asked text
     -- what is known of a key
-    known : {grip : Grip} (is_cached clear : Bool) → asked ≡ on.KeyInfo grip → TellsOfKeys rules asked (info_line grip is_cached clear ++ ok)
+    known : {grip : Grip} (is_cached clear : Bool) → asked ≡ on.KeyInfo grip → TellsOfKeys asked (info_line grip is_cached clear ++ ok)
     -- the nonce that was drawn for it
-    drawn : {force : Bool} {id : Option (List ℕ)} {bytes : List ℕ} → asked ≡ on.ImportKey force id → IsDrawn before 32 bytes → TellsOfKeys rules asked (nonce_line (hex_text (drop 20 bytes)) ++ ok)
-    -- the wrapping key of its session, and a key that this one wrapped
-    wrap : {way : Direction} {key text : List ℕ} → asked ≡ on.KeyWrap way → IsWrapKey way key → IsDataAnswer key text → TellsOfKeys rules asked text
-    wrapped : {grip : Grip} {id : Option (List ℕ)} {by text : List ℕ} (key : Key) → asked ≡ on.ExportKey grip id → wraps.export ≡ Some by → IsDataAnswer (wrapped_key by key) text → TellsOfKeys rules asked text
+    drawn : {force : Bool} {id : Option (List ℕ)} {bytes : List ℕ} → asked ≡ on.ImportKey force id → IsDrawn before 32 bytes → TellsOfKeys asked (nonce_line (hex_text (drop 20 bytes)) ++ ok)
+    -- the wrapping key of its session, and the key that was asked for, as it was read and opened, which this one wrapped
+    wrap : {way : Direction} {key text : List ℕ} → asked ≡ on.KeyWrap way → IsWrapKey way key → IsDataAnswer key text → TellsOfKeys asked text
+    wrapped : {grip : Grip} {id : Option (List ℕ)} {by text : List ℕ} (key : Key) → asked ≡ on.ExportKey grip id → wraps.export ≡ Some by → OpensRead before grip key → IsDataAnswer (wrapped_key by key) text → TellsOfKeys asked text
 
 -- so of each line that is written for it
-abbrev pub TellsOfKeysAlone : Rules → WrapKeys → KeyRequest → List (EventWith FurtherEvent) → Type 0
-TellsOfKeysAlone rules wraps asked events =
-    (before later : List (EventWith FurtherEvent)) (text : List ℕ) → events ≡ before ++ Sent text ∷ later → TellsOfKeys wraps before rules asked text
+abbrev pub TellsOfKeysAlone : WrapKeys → KeyRequest → List (EventWith FurtherEvent) → Type 0
+TellsOfKeysAlone wraps asked events =
+    (before later : List (EventWith FurtherEvent)) (text : List ℕ) → events ≡ before ++ Sent text ∷ later → TellsOfKeys wraps before asked text

@@ -25,7 +25,8 @@ use cache_policy::Desk;
 
 /// Where the cause of one of these codes stands in an exchange, the request is answered by the
 /// error line of that code, unless memory was wanted: so each of them is answered exactly where its
-/// cause stands.
+/// cause stands. A list that is too long for `Bad secret key` is here that of each key to which the
+/// file opens, where the cause of that error line names one.
 pub fn each_cause_has_its_error()
     ensures { (rules : Rules) (kept now : Kept) (line : List ℕ) (events : List Event) (went : Went)
         → SessionExchange rules kept line events now went → AllByRecursion Remembers events

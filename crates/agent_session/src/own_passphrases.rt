@@ -1,4 +1,4 @@
-ghost use Rattle.std.specs.Prelude.{List, ℕ};
+ghost use Rattle.std.specs.Prelude.{◌≡◌, List, ℕ, Some};
 ghost use Rattle.agent_ask.specs.Worlds.{Outside, Does};
 ghost use Rattle.agent_ports.specs.Leads.{Leads};
 ghost use Rattle.assuan_server.specs.Reading.{Supply};
@@ -7,10 +7,7 @@ ghost use Rattle.agent_commands.specs.Requests.{request_of};
 ghost use Rattle.agent_commands.specs.declared.went.SessionEnd.{SessionEnd as Ends};
 ghost use Rattle.agent_commands.specs.declared.went.Went.{Went};
 ghost use Rattle.key_commands.specs.Events.{Event};
-ghost use Rattle.key_commands.specs.Exchanges.{KeyExchange};
 ghost use Rattle.key_commands.specs.declared.request.KeyRequest.{KeyRequest};
-ghost use Rattle.key_commands.specs.declared.went.KeyWent.{KeyWent};
-ghost use Rattle.key_commands.specs.declared.wrap_keys.WrapKeys.{WrapKeys};
 ghost use Rattle.session_options.specs.OptionValues.{OptionValues};
 ghost use Rattle.session_options.specs.declared.rules.Rules.{Rules};
 ghost use Rattle.agent_origin.specs.DoorSessions.{ServesDoor};
@@ -19,6 +16,7 @@ ghost use Rattle.agent_origin.specs.SessionExchanges.{SessionExchange};
 ghost use Rattle.agent_origin.specs.Sessions.{Surroundings};
 ghost use Rattle.agent_origin.specs.declared.door.Door.{Door};
 ghost use Rattle.agent_origin.specs.declared.kept.Kept.{Kept};
+ghost use Rattle.agent_session.specs.Causes.{on_keys};
 ghost use Rattle.agent_session.specs.OwnAnswers.{SaysOwnAlone, TellsOfKeysAlone};
 ghost use Rattle.agent_session.specs.OwnPassphrases.{StoresOwnAlone, StoresOwnThroughout};
 ghost use Rattle.agent_session.specs.Sessions.{ServesRules};
@@ -47,14 +45,13 @@ pub fn each_passphrase_is_written_to_its_request()
         → SaysOwnAlone rules (request_of line) events }
 {}
 
-/// No line of a request on keys has a passphrase in it: each is an error, OK, what is known of a key,
-/// how much the client may send, a nonce that the request drew, the session's wrapping key, or a key
-/// that this one wrapped.
+/// No line of a request on keys has a passphrase in it: each is an error, OK, how much the client may
+/// send, what is known of a key, a nonce that the request drew, the session's wrapping key, or the key
+/// that it asked for, which this one wrapped.
 pub fn no_passphrase_is_written_for_a_request_on_keys()
-    ensures { (rules : Rules) (options : OptionValues) (before after : WrapKeys)
-        (asked : KeyRequest) (events : List Event) (went : KeyWent)
-        → KeyExchange rules options before asked events after went
-        → TellsOfKeysAlone rules before asked events }
+    ensures { (rules : Rules) (kept now : Kept) (line : List ℕ) (asked : KeyRequest)
+        (events : List Event) (went : Went) → SessionExchange rules kept line events now went
+        → on_keys (request_of line) ≡ Some asked → TellsOfKeysAlone kept.wraps asked events }
 {}
 
 /// Over a session, also over one that came in by a door, what is handed to the cache is of the last
