@@ -52,7 +52,7 @@ use Rattle.agent_commands.specs.declared.went.Went.{Went}
 use Rattle.key_commands.proofs.EachEvent.{each_append, EachSo, each_bind, each_refused, each_seats, each_changes, each_wanted}
 use Rattle.agent_origin.specs.SessionExchanges.{RequestExchange, cache, keys}
 use Rattle.agent_origin.specs.declared.kept.Kept.{Kept}
-use Rattle.agent_session.specs.Causes.{Has, here, IsSent, sent}
+use Rattle.agent_session.specs.Causes.{Has, here, IsSent, sent, on_keys}
 use Rattle.agent_session.specs.OwnAnswers.{IsPublic, done, closes, helps, tells, notice, IsAnswered, cached, unprompted, typed, SaysOwn, public, passphrase, SaysOwnAlone}
 use Rattle.agent_session.specs.OwnAnswers as answers
 use Rattle.agent_session.specs.OwnPassphrases.{by_command, WantsTicket, by_id, unkept, HasTicket, has_ticket, IsAccepted, any, HandsIn, StoresOwn}
@@ -352,3 +352,9 @@ module _ (rules : Rules) where
 pub request_own : {rules : Rules} {kept now : Kept} (request : Request) {events : List (EventWith FurtherEvent)} {went : Went} → RequestExchange rules kept request events now went → Fit events → AreOwn request [] events
 request_own {rules} {kept} request {events} {went} (cache {options} exchanged) fits = (cache_own rules kept.options request events options went exchanged).0
 request_own {rules} {kept} request (keys exchanged) fits = key_own request rules kept.options kept.wraps _ refl exchanged fits
+
+-- each passphrase in a line for a request that isn't on keys is its own
+pub request_says_own : {rules : Rules} {kept now : Kept} (request : Request) {events : List (EventWith FurtherEvent)} {went : Went} → RequestExchange rules kept request events now went → on_keys request ≡ None
+    → SaysOwnAlone rules request events
+request_says_own {rules} {kept} request {events} {went} (cache {options} exchanged) is = (cache_own rules kept.options request events options went exchanged).1
+request_says_own request (keys exchanged) is = absurd (cc is)

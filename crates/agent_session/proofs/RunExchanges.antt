@@ -34,6 +34,8 @@ use Rattle.agent_session.proofs.Completing.{failures_rise, all_possible, never_a
 use Rattle.agent_session.proofs.Counting.{counts_failures}
 use Rattle.agent_session.proofs.Fair.{first_fair, alone_first}
 use Rattle.agent_session.proofs.KeyExplained.{exchange_caused}
+use Rattle.agent_session.proofs.OwnCache.{request_says_own}
+use Rattle.agent_session.proofs.OwnKeyLines.{request_told}
 use Rattle.agent_session.proofs.RefusedCourses.{caused_refuses, refused_course}
 use Rattle.agent_session.proofs.SessionCourses.{request_course}
 use Rattle.agent_session.proofs.Uncaused.{ok_by}
@@ -126,7 +128,7 @@ module _ {D P : Type 0} (turned : D → MarkStep → Turn → D → Type 0) (pro
     (calls : (before : P) (call : Call) (after : P) → prompted before call after → IsCall (at before) call (at after)) {supply : Supply} (rules : Rules)
     (Spares Stays : D → Type 0) (wants : (before : D) (asked : MarkStep) (after : D) → Stays before → Spares before → turned before asked Refused after → MayWantMemory asked) where
   lawful_request : {before after : Outside (FurtherWorld turned prompted)} {kept now : Kept} (line : List ℕ) {events : List SessionEvent} {went : Went} → Stays before.desk
-      → SessionExchange rules kept line events now went → Leads (Does (FurtherWorld turned prompted) supply) before events after → LawfulRequest rules (Spares before.desk) line events
+      → SessionExchange rules kept line events now went → Leads (Does (FurtherWorld turned prompted) supply) before events after → LawfulRequest rules kept (Spares before.desk) line events
   lawful_request {before} {kept} line {events} so exchange leads =
       let fits = all_fit turned prompted at_desk turns leads in
       let possible = all_possible turned prompted at calls leads in
@@ -135,6 +137,8 @@ module _ {D P : Type 0} (turned : D → MarkStep → Turn → D → Type 0) (pro
         alone = λ spares goes_on. alone_first rules (request_of line) exchange fits (first_fair turned prompted (λ asked desk does. wants before.desk asked desk so spares does) leads) goes_on;
         refused = λ why own has. refused_course (request_of line) (request_course (request_of line) exchange)
             (caused_refuses fits rules kept (request_of line) own ((exchange_caused rules kept line (never_absent possible) exchange).caused why Agent has));
+        own = request_says_own (request_of line) exchange;
+        of_keys = λ asked is. request_told rules kept (request_of line) is exchange;
       }
 
   module _ {relation caused : Exchanges} {cause : Causes} {unprompted : Kept → List ℕ → List SessionEvent → Type 0} (judging : Judging relation caused cause unprompted)

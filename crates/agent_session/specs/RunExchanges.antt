@@ -1,7 +1,7 @@
 -- Exchanges of a session between the states of its desk and of its further ends, and what the laws on single requests say of each. This is the project's
 -- own.
 use Rattle.std.specs.List.{AllByRecursion}
-use Rattle.std.specs.Prelude.{ℕ, List, Option}
+use Rattle.std.specs.Prelude.{◌≡◌, ℕ, List, Option, Some, None}
 use Rattle.agent_ask.specs.Events.{Call}
 use Rattle.agent_ask.specs.Prompters.{AtPrompter}
 use Rattle.agent_ask.specs.Worlds.{Outside, Does}
@@ -20,8 +20,11 @@ use Rattle.cache_policy.specs.Turns.{Turn}
 use Rattle.cache_policy.specs.declared.mark.MarkStep.{MarkStep}
 use Rattle.key_commands.specs.Events.{Event as SessionEvent}
 use Rattle.session_options.specs.declared.rules.Rules.{Rules}
+use Rattle.key_commands.specs.declared.request.KeyRequest.{KeyRequest}
+use Rattle.agent_session.specs.Causes.{on_keys}
 use Rattle.agent_session.specs.Completeness.{Causes, Remembers, IsStopped, HasError, AnswersAtOnce, FailuresRise, IsUncaused, IsAnsweredOk}
 use Rattle.agent_session.specs.Counting.{CountsFailures}
+use Rattle.agent_session.specs.OwnAnswers.{SaysOwnAlone, TellsOfKeysAlone}
 use Rattle.agent_session.specs.Refusals.{AnswersAlone, IsOwnCode, RefusedCourse}
 
 -- ---- exchanges between two states
@@ -59,19 +62,22 @@ pub record ExchangeBetween {w : World} {S : Type 0} (supply : Supply) (relation 
 -- ---- what the laws say of it
 
 -- What they say of a request of every session, at a desk where this holds that finds no memory only for steps that may want some.
-pub record LawfulRequest (rules : Rules) (Spares : Type 0) (line : List ℕ) (events : List SessionEvent) : Type 0 where
+pub record LawfulRequest (rules : Rules) (kept : Kept) (Spares : Type 0) (line : List ℕ) (events : List SessionEvent) : Type 0 where
   -- one that asks nobody is answered at once
   pub at_once : AllByRecursion Remembers events → AllByRecursion (λ event. ¬ IsStopped event) events → AnswersAtOnce rules (request_of line) events
   -- and wants no memory, where it is one on the cache alone
   pub alone : Spares → AllByRecursion (λ event. ¬ IsStopped event) events → AnswersAlone (request_of line) events
   -- one that was refused did nothing more
   pub refused : (why : Code) → IsOwnCode why → HasError why Agent events → RefusedCourse (request_of line) why events
+  -- a passphrase is written to the request that asked for it, and none to one on keys
+  pub own : on_keys (request_of line) ≡ None → SaysOwnAlone rules (request_of line) events
+  pub of_keys : (asked : KeyRequest) → on_keys (request_of line) ≡ Some asked → TellsOfKeysAlone kept.wraps asked events
 
 -- What they say of the exchange of a line, which may be one of every session.
 pub record LawfulExchange {D P : Type 0} (turned : D → MarkStep → Turn → D → Type 0) (prompted : P → Call → P → Type 0) (at : P → AtPrompter) (rules : Rules) (cause : Causes)
     (IsOfEvery : List ℕ → Type 0) (Spares : D → Type 0) (before : Between (FurtherWorld turned prompted) Kept) (line : List ℕ) (events : List SessionEvent)
     (after : Between (FurtherWorld turned prompted) Kept) (went : Went) : Type 0 where
-  pub request : IsOfEvery line → LawfulRequest rules (Spares before.desk) line events
+  pub request : IsOfEvery line → LawfulRequest rules before.kept (Spares before.desk) line events
   -- a failure in it raised its count, and at most as many failed on an end as its count rose by
   pub raised : FailuresRise at events before.ends after.ends
   pub counted : CountsFailures at events before.ends after.ends
