@@ -12,4 +12,6 @@ pub mod ConsentParts
 pub mod PartsDone
 pub mod PartsAtClient
 pub mod Replying
+pub mod Answered
 pub mod PartValues
+pub mod Within

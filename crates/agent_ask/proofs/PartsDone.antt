@@ -53,7 +53,8 @@ module _ {lines : Lines} {C D E : Type 0} {views : Views lines C} {turned : D �
   -- parts at the desk alone, while the connection is open
   module _ {A : Type 0} {part : PartOf (EventOf lines) A} {before after : Option ℕ} {result : Result A Refusal} {conn : C} {ends : E} (going : IsOpen views conn) where
     -- one turn
-    pub part_turned : {desk now : D} → DoesTurn turned part before desk result after now → DoesPart views turned further part before (part_state views turned further conn desk ends) result after (part_state views turned further conn now ends)
+    pub part_turned : {desk now : D} → DoesTurn turned part before desk result after now
+        → DoesPart views turned further part before (part_state views turned further conn desk ends) result after (part_state views turned further conn now ends)
     part_turned {desk} {now} done = record {
       events = cache_turn done.step done.turn ∷ [];
       does = done.does;
@@ -73,7 +74,8 @@ module _ {lines : Lines} {C D E : Type 0} {views : Views lines C} {turned : D �
     }
 
     -- one turn at most
-    pub part_turns : {desk now : D} → DoesTurns turned part before desk result after now → DoesPart views turned further part before (part_state views turned further conn desk ends) result after (part_state views turned further conn now ends)
+    pub part_turns : {desk now : D} → DoesTurns turned part before desk result after now
+        → DoesPart views turned further part before (part_state views turned further conn desk ends) result after (part_state views turned further conn now ends)
     part_turns (still does on) = part_still on does
     part_turns (one done) = part_turned done
 

@@ -5,7 +5,7 @@ use Rattle.agent_ports.specs.Writing.{StopsWriting}
 use Rattle.agent_ports.specs.declared.link.WriteFault.{WriteFault as Fault}
 use Rattle.cache_policy.specs.declared.mark.MarkStep.{MarkStep}
 use Rattle.cache_policy.specs.Turns.{Turn}
-use Rattle.session_client.specs.Asking.{HasSaid}
+use Rattle.session_client.specs.Asking.{HasSaid, SaysLine}
 use Rattle.session_client.specs.Lines.{Lines, Views}
 use Rattle.session_client.specs.Refusals.{gone_by}
 use Rattle.session_client.specs.declared.refusal.Refusal.{Refusal}
@@ -14,13 +14,14 @@ use Rattle.session_client.specs.declared.unheard.Gone.TheVariants.{ReadFault, Wr
 use Rattle.agent_ask.specs.Answering.{unless_cut, whole, cut, ReaderLeft, FaultsCounted, AnswersBy}
 use Rattle.agent_ask.specs.Further.{FurtherEvent, EventOf, world_with}
 use Rattle.agent_ask.specs.PartExchanges.{AnyReply, AnyExchange, answered, refused as is_refused}
-use Rattle.agent_ask.specs.PartReplies.{SaysLine, RespondsBy, replied, refused, reply_by, CarriesBy, comes_to, stops_at}
+use Rattle.agent_ask.specs.PartReplies.{RespondsBy, replied, refused, reply_by, CarriesBy, comes_to, stops_at}
 use Rattle.agent_ask.specs.Parts.{PartOf}
 use Rattle.agent_ask.specs.PartStates.{PartState, part_state, DoesPart, DoesTurns, still, one}
 use Rattle.agent_ask.specs.Seats.{GivesTicket}
-use Rattle.agent_ask.specs.SessionEvents.{Sent, Cut, cache_turn, said_last}
-use Rattle.agent_ask.specs.States.{AnyLead}
+use Rattle.agent_ask.specs.SessionEvents.{AnyEvent, Sent, Cut, cache_turn, said_last}
+use Rattle.agent_ask.specs.States.{AnyState, AnyLead}
 use Rattle.agent_ask.specs.TurnParts.{Closes}
+use Rattle.agent_ask.specs.Worlds.{AnyWorld}
 use Rattle.agent_ask.proofs.Doing.{done_none, done_then, done_turned, done_said, done_cut}
 use Rattle.agent_ask.proofs.PartsDone.{no_fault, state_of, part_in, ticket_given}
 
@@ -29,6 +30,42 @@ module _ {lines : Lines} {C : Type 0} (views : Views lines C) where
   reader_kept : (how : Option Gone) (start mid now : C) → views.ended now ≡ views.ended mid → views.held now ≡ views.held mid → ReaderLeft views how start mid → ReaderLeft views how start now
   reader_kept None start mid now ended held fits = (ended ∙ fits.0, omega (arith, held, fits.1))
   reader_kept (Some how) start mid now ended held fits = rw ended fits
+
+  -- all was done for a request but to write a line, where there is one
+  module _ {w : AnyWorld lines} {S W : Type 0} (went_after : Option Gone → W) (gone_of : W → Option Gone) (ends_so : (how : Option Gone) → gone_of (went_after how) ≡ how)
+      (exchange : List (AnyEvent lines.Took lines.Outcome w.Further) → S → W → Type 0) (kept : S) (went : W) (first : List (AnyEvent lines.Took lines.Outcome w.Further)) (start : AnyState w C) (mid : C)
+      (desk : w.Desk) (ends : w.Ends) (done : AnyLead {w = w} views first start (record { conn = mid; desk = desk; ends = ends })) (fits : ReaderLeft views (gone_of went) start.conn mid)
+      (faults : FaultsCounted views (gone_of went) start.conn mid) where
+    pub text_written : (text : List ℕ) → exchange (first ++ Sent text ∷ []) kept went → (written : Result (Unit {0}) Fault) (now : C) → HasSaid views text mid written now
+        → AnswersBy {w = w} views went_after gone_of exchange start (unless_cut went (went_after (Some WriteFault)) written) kept (record { conn = now; desk = desk; ends = ends })
+    text_written text is (Ok tt) now said = record {
+      events = first ++ Sent text ∷ [];
+      exchanges = whole is;
+      done = done_then done (done_said {w = w} desk ends said);
+      fits = reader_kept (gone_of went) start.conn mid now said.leaves.ended said.leaves.held fits;
+      faults = record {
+        read = λ e. omega (arith, faults.read e, ap (λ (s : Side). s.faults) said.leaves.input);
+        write = λ e. omega (arith, faults.write e, said.output.faults);
+      };
+    }
+    text_written text is (Err fault) now said =
+        let stops : StopsWriting text (views.output mid) (views.output now) = said.output.went in
+        record {
+          events = first ++ Cut stops.sent ∷ [];
+          exchanges = cut is (record { before = first; sent = stops.sent; unsent = stops.unsent; whole = ap (λ (t : List ℕ). first ++ Sent t ∷ []) stops.split; done_is = refl });
+          done = done_then done (done_cut {w = w} desk ends fault said);
+          fits = rw (ends_so (Some WriteFault)) tt;
+          faults = record {
+            read = λ e. let never : Some WriteFault ≡ Some ReadFault = sym (ends_so (Some WriteFault)) ∙ e in absurd (cc never);
+            write = λ e. omega (arith, done.output_faults, stops.rose);
+          };
+        }
+
+    line_written : (line : Option (List ℕ)) → exchange (first ++ said_last line) kept went → (written : Result (Unit {0}) Fault) (now : C) → SaysLine views line mid written now
+        → AnswersBy {w = w} views went_after gone_of exchange start (unless_cut went (went_after (Some WriteFault)) written) kept (record { conn = now; desk = desk; ends = ends })
+    line_written None is written now says =
+        rw (says.0, says.1) (record { events = first ++ []; exchanges = whole is; done = done_then done (done_none (record { conn = mid; desk = desk; ends = ends })); fits = fits; faults = faults })
+    line_written (Some text) is written now says = text_written text is written now says
 
 module _ {lines : Lines} {C D E : Type 0} (views : Views lines C) (turned : D → MarkStep → Turn → D → Type 0) (further : E → FurtherEvent → E → Type 0) where
   abbrev at_conn : C → D → E → PartState views turned further
@@ -50,41 +87,6 @@ module _ {lines : Lines} {C D E : Type 0} (views : Views lines C) (turned : D �
   }
 
   module _ {S W : Type 0} (went_after : Option Gone → W) (gone_of : W → Option Gone) (ends_so : (how : Option Gone) → gone_of (went_after how) ≡ how) where
-    -- all was done for a request but to write a line, where there is one
-    module _ (exchange : List (EventOf lines) → S → W → Type 0) (kept : S) (went : W) (first : List (EventOf lines)) (start : PartState views turned further) (mid : C) (desk : D) (ends : E)
-        (done : AnyLead {w = world_with {lines = lines} turned further} views first start (at_conn mid desk ends)) (fits : ReaderLeft views (gone_of went) start.conn mid)
-        (faults : FaultsCounted views (gone_of went) start.conn mid) where
-      text_written : (text : List ℕ) → exchange (first ++ Sent text ∷ []) kept went → (written : Result (Unit {0}) Fault) (now : C) → HasSaid views text mid written now
-          → AnswersBy {w = world_with {lines = lines} turned further} views went_after gone_of exchange start (unless_cut went (went_after (Some WriteFault)) written) kept (at_conn now desk ends)
-      text_written text is (Ok tt) now said = record {
-        events = first ++ Sent text ∷ [];
-        exchanges = whole is;
-        done = done_then done (done_said {w = world_with {lines = lines} turned further} desk ends said);
-        fits = reader_kept views (gone_of went) start.conn mid now said.leaves.ended said.leaves.held fits;
-        faults = record {
-          read = λ e. omega (arith, faults.read e, ap (λ (s : Side). s.faults) said.leaves.input);
-          write = λ e. omega (arith, faults.write e, said.output.faults);
-        };
-      }
-      text_written text is (Err fault) now said =
-          let stops : StopsWriting text (views.output mid) (views.output now) = said.output.went in
-          record {
-            events = first ++ Cut stops.sent ∷ [];
-            exchanges = cut is (record { before = first; sent = stops.sent; unsent = stops.unsent; whole = ap (λ (t : List ℕ). first ++ Sent t ∷ []) stops.split; done_is = refl });
-            done = done_then done (done_cut {w = world_with {lines = lines} turned further} desk ends fault said);
-            fits = rw (ends_so (Some WriteFault)) tt;
-            faults = record {
-              read = λ e. let never : Some WriteFault ≡ Some ReadFault = sym (ends_so (Some WriteFault)) ∙ e in absurd (cc never);
-              write = λ e. omega (arith, done.output_faults, stops.rose);
-            };
-          }
-
-      line_written : (line : Option (List ℕ)) → exchange (first ++ said_last line) kept went → (written : Result (Unit {0}) Fault) (now : C) → SaysLine views line mid written now
-          → AnswersBy {w = world_with {lines = lines} turned further} views went_after gone_of exchange start (unless_cut went (went_after (Some WriteFault)) written) kept (at_conn now desk ends)
-      line_written None is written now says =
-          rw (says.0, says.1) (record { events = first ++ []; exchanges = whole is; done = done_then done (done_none (at_conn mid desk ends)); fits = fits; faults = faults })
-      line_written (Some text) is written now says = text_written text is written now says
-
     module _ (refusal_line : Refusal → Option (List ℕ)) (part : PartOf (EventOf lines) (AnyReply S W)) (before : S) (start : PartState views turned further) (held : Option ℕ) (mid now : C) (desk desk_now : D)
         (ends : E) where
       abbrev exchange : List (EventOf lines) → S → W → Type 0
@@ -96,7 +98,7 @@ module _ {lines : Lines} {C D E : Type 0} (views : Views lines C) (turned : D �
       with_refusal : GivesBack held mid desk desk_now ends → (why : Refusal) → DoesPart views turned further part None start (Err why) held (at_conn mid desk ends) → (written : Result (Unit {0}) Fault)
           → SaysLine views (refusal_line why) mid written now → Answers (unless_cut (went_after (gone_by why)) (went_after (Some WriteFault)) written) before
       with_refusal gives why does written said =
-          line_written exchange before (went_after (gone_by why)) (does.events ++ gives.back) start mid desk_now ends (done_then does.done gives.done)
+          line_written views {w = world_with {lines = lines} turned further} went_after gone_of ends_so exchange before (went_after (gone_by why)) (does.events ++ gives.back) start mid desk_now ends (done_then does.done gives.done)
           (rw (ends_so (gone_by why)) does.fits) (rw (ends_so (gone_by why)) does.faults)
           (refusal_line why)
           (subst (λ (e : List (EventOf lines)). exchange e before (went_after (gone_by why))) (sym (append_assoc does.events gives.back (said_last (refusal_line why))))
@@ -106,7 +108,7 @@ module _ {lines : Lines} {C D E : Type 0} (views : Views lines C) (turned : D �
         with_reply : GivesBack held mid desk desk_now ends → (answer : R) (kept : S) (text : List ℕ) → DoesPart views turned further part None start (Ok (reply_by went_of answer kept text)) held (at_conn mid desk ends)
             → (written : Result (Unit {0}) Fault) → HasSaid views text mid written now → Answers (unless_cut (went_of answer) (went_after (Some WriteFault)) written) kept
         with_reply gives answer kept text does written said =
-            text_written exchange kept (went_of answer) (does.events ++ gives.back) start mid desk_now ends (done_then does.done gives.done)
+            text_written views {w = world_with {lines = lines} turned further} went_after gone_of ends_so exchange kept (went_of answer) (does.events ++ gives.back) start mid desk_now ends (done_then does.done gives.done)
             (rw (goes answer) does.fits) (no_fault views (gone_of (went_of answer)) (goes answer) start.conn mid)
             text (subst (λ (e : List (EventOf lines)). exchange e kept (went_of answer)) (sym (append_assoc does.events gives.back (Sent text ∷ [])))
             (answered does.events held (reply_by went_of answer kept text) does.does gives.closes)) written now said

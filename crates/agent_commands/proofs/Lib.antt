@@ -1,5 +1,3 @@
-pub mod Answering
-pub mod Beside
 mod Asking
 pub mod Carrying
 mod Helping

@@ -6,29 +6,25 @@ use Rattle.assuan_server.specs.Written.{greeting}
 use Rattle.session_client.specs.declared.code.Code.TheVariants.{LineTooLong}
 use Rattle.assuan_text.specs.LineEnds.{line_of}
 use Rattle.assuan_server.specs.Written.{failed}
-use Rattle.agent_commands.specs.Events.{EventWith}
+use Rattle.agent_ask.specs.Answering.{WholeOrCut}
 use Rattle.agent_ask.specs.SessionEvents.{Received, Sent, CutAtLast}
+use Rattle.agent_commands.specs.Endings.{went_after}
+use Rattle.agent_commands.specs.Events.{EventWith}
 use Rattle.agent_commands.specs.declared.went.SessionEnd.{SessionEnd}
 use Rattle.agent_commands.specs.declared.went.SessionEnd.TheVariants.{Ended, TooLong, Spent, ReadFault, WriteFault}
 use Rattle.agent_commands.specs.declared.went.Went.{Went}
 use Rattle.agent_commands.specs.declared.went.Went.TheVariants.{On, End}
-
--- an exchange whose reply was written, or was cut by a write that failed
-pub data WholeOrCut {S F : Type 0} (exchange : S → List (EventWith F) → S → Went → Type 0) (before : S) : List (EventWith F) → S → Went → Type 0 where
-  whole : {events : List (EventWith F)} {after : S} {went : Went} → exchange before events after went → WholeOrCut exchange before events after went
-  cut : {events done : List (EventWith F)} {after : S} {went : Went} → exchange before events after went → CutAtLast events done
-      → WholeOrCut exchange before done after (End WriteFault)
 
 module _ {S F : Type 0} (exchange : S → List ℕ → List (EventWith F) → S → Went → Type 0) where
   -- from some request on: what was kept before it, what the session does, and how it ends
   pub data Talk : S → List (EventWith F) → SessionEnd → Type 0 where
     -- the request is answered, and the session goes on
     goes_on : {before after : S} {events more : List (EventWith F)} {end : SessionEnd} (line : List ℕ)
-        → WholeOrCut (λ kept. exchange kept line) before events after On → Talk after more end
+        → WholeOrCut went_after (exchange before line) events after On → Talk after more end
         → Talk before (Received (took.Line line) ∷ (events ++ more)) end
     -- the request is the last one
     over : {before after : S} {events : List (EventWith F)} {end : SessionEnd} (line : List ℕ)
-        → WholeOrCut (λ kept. exchange kept line) before events after (End end) → Talk before (Received (took.Line line) ∷ events) end
+        → WholeOrCut went_after (exchange before line) events after (End end) → Talk before (Received (took.Line line) ∷ events) end
     -- no request comes
     ended : {before : S} → Talk before (Received took.End ∷ []) Ended
     spent : {before : S} → Talk before (Received took.Spent ∷ []) Spent

@@ -11,7 +11,6 @@ use Rattle.session_client.specs.declared.code.Code.TheVariants.{Forbidden}
 use Rattle.assuan_text.specs.Words.{command_of}
 use Rattle.cache_policy.specs.declared.mark.MarkStep.{MarkStep}
 use Rattle.cache_policy.specs.Turns.{Turn}
-use Rattle.key_commands.specs.Events.{Event}
 use Rattle.session_options.specs.declared.rules.Rules.{Rules}
 use Rattle.agent_origin.specs.DoorSessions.{door_command_named, door_help, helped, trusts, any, DoorExchange, forbidden, is_allowed}
 use Rattle.agent_origin.specs.Doors.{allowed}
@@ -23,7 +22,7 @@ use Rattle.agent_origin.specs.Serving.{SaysText}
 use Rattle.agent_origin.specs.declared.door.Door.{Door}
 use Rattle.agent_origin.specs.declared.kept.Kept.{Kept}
 use Rattle.agent_origin.specs.declared.door_session.DoorCommand.TheVariants.{Help, Trust}
-use Rattle.agent_commands.proofs.Beside.{exchange_as}
+use Rattle.agent_ask.proofs.Answered.{answered_as}
 use Rattle.agent_origin.proofs.Serving.{text_answers}
 
 module _ {D P : Type 0} (turned : D → MarkStep → Turn → D → Type 0) (prompted : P → Call → P → Type 0) (door : Door) (rules : Rules) (line : List ℕ) where
@@ -42,23 +41,12 @@ module _ {D P : Type 0} (turned : D → MarkStep → Turn → D → Type 0) (pro
     help_is_answered kept start now named going said =
         text_answers {w = FurtherWorld turned prompted} (λ k. DoorExchange door rules k line) kept start now (is_allowed may (rw named helped)) going said
 
-    answered_as : {S : Type 0} {exchange : S → List Event → S → Went → Type 0} {from to : S} {before after : Kept} {start now : FurtherState turned prompted} {went : Went}
-        → ((events : List Event) (went : Went) → exchange from events to went → DoorExchange door rules before line events after went)
-        → AnswersRequest {w = FurtherWorld turned prompted} exchange from start went to now → Answers before start went after now
-    answered_as same answered = record {
-      events = answered.events;
-      exchanges = exchange_as same answered.exchanges;
-      done = answered.done;
-      fits = answered.fits;
-      faults = answered.faults;
-    }
-
     pub trust_is_answered : (kept : Kept) {start now : FurtherState turned prompted} {went : Went} → door_command_named (command_of line) ≡ Some Trust
         → AnswersRequest {w = FurtherWorld turned prompted} (λ options. AnyExchange refusal_line went_after (TrustReplies rules options (trust_request_of line)) options) kept.options start went kept.options now
         → Answers kept start went kept now
-    trust_is_answered kept named answered = answered_as (λ events went exchanged. is_allowed may (rw named (trusts exchanged))) answered
+    trust_is_answered kept named answered = answered_as answered (λ events went exchanged. is_allowed may (rw named (trusts exchanged)))
 
     -- with the trust file beside
     pub session_line_is_answered : {before after : Kept} {start now : FurtherState turned prompted} {went : Went} → door_command_named (command_of line) ≡ None
         → AnswersRequest {w = FurtherWorld turned prompted} (λ kept. SessionExchange rules kept line) before start went after now → Answers before start went after now
-    session_line_is_answered named answered = answered_as (λ events went exchanged. is_allowed may (rw named (any exchanged))) answered
+    session_line_is_answered named answered = answered_as answered (λ events went exchanged. is_allowed may (rw named (any exchanged)))

@@ -1,8 +1,7 @@
 -- Requests on the cache with the keys and the dice beside, requests on keys with the option values beside, and both with the trust file beside.
-use Rattle.std.proofs.Common.{ℕ, List, refl}
+use Rattle.std.proofs.Common.{◌≡◌, ℕ, List, Some, refl}
 use Rattle.arrayvec.specs.ArrayVec.{ArrayVec}
-use Rattle.agent_ask.specs.Answering.{ReaderLeft, FaultsCounted}
-use Rattle.agent_ask.specs.Answering as asked
+use Rattle.agent_ask.specs.Answering.{AnswersBy}
 use Rattle.agent_ask.specs.Events.{Call}
 use Rattle.agent_ask.specs.Further.{FurtherEvent, FurtherEnds, DoesFurther}
 use Rattle.agent_ask.specs.Further as further
@@ -13,30 +12,35 @@ use Rattle.assuan_server.specs.Clients.{connection_views}
 use Rattle.assuan_server.specs.Connections.{Connection}
 use Rattle.cache_policy.specs.declared.mark.MarkStep.{MarkStep}
 use Rattle.cache_policy.specs.Turns.{Turn}
-use Rattle.session_client.specs.declared.unheard.Gone.TheVariants as gone
 use Rattle.session_options.specs.OptionValues.{OptionValues}
 use Rattle.session_options.specs.declared.rules.Rules.{Rules}
+use Rattle.agent_ask.proofs.Answered.{answered_onward, answered_as, answers_beside}
+use Rattle.agent_commands.specs.Endings.{went_after, gone_after}
 use Rattle.agent_commands.specs.Events.{EventWith}
 use Rattle.agent_commands.specs.Exchanges.{CacheExchange}
 use Rattle.agent_commands.specs.Outside.{world, prompt_world, DoesPrompts, prompts}
-use Rattle.agent_commands.specs.States.{session_state, prompt_state, AnswersRequest, ReaderAfter, FaultsRise}
-use Rattle.agent_commands.specs.Talks.{WholeOrCut, whole, cut}
+use Rattle.agent_commands.specs.States.{session_state, prompt_state, AnswersRequest}
 use Rattle.agent_commands.specs.declared.request.Request.{Request}
 use Rattle.agent_commands.specs.declared.request.Request.TheVariants.{Key}
 use Rattle.agent_commands.specs.declared.went.Went.{Went}
-use Rattle.agent_commands.proofs.Beside.{answers_beside}
+use Rattle.agent_commands.proofs.Replying.{gone_as_it_went}
 use Rattle.key_commands.specs.Exchanges.{KeyExchange}
 use Rattle.key_commands.specs.KeyEnds.{KeyEnds, DoesAtKeys, prompt}
 use Rattle.key_commands.specs.KeyEnds as at_keys
 use Rattle.key_commands.specs.Requests.{key_request_of}
 use Rattle.key_commands.specs.States.{KeyWorld, KeyState, key_state, AnswersKey}
-use Rattle.key_commands.specs.Parts.{key_went_after, key_gone}
+use Rattle.key_commands.specs.Parts.{key_gone}
 use Rattle.key_commands.specs.declared.went.KeyWent.{KeyWent}
 use Rattle.key_commands.specs.declared.went.KeyWent.TheVariants as key
 use Rattle.key_commands.specs.declared.wrap_keys.WrapKeys.{WrapKeys}
 use Rattle.agent_origin.specs.FurtherStates.{further_ends, FurtherWorld}
 use Rattle.agent_origin.specs.SessionExchanges.{RequestExchange, cache, keys, went_after_key, described_after}
 use Rattle.agent_origin.specs.declared.kept.Kept.{Kept}
+
+-- the client is gone as the request on keys says
+gone_as_keys_have_it : (went : KeyWent) → gone_after (went_after_key went) ≡ key_gone went
+gone_as_keys_have_it key.On = refl
+gone_as_keys_have_it (key.Gone how) = gone_as_it_went (Some how)
 
 abbrev kept_with : OptionValues → WrapKeys → Kept
 kept_with options wraps = record { options = options; wraps = wraps }
@@ -56,51 +60,21 @@ module _ {D P : Type 0} (turned : D → MarkStep → Turn → D → Type 0) (pro
         (prompt_state turned prompted now desk_now prompter_now)
         → AnswersRequest {w = KeyWorld turned prompted} (λ kept. RequestExchange rules kept request) (kept_with before wraps) (key_state turned prompted conn desk prompter files dice) went
         (kept_with after wraps) (key_state turned prompted now desk_now prompter_now files dice)
-    cached_beside = answers_beside turned (DoesPrompts prompted) (DoesAtKeys prompted) (ends files dice) (each files dice) (λ events then exchanged. cache exchanged)
+    cached_beside answered = answered_as (answers_beside turned (DoesPrompts prompted) (DoesAtKeys prompted) (ends files dice) (each files dice) answered) (λ events then exchanged. cache exchanged)
 
     -- by the cache alone, with the prompter beside too
     pub quiet_beside : (prompter : P)
         → AnswersRequest {w = world turned} (λ options. CacheExchange rules options request) before (session_state turned conn desk) went after (session_state turned now desk_now)
         → AnswersRequest {w = KeyWorld turned prompted} (λ kept. RequestExchange rules kept request) (kept_with before wraps) (key_state turned prompted conn desk prompter files dice) went
         (kept_with after wraps) (key_state turned prompted now desk_now prompter files dice)
-    quiet_beside prompter =
-        answers_beside turned (λ prior what later. ⊥) (DoesAtKeys prompted) (λ none. ends files dice prompter) (λ prior later what never. absurd never) (λ events then exchanged. cache exchanged)
+    quiet_beside prompter answered =
+        answered_as (answers_beside turned (λ prior what later. ⊥) (DoesAtKeys prompted) (λ none. ends files dice prompter) (λ prior what later never. absurd never) answered) (λ events then exchanged. cache exchanged)
 
-  key_reader_fits : (went : KeyWent) (first now : Connection) → ReaderLeft connection_views (key_gone went) first now → ReaderAfter (went_after_key went) first.reader now.reader
-  key_reader_fits key.On first now fits = fits
-  key_reader_fits (key.Gone gone.Ended) first now fits = fits
-  key_reader_fits (key.Gone gone.TooLong) first now fits = fits
-  key_reader_fits (key.Gone gone.Spent) first now fits = fits
-  key_reader_fits (key.Gone gone.ReadFault) first now fits = fits
-  key_reader_fits (key.Gone gone.WriteFault) first now fits = fits
-
-  key_faults_rise : (went : KeyWent) {start now : KeyState turned prompted} → FaultsCounted connection_views (key_gone went) start.conn now.conn
-      → FaultsRise {w = KeyWorld turned prompted} (went_after_key went) start now
-  key_faults_rise key.On faults = record { read = λ e. absurd (cc e); write = λ e. absurd (cc e) }
-  key_faults_rise (key.Gone gone.Ended) faults = record { read = λ e. absurd (cc e); write = λ e. absurd (cc e) }
-  key_faults_rise (key.Gone gone.TooLong) faults = record { read = λ e. absurd (cc e); write = λ e. absurd (cc e) }
-  key_faults_rise (key.Gone gone.Spent) faults = record { read = λ e. absurd (cc e); write = λ e. absurd (cc e) }
-  key_faults_rise (key.Gone gone.ReadFault) faults = record { read = λ e. faults.read refl; write = λ e. absurd (cc e) }
-  key_faults_rise (key.Gone gone.WriteFault) faults = record { read = λ e. absurd (cc e); write = λ e. faults.write refl }
-
-  module _ (rules : Rules) (options : OptionValues) {line : ArrayVec ℕ} {before : WrapKeys} where
-    key_exchange_beside : {events : List (EventWith FurtherEvent)} {after : WrapKeys} {went : KeyWent}
-        → asked.WholeOrCut key_went_after (KeyExchange rules options before (key_request_of line.items)) events after went
-        → WholeOrCut (λ kept. RequestExchange rules kept (Key line)) (kept_with options before) events (kept_with (described_after line.items options) after) (went_after_key went)
-    key_exchange_beside (asked.whole exchanged) = whole (keys exchanged)
-    key_exchange_beside (asked.cut exchanged last) = cut (keys exchanged) last
-
-    -- with the option values beside
-    pub keyed_beside : {start now : KeyState turned prompted} {went : KeyWent} {after : WrapKeys}
-        → AnswersKey turned prompted (KeyExchange rules options before (key_request_of line.items)) start went after now
-        → AnswersRequest {w = KeyWorld turned prompted} (λ kept. RequestExchange rules kept (Key line)) (kept_with options before) start (went_after_key went) (kept_with (described_after line.items options) after) now
-    keyed_beside {start} {now} {went} answered = record {
-      events = answered.events;
-      exchanges = key_exchange_beside answered.exchanges;
-      done = answered.done;
-      fits = key_reader_fits went start.conn now.conn answered.fits;
-      faults = key_faults_rise went answered.faults;
-    }
+  -- with the option values beside
+  pub keyed_beside : (rules : Rules) (options : OptionValues) {line : ArrayVec ℕ} {before after : WrapKeys} {start now : KeyState turned prompted} {went : KeyWent}
+      → AnswersKey turned prompted (KeyExchange rules options before (key_request_of line.items)) start went after now
+      → AnswersRequest {w = KeyWorld turned prompted} (λ kept. RequestExchange rules kept (Key line)) (kept_with options before) start (went_after_key went) (kept_with (described_after line.items options) after) now
+  keyed_beside rules options {went} answered = answered_onward answered went_after_key refl (gone_as_keys_have_it went) (λ events then exchanged. keys exchanged)
 
 -- ---- with the trust file beside
 
@@ -114,9 +88,8 @@ module _ {D P : Type 0} (turned : D → MarkStep → Turn → D → Type 0) (pro
   each_with_file _ _ _ (at_keys.dice does) = further.dice does
   each_with_file _ _ _ at_keys.no_memory = further.no_memory
 
-  pub trust_beside : {S T : Type 0} {exchange : S → List (EventWith FurtherEvent) → S → Went → Type 0} {other : T → List (EventWith FurtherEvent) → T → Went → Type 0} {before after : S} {from to : T}
-      {start now : KeyState turned prompted} {went : Went} → ((events : List (EventWith FurtherEvent)) (went : Went) → exchange before events after went → other from events to went)
-      → AnswersRequest {w = KeyWorld turned prompted} exchange before start went after now
-      → AnswersRequest {w = FurtherWorld turned prompted} other from (record { conn = start.conn; desk = start.desk; ends = with_file start.ends }) went to
+  pub trust_beside : {S : Type 0} {exchange : List (EventWith FurtherEvent) → S → Went → Type 0} {start now : KeyState turned prompted} {went : Went} {after : S}
+      → AnswersBy {w = KeyWorld turned prompted} connection_views went_after gone_after exchange start went after now
+      → AnswersBy {w = FurtherWorld turned prompted} connection_views went_after gone_after exchange (record { conn = start.conn; desk = start.desk; ends = with_file start.ends }) went after
       (record { conn = now.conn; desk = now.desk; ends = with_file now.ends })
-  trust_beside same = answers_beside turned (DoesAtKeys prompted) (DoesFurther prompted) with_file each_with_file same
+  trust_beside = answers_beside turned (DoesAtKeys prompted) (DoesFurther prompted) with_file each_with_file

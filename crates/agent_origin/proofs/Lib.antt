@@ -9,7 +9,9 @@ mod NewTrustFiles
 mod WorkedExamples
 mod WorkedExchanges
 mod AtDoor
+pub mod EachCache
 pub mod EachLine
+pub mod EachTrust
 pub mod Beside
 mod Meeting
 mod Served

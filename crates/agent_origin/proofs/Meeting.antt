@@ -9,6 +9,7 @@ use Rattle.assuan_line.specs.Next.{Reader}
 use Rattle.assuan_server.specs.Connections.{Connection}
 use Rattle.assuan_server.specs.Written.{greeting}
 use Rattle.assuan_text.specs.LineEnds.{line_of}
+use Rattle.agent_commands.specs.Endings.{gone_of}
 use Rattle.agent_commands.specs.Events.{EventWith}
 use Rattle.agent_ask.specs.SessionEvents.{Sent, Cut}
 use Rattle.agent_commands.specs.Outside.{World}
@@ -22,7 +23,6 @@ use Rattle.agent_ports.specs.declared.link.WriteFault.{WriteFault}
 use Rattle.agent_ports.specs.Writing.{StopsWriting}
 use Rattle.agent_commands.specs.declared.went.SessionEnd.{SessionEnd}
 use Rattle.agent_commands.specs.declared.went.SessionEnd.TheVariants.{WriteFault as CutOff}
-use Rattle.agent_commands.specs.declared.went.Went.TheVariants.{End}
 use Rattle.agent_ask.proofs.Doing.{done_then, done_said, done_cut}
 use Rattle.assuan_server.proofs.Clients.{said_so}
 use Rattle.agent_origin.specs.Sessions.{LineRelation, Leaves, supply_of, ends_with}
@@ -135,8 +135,8 @@ module _ {w : World} {S : Type 0} (exchange : LineRelation w S) (before : S) (st
           leaves = leaves_known end last.conn.reader last.conn.input.bytes talked.leaves;
           taken = taken last (Sent (line_of greeting) ∷ talked.events) done;
           greeted = λ other is. absurd (cc is);
-          read_fault = λ e. omega (arith, talked.faults.read (ap (λ (x : SessionEnd). End x) e), ap (λ (s : Side). s.faults) said.input);
-          write_fault = λ e. omega (arith, talked.faults.write (ap (λ (x : SessionEnd). End x) e), said.output.faults);
+          read_fault = λ e. omega (arith, talked.faults.read (ap gone_of e), ap (λ (s : Side). s.faults) said.input);
+          write_fault = λ e. omega (arith, talked.faults.write (ap gone_of e), said.output.faults);
           reads = done.reads;
           writes = done.writes;
           input_faults = done.input_faults;

@@ -3,6 +3,7 @@ use Rattle.std.proofs.Common.{◌≡◌, ◌≤◌, ℕ, Bool, true, false, List
 use Rattle.std.specs.List.{AllByRecursion}
 use Rattle.std.proofs.lemmas.List.{append_assoc, append-nil}
 use Rattle.arrayvec.specs.ArrayVec.{ArrayVec}
+use Rattle.agent_ask.specs.Answering.{WholeOrCut, whole, cut}
 use Rattle.agent_ask.specs.ConsentParts.{AgreesTo, consents, refused as dissents}
 use Rattle.agent_ask.specs.PartExchanges.{AnyExchange, answered, refused}
 use Rattle.agent_ask.specs.Parts.{Follows, goes_on, stops, returns, Refuses, refuses}
@@ -12,7 +13,7 @@ use Rattle.agent_ask.specs.TurnParts.{Seats, opened, Closes, closed}
 use Rattle.agent_commands.specs.Endings.{went_after}
 use Rattle.agent_commands.specs.Exchanges.{CacheReply}
 use Rattle.agent_commands.specs.Requests.{request_of}
-use Rattle.agent_commands.specs.Talks.{WholeOrCut, whole, cut, Talk, over, ended, spent, read_fault, too_long as talk_too_long, cut_too_long, Session as SessionOf, greeted, cut_greeting}
+use Rattle.agent_commands.specs.Talks.{Talk, over, ended, spent, read_fault, too_long as talk_too_long, cut_too_long, Session as SessionOf, greeted, cut_greeting}
 use Rattle.agent_commands.specs.Talks as talks
 use Rattle.agent_commands.specs.declared.went.SessionEnd.{SessionEnd}
 use Rattle.agent_commands.specs.declared.went.Went.{Went}
@@ -25,8 +26,8 @@ use Rattle.cache_policy.specs.Turns.{Turn, Open}
 use Rattle.cache_policy.specs.declared.mark.MarkStep.TheVariants.{Seat, Close}
 use Rattle.key_commands.specs.Events.{Event}
 use Rattle.key_commands.specs.Parts.{Part}
-use Rattle.key_commands.proofs.EachEvent.{each_append, each_seats, each_closes}
-use Rattle.key_commands.proofs.EachRequest.{IsBesideTrust, said_last_so}
+use Rattle.key_commands.proofs.EachEvent.{each_seats, each_answer}
+use Rattle.key_commands.proofs.EachRequest.{IsBesideTrust}
 use Rattle.session_client.specs.declared.code.Code.TheVariants.{LineTooLong}
 use Rattle.session_client.specs.declared.code.Code.TheVariants as code
 use Rattle.session_client.specs.declared.refusal.Refusal.{Refusal}
@@ -364,19 +365,21 @@ module _ (rules : Rules) (options : OptionValues) (before : List Event) (file : 
   parts_consents request back last held closes own result (stops {refusal} does) rest here = carried_consents request own rest back last (Err refusal) held here does closes
 
   replies_consents : (request : TrustRequest) (events back last after : List Event) (result : Result CacheReply Refusal) (held : Option ℕ) → TrustReplies rules options request None events result held
-      → Closes None held back (Ok tt) None → AllByRecursion IsBesideTrust last → events ++ (back ++ last) ≡ before ++ replaced file ∷ after → HasConsents rules options request before file after
+      → Closes None held back (Ok tt) None → AllByRecursion IsBesideTrust (back ++ last) → events ++ (back ++ last) ≡ before ++ replaced file ∷ after → HasConsents rules options request before file after
   replies_consents request events back last after result held replies closes each is =
       elim (in_either events (back ++ last) before (replaced file) after is) [
         | in_first rest here past ↦ subst (HasConsents rules options request before file) (sym past) (parts_consents request back last held closes events result replies rest here)
-        | in_second rest there here ↦
-            absurd (each_lacks (back ++ last) (each_append IsBesideTrust back last ((each_closes IsBesideTrust None (λ number turn. tt)).of held back (Ok tt) None closes) each) rest file after here)
+        | in_second rest there here ↦ absurd (each_lacks (back ++ last) each rest file after here)
       ]
+
+  beside : {held : Option ℕ} {back : List Event} (line : Option (List ℕ)) → Closes None held back (Ok tt) None → AllByRecursion IsBesideTrust (back ++ said_last line)
+  beside = each_answer IsBesideTrust (λ number turn. tt) (λ text. tt)
 
   request_consents : (request : TrustRequest) {events : List Event} {values : OptionValues} {went : Went} → AnyExchange refusal_line went_after (TrustReplies rules options request) options events values went
       → (after : List Event) → events ≡ before ++ replaced file ∷ after → HasConsents rules options request before file after
-  request_consents request (answered events held reply {back} does closes) after is = replies_consents request events back (Sent reply.text ∷ []) after (Ok reply) held does closes (tt, tt) is
+  request_consents request (answered events held reply {back} does closes) after is = replies_consents request events back (Sent reply.text ∷ []) after (Ok reply) held does closes (beside (Some reply.text) closes) is
   request_consents request (refused events held why {back} does closes) after is =
-      replies_consents request events back (said_last (refusal_line why)) after (Err why) held does closes (said_last_so IsBesideTrust (λ event is. is) (refusal_line why)) is
+      replies_consents request events back (said_last (refusal_line why)) after (Err why) held does closes (beside (refusal_line why) closes) is
 
 -- ---- lines at a door
 
@@ -436,7 +439,7 @@ behind_close [] sent unsent close later is other = let same : Sent (sent ++ unse
 behind_close (first ∷ rest) sent unsent close later is other = let same : first ≡ close = cc is in (rest, ap (λ (e : Event). e ∷ rest) same)
 
 module _ (door : Door) (rules : Rules) where
-  either_consents : {prior then : Kept} (line : List ℕ) {events : List Event} {went : Went} → WholeOrCut (λ kept. DoorExchange door rules kept line) prior events then went
+  either_consents : {prior then : Kept} (line : List ℕ) {events : List Event} {went : Went} → WholeOrCut went_after (DoorExchange door rules prior line) events then went
       → (before : List Event) (file : List ℕ) (after : List Event) → events ≡ before ++ replaced file ∷ after → HasConsents rules prior.options (trust_request_of line) before file after × (door ≡ Home)
   either_consents line (whole exchanged) before file after is = exchange_consents door rules line exchanged before file after is
   either_consents {prior} line (cut {events} exchanged last) before file after is =

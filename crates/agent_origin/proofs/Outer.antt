@@ -8,7 +8,9 @@ use Rattle.agent_ask.specs.ConsentParts.{AgreesTo}
 use Rattle.agent_ask.specs.ConsentParts as consent
 use Rattle.agent_ask.specs.Events.{PromptEvent}
 use Rattle.agent_ask.specs.PartExchanges.{AnyReply, AnyExchange, answered, refused}
-use Rattle.agent_ask.specs.Parts.{Follows, goes_on, stops, Returns, returns, Refuses, refuses, needed, or_else}
+use Rattle.agent_ask.specs.Parts.{Follows, Returns, Refuses}
+use Rattle.agent_ask.proofs.Within.{Within, OfNothing, weaker, returned, refused as refused_so, is_needed, or_otherwise}
+use Rattle.agent_ask.proofs.Within as within
 use Rattle.agent_ask.specs.SessionEvents.{AnyEvent, Received, Sent, Cut, Inquiry, CacheTurn, Further, turns_in, said_last}
 use Rattle.agent_ask.specs.TurnParts.{Seats, opened, interrupted, Closes, unheld, closed}
 use Rattle.agent_ask.specs.SessionPrompts.{AnyInSession, none, called, noted, out_of_memory}
@@ -92,60 +94,57 @@ abbrev pub Owes : Option ℕ → List Taken → Type 0
 Owes None turns = AreOuterTurns turns
 Owes (Some ticket) turns = AreOuterTurns (record { asked = Seat None None; turn = Open ticket } ∷ turns)
 
--- a part that is begun with this ticket leaves the cache, where all that follows does
-pub record Leaves {A : Type 0} (held : Option ℕ) (part : CachePart A) : Type 0 where
-  pub of : (events : List CacheEvent) (result : Result A Refusal) (after : Option ℕ) → part held events result after → (later : List Taken) → Owes after later → Owes held (turns_in events ++ later)
+abbrev pub LeaveLaw : {A : Type 0} → CachePart A
+LeaveLaw before events result after = (later : List Taken) → Owes after later → Owes before (turns_in events ++ later)
 
-module _ {A B : Type 0} {part : CachePart A} {next : A → CachePart B} {held : Option ℕ} (first : Leaves held part) (then : (value : A) (mid : Option ℕ) → Leaves mid (next value)) where
-  bind_of : (events : List CacheEvent) (result : Result B Refusal) (after : Option ℕ) → Follows part next held events result after → (later : List Taken) → Owes after later
-      → Owes held (turns_in events ++ later)
-  bind_of events result after (goes_on {first = some} {events = more} {value} {mid} does next_does) later owes =
-      subst (Owes held) (sym (ap (λ (t : List Taken). t ++ later) (turns_then some more) ∙ append_assoc (turns_in some) (turns_in more) later))
-      (first.of some (Ok value) mid does (turns_in more ++ later) ((then value mid).of more result after next_does later owes))
-  bind_of events result after (stops {refusal = why} does) later owes = first.of events (Err why) after does later owes
+-- a part leaves the cache, where all that follows does
+abbrev pub Leaves : {A : Type 0} → CachePart A → Type 0
+Leaves part = Within part LeaveLaw
 
-  pub bind : Leaves held (Follows part next)
-  bind = record { of = bind_of }
+-- and where no ticket is held
+abbrev pub LeavesUnseated : {A : Type 0} → CachePart A → Type 0
+LeavesUnseated part = Within part (λ before events result after. before ≡ None → LeaveLaw before events result after)
 
-module _ {A : Type 0} {held : Option ℕ} where
-  returns_of : (value : A) (events : List CacheEvent) (result : Result A Refusal) (after : Option ℕ) → Returns value held events result after → (later : List Taken) → Owes after later
-      → Owes held (turns_in events ++ later)
-  returns_of value events result after returns later owes = owes
+turns_behind : (held : Option ℕ) (some more : List CacheEvent) (later : List Taken) → Owes held (turns_in some ++ (turns_in more ++ later)) → Owes held (turns_in (some ++ more) ++ later)
+turns_behind held some more later = subst (Owes held) (sym (ap (λ (t : List Taken). t ++ later) (turns_then some more) ∙ append_assoc (turns_in some) (turns_in more) later))
 
-  pub returned : (value : A) → Leaves held (Returns value)
-  returned value = record { of = returns_of value }
+pub bind : {A B : Type 0} {part : CachePart A} {next : A → CachePart B} → Leaves part → ((value : A) → Leaves (next value)) → Leaves (Follows part next)
+bind = within.bind (record {
+  then = λ {before} some more one other later owes. turns_behind before some more later (one (turns_in more ++ later) (other later owes));
+  alone = λ one. one;
+})
 
-  refuses_of : (why : Refusal) (events : List CacheEvent) (result : Result A Refusal) (after : Option ℕ) → Refuses {A = A} why held events result after → (later : List Taken) → Owes after later
-      → Owes held (turns_in events ++ later)
-  refuses_of why events result after refuses later owes = owes
+pub bind_unseated : {A B : Type 0} {part : CachePart A} {next : A → CachePart B} → LeavesUnseated part → ((value : A) → Leaves (next value)) → LeavesUnseated (Follows part next)
+bind_unseated = within.bind (record {
+  then = λ {before} some more one other free later owes. turns_behind before some more later (one free (turns_in more ++ later) (other later owes));
+  alone = λ one. one;
+})
 
-  pub refused_by : (why : Refusal) → Leaves held (Refuses {A = A} why)
-  refused_by why = record { of = refuses_of why }
+pub unseated_too : {A : Type 0} {part : CachePart A} → Leaves part → LeavesUnseated part
+unseated_too = weaker (record { of = λ before events result after leaves free. leaves })
 
-  needed_leaves : (why : Code) (value : Option A) → Leaves held (needed why value)
-  needed_leaves why None = refused_by (Agent why)
-  needed_leaves why (Some value) = returned value
+pub leaves_nothing : {A : Type 0} → OfNothing {A = A} LeaveLaw
+leaves_nothing = record { of = λ held result later owes. owes }
 
-  otherwise : (value : Option A) {other : CachePart A} → Leaves held other → Leaves held (or_else value other)
-  otherwise None other = other
-  otherwise (Some value) other = returned value
+pub gives : {A : Type 0} (value : A) → Leaves (Returns value)
+gives = returned leaves_nothing
 
-module _ (held : Option ℕ) where
-  writes_of : (text : List ℕ) (events : List CacheEvent) (result : Result (Unit {0}) Refusal) (after : Option ℕ) → Writes text held events result after → (later : List Taken) → Owes after later
-      → Owes held (turns_in events ++ later)
-  writes_of text events result after written later owes = owes
-  writes_of text events result after (cut unsent is) later owes = owes
+pub refused_by : {A : Type 0} (why : Refusal) → Leaves (Refuses {A = A} why)
+refused_by = refused_so leaves_nothing
 
-  inquires_of : (word : List ℕ) (most : ℕ) (events : List CacheEvent) (result : Result (List ℕ) Refusal) (after : Option ℕ) → Inquires session_lines word most held events result after
-      → (later : List Taken) → Owes after later → Owes held (turns_in events ++ later)
-  inquires_of word most events result after (given is) later owes = owes
-  inquires_of word most events result after (not_given is) later owes = owes
+writes_of : (text : List ℕ) (before : Option ℕ) (events : List CacheEvent) (result : Result (Unit {0}) Refusal) (after : Option ℕ) → Writes text before events result after → LeaveLaw before events result after
+writes_of text before events result after written later owes = owes
+writes_of text before events result after (cut unsent is) later owes = owes
+
+inquires_of : (word : List ℕ) (most : ℕ) (before : Option ℕ) (events : List CacheEvent) (result : Result (List ℕ) Refusal) (after : Option ℕ) → Inquires session_lines word most before events result after
+    → LeaveLaw before events result after
+inquires_of word most before events result after (given is) later owes = owes
+inquires_of word most before events result after (not_given is) later owes = owes
 
 -- a ticket that is held is given back
-closes_of : (held : Option ℕ) (keep : Option (List ℕ)) (events : List CacheEvent) (result : Result (Unit {0}) Refusal) (after : Option ℕ) → Closes keep held events result after → (later : List Taken)
-    → Owes after later → Owes held (turns_in events ++ later)
-closes_of None keep events result after unheld later owes = owes
-closes_of (Some ticket) keep events result after (closed turn) later owes = seated owes
+closes_of : (keep : Option (List ℕ)) (before : Option ℕ) (events : List CacheEvent) (result : Result (Unit {0}) Refusal) (after : Option ℕ) → Closes keep before events result after → LeaveLaw before events result after
+closes_of keep before events result after unheld later owes = owes
+closes_of keep before events result after (closed turn) later owes = seated owes
 
 -- a prompt takes no turn
 shown_of : {prompt : List PromptEvent} {events : List CacheEvent} (held : Option ℕ) → AnyInSession session_lines prompt events → (later : List Taken) → Owes held later
@@ -153,67 +152,66 @@ shown_of : {prompt : List PromptEvent} {events : List CacheEvent} (held : Option
 shown_of held in_session later owes = subst (Owes held) (sym (ap (λ (t : List Taken). t ++ later) (prompt_still in_session))) owes
 
 -- the seat is taken where no ticket is held
-seats_of : (events : List CacheEvent) (result : Result (Unit {0}) Refusal) (after : Option ℕ) → Seats (Seat None None) None events result after → (later : List Taken) → Owes after later
-    → Owes None (turns_in events ++ later)
-seats_of events result after opened later owes = owes
-seats_of events result after (interrupted by) later owes = unseated by owes
+seats_of : (before : Option ℕ) (events : List CacheEvent) (result : Result (Unit {0}) Refusal) (after : Option ℕ) → Seats (Seat None None) before events result after → before ≡ None → LeaveLaw before events result after
+seats_of None events result after opened free later owes = owes
+seats_of None events result after (interrupted by) free later owes = unseated by owes
+seats_of (Some ticket) events result after does free later owes = absurd (cc free)
 
-asks_client : (held : Option ℕ) → Leaves held AsksPassphrase
-asks_client held = bind (record { of = writes_of held (limit_line MAX_SECRET_LEN) }) (λ told mid. record { of = inquires_of mid _ _ })
+asks_client : Leaves AsksPassphrase
+asks_client = bind (record { of = writes_of (limit_line MAX_SECRET_LEN) }) (λ told. record { of = inquires_of _ _ })
 
 -- ---- passphrases that aren't cached
 
-looks_for : (held : Option ℕ) (id : Option (List ℕ)) → id ≡ None → Leaves held (LooksFor id)
-looks_for held None is = returned None
-looks_for held (Some id) is = cc is
+looks_for : (id : Option (List ℕ)) → id ≡ None → Leaves (LooksFor id)
+looks_for None is = gives None
+looks_for (Some id) is = cc is
 
-wants_prompt : (id : Option (List ℕ)) → id ≡ None → Leaves None (WantsPrompt id)
-wants_prompt None is = bind (record { of = seats_of }) (λ seat mid. returned None)
+wants_prompt : (id : Option (List ℕ)) → id ≡ None → LeavesUnseated (WantsPrompt id)
+wants_prompt None is = bind_unseated (record { of = seats_of }) (λ seat. gives None)
 wants_prompt (Some id) is = cc is
 
-keeps_under : (held : Option ℕ) (id : Option (List ℕ)) → id ≡ None → (secret : List ℕ) → Leaves held (KeepsUnder id secret)
-keeps_under held None is secret = returned tt
-keeps_under held (Some id) is secret = cc is
+keeps_under : (id : Option (List ℕ)) → id ≡ None → (secret : List ℕ) → Leaves (KeepsUnder id secret)
+keeps_under None is secret = gives tt
+keeps_under (Some id) is secret = cc is
 
 module _ (id : Option (List ℕ)) (is : id ≡ None) where
-  uncached : (held : Option ℕ) (way : PinMode) → Leaves held (NotCached id way)
-  uncached held mode.Ask = refused_by (Agent code.NoPinentry)
-  uncached held mode.Cancel = refused_by (Agent code.Cancelled)
-  uncached held mode.Error = refused_by (Agent code.NoPinentry)
-  uncached held mode.Loopback = bind (asks_client held) (λ secret mid. bind (keeps_under mid id is secret) (λ kept then. returned secret))
+  uncached : (way : PinMode) → Leaves (NotCached id way)
+  uncached mode.Ask = refused_by (Agent code.NoPinentry)
+  uncached mode.Cancel = refused_by (Agent code.Cancelled)
+  uncached mode.Error = refused_by (Agent code.NoPinentry)
+  uncached mode.Loopback = bind asks_client (λ secret. bind (keeps_under id is secret) (λ kept. gives secret))
 
-  without_prompt : (way : PinMode) → Leaves None (WithoutPrompt id way)
-  without_prompt way = bind (looks_for None id is) (λ cached mid. otherwise cached (uncached mid way))
+  without_prompt : (way : PinMode) → Leaves (WithoutPrompt id way)
+  without_prompt way = bind (looks_for id is) (λ cached. or_otherwise leaves_nothing cached (uncached way))
 
-  by_cache : Leaves None (ByCache id)
-  by_cache = bind (looks_for None id is) (λ cached mid. needed_leaves code.NoData cached)
+  by_cache : Leaves (ByCache id)
+  by_cache = bind (looks_for id is) (λ cached. is_needed leaves_nothing code.NoData cached)
 
 module _ (agent : Rules) (options : OptionValues) where
-  prompts_of : (held : Option ℕ) (texts : Texts) (check quality : Bool) (repeat : ℕ) (events : List CacheEvent) (result : Result (List ℕ) Refusal) (after : Option ℕ)
-      → PromptsAny agent options texts check quality repeat held events result after → (later : List Taken) → Owes after later → Owes held (turns_in events ++ later)
-  prompts_of held texts check quality repeat events result after (passphrase.given spec is prompt) later owes = shown_of held prompt.in_session later owes
-  prompts_of held texts check quality repeat events result after (passphrase.refused spec is prompt enough refusal) later owes = shown_of held prompt.in_session later owes
+  prompts_of : (texts : Texts) (check quality : Bool) (repeat : ℕ) (before : Option ℕ) (events : List CacheEvent) (result : Result (List ℕ) Refusal) (after : Option ℕ)
+      → PromptsAny agent options texts check quality repeat before events result after → LeaveLaw before events result after
+  prompts_of texts check quality repeat before events result after (passphrase.given spec is prompt) later owes = shown_of before prompt.in_session later owes
+  prompts_of texts check quality repeat before events result after (passphrase.refused spec is prompt enough refusal) later owes = shown_of before prompt.in_session later owes
 
-  agrees_of : (held : Option ℕ) (question : List ℕ) (events : List CacheEvent) (result : Result (Unit {0}) Refusal) (after : Option ℕ) → AgreesTo session_lines agent options question held events result after
-      → (later : List Taken) → Owes after later → Owes held (turns_in events ++ later)
-  agrees_of held question events result after (consent.consents spec is prompt) later owes = shown_of held prompt.in_session later owes
-  agrees_of held question events result after (consent.refused spec is prompt refusal) later owes = shown_of held prompt.in_session later owes
+  agrees_of : (question : List ℕ) (before : Option ℕ) (events : List CacheEvent) (result : Result (Unit {0}) Refusal) (after : Option ℕ) → AgreesTo session_lines agent options question before events result after
+      → LeaveLaw before events result after
+  agrees_of question before events result after (consent.consents spec is prompt) later owes = shown_of before prompt.in_session later owes
+  agrees_of question before events result after (consent.refused spec is prompt refusal) later owes = shown_of before prompt.in_session later owes
 
   module _ (fields : GetFields) (is : fields.id ≡ None) where
-    prompts : (held : Option ℕ) (texts : Texts) → Leaves held (Prompts agent options texts fields.check fields.quality fields.repeat)
-    prompts held texts =
-        bind (record { of = prompts_of held texts fields.check fields.quality fields.repeat }) (λ pin mid. bind (record { of = closes_of mid (Some pin) }) (λ kept then. returned pin))
+    prompts : (texts : Texts) → Leaves (Prompts agent options texts fields.check fields.quality fields.repeat)
+    prompts texts = bind (record { of = prompts_of texts fields.check fields.quality fields.repeat }) (λ pin. bind (record { of = closes_of (Some pin) }) (λ kept. gives pin))
 
-    as_wanted_leaves : (way : PinMode) (texts : Texts) → Leaves None (as_wanted agent options fields way texts)
-    as_wanted_leaves mode.Ask texts = bind (wants_prompt fields.id is) (λ cached mid. otherwise cached (prompts mid texts))
-    as_wanted_leaves mode.Cancel texts = without_prompt fields.id is mode.Cancel
-    as_wanted_leaves mode.Error texts = without_prompt fields.id is mode.Error
-    as_wanted_leaves mode.Loopback texts = without_prompt fields.id is mode.Loopback
+    as_wanted_leaves : (way : PinMode) (texts : Texts) → LeavesUnseated (as_wanted agent options fields way texts)
+    as_wanted_leaves mode.Ask texts = bind_unseated (wants_prompt fields.id is) (λ cached. or_otherwise leaves_nothing cached (prompts texts))
+    as_wanted_leaves mode.Cancel texts = unseated_too (without_prompt fields.id is mode.Cancel)
+    as_wanted_leaves mode.Error texts = unseated_too (without_prompt fields.id is mode.Error)
+    as_wanted_leaves mode.Loopback texts = unseated_too (without_prompt fields.id is mode.Loopback)
 
-    passphrase_leaves : (no_ask : Bool) (texts : Option Texts) → Leaves None (passphrase_by agent options fields no_ask texts)
-    passphrase_leaves true None = by_cache fields.id is
-    passphrase_leaves false None = by_cache fields.id is
-    passphrase_leaves true (Some texts) = by_cache fields.id is
+    passphrase_leaves : (no_ask : Bool) (texts : Option Texts) → LeavesUnseated (passphrase_by agent options fields no_ask texts)
+    passphrase_leaves true None = unseated_too (by_cache fields.id is)
+    passphrase_leaves false None = unseated_too (by_cache fields.id is)
+    passphrase_leaves true (Some texts) = unseated_too (by_cache fields.id is)
     passphrase_leaves false (Some texts) = as_wanted_leaves options.mode texts
 
 -- ---- requests
@@ -228,38 +226,38 @@ IsOuterRequest (Cache KillAgent) = ⊥
 IsOuterRequest (Cache (SetKeyDesc text)) = ⊥
 IsOuterRequest _ = ⊤
 
-tells_passphrase_of : (held : Option ℕ) (plain : Bool) (secret : List ℕ) (events : List CacheEvent) (result : Result (List ℕ) Refusal) (after : Option ℕ)
-    → TellsPassphrase plain secret held events result after → (later : List Taken) → Owes after later → Owes held (turns_in events ++ later)
-tells_passphrase_of held plain secret events result after (exchange.TellsPassphrase.tells is) later owes = owes
+tells_passphrase_of : (plain : Bool) (secret : List ℕ) (before : Option ℕ) (events : List CacheEvent) (result : Result (List ℕ) Refusal) (after : Option ℕ)
+    → TellsPassphrase plain secret before events result after → LeaveLaw before events result after
+tells_passphrase_of plain secret before events result after (exchange.TellsPassphrase.tells is) later owes = owes
 
-tells_info_of : (agent : Rules) (what : Info) (held : Option ℕ) (events : List CacheEvent) (result : Result (List ℕ) Refusal) (after : Option ℕ) → TellsInfo agent what held events result after
-    → (later : List Taken) → Owes after later → Owes held (turns_in events ++ later)
-tells_info_of agent what held events result after (exchange.TellsInfo.tells is) later owes = owes
+tells_info_of : (agent : Rules) (what : Info) (before : Option ℕ) (events : List CacheEvent) (result : Result (List ℕ) Refusal) (after : Option ℕ) → TellsInfo agent what before events result after
+    → LeaveLaw before events result after
+tells_info_of agent what before events result after (exchange.TellsInfo.tells is) later owes = owes
 
-option_leaves : (answer : OptionAnswer) (after : OptionValues) → Leaves None (option_replies answer after)
-option_leaves option.Set after = returned _
+option_leaves : (answer : OptionAnswer) (after : OptionValues) → Leaves (option_replies answer after)
+option_leaves option.Set after = gives _
 option_leaves option.Unknown after = refused_by (Agent code.UnknownOption)
 option_leaves option.Parameter after = refused_by (Agent code.Parameter)
 option_leaves option.NotSupported after = refused_by (Agent code.NotSupported)
 
 module _ (agent : Rules) (options : OptionValues) where
-  confirms_leave : (way : PinMode) (description : ArrayVec ℕ) → Leaves None (confirms_by agent options way description)
-  confirms_leave mode.Ask description = bind (record { of = seats_of }) (λ seat mid. record { of = agrees_of agent options mid description.items })
-  confirms_leave mode.Cancel description = refused_by (Agent code.Cancelled)
-  confirms_leave mode.Error description = refused_by (Agent code.NoPinentry)
-  confirms_leave mode.Loopback description = refused_by (Agent code.NoPinentry)
+  confirms_leave : (way : PinMode) (description : ArrayVec ℕ) → LeavesUnseated (confirms_by agent options way description)
+  confirms_leave mode.Ask description = bind_unseated (record { of = seats_of }) (λ seat. record { of = agrees_of agent options description.items })
+  confirms_leave mode.Cancel description = unseated_too (refused_by (Agent code.Cancelled))
+  confirms_leave mode.Error description = unseated_too (refused_by (Agent code.NoPinentry))
+  confirms_leave mode.Loopback description = unseated_too (refused_by (Agent code.NoPinentry))
 
-  replies_leave : (command : CacheCommand) → IsOuterRequest (Cache command) → Leaves None (CacheReplies agent options command)
-  replies_leave Nop outer = returned _
-  replies_leave Reset outer = returned _
-  replies_leave Bye outer = returned _
-  replies_leave Help outer = returned _
-  replies_leave (SetOption text) outer = option_leaves _ _
-  replies_leave (GetInfo what) outer = bind (record { of = tells_info_of agent what None }) (λ text mid. returned _)
+  replies_leave : (command : CacheCommand) → IsOuterRequest (Cache command) → LeavesUnseated (CacheReplies agent options command)
+  replies_leave Nop outer = unseated_too (gives _)
+  replies_leave Reset outer = unseated_too (gives _)
+  replies_leave Bye outer = unseated_too (gives _)
+  replies_leave Help outer = unseated_too (gives _)
+  replies_leave (SetOption text) outer = unseated_too (option_leaves _ _)
+  replies_leave (GetInfo what) outer = unseated_too (bind (record { of = tells_info_of agent what }) (λ text. gives _))
   replies_leave (GetPassphrase plain check no_ask repeat quality id texts) outer =
-      bind (passphrase_leaves agent options (record { plain = plain; check = check; no_ask = no_ask; repeat = repeat; quality = quality; id = id; texts = texts }) outer no_ask texts)
-      (λ secret mid. bind (record { of = tells_passphrase_of mid plain secret }) (λ text then. returned _))
-  replies_leave (GetConfirmation description) outer = bind (confirms_leave options.mode description) (λ agreed mid. returned _)
+      bind_unseated (passphrase_leaves agent options (record { plain = plain; check = check; no_ask = no_ask; repeat = repeat; quality = quality; id = id; texts = texts }) outer no_ask texts)
+      (λ secret. bind (record { of = tells_passphrase_of plain secret }) (λ text. gives _))
+  replies_leave (GetConfirmation description) outer = bind_unseated (confirms_leave options.mode description) (λ agreed. gives _)
   replies_leave (PresetPassphrase id life secret) outer = absurd outer
   replies_leave (ClearPassphrase id mode) outer = absurd outer
   replies_leave ReloadAgent outer = absurd outer
@@ -271,14 +269,14 @@ said_leaves T O F None = no_turns
 said_leaves T O F (Some line) = no_turns
 
 -- behind its parts a ticket is given back
-ends_leave : {A : Type 0} {part : CachePart A} (leaves : Leaves None part) (events back last : List CacheEvent) (result : Result A Refusal) (held : Option ℕ) → part None events result held
+ends_leave : {A : Type 0} {part : CachePart A} (leaves : LeavesUnseated part) (events back last : List CacheEvent) (result : Result A Refusal) (held : Option ℕ) → part None events result held
     → Closes None held back (Ok tt) None → LeavesCache last → LeavesCache (events ++ (back ++ last))
 ends_leave leaves events back last result held does closes last_leaves =
     subst AreOuterTurns (sym (turns_then events (back ++ last)))
-    (leaves.of events result held does (turns_in (back ++ last))
-    (subst (Owes held) (sym (turns_then back last)) (closes_of held None back (Ok tt) None closes (turns_in last) last_leaves)))
+    (leaves.of None events result held does refl (turns_in (back ++ last))
+    (subst (Owes held) (sym (turns_then back last)) (closes_of None held back (Ok tt) None closes (turns_in last) last_leaves)))
 
-pub parts_leave : {S W : Type 0} {refusal_text : Refusal → Option (List ℕ)} {went_after : Option Gone → W} {parts : CachePart (AnyReply S W)} {before after : S} {events : List CacheEvent} {went : W} → Leaves None parts
+pub parts_leave : {S W : Type 0} {refusal_text : Refusal → Option (List ℕ)} {went_after : Option Gone → W} {parts : CachePart (AnyReply S W)} {before after : S} {events : List CacheEvent} {went : W} → LeavesUnseated parts
     → AnyExchange refusal_text went_after parts before events after went → LeavesCache events
 parts_leave leaves (answered events held reply {back} does closes) = ends_leave leaves events back _ (Ok reply) held does closes no_turns
 parts_leave {refusal_text} leaves (refused events held why {back} does closes) = ends_leave leaves events back _ (Err why) held does closes (said_leaves _ _ _ (refusal_text why))
@@ -286,7 +284,7 @@ parts_leave {refusal_text} leaves (refused events held why {back} does closes) =
 exchange_leaves : (agent : Rules) (before after : OptionValues) (request : Request) (events : List CacheEvent) (went : Went) → IsOuterRequest request → CacheExchange agent before request events after went
     → LeavesCache events
 exchange_leaves agent before after (Cache command) events went outer does = parts_leave (replies_leave agent before command outer) does
-exchange_leaves agent before after (Bad why) events went outer does = parts_leave (refused_by (Agent why)) does
+exchange_leaves agent before after (Bad why) events went outer does = parts_leave (unseated_too (refused_by (Agent why))) does
 exchange_leaves agent before after (Key line) events went outer does = absurd does
 
 -- ---- the tables

@@ -3,7 +3,6 @@ use Rattle.std.proofs.Common.{◌≡◌, ℕ, Bool, true, false, not, cond, List
 use Rattle.std.specs.Prelude.{codes}
 use Rattle.std.specs.Str.{str_eq_ignore_ascii_case}
 use Rattle.agent_ask.specs.Further.{FurtherEvent}
-use Rattle.agent_ask.specs.SessionEvents.{turns_in}
 use Rattle.agent_commands.specs.Events.{EventWith}
 use Rattle.agent_ask.specs.Plans.{text}
 use Rattle.agent_commands.specs.Names.{commands as cache_commands, prompt_commands, command_named as cache_command_named, is_key_command}
@@ -16,17 +15,17 @@ use Rattle.arrayvec.specs.ArrayVec.{ArrayVec}
 use Rattle.session_client.specs.declared.code.Code.{Code}
 use Rattle.session_client.specs.declared.code.Code.TheVariants.{UnknownCommand}
 use Rattle.session_client.specs.declared.code.Code.TheVariants as code
-use Rattle.assuan_text.specs.Options.{options_of, arguments_of, has_option}
+use Rattle.assuan_text.specs.Options.{arguments_of, has_option, options_of}
 use Rattle.assuan_text.specs.Rows.{found_in_any_case}
 use Rattle.assuan_text.specs.Words.{command_of, rest_of, words}
 use Rattle.key_commands.specs.Events.{Event}
 use Rattle.key_commands.specs.Exchanges.{KeyExchange, KeyReply, KeyReplies, HaveKeyReplies, KeyInfoReplies}
 use Rattle.key_commands.specs.KeyParts.{HasOne, is_key, faulty, no_memory as no_key_memory, unread}
 use Rattle.key_commands.specs.Names.{commands_on_keys, key_command_named}
-use Rattle.agent_ask.specs.Parts.{goes_on, stops, returns, unless}
-use Rattle.key_commands.specs.Parts.{Part, Finds, found, absent, faulted, no_memory}
+use Rattle.agent_ask.specs.Parts.{goes_on, stops, returns}
+use Rattle.agent_ask.proofs.Within.{is_unless}
+use Rattle.key_commands.specs.Parts.{Finds, found, absent, faulted, no_memory}
 use Rattle.agent_ask.specs.TurnParts.{peeked, interrupted}
-use Rattle.cache_policy.specs.Extending.{Taken}
 use Rattle.key_commands.specs.Requests.{key_or_bad, some_grips, first_grip, key_request_by, key_request_of}
 use Rattle.session_client.specs.Fields.{◌>>=◌, in_form}
 use Rattle.key_commands.specs.declared.names.KeyCommandName.{KeyCommandName}
@@ -44,40 +43,36 @@ use Rattle.agent_origin.specs.OuterTurns.{peeks, LeavesCache}
 use Rattle.agent_origin.specs.declared.door.Door.TheVariants.{Outer}
 use Rattle.agent_origin.specs.declared.door.Rule.{Rule}
 use Rattle.agent_origin.specs.declared.door.Rule.TheVariants.{Always, OneKey, Never}
-use Rattle.agent_origin.proofs.Outer.{Owes, Leaves, bind, returned, refused_by, parts_leave, found_mapped, found_joined, cache_rule, request_is}
+use Rattle.agent_origin.proofs.Outer.{LeaveLaw, Leaves, LeavesUnseated, unseated_too, leaves_nothing, bind, gives, refused_by, parts_leave, found_mapped, found_joined, cache_rule, request_is}
 
 -- ---- what is done
 
-finds_of : (grip : Grip) (held : Option ℕ) (events : List Event) (result : Result Bool Refusal) (after : Option ℕ) → Finds grip held events result after → (later : List Taken) → Owes after later
-    → Owes held (turns_in events ++ later)
-finds_of grip held events result after found later owes = owes
-finds_of grip held events result after absent later owes = owes
-finds_of grip held events result after faulted later owes = owes
-finds_of grip held events result after no_memory later owes = owes
+finds_of : (grip : Grip) (before : Option ℕ) (events : List Event) (result : Result Bool Refusal) (after : Option ℕ) → Finds grip before events result after → LeaveLaw before events result after
+finds_of grip before events result after found later owes = owes
+finds_of grip before events result after absent later owes = owes
+finds_of grip before events result after faulted later owes = owes
+finds_of grip before events result after no_memory later owes = owes
 
-unless_leaves : (there : Bool) {held : Option ℕ} {other : Part (Unit {0})} → Leaves held other → Leaves held (unless there other)
-unless_leaves true other = returned tt
-unless_leaves false other = other
-
-one_leaves : (grips : List Grip) (held : Option ℕ) → Leaves held (HasOne grips)
-one_leaves [] held = refused_by (Agent code.NoSecKey)
-one_leaves (grip ∷ more) held = bind (record { of = finds_of grip held }) (λ there mid. unless_leaves there (one_leaves more mid))
+one_leaves : (grips : List Grip) → Leaves (HasOne grips)
+one_leaves [] = refused_by (Agent code.NoSecKey)
+one_leaves (grip ∷ more) = bind (record { of = finds_of grip }) (λ there. is_unless leaves_nothing there (one_leaves more))
 
 module _ (agent : Rules) (options : OptionValues) (wraps : WrapKeys) where
-  have_leaves : (grips : List Grip) → Leaves None (HaveKeyReplies agent options wraps grips)
+  have_leaves : (grips : List Grip) → Leaves (HaveKeyReplies agent options wraps grips)
   unfolding HaveKeyReplies
-  have_leaves grips = bind (one_leaves grips None) (λ one mid. returned _)
+  have_leaves grips = bind (one_leaves grips) (λ one. gives _)
 
   -- no ticket is held by who looks whether a passphrase is cached
-  info_of : (grip : Grip) (events : List Event) (result : Result KeyReply Refusal) (after : Option ℕ) → KeyInfoReplies agent options wraps grip None events result after → (later : List Taken) → Owes after later
-      → Owes None (turns_in events ++ later)
+  info_of : (grip : Grip) (before : Option ℕ) (events : List Event) (result : Result KeyReply Refusal) (after : Option ℕ) → KeyInfoReplies agent options wraps grip before events result after → before ≡ None
+      → LeaveLaw before events result after
   unfolding KeyInfoReplies
-  info_of grip events result after (goes_on (is_key file says) (goes_on (goes_on peeked returns) returns)) later owes = peeks owes
-  info_of grip events result after (goes_on (is_key file says) (stops (stops (interrupted by)))) later owes = peeks owes
-  info_of grip events result after (goes_on (is_key file says) (stops (goes_on asks never))) later owes = elim never [ ]
-  info_of grip events result after (stops (faulty file says)) later owes = owes
-  info_of grip events result after (stops (no_key_memory file)) later owes = owes
-  info_of grip events result after (stops (unread is)) later owes = owes
+  info_of grip None events result after (goes_on (is_key file says) (goes_on (goes_on peeked returns) returns)) free later owes = peeks owes
+  info_of grip None events result after (goes_on (is_key file says) (stops (stops (interrupted by)))) free later owes = peeks owes
+  info_of grip None events result after (goes_on (is_key file says) (stops (goes_on asks never))) free later owes = elim never [ ]
+  info_of grip None events result after (stops (faulty file says)) free later owes = owes
+  info_of grip None events result after (stops (no_key_memory file)) free later owes = owes
+  info_of grip None events result after (stops (unread is)) free later owes = owes
+  info_of grip (Some ticket) events result after does free later owes = absurd (cc free)
 
   abbrev IsOuterKey : KeyRequest → Type 0
   IsOuterKey (HaveKey grips) = Unit {0}
@@ -85,10 +80,10 @@ module _ (agent : Rules) (options : OptionValues) (wraps : WrapKeys) where
   IsOuterKey (Bad code) = Unit {0}
   IsOuterKey _ = ⊥
 
-  key_replies_leave : (request : KeyRequest) → IsOuterKey request → Leaves None (KeyReplies agent options wraps request)
-  key_replies_leave (HaveKey grips) outer = have_leaves grips
+  key_replies_leave : (request : KeyRequest) → IsOuterKey request → LeavesUnseated (KeyReplies agent options wraps request)
+  key_replies_leave (HaveKey grips) outer = unseated_too (have_leaves grips)
   key_replies_leave (KeyInfo grip) outer = record { of = info_of grip }
-  key_replies_leave (Bad code) outer = refused_by (Agent code)
+  key_replies_leave (Bad code) outer = unseated_too (refused_by (Agent code))
   key_replies_leave ListKeys outer = absurd outer
   key_replies_leave (KeyWrap way) outer = absurd outer
   key_replies_leave (ImportKey force id) outer = absurd outer

@@ -1,9 +1,11 @@
 -- Whole sessions at the outer door, and what they do to the cache.
 use Rattle.std.proofs.Common.{◌≡◌, ℕ, true, List, [], ◌∷◌, ◌++◌, refl, ap, sym, ◌∙◌, subst}
+use Rattle.agent_ask.specs.Answering.{WholeOrCut, whole, cut}
 use Rattle.agent_ask.specs.SessionEvents.{AnyEvent, Sent, Cut, turns_in, CutAtLast}
+use Rattle.agent_commands.specs.Endings.{went_after}
 use Rattle.agent_commands.specs.Exchanges.{CacheExchange}
 use Rattle.agent_commands.specs.Requests.{request_of}
-use Rattle.agent_commands.specs.Talks.{WholeOrCut, whole, cut, Talk, goes_on, over, ended, spent, read_fault, too_long, cut_too_long, Session, greeted, cut_greeting}
+use Rattle.agent_commands.specs.Talks.{Talk, goes_on, over, ended, spent, read_fault, too_long, cut_too_long, Session, greeted, cut_greeting}
 use Rattle.agent_commands.specs.declared.request.Request.{Request}
 use Rattle.agent_commands.specs.declared.went.SessionEnd.{SessionEnd}
 use Rattle.agent_commands.specs.declared.went.Went.{Went}
@@ -45,7 +47,7 @@ module _ (rules : Rules) where
   exchange_leaves (forbidden not_allowed) = no_turns
   exchange_leaves {line} (is_allowed allows exchanged) = allowed_leaves line allows exchanged
 
-  either_leaves : (line : List ℕ) {before after : Kept} {events : List Event} {went : Went} → WholeOrCut (λ kept. DoorExchange Outer rules kept line) before events after went → LeavesCache events
+  either_leaves : (line : List ℕ) {before after : Kept} {events : List Event} {went : Went} → WholeOrCut went_after (DoorExchange Outer rules before line) events after went → LeavesCache events
   either_leaves line (whole exchanged) = exchange_leaves exchanged
   either_leaves line (cut exchanged last) = subst AreOuterTurns (sym (cut_turns last)) (exchange_leaves exchanged)
 

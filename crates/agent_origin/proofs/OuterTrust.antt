@@ -1,15 +1,13 @@
 -- Lines with a command on the trust list that are allowed at the outer door, and what is done for them to the cache.
-use Rattle.std.proofs.Common.{◌≡◌, ℕ, Bool, true, false, cond, List, [], ◌∷◌, ◌++◌, Option, None, Some, Result, Ok, Err, bytes_eq, refl, subst}
+use Rattle.std.proofs.Common.{◌≡◌, ℕ, Bool, true, false, cond, List, [], ◌∷◌, Option, None, Some, Result, Ok, Err, bytes_eq, refl, subst}
 use Rattle.std.specs.Prelude.{codes}
 use Rattle.std.specs.Str.{str_to_ascii_lowercase}
 use Rattle.agent_ask.specs.Parts.{Refuses}
-use Rattle.agent_ask.specs.SessionEvents.{turns_in}
 use Rattle.agent_commands.specs.declared.went.Went.{Went}
 use Rattle.agent_ports.specs.declared.grip.Grip.{Grip}
 use Rattle.session_client.specs.declared.code.Code.{Code}
 use Rattle.session_client.specs.declared.code.Code.TheVariants as code
 use Rattle.assuan_text.specs.Words.{command_of}
-use Rattle.cache_policy.specs.Extending.{Taken}
 use Rattle.key_commands.specs.Events.{Event}
 use Rattle.session_client.specs.Fields.{◌>>=◌}
 use Rattle.session_options.specs.OptionValues.{OptionValues}
@@ -30,7 +28,7 @@ use Rattle.session_client.specs.declared.refusal.Refusal.{Refusal}
 use Rattle.session_client.specs.declared.refusal.Refusal.TheVariants.{Agent}
 use Rattle.agent_origin.specs.declared.trust.request.TrustRequest.{TrustRequest}
 use Rattle.agent_origin.specs.declared.trust.request.TrustRequest.TheVariants.{IsTrusted, MarkTrusted, Bad}
-use Rattle.agent_origin.proofs.Outer.{Owes, Leaves, bind, returned, refused_by, parts_leave}
+use Rattle.agent_origin.proofs.Outer.{LeaveLaw, Leaves, bind, unseated_too, gives, refused_by, parts_leave}
 use Rattle.std.proofs.lemmas.Slice.Eq.{bytes_eq-Decides}
 
 -- ---- MARKTRUSTED is never allowed
@@ -56,22 +54,21 @@ abbrev pub IsOuterTrust : TrustRequest → Type 0
 IsOuterTrust (MarkTrusted fingerprint purpose owner) = ⊥
 IsOuterTrust _ = Unit {0}
 
-reads_of : (held : Option ℕ) (events : List Event) (result : Result (List ℕ) Refusal) (after : Option ℕ) → ReadsFile held events result after → (later : List Taken) → Owes after later
-    → Owes held (turns_in events ++ later)
-reads_of held events result after (has_read is) later owes = owes
-reads_of held events result after faulted later owes = owes
-reads_of held events result after no_memory later owes = owes
+reads_of : (before : Option ℕ) (events : List Event) (result : Result (List ℕ) Refusal) (after : Option ℕ) → ReadsFile before events result after → LeaveLaw before events result after
+reads_of before events result after (has_read is) later owes = owes
+reads_of before events result after faulted later owes = owes
+reads_of before events result after no_memory later owes = owes
 
-said_leaves : (held : Option ℕ) (said : Option Bool) → Leaves held (unless_said said (Refuses (Agent code.NotTrusted)))
-said_leaves held (Some true) = returned tt
-said_leaves held (Some false) = refused_by (Agent code.NotTrusted)
-said_leaves held None = refused_by (Agent code.NotTrusted)
+said_leaves : (said : Option Bool) → Leaves (unless_said said (Refuses (Agent code.NotTrusted)))
+said_leaves (Some true) = gives tt
+said_leaves (Some false) = refused_by (Agent code.NotTrusted)
+said_leaves None = refused_by (Agent code.NotTrusted)
 
-now_leaves : (fingerprint : Grip) → Leaves None (TrustedNow fingerprint)
+now_leaves : (fingerprint : Grip) → Leaves (TrustedNow fingerprint)
 unfolding TrustedNow
-now_leaves fingerprint = bind (record { of = reads_of None }) (λ file mid. said_leaves mid (trust file fingerprint.0))
+now_leaves fingerprint = bind (record { of = reads_of }) (λ file. said_leaves (trust file fingerprint.0))
 
-carried_leaves : (agent : Rules) (options : OptionValues) (request : TrustRequest) → IsOuterTrust request → Leaves None (Carried agent options request)
+carried_leaves : (agent : Rules) (options : OptionValues) (request : TrustRequest) → IsOuterTrust request → Leaves (Carried agent options request)
 carried_leaves agent options (IsTrusted fingerprint) outer = now_leaves fingerprint
 carried_leaves agent options (MarkTrusted fingerprint purpose owner) outer = absurd outer
 carried_leaves agent options (Bad code) outer = refused_by (Agent code)
@@ -93,4 +90,4 @@ trust_outer line allows = named_outer line (trust_command_named (command_of line
 pub trust_leaves : (agent : Rules) (options : OptionValues) (line : List ℕ) {events : List Event} {went : Went} → allowed Outer line ≡ true
     → TrustExchange agent options (trust_request_of line) events went → LeavesCache events
 trust_leaves agent options line allows exchanged =
-    parts_leave (bind (carried_leaves agent options (trust_request_of line) (trust_outer line allows)) (λ carried mid. returned _)) exchanged
+    parts_leave (unseated_too (bind (carried_leaves agent options (trust_request_of line) (trust_outer line allows)) (λ carried. gives _))) exchanged

@@ -4,14 +4,17 @@ use Rattle.agent_ports.specs.Counts.{Rose}
 use Rattle.assuan_line.specs.Next.{Reader}
 use Rattle.assuan_line.specs.declared.reader.Took.{Took}
 use Rattle.assuan_line.specs.declared.reader.Took.TheVariants as took
+use Rattle.assuan_server.specs.Clients.{connection_views}
 use Rattle.assuan_server.specs.Connections.{Connection}
 use Rattle.assuan_server.specs.Requests.{NextRequest}
 use Rattle.session_client.specs.declared.code.Code.TheVariants.{LineTooLong}
 use Rattle.assuan_server.specs.Written.{failed}
+use Rattle.agent_ask.specs.Answering.{ReaderLeft, FaultsCounted}
+use Rattle.agent_commands.specs.Endings.{gone_of, went_after, gone_after}
 use Rattle.agent_commands.specs.Events.{EventWith}
 use Rattle.agent_ask.specs.SessionEvents.{Received, Sent, Cut}
 use Rattle.agent_commands.specs.Outside.{World}
-use Rattle.agent_commands.specs.States.{SessionState, EventsLead, ReaderAfter, FaultsRise, AnswersRequest}
+use Rattle.agent_commands.specs.States.{SessionState, EventsLead, AnswersRequest}
 use Rattle.assuan_server.specs.Written.{WritesText}
 use Rattle.assuan_server.specs.Reading.{unread}
 use Rattle.agent_commands.specs.Talks.{Talk, goes_on, over, ended, spent, read_fault, too_long, cut_too_long}
@@ -22,7 +25,9 @@ use Rattle.agent_commands.specs.declared.went.SessionEnd.TheVariants.{Bye, Kille
 use Rattle.agent_commands.specs.declared.went.SessionEnd.TheVariants as ends
 use Rattle.agent_commands.specs.declared.went.Went.{Went}
 use Rattle.agent_commands.specs.declared.went.Went.TheVariants.{On, End}
-use Rattle.agent_commands.proofs.Answering.{answered_text, cut_text}
+use Rattle.agent_commands.proofs.Replying.{gone_as_it_went}
+use Rattle.agent_ask.proofs.PartsDone.{still_open, no_fault}
+use Rattle.agent_ask.proofs.Replying.{text_written}
 use Rattle.agent_ask.proofs.Doing.{done_none, done_then, done_said, done_cut, done_received}
 use Rattle.assuan_server.proofs.Clients.{said_so, received_so}
 use Rattle.assuan_server.proofs.Reading.{here_going}
@@ -38,14 +43,14 @@ leaves_part : (reader : Reader) (left : List ℕ) → (ahead : List ℕ) × (unr
 leaves_part reader left = leaves_part_of reader left reader.ended refl
 
 -- and after an exchange that ended the session
-leaves : (end : SessionEnd) (before after : Reader) (left : List ℕ) → ReaderAfter (End end) before after → Leaves end (unread after left) left
-leaves Bye before after left going = (after.ahead, here_going after left going)
-leaves Killed before after left going = (after.ahead, here_going after left going)
+leaves : (end : SessionEnd) (before after : Connection) (left : List ℕ) → ReaderLeft connection_views (gone_of end) before after → Leaves end (unread after.reader left) left
+leaves Bye before after left fits = (after.reader.ahead, here_going after.reader left fits.0)
+leaves Killed before after left fits = (after.reader.ahead, here_going after.reader left fits.0)
 leaves Ended before after left is = rw is refl
 leaves TooLong before after left is = rw is refl
 leaves Spent before after left is = rw is refl
 leaves ReadFault before after left is = rw is refl
-leaves ends.WriteFault before after left is = leaves_part after left
+leaves ends.WriteFault before after left is = leaves_part after.reader left
 
 -- a reader that gave no line has ended so
 leaves_what_is_unread : (reader : Reader) (took : Took) → reader.ended ≡ Some took → (left : List ℕ) → unread reader left ≡ left
@@ -65,7 +70,7 @@ module _ {w : World} {S : Type 0} (exchange : LineRelation w S) (before : S) (st
     -- the session's end, after these events more
     finishes : (last : SessionState w) (more : List (EventWith w.Further)) (end : SessionEnd) → EventsLead more now last
         → Talk exchange kept more end → ((left : List ℕ) → Leaves end (unread last.conn.reader left) left)
-        → FaultsRise (End end) now last → ServesRequests exchange before start end last
+        → FaultsCounted connection_views (gone_of end) now.conn last.conn → ServesRequests exchange before start end last
     finishes last more end done talk leaves_so faults = record {
       events = serving.events ++ more;
       talk = serving.continues more end talk;
@@ -89,7 +94,7 @@ module _ {w : World} {S : Type 0} (exchange : LineRelation w S) (before : S) (st
       received_as took is = subst (λ t. EventsLead {w = w} (Received t ∷ []) now read) is received
 
       module _ (line : List ℕ) (is : answer ≡ took.Line line) (after : S) (last : SessionState w) where
-        pub serves_on : AnswersRequest {w = w} (λ k. exchange k line) kept read On after last → IsServing last after
+        serves_on : AnswersRequest {w = w} (λ k. exchange k line) kept read On after last → IsServing last after
         serves_on answered = record {
           events = serving.events ++ (Received (took.Line line) ∷ answered.events);
           done = done_then serving.done (done_then (received_as (took.Line line) is) answered.done);
@@ -98,11 +103,16 @@ module _ {w : World} {S : Type 0} (exchange : LineRelation w S) (before : S) (st
               (serving.continues (Received (took.Line line) ∷ (answered.events ++ more)) end (goes_on line answered.exchanges talk));
         }
 
+        -- and it stands as between two requests, where no ticket is out and no prompt open
+        pub stands_on : {Free Shut : Type 0} → AnswersRequest {w = w} (λ k. exchange k line) kept read On after last → Free → Shut
+            → record { serving : IsServing last after; going : last.conn.reader.ended ≡ None; free : Free; shut : Shut }
+        stands_on answered free shut = record { serving = serves_on answered; going = answered.fits.0; free = free; shut = shut }
+
         pub is_over : (end : SessionEnd) → AnswersRequest {w = w} (λ k. exchange k line) kept read (End end) after last
             → ServesRequests exchange before start end last
         is_over end answered =
             finishes last (Received (took.Line line) ∷ answered.events) end (done_then (received_as (took.Line line) is) answered.done)
-            (over line answered.exchanges) (λ left. leaves end conn.reader last.conn.reader left answered.fits)
+            (over line answered.exchanges) (λ left. leaves end conn last.conn left answered.fits)
             (record {
               read = λ e. omega (arith, received.input_faults, answered.faults.read e);
               write = λ e. omega (arith, received.output_faults, answered.faults.write e);
@@ -156,5 +166,6 @@ module _ {w : World} {S : Type 0} (exchange : LineRelation w S) (before : S) (st
 pub text_answers : {w : World} {S : Type 0} (exchange : S → List (EventWith w.Further) → S → Went → Type 0) (before : S) {text : List ℕ} (start : SessionState w)
     (now : Connection) {went : Went} → exchange before (Sent text ∷ []) before On → start.conn.reader.ended ≡ None → SaysText text start.conn went now
     → AnswersRequest exchange before start went before (record start { conn = now })
-text_answers exchange before {text} start now on going (says (Ok tt) said) = answered_text exchange before before start now text on going said
-text_answers exchange before {text} start now on going (says (Err why) said) = cut_text exchange before before start now text on why said
+text_answers {w} exchange before {text} start now on going (says written said) =
+    text_written connection_views {w = w} went_after gone_after gone_as_it_went (exchange before) before On [] start start.conn start.desk start.ends (done_none start)
+    (still_open connection_views None refl start.conn going) (no_fault connection_views None refl start.conn start.conn) text on written now (said_so said)

@@ -1,10 +1,12 @@
 -- Private: how far a session has come at some state of its code.
 use Rattle.std.specs.Prelude.{◌≡◌, ℕ, List, Result}
-use Rattle.agent_ask.specs.Answering.{unless_cut}
+use Rattle.agent_ask.specs.Answering.{unless_cut, FaultsCounted}
+use Rattle.agent_commands.specs.Endings.{gone_of}
 use Rattle.agent_commands.specs.Events.{EventWith}
 use Rattle.agent_commands.specs.Outside.{World}
-use Rattle.agent_commands.specs.States.{SessionState, EventsLead, FaultsRise}
+use Rattle.agent_commands.specs.States.{SessionState, EventsLead}
 use Rattle.agent_ports.specs.declared.link.WriteFault.{WriteFault as Fault}
+use Rattle.assuan_server.specs.Clients.{connection_views}
 use Rattle.assuan_server.specs.Connections.{Connection}
 use Rattle.assuan_server.specs.Reading.{unread}
 use Rattle.assuan_server.specs.Written.{WritesText}
@@ -21,7 +23,7 @@ pub record ServesRequests {w : World} {S : Type 0} (exchange : LineRelation w S)
   pub talk : Talk exchange before events end
   pub done : EventsLead events start now
   pub leaves : (left : List ℕ) → Leaves end (unread now.conn.reader left) left
-  pub faults : FaultsRise (End end) start now
+  pub faults : FaultsCounted connection_views (gone_of end) start.conn now.conn
 
 -- what a session in the code has to do with
 abbrev pub around : {w : World} → SessionState w → Surroundings w

@@ -18,7 +18,6 @@ use crate::Kept;
 use agent_ask::{Prompter, unless_cut};
 use agent_commands::{CutLine, LineRequest, Request, SessionEnd, Went, run_cache, run_quiet};
 use agent_ports::{Dice, Keys, Link};
-use assuan_line::Line;
 use assuan_server::{Code, Conn, Origin};
 use cache_policy::Desk;
 use key_commands::{KeyWent, is_described, read_key_cut, run_key};
@@ -33,43 +32,6 @@ use wiping::wipe_stack;
 /// Behind any other one the stack that it used is overwritten: it may have had a passphrase in
 /// hand. Behind one that asks the cache alone that would take longer than the request.
 pub fn answer<L: Link, D: Desk, P: Prompter, K: Keys, R: Dice>(
-    alloc: Global,
-    line: &Line,
-    rules: &Rules,
-    kept: &mut Kept,
-    conn: &mut Conn<'_, L>,
-    desk: &mut D,
-    prompter: &mut P,
-    keys: &mut K,
-    dice: &mut R,
-) -> Went
-    requires open { IsOpen conn.old }
-    requires free { (D.at desk.old).out ≡ None }
-    requires shut { IsShut (P.at prompter.old) }
-    ensures answers { (trust : TrustState) → AnswersRequest {w = FurtherWorld D.turned P.prompted}
-        (λ before. SessionExchange rules.now before line.now) kept.old
-        (further_state D.turned P.prompted conn.old desk.old prompter.old
-        (K.keys keys.old) (R.draws dice.old) trust) result kept.new
-        (further_state D.turned P.prompted conn.new desk.new prompter.new (K.keys keys.new)
-        (R.draws dice.new) trust) }
-    ensures free { (D.at desk.new).out ≡ None }
-    ensures shut { IsShut (P.at prompter.new) }
-{
-    answer_cut(
-        alloc,
-        &CutLine::of(line),
-        rules,
-        kept,
-        conn,
-        desk,
-        prompter,
-        keys,
-        dice,
-    )
-}
-
-/// Answers one that is cut into its first word and what comes after it.
-pub(crate) fn answer_cut<L: Link, D: Desk, P: Prompter, K: Keys, R: Dice>(
     alloc: Global,
     line: &CutLine<'_>,
     rules: &Rules,

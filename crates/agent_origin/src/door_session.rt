@@ -9,14 +9,13 @@ ghost use Rattle.agent_origin.specs.FurtherStates.{surroundings};
 ghost use Rattle.agent_origin.specs.TrustRequests.{trust_request_of};
 ghost use Rattle.agent_origin.specs.Serving.{SaysText};
 
-use crate::answering::{answer_cut, refuse};
+use crate::answering::{answer, refuse};
 use crate::door::{Door, allows};
 use crate::trust::read_trust_cut;
 use crate::{Answers, Kept, TRUST_COMMANDS, run_trust, serve};
 use agent_ask::{Prompter, unless_cut};
 use agent_commands::{CutLine, SessionEnd, Went, write_help};
 use agent_ports::{Dice, Keys, Link, TrustFile};
-use assuan_line::Line;
 use assuan_server::{Code, Conn};
 use assuan_text::found_in_any_case;
 use cache_policy::Desk;
@@ -56,7 +55,7 @@ impl Answers for Door {
     fn answer<L: Link, D: Desk, P: Prompter, K: Keys, R: Dice, T: TrustFile>(
         &self,
         alloc: Global,
-        line: &Line,
+        line: &CutLine<'_>,
         rules: &Rules,
         kept: &mut Kept,
         conn: &mut Conn<'_, L>,
@@ -66,15 +65,14 @@ impl Answers for Door {
         dice: &mut R,
         trust: &mut T,
     ) -> Went {
-        let line = CutLine::of(line);
-        if !allows(*self, &line) {
+        if !allows(*self, line) {
             return refuse(Code::Forbidden, conn);
         }
         match door_command_named(line.word()) {
             Some(DoorCommand::Help) => help(conn),
             Some(DoorCommand::Trust) => answer_trust(
                 alloc,
-                &line,
+                line,
                 rules,
                 &kept.options,
                 conn,
@@ -82,7 +80,7 @@ impl Answers for Door {
                 prompter,
                 trust,
             ),
-            None => answer_cut(alloc, &line, rules, kept, conn, desk, prompter, keys, dice),
+            None => answer(alloc, line, rules, kept, conn, desk, prompter, keys, dice),
         }
     }
 }

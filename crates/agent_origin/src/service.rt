@@ -13,9 +13,9 @@ ghost use Rattle.agent_origin.specs.Sessions.{ServesSession};
 
 use crate::Kept;
 use agent_ask::Prompter;
-use agent_commands::{SessionEnd, Went};
+use agent_commands::{CutLine, SessionEnd, Went};
 use agent_ports::{Dice, Keys, Link, TrustFile, WriteFault};
-use assuan_line::{BUDGET, Line, Took};
+use assuan_line::{BUDGET, Took};
 use assuan_server::{Code, Conn, Origin};
 use cache_policy::Desk;
 use session_options::Rules;
@@ -31,7 +31,7 @@ pub trait Answers {
     fn answer<L: Link, D: Desk, P: Prompter, K: Keys, R: Dice, T: TrustFile>(
         &self,
         alloc: Global,
-        line: &Line,
+        line: &CutLine<'_>,
         rules: &Rules,
         kept: &mut Kept,
         conn: &mut Conn<'_, L>,
@@ -155,7 +155,16 @@ fn serve_requests<A: Answers, L: Link, D: Desk, P: Prompter, K: Keys, R: Dice, T
         match &mut took {
             Took::Line(line) => {
                 let went = so.answer(
-                    alloc, line, rules, kept, conn, desk, prompter, keys, dice, trust,
+                    alloc,
+                    &CutLine::of(line),
+                    rules,
+                    kept,
+                    conn,
+                    desk,
+                    prompter,
+                    keys,
+                    dice,
+                    trust,
                 );
                 line.clear();
                 match went {

@@ -4,7 +4,7 @@ mod Pairs
 mod WorkedExamples
 pub mod Works
 mod OnePrompt
-pub mod PromptedParts
+pub mod PromptedEvents
 pub mod PromptedLines
 pub mod PromptedSessions
 mod WorkedPrompts

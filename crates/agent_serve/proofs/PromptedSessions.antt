@@ -2,6 +2,7 @@
 use Rattle.std.specs.List.{count_by}
 use Rattle.std.proofs.Common.{◌≡◌, ◌+◌, ◌-◌, ◌^◌, ℕ, List, [], ◌∷◌, ◌++◌, min, sym, ap, subst, ◌∙◌, arith}
 use Rattle.agent_ask.proofs.Counting.{failures}
+use Rattle.agent_ask.specs.Answering.{WholeOrCut, whole, cut}
 use Rattle.agent_ask.specs.Doing.{called, out_of_memory}
 use Rattle.agent_ask.specs.Events.{Call}
 use Rattle.agent_ask.specs.Further as further
@@ -9,7 +10,8 @@ use Rattle.agent_ask.specs.Prompters.{IsCall, is_failed}
 use Rattle.agent_ask.specs.SessionEvents.{Received, Sent, Cut, CutAtLast}
 use Rattle.agent_ask.specs.Worlds.{Outside, Does}
 use Rattle.agent_ask.specs.Worlds as worlds
-use Rattle.agent_commands.specs.Talks.{Session, Talk, WholeOrCut}
+use Rattle.agent_commands.specs.Endings.{went_after}
+use Rattle.agent_commands.specs.Talks.{Session, Talk}
 use Rattle.agent_commands.specs.Talks as talks
 use Rattle.agent_commands.specs.declared.went.SessionEnd.{SessionEnd}
 use Rattle.agent_commands.specs.declared.went.Went.{Went}
@@ -18,7 +20,7 @@ use Rattle.agent_ports.specs.Counts.{RoseBy}
 use Rattle.agent_ports.specs.Launches.{Launches}
 use Rattle.agent_ports.specs.Leads.{Leads, none, one}
 use Rattle.agent_serve.specs.Prompts.{calls_in, HavePrompts}
-use Rattle.agent_serve.proofs.PromptedParts.{Prompted, calls_append, prompted_append, uncalled}
+use Rattle.agent_serve.proofs.PromptedEvents.{Prompted, calls_append, prompted_append, uncalled}
 use Rattle.assuan_server.specs.Reading.{Supply}
 use Rattle.cache_policy.specs.Turns.{Turn}
 use Rattle.cache_policy.specs.declared.mark.MarkStep.{MarkStep}
@@ -58,9 +60,9 @@ cut_prompted last are = record { prompts = are.prompts; are = subst (ArePrompts 
 
 module _ {S : Type 0} (exchange : S → List ℕ → List Event → S → Went → Type 0)
     (each : (before : S) (line : List ℕ) (events : List Event) (after : S) (went : Went) → exchange before line events after went → Prompted events) where
-  one_prompted : {before after : S} {events : List Event} {went : Went} (line : List ℕ) → WholeOrCut (λ kept. exchange kept line) before events after went → Prompted events
-  one_prompted line (talks.whole exchanged) = each _ line _ _ _ exchanged
-  one_prompted line (talks.cut exchanged last) = cut_prompted last (each _ line _ _ _ exchanged)
+  one_prompted : {before after : S} {events : List Event} {went : Went} (line : List ℕ) → WholeOrCut went_after (exchange before line) events after went → Prompted events
+  one_prompted line (whole exchanged) = each _ line _ _ _ exchanged
+  one_prompted line (cut exchanged last) = cut_prompted last (each _ line _ _ _ exchanged)
 
   -- a line that came, and what is done for it
   behind_line : (took : _) (events : List Event) → Prompted events → Prompted (Received took ∷ events)

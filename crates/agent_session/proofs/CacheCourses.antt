@@ -2,12 +2,12 @@
 use Rattle.std.proofs.Common.{◌≡◌, ℕ, Bool, true, false, List, [], Option, Some, None, Result, Ok, Err, refl, sym, ap, subst}
 use Rattle.agent_ask.specs.PartExchanges.{AnyExchange}
 use Rattle.agent_ask.specs.PartExchanges as exchange
+use Rattle.agent_ask.proofs.Within.{values_so}
 use Rattle.agent_ask.specs.Parts.{◌>>=◌, goes_on, stops, Returns, returns, or_else}
 use Rattle.agent_ask.specs.TurnParts.{Closes}
 use Rattle.agent_ask.specs.TurnParts as taken
 use Rattle.assuan_server.specs.Written.{refusal_line}
 use Rattle.cache_policy.specs.declared.mode.Mode.TheVariants.{User}
-use Rattle.cache_policy.specs.declared.secret.TheConstants.{MAX_SECRET_LEN}
 use Rattle.session_client.specs.Refusals.{gone_by}
 use Rattle.session_client.specs.declared.code.Code.TheVariants as code
 use Rattle.session_client.specs.declared.refusal.Refusal.{Refusal}
@@ -23,7 +23,7 @@ use Rattle.session_options.specs.declared.rules.Rules.{Rules}
 use Rattle.agent_commands.specs.Answers.{IsInfo}
 use Rattle.assuan_server.specs.Written.{ok}
 use Rattle.agent_commands.specs.Endings.{went_after, end_of}
-use Rattle.agent_commands.specs.Exchanges.{CacheExchange, CacheReply, CacheReplies, TellsPassphrase, TellsInfo, confirms_by, option_replies, reply}
+use Rattle.agent_commands.specs.Exchanges.{CacheExchange, CacheReply, CacheReplies, TellsPassphrase, TellsInfo, option_replies, reply}
 use Rattle.agent_commands.specs.Exchanges as told
 use Rattle.agent_commands.specs.Parts.{CachePart}
 use Rattle.agent_commands.specs.Passphrases.{Prompts, passphrase_by, as_wanted}
@@ -41,7 +41,7 @@ use Rattle.key_commands.specs.Events.{Event}
 use Rattle.agent_session.specs.Causes.{IsSaid}
 use Rattle.agent_session.specs.Completeness.{EndsInOk}
 use Rattle.agent_session.specs.Refusals.{IsAllowed, MayStore, preset, given, Course}
-use Rattle.key_commands.specs.Lines.{of_limit}
+use Rattle.key_commands.specs.Lines.{of_passphrase}
 use Rattle.agent_session.proofs.CacheWorks.{FitsCache, wants_prompt, changes, by_cache, without_prompt, prompts_any, confirmed, presets, tells_info}
 use Rattle.agent_session.proofs.Courses.{Ends, ends_with, EndsSo, working_ends, ends_working, bind_ends, made, closed, RepliesOk, ok_returns, ok_refuses, ok_then, reply_ends_in_ok, ok_course, err_course, ends_said, gone_only, said_before, answer_heard}
 use Rattle.agent_session.proofs.Replying.{IsReply, reply_ok, reply_closing, reply_help, reply_cache, reply_passphrase}
@@ -57,7 +57,7 @@ module _ (request : Request) where
   fits : FitsCache Fits
   fits = record {
     cut = λ text. tt;
-    limits = of_limit MAX_SECRET_LEN;
+    limits = of_passphrase;
     clients = λ inquired. tt;
     notes = λ pid inquired. tt;
     calls = λ event. tt;
@@ -68,11 +68,11 @@ module _ (request : Request) where
 
   module _ (rules : Rules) (options : OptionValues) where
     -- what was given is kept as the ticket is given back
-    kept_of : {pin : List ℕ} {before after : Option ℕ} {events : List Event} {result : Result (List ℕ) Refusal} → (Closes (Some pin) >>= λ kept. Returns pin) before events result after
+    kept_of : {pin : List ℕ} (before : Option ℕ) (events : List Event) (result : Result (List ℕ) Refusal) (after : Option ℕ) → (Closes (Some pin) >>= λ kept. Returns pin) before events result after
         → Ends request events result after
-    kept_of (goes_on taken.unheld returns) = working_ends request (works Fits tt)
-    kept_of (goes_on (taken.closed turn) returns) = ends_with request (closed turn)
-    kept_of (stops never) = elim never [ ]
+    kept_of _ _ _ _ (goes_on taken.unheld returns) = working_ends request (works Fits tt)
+    kept_of _ _ _ _ (goes_on (taken.closed turn) returns) = ends_with request (closed turn)
+    kept_of _ _ _ _ (stops never) = elim never [ ]
 
     module _ (fields : GetFields) (stores : (named : List ℕ) → fields.id ≡ Some named → MayStore request named User) where
       prompted : (texts : Texts) (cached : Option (List ℕ)) → EndsSo request (or_else cached (Prompts rules options texts fields.check fields.quality fields.repeat))
@@ -92,10 +92,10 @@ module _ (request : Request) where
 
     -- ---- requests
 
-    tells_of : {plain : Bool} {secret : List ℕ} {before after : Option ℕ} {events : List Event} {result : Result CacheReply Refusal}
+    tells_of : {plain : Bool} {secret : List ℕ} (before : Option ℕ) (events : List Event) (result : Result CacheReply Refusal) (after : Option ℕ)
         → (TellsPassphrase plain secret >>= λ text. Returns (reply options text)) before events result after → (value : CacheReply) × (result ≡ Ok value) × (events ≡ []) × (after ≡ before)
-    tells_of (goes_on (told.tells is) returns) = (_, refl, refl, refl)
-    tells_of (stops never) = elim never [ ]
+    tells_of _ _ _ _ (goes_on (told.tells is) returns) = (_, refl, refl, refl)
+    tells_of _ _ _ _ (stops never) = elim never [ ]
 
     option_so : (answer : OptionAnswer) (after : OptionValues) → Here (option_replies answer after)
     option_so option_answer.Set after = returned Fits _
@@ -132,13 +132,13 @@ abbrev ReplyOk : CachePart CacheReply → Type 0
 ReplyOk = RepliesOk (λ reply. reply.text)
 
 module _ (rules : Rules) (options : OptionValues) where
-  info_ok : {what : Info} {before after : Option ℕ} {events : List Event} {given_reply : CacheReply} → (TellsInfo rules what >>= λ text. Returns (reply options text)) before events (Ok given_reply) after
+  info_ok : {what : Info} (before : Option ℕ) (events : List Event) (given_reply : CacheReply) (after : Option ℕ) → (TellsInfo rules what >>= λ text. Returns (reply options text)) before events (Ok given_reply) after
       → EndsInOk given_reply.text
-  info_ok {what} (goes_on (told.tells is) returns) = reply_ends_in_ok (info_reply rules what is)
+  info_ok {what} _ _ _ _ (goes_on (told.tells is) returns) = reply_ends_in_ok (info_reply rules what is)
 
-  told_ok : {plain : Bool} {secret : List ℕ} {before after : Option ℕ} {events : List Event} {given_reply : CacheReply}
+  told_ok : {plain : Bool} {secret : List ℕ} (before : Option ℕ) (events : List Event) (given_reply : CacheReply) (after : Option ℕ)
       → (TellsPassphrase plain secret >>= λ text. Returns (reply options text)) before events (Ok given_reply) after → EndsInOk given_reply.text
-  told_ok {plain} {secret} (goes_on (told.tells is) returns) = reply_ends_in_ok (reply_passphrase plain secret _ is)
+  told_ok {plain} {secret} _ _ _ _ (goes_on (told.tells is) returns) = reply_ends_in_ok (reply_passphrase plain secret _ is)
 
   option_ok : (answer : OptionAnswer) (after : OptionValues) → ReplyOk (option_replies answer after)
   option_ok option_answer.Set after = ok_returns _ (reply_ends_in_ok reply_ok)
@@ -156,8 +156,8 @@ module _ (rules : Rules) (options : OptionValues) where
   replies_ok Help = ok_returns _ (reply_ends_in_ok reply_help)
   replies_ok (SetOption text) = option_ok (applied options text.items).answer (applied options text.items).after
   replies_ok (SetKeyDesc text) = ok_returns _ (reply_ends_in_ok reply_ok)
-  replies_ok (GetInfo what) = record { of = info_ok }
-  replies_ok (GetPassphrase plain check no_ask repeat quality id texts) = ok_then (λ secret. record { of = told_ok })
+  replies_ok (GetInfo what) = values_so info_ok
+  replies_ok (GetPassphrase plain check no_ask repeat quality id texts) = ok_then (λ secret. values_so told_ok)
   replies_ok (PresetPassphrase id life secret) = done_ok
   replies_ok (ClearPassphrase id way) = done_ok
   replies_ok (GetConfirmation description) = done_ok
@@ -168,14 +168,14 @@ module _ (rules : Rules) (options : OptionValues) where
 
 module _ (request : Request) {part : CachePart CacheReply} (ends : EndsSo request part) where
   part_course : {before after : OptionValues} {events : List Event} {went : Went} → ReplyOk part → AnyExchange refusal_line went_after part before events after went → Course request events
-  part_course oks (exchange.answered some held given_reply does closes_so) = ok_course request (oks.of does) (ends.of does) closes_so
-  part_course oks (exchange.refused some held why does closes_so) = err_course request (ends.of does) closes_so
+  part_course oks (exchange.answered some held given_reply does closes_so) = ok_course request (oks.of None some (Ok given_reply) held does) (ends.of _ _ _ _ does) closes_so
+  part_course oks (exchange.refused some held why does closes_so) = err_course request (ends.of _ _ _ _ does) closes_so
 
   part_gone : {before after : OptionValues} {events : List Event} {went : Went} {how : Gone} → AnyExchange refusal_line went_after part before events after went → IsSaid events (unheard.Gone how) → went ≡ End (end_of how)
   part_gone (exchange.answered some held given_reply does closes_so) says_so =
-      absurd (cc (gone_only (ends_said request (ends.of does) (said_before some _ (answer_heard (Some given_reply.text) closes_so) says_so))))
+      absurd (cc (gone_only (ends_said request (ends.of _ _ _ _ does) (said_before some _ (answer_heard (Some given_reply.text) closes_so) says_so))))
   part_gone {how} (exchange.refused some held why does closes_so) says_so =
-      let same : Err why ≡ Err (Client (unheard.Gone how)) = gone_only (ends_said request (ends.of does) (said_before some _ (answer_heard (refusal_line why) closes_so) says_so)) in
+      let same : Err why ≡ Err (Client (unheard.Gone how)) = gone_only (ends_said request (ends.of _ _ _ _ does) (said_before some _ (answer_heard (refusal_line why) closes_so) says_so)) in
       let refusal : why ≡ Client (unheard.Gone how) = cc same in
       ap (λ w. went_after (gone_by w)) refusal
 

@@ -24,7 +24,7 @@ use Rattle.agent_commands.specs.Exchanges.{TellsInfo, put, confirms_by, Presets}
 use Rattle.agent_commands.specs.Exchanges as exchanges
 use Rattle.agent_commands.specs.Parts.{CachePart, AsksPassphrase}
 use Rattle.assuan_server.specs.Written.{limit_line}
-use Rattle.agent_commands.specs.Passphrases.{LooksFor, WantsPrompt, KeepsUnder, ByCache, ByClient, Uncached, WithoutPrompt, PromptsAny, ask, ask_or_open}
+use Rattle.agent_commands.specs.Passphrases.{LooksFor, WantsPrompt, KeepsUnder, ByCache, Uncached, WithoutPrompt, PromptsAny, ask, ask_or_open}
 use Rattle.agent_commands.specs.Passphrases as passphrases
 use Rattle.agent_commands.specs.declared.request.Info.{Info}
 use Rattle.agent_commands.specs.declared.request.Texts.{Texts}
@@ -53,7 +53,7 @@ module _ {Fits : Event → Type 0} (fits : FitsCache Fits) where
 
   looks_for : (id : Option (List ℕ)) → Here (LooksFor id)
   looks_for None = returned Fits None
-  looks_for (Some id) = record { of = λ {before} {after} {events} {result} does. (work.asks Fits (turns_of Fits refl (fits.asks id))).of does.asks }
+  looks_for (Some id) = record { of = λ before events result after does. (work.asks Fits (turns_of Fits refl (fits.asks id))).of before events result after does.asks }
 
   pub wants_prompt : (id : Option (List ℕ)) → Here (WantsPrompt id)
   wants_prompt None = bind Fits (work.seats Fits (turns_of Fits refl fits.seats)) (λ seated. returned Fits None)
@@ -80,10 +80,10 @@ module _ {Fits : Event → Type 0} (fits : FitsCache Fits) where
     without_prompt way = bind Fits (looks_for id) (λ cached. or_otherwise Fits cached (uncached way))
 
   module _ (rules : Rules) (options : OptionValues) where
-    prompts_any_of : {texts : Texts} {check quality : Bool} {repeat : ℕ} {before after : Option ℕ} {events : List Event} {result : Result (List ℕ) Refusal}
+    prompts_any_of : {texts : Texts} {check quality : Bool} {repeat : ℕ} (before : Option ℕ) (events : List Event) (result : Result (List ℕ) Refusal) (after : Option ℕ)
         → PromptsAny rules options texts check quality repeat before events result after → WorksTo Fits events result
-    prompts_any_of (passphrases.given spec is prompt) = pin_works Fits fits.calls fits.notes prompt.asks refl prompt.in_session
-    prompts_any_of (passphrases.refused {answer} spec is prompt other refusal) = pin_works Fits fits.calls fits.notes prompt.asks (pin_comes answer refusal) prompt.in_session
+    prompts_any_of _ _ _ _ (passphrases.given spec is prompt) = pin_works Fits fits.calls fits.notes prompt.asks refl prompt.in_session
+    prompts_any_of _ _ _ _ (passphrases.refused {answer} spec is prompt other refusal) = pin_works Fits fits.calls fits.notes prompt.asks (pin_comes answer refusal) prompt.in_session
 
     pub prompts_any : (texts : Texts) (check quality : Bool) (repeat : ℕ) → Here (PromptsAny rules options texts check quality repeat)
     prompts_any texts check quality repeat = record { of = prompts_any_of }
@@ -98,8 +98,8 @@ module _ {Fits : Event → Type 0} (fits : FitsCache Fits) where
     presets id life secret stores =
         bind Fits (is_wanted Fits code.NotSupported rules.allow_preset) (λ allowed. bind Fits (or_otherwise Fits secret asks_passphrase) (λ given. changes _ refl (stores given)))
 
-    tells_info_of : {what : Info} {before after : Option ℕ} {events : List Event} {result : Result (List ℕ) Refusal} → TellsInfo rules what before events result after → WorksTo Fits events result
-    tells_info_of (exchanges.tells is) = works Fits tt
+    tells_info_of : {what : Info} (before : Option ℕ) (events : List Event) (result : Result (List ℕ) Refusal) (after : Option ℕ) → TellsInfo rules what before events result after → WorksTo Fits events result
+    tells_info_of _ _ _ _ (exchanges.tells is) = works Fits tt
 
     pub tells_info : (what : Info) → Here (TellsInfo rules what)
     tells_info what = record { of = tells_info_of }

@@ -111,8 +111,12 @@ module _ {D P : Type 0} (turned : D → MarkStep → Turn → D → Type 0) (pro
 
     pub counts_failures : (before after : Outside (FurtherWorld turned prompted)) (events : List Event) → Leads (DoesHere supply) before events after → CountsFailures at events before.ends after.ends
     counts_failures before after events leads = record {
-      prompter = failures_counted (DoesHere supply) fails_at_prompter (λ out. (at out.ends.prompter).faults) (λ b e a does. (event_moves turned prompted at promise does).prompter) (λ b e a does. (rises b e a does).prompter) before after events leads;
-      keys = failures_counted (DoesHere supply) fails_at_keys (λ out. out.ends.keys.faults) (λ b e a does. (event_moves turned prompted at promise does).keys) (λ b e a does. (rises b e a does).keys) before after events leads;
-      dice = failures_counted (DoesHere supply) fails_at_dice (λ out. out.ends.dice.faults) (λ b e a does. (event_moves turned prompted at promise does).dice) (λ b e a does. (rises b e a does).dice) before after events leads;
-      trust = failures_counted (DoesHere supply) fails_at_trust (λ out. out.ends.trust.faults) (λ b e a does. (event_moves turned prompted at promise does).trust) (λ b e a does. (rises b e a does).trust) before after events leads;
+      prompter = failures_counted (DoesHere supply) fails_at_prompter (λ out. (at out.ends.prompter).faults)
+          (λ b e a does. (event_moves turned prompted at promise does).prompter) (λ b e a does. (rises b e a does).prompter) before after events leads;
+      keys = failures_counted (DoesHere supply) fails_at_keys (λ out. out.ends.keys.faults)
+          (λ b e a does. (event_moves turned prompted at promise does).keys) (λ b e a does. (rises b e a does).keys) before after events leads;
+      dice = failures_counted (DoesHere supply) fails_at_dice (λ out. out.ends.dice.faults)
+          (λ b e a does. (event_moves turned prompted at promise does).dice) (λ b e a does. (rises b e a does).dice) before after events leads;
+      trust = failures_counted (DoesHere supply) fails_at_trust (λ out. out.ends.trust.faults)
+          (λ b e a does. (event_moves turned prompted at promise does).trust) (λ b e a does. (rises b e a does).trust) before after events leads;
     }

@@ -4,7 +4,8 @@ use Rattle.std.specs.Option.{option_map}
 use Rattle.std.proofs.Common.{◌≡◌, ℕ, List, [], ◌∷◌, ◌++◌, Option, Some, None, Result, Ok, Err, refl, sym, ap, ◌∙◌, subst, append_assoc, append-nil, inl, inr, ◌⊎◌}
 use Rattle.agent_ask.specs.Further.{Prompt, Keys, Dice, Trust, NoMemory, Replaced, Removed}
 use Rattle.agent_ask.specs.Interrupts.{Interrupts}
-use Rattle.agent_ask.specs.Parts.{◌>>=◌, Follows, goes_on, stops, Returns, returns, Refuses}
+use Rattle.agent_ask.specs.Parts.{◌>>=◌, Returns, Refuses}
+use Rattle.agent_ask.proofs.Within.{Within, Joins, weaker, bind, returned_so, refused_so, Yields, yields_then}
 use Rattle.agent_ask.specs.SessionEvents.{Received, Sent, Cut, Inquiry, CacheTurn, Further, cache_turn, said_last}
 use Rattle.agent_ask.specs.TurnParts.{Closes}
 use Rattle.agent_ask.specs.TurnParts as taken
@@ -28,7 +29,7 @@ use Rattle.key_commands.specs.Events.{Event}
 use Rattle.key_commands.specs.Lines.{grip_text}
 use Rattle.key_commands.specs.Parts.{Part}
 use Rattle.key_commands.specs.Passphrases.{put_key}
-use Rattle.key_commands.proofs.EachEvent.{each_append}
+use Rattle.key_commands.proofs.EachEvent.{each_append, each_answer}
 use Rattle.agent_session.specs.Causes.{here, later, IsSaid, said as says_so}
 use Rattle.agent_session.specs.Completeness.{EndsInOk, error, done}
 use Rattle.agent_session.specs.Refusals.{refuses, shuts, IsAllowed, IsWork, AreWork, IsLast, said, gone, GivesBack, no_ticket, with_ticket, settled, interrupted, IsEnd, Course}
@@ -36,7 +37,7 @@ use Rattle.agent_session.specs.Refusals as course
 use Rattle.agent_session.proofs.Explained.{has_split}
 use Rattle.agent_session.proofs.Replying.{IsReply, begins}
 use Rattle.agent_session.proofs.Standing.{each_has}
-use Rattle.agent_session.proofs.Works.{unsaid, unheard_by, lost_goes, GoesOn, WorkEnd, no_more, refused, lost, forgot, WorksTo, ok_works, err_works, WorksSo}
+use Rattle.agent_session.proofs.Works.{unsaid, unheard_by, lost_goes, GoesOn, WorkEnd, no_more, refused, lost, forgot, WorksTo, ok_works, err_works, WorkLaw, WorksSo}
 
 -- ---- answers
 
@@ -63,20 +64,15 @@ IsHeard event = unheard_by event ≡ None
 pub heard_so : {why : Unheard} (events : List Event) → AllByRecursion IsHeard events → IsSaid events why → ⊥
 heard_so events each (says_so says has) = let goes : unsaid _ ≡ None = each_has IsHeard events each has in let gone_so = ap unsaid says in cc (goes, gone_so)
 
-back_heard : {held : Option ℕ} {back : List Event} → Closes None held back (Ok tt) None → AllByRecursion IsHeard back
-back_heard taken.unheld = tt
-back_heard (taken.closed turn) = (refl, tt)
-
-pub last_heard : (line : Option (List ℕ)) → AllByRecursion IsHeard (said_last line)
-last_heard None = tt
-last_heard (Some line) = (refl, tt)
+pub said_split : {why : Unheard} (first more : List Event) → IsSaid (first ++ more) why → IsSaid first why ⊎ IsSaid more why
+said_split first more (says_so says has) = elim (has_split first more has) [ inl before ↦ inl (says_so says before) | inr behind ↦ inr (says_so says behind) ]
 
 -- it is none in what stands behind these
 pub said_before : {why : Unheard} (events more : List Event) → AllByRecursion IsHeard more → IsSaid (events ++ more) why → IsSaid events why
-said_before events more each (says_so says has) = elim (has_split events more has) [ inl before ↦ says_so says before | inr behind ↦ absurd (heard_so more each (says_so says behind)) ]
+said_before events more each says = elim (said_split events more says) [ inl before ↦ before | inr behind ↦ absurd (heard_so more each behind) ]
 
 pub answer_heard : {held : Option ℕ} {back : List Event} (line : Option (List ℕ)) → Closes None held back (Ok tt) None → AllByRecursion IsHeard (back ++ said_last line)
-answer_heard {back} line closes_so = each_append IsHeard back (said_last line) (back_heard closes_so) (last_heard line)
+answer_heard = each_answer IsHeard (λ number turn. refl) (λ text. refl)
 
 -- it is by the last event of a part's work, and by none before it
 shut_heard : (event : Event) → AllByRecursion IsHeard (shuts event)
@@ -121,10 +117,7 @@ module _ (Fits : Event → Type 0) where
   work_said (forgot fits is memory) (says_so says (later (later has))) = elim has [ ]
 
   said_behind : {why : Unheard} (work last : List Event) → AllByRecursion (GoesOn Fits) work → IsSaid (work ++ last) why → IsSaid last why
-  said_behind work last each (says_so says has) = elim (has_split work last has) [
-    | inl first ↦ absurd (heard_so work (all_heard work each) (says_so says first))
-    | inr behind_it ↦ says_so says behind_it
-  ]
+  said_behind work last each says = elim (said_split work last says) [ inl first ↦ absurd (heard_so work (all_heard work each) first) | inr behind_it ↦ behind_it ]
 
   pub works_said : {A : Type 0} {events : List Event} {result : Result A Refusal} {why : Unheard} → WorksTo Fits events result → IsSaid events why → ComesTo why result
   works_said {why} does says = work_said does.end (said_behind does.work does.last does.each (subst (λ e. IsSaid e why) does.is says))
@@ -168,11 +161,14 @@ module _ (request : Request) where
 
   -- ---- parts
 
-  pub record EndsSo {A : Type 0} (part : Part A) : Type 0 where
-    pub of : {before after : Option ℕ} {events : List Event} {result : Result A Refusal} → part before events result after → Ends events result after
+  abbrev pub EndsLaw : {A : Type 0} → Part A
+  EndsLaw before events result after = Ends events result after
+
+  abbrev pub EndsSo : {A : Type 0} → Part A → Type 0
+  EndsSo part = Within part EndsLaw
 
   pub ends_working : {A : Type 0} {part : Part A} → WorksSo (IsAllowed request) part → EndsSo part
-  ends_working part_works = record { of = λ {before} {after} {events} {result} does. working_ends (part_works.of does) }
+  ends_working = weaker (record { of = λ before events result after does. working_ends does })
 
   behind : {A : Type 0} {events : List Event} {result : Result A Refusal} {held : Option ℕ} (first : List Event) → AllByRecursion Fine first → Ends events result held → Ends (first ++ events) result held
   behind first each ends = record {
@@ -184,13 +180,14 @@ module _ (request : Request) where
   }
 
   -- work, and then what ends the request
-  module _ {A B : Type 0} {part : Part A} {next : A → Part B} (first : WorksSo (IsAllowed request) part) (then : (value : A) → EndsSo (next value)) where
-    bind_ends_of : {before after : Option ℕ} {events : List Event} {result : Result B Refusal} → Follows part next before events result after → Ends events result after
-    bind_ends_of (goes_on {first = some} {value} does next_does) = behind some (ok_works (IsAllowed request) (first.of does)) ((then value).of next_does)
-    bind_ends_of (stops does) = working_ends (err_works (IsAllowed request) (first.of does))
+  work_joins : {A B : Type 0} → Joins {A = A} {B = B} (WorkLaw (IsAllowed request)) (λ value. EndsLaw) EndsLaw
+  work_joins = record {
+    then = λ some later work ends. behind some (ok_works (IsAllowed request) work) ends;
+    alone = λ work. working_ends (err_works (IsAllowed request) work);
+  }
 
-    pub bind_ends : EndsSo (part >>= next)
-    bind_ends = record { of = bind_ends_of }
+  pub bind_ends : {A B : Type 0} {part : Part A} {next : A → Part B} → WorksSo (IsAllowed request) part → ((value : A) → EndsSo (next value)) → EndsSo (part >>= next)
+  bind_ends = bind work_joins
 
   -- a value is made of what a request ends with
   ok_end : {A B : Type 0} {last : List Event} {value : A} {held : Option ℕ} (other : B) → RequestEnd last (Ok value) held → RequestEnd last (Ok other) held
@@ -210,30 +207,29 @@ module _ (request : Request) where
   err_end (uncleared why) = uncleared why
 
   -- by a part that does nothing but to make one
-  pub record Makes {A : Type 0} (part : Part A) : Type 0 where
-    pub of : {before after : Option ℕ} {events : List Event} {result : Result A Refusal} → part before events result after → (value : A) × (result ≡ Ok value) × (events ≡ []) × (after ≡ before)
+  abbrev pub MakesLaw : {A : Type 0} → Part A
+  MakesLaw {A} before events result after = (value : A) × (result ≡ Ok value) × (events ≡ []) × (after ≡ before)
 
-  returns_makes : {A : Type 0} {value : A} {before after : Option ℕ} {events : List Event} {result : Result A Refusal} → Returns value before events result after
-      → (value : A) × (result ≡ Ok value) × (events ≡ []) × (after ≡ before)
-  returns_makes returns = (_, refl, refl, refl)
+  abbrev pub Makes : {A : Type 0} → Part A → Type 0
+  Makes part = Within part MakesLaw
 
   pub makes : {A : Type 0} (value : A) → Makes (Returns value)
-  makes value = record { of = returns_makes }
+  makes value = returned_so value (λ held. (value, refl, refl, refl))
 
-  module _ {A B : Type 0} {part : Part A} {next : A → Part B} (all_ends : EndsSo part) (then : (value : A) → Makes (next value)) where
-    made_with : (some more : List Event) (mid after : Option ℕ) (value : A) (other : B) (result : Result B Refusal) → Ends some (Ok value) mid → result ≡ Ok other → more ≡ [] → after ≡ mid
-        → Ends (some ++ more) result after
-    made_with some more mid after value other result ends came none same =
-        subst (λ r. Ends (some ++ more) r after) (sym came) (subst (λ m. Ends (some ++ m) (Ok other) after) (sym none) (subst (λ h. Ends (some ++ []) (Ok other) h) (sym same)
-        (record { work = ends.work; last = ends.last; is = append-nil some ∙ ends.is; each = ends.each; end = ok_end other ends.end })))
+  made_with : {A B : Type 0} (some more : List Event) (mid after : Option ℕ) (value : A) (other : B) (result : Result B Refusal) → Ends some (Ok value) mid → result ≡ Ok other → more ≡ [] → after ≡ mid
+      → Ends (some ++ more) result after
+  made_with some more mid after value other result ends came none same =
+      subst (λ r. Ends (some ++ more) r after) (sym came) (subst (λ m. Ends (some ++ m) (Ok other) after) (sym none) (subst (λ h. Ends (some ++ []) (Ok other) h) (sym same)
+      (record { work = ends.work; last = ends.last; is = append-nil some ∙ ends.is; each = ends.each; end = ok_end other ends.end })))
 
-    made_of : (before after : Option ℕ) (events : List Event) (result : Result B Refusal) → Follows part next before events result after → Ends events result after
-    made_of before after events result (goes_on {first = some} {events = more} {value} {mid} does next_does) =
-        let so = (then value).of next_does in made_with some more mid after value so.0 result (all_ends.of does) so.1 so.2 so.3
-    made_of before after events result (stops does) = let ends = all_ends.of does in record { work = ends.work; last = ends.last; is = ends.is; each = ends.each; end = err_end ends.end }
+  made_joins : {A B : Type 0} → Joins {A = A} {B = B} EndsLaw (λ value. MakesLaw) EndsLaw
+  made_joins = record {
+    then = λ {before} {mid} {after} some later {value} {result} ends so. made_with some later mid after value so.0 result ends so.1 so.2 so.3;
+    alone = λ ends. record { work = ends.work; last = ends.last; is = ends.is; each = ends.each; end = err_end ends.end };
+  }
 
-    pub made : EndsSo (part >>= next)
-    made = record { of = λ {before} {after} {events} {result} does. made_of before after events result does }
+  pub made : {A B : Type 0} {part : Part A} {next : A → Part B} → EndsSo part → ((value : A) → Makes (next value)) → EndsSo (part >>= next)
+  made = bind made_joins
 
   -- ---- courses
 
@@ -303,25 +299,18 @@ pub reply_ends_in_ok : {text : List ℕ} → IsReply text → EndsInOk text
 reply_ends_in_ok (begins other ends) = ends
 
 module _ {R : Type 0} (text_of : R → List ℕ) where
-  pub record RepliesOk (part : Part R) : Type 0 where
-    pub of : {before after : Option ℕ} {events : List Event} {reply : R} → part before events (Ok reply) after → EndsInOk (text_of reply)
+  abbrev pub IsOk : R → Type 0
+  IsOk reply = EndsInOk (text_of reply)
 
-  ok_returns_of : {value : R} → EndsInOk (text_of value) → {before after : Option ℕ} {events : List Event} {reply : R} → Returns value before events (Ok reply) after → EndsInOk (text_of reply)
-  ok_returns_of ok returns = ok
-
-  ok_refuses_of : {why : Refusal} {before after : Option ℕ} {events : List Event} {reply : R} → Refuses why before events (Ok reply) after → EndsInOk (text_of reply)
-  ok_refuses_of never = elim never [ ]
-
-  module _ {A : Type 0} {part : Part A} {next : A → Part R} (then : (value : A) → RepliesOk (next value)) where
-    ok_then_of : {before after : Option ℕ} {events : List Event} {reply : R} → Follows part next before events (Ok reply) after → EndsInOk (text_of reply)
-    ok_then_of (goes_on {value} does next_does) = (then value).of next_does
+  abbrev pub RepliesOk : Part R → Type 0
+  RepliesOk part = Within part (Yields IsOk)
 
 module _ {R : Type 0} {text_of : R → List ℕ} where
   pub ok_returns : (value : R) → EndsInOk (text_of value) → RepliesOk text_of (Returns value)
-  ok_returns value ok = record { of = ok_returns_of text_of ok }
+  ok_returns value ok = returned_so value (λ held. ok)
 
   pub ok_refuses : (why : Refusal) → RepliesOk text_of (Refuses why)
-  ok_refuses why = record { of = ok_refuses_of text_of }
+  ok_refuses why = refused_so why (λ held. tt)
 
   pub ok_then : {A : Type 0} {part : Part A} {next : A → Part R} → ((value : A) → RepliesOk text_of (next value)) → RepliesOk text_of (part >>= next)
-  ok_then then = record { of = ok_then_of text_of then }
+  ok_then = yields_then (IsOk text_of)

@@ -32,9 +32,8 @@ use Rattle.agent_origin.specs.declared.trust.names.TrustCommandName.TheVariants 
 use Rattle.agent_origin.specs.declared.trust.request.TrustRequest.TheVariants.{Bad}
 use Rattle.agent_origin.proofs.EachLine.{each_request}
 use Rattle.agent_session.specs.Causes.{HasOne, HasCall, WantsMemory, is_broken}
-use Rattle.agent_session.specs.Completeness.{IsAnsweredBy, HasError, CausedInSession}
+use Rattle.agent_session.specs.Completeness.{IsAnsweredBy, HasError, CausedInSession, CausedAtDoor, WantsNoPrompt, any, on_trust}
 use Rattle.agent_session.specs.DoorCauses.{IsTrustCaused, IsCausedBy, IsCausedAtDoor, IsReadTrust, read_trust, IsNotTrusted, unsaid, denied, denied_mark, forbidden, is_allowed}
-use Rattle.agent_session.specs.DoorCompleteness.{CausedAtDoor, WantsNoPrompt, any, on_trust}
 use Rattle.agent_session.proofs.Answering.{Judging, none_failed, no_trust_failed}
 use Rattle.agent_session.proofs.Asides.{asides_append, comments_aside}
 use Rattle.agent_session.proofs.Completing.{IsPossible, IsSteady, never_absent}

@@ -25,11 +25,11 @@ use Rattle.agent_commands.specs.Exchanges.{CacheExchange}
 use Rattle.agent_commands.specs.declared.request.Request.{Request}
 use Rattle.agent_commands.specs.declared.request.Request.TheVariants.{Cache, Key as OnKeys, Bad}
 use Rattle.agent_commands.specs.declared.went.Went.{Went}
+use Rattle.key_commands.specs.Lines.{max_key_data}
 use Rattle.key_commands.specs.Events.{Event}
 use Rattle.key_commands.specs.Exchanges.{KeyExchange}
 use Rattle.key_commands.specs.Faults.{fault_code}
 use Rattle.key_commands.specs.Files.{FileSays}
-use Rattle.key_commands.specs.KeyParts.{max_key_data}
 use Rattle.key_commands.specs.Requests.{key_request_of}
 use Rattle.key_commands.specs.declared.request.KeyRequest.{KeyRequest}
 use Rattle.key_commands.specs.declared.request.KeyRequest.TheVariants as on
@@ -37,15 +37,15 @@ use Rattle.key_commands.specs.declared.went.KeyWent.{KeyWent}
 use Rattle.key_commands.specs.declared.wrap_keys.WrapKeys.{WrapKeys}
 use Rattle.agent_origin.specs.SessionExchanges.{RequestExchange, cache, keys}
 use Rattle.agent_origin.specs.declared.kept.Kept.{Kept}
-use Rattle.agent_session.specs.Causes.{Has, IsSaid, said, IsSent, sent, IsRead, read, on_keys, IsRefusedBy, Judges, tells, unlocks, Unlocks, exports, changes, LacksKeys, AreUnread, later}
-use Rattle.agent_session.specs.Causes.{IsOption, option, KeyDataSays, data_says, IsFaulty, file, protection, key_data, HasNoData, no_id, empty, IsMalformed, no_import, no_export, IsThere, there, here}
+use Rattle.agent_session.specs.Causes.{Has, IsSaid, said, sent, IsRead, read, on_keys, IsRefusedBy, Judges, tells, unlocks, Unlocks, exports, changes, LacksKeys, AreUnread, later}
+use Rattle.agent_session.specs.Causes.{IsOption, option, KeyDataSays, data_says, IsFaulty, file, protection, key_data, HasNoData, no_id, empty, no_import, no_export, there, here}
 use Rattle.agent_session.specs.Causes as causes
 use Rattle.agent_session.specs.Completeness.{Remembers, HasError}
 use Rattle.agent_session.specs.Exactly.{ExactCause, IsLong, long, long_file, IsReadAgain, read_again, too_long, ExactTrustCause, ExactCauseAtDoor, forbidden, on_trust, any}
 use Rattle.agent_session.proofs.ExactCache.{option_due, cache_due, cache_answered, none_without, none_cached}
 use Rattle.agent_session.proofs.ExactKeys.{have_answered, by_said, NoFault, due_of, deciding_of, keys_answered}
 use Rattle.agent_session.proofs.ExactLong.{long_answered}
-use Rattle.agent_session.proofs.ExactParts.{Deciding, SaidDecides, IsDecided, NoneOwed, SaysTo, said_free, decided_before, said_error}
+use Rattle.agent_session.proofs.ExactParts.{Deciding, SaidDecides, IsDecided, NoneOwed, SaysTo, answer_free, decided_before, said_error}
 use Rattle.agent_session.proofs.ExactReads.{SentRefuses, IsUnlockable, FileRefuses, faulty, owes, read_refuses, by_file}
 use Rattle.std.specs.Str.{str_to_ascii_lowercase}
 use Rattle.std.proofs.lemmas.Slice.Eq.{bytes_eq-Decides}
@@ -56,8 +56,6 @@ use Rattle.trust_list.specs.declared.TheConstants.{MAX_TRUST_FILE_LEN}
 use Rattle.agent_origin.specs.DoorSessions.{AllowedExchange, DoorExchange}
 use Rattle.agent_origin.specs.DoorSessions as doors
 use Rattle.agent_origin.specs.TrustExchanges.{flag_of, Marked, TrustExchange}
-use Rattle.agent_ask.specs.PartExchanges as part_exchanges
-use Rattle.agent_origin.specs.TrustExchanges as trusts
 use Rattle.agent_origin.specs.TrustNames.{trust_command_named}
 use Rattle.agent_origin.specs.DoorSessions.{door_command_named}
 use Rattle.assuan_server.specs.Written.{refusal_line}
@@ -76,10 +74,7 @@ use Rattle.agent_session.proofs.TrustDenied.{denial_is_said}
 use Rattle.agent_session.proofs.TrustTold.{Told, told}
 use Rattle.agent_session.proofs.TrustTold as telling
 use Rattle.agent_ask.specs.TurnParts.{Closes}
-use Rattle.agent_session.proofs.ExactParts.{IsFree}
-use Rattle.agent_session.proofs.ExactParts.{closes_free}
 use Rattle.agent_session.specs.DoorCauses.{IsReadTrust}
-use Rattle.key_commands.proofs.EachEvent.{each_append}
 use Rattle.agent_ask.specs.TurnParts as turning
 
 -- what the client said decides its request
@@ -298,7 +293,7 @@ module _ (rules : Rules) (before : Kept) where
     long_said [] line result does closes remembers again = absurd (none_behind line closes again)
     long_said (first ∷ more) line result does closes remembers (read_again (read_trust is has)) =
         marked_long fingerprint purpose rules before.options name.items None (first ∷ more) result _ does remembers code.TooMuch first more refl
-        (decided_before (ByLong fingerprint purpose) more _ (each_append (IsFree (ByLong fingerprint purpose)) _ _ (closes_free (ByLong fingerprint purpose) closes) (said_free (ByLong fingerprint purpose) line)) (record { event = _; has = has; decides = (file, is, (none, many, refl)) }))
+        (decided_before (ByLong fingerprint purpose) more _ (answer_free (ByLong fingerprint purpose) line closes) (record { event = _; has = has; decides = (file, is, (none, many, refl)) }))
 
     told_long : {events : List Event} {went : Went} → Told rules before.options (MarkTrusted fingerprint purpose name) events went → AllByRecursion Remembers events → IsReadAgain file events
         → HasError code.TooMuch Agent events

@@ -79,8 +79,8 @@ module _ (deciding : Deciding) where
 
   -- ---- requests
 
-  tells_of : {plain : Bool} {secret : List ℕ} {before after : Option ℕ} {events : List Event} {result : Result (List ℕ) Refusal} → TellsPassphrase plain secret before events result after → WorksTo Alone events result
-  tells_of (exchanges.tells is) = works Alone tt
+  tells_of : {plain : Bool} {secret : List ℕ} (before : Option ℕ) (events : List Event) (result : Result (List ℕ) Refusal) (after : Option ℕ) → TellsPassphrase plain secret before events result after → WorksTo Alone events result
+  tells_of _ _ _ _ (exchanges.tells is) = works Alone tt
 
   option_answered : (answer : OptionAnswer) (values : OptionValues) → Heeds deciding (option_due answer) (option_replies answer values) NoneOwed
   option_answered Set values = alone (returned Alone _)

@@ -18,7 +18,6 @@ use Rattle.assuan_server.specs.declared.errors.Origin.TheVariants.{Agent}
 use Rattle.key_commands.specs.Events.{Event}
 use Rattle.agent_ask.specs.PartExchanges as part_exchanges
 use Rattle.key_commands.proofs.GoesOn.{goes_on_after}
-use Rattle.key_commands.specs.Exchanges as key_exchanges
 use Rattle.key_commands.specs.Exchanges.{KeyExchange}
 use Rattle.key_commands.specs.Parts.{key_went_after}
 use Rattle.key_commands.specs.declared.request.KeyRequest.{KeyRequest}

@@ -6,9 +6,9 @@ use Rattle.agent_ask.specs.Events.{PromptEvent, Called, OutOfMemory, GetPin}
 use Rattle.agent_ask.specs.Further.{Prompt, Keys, Read, Dice, Drew}
 use Rattle.agent_ask.specs.Interrupts.{Interrupts}
 use Rattle.agent_ask.specs.Interrupts as turns
-use Rattle.agent_ask.specs.Parts.{◌>>=◌, goes_on, stops, returns, or_else}
+use Rattle.agent_ask.specs.Parts.{◌>>=◌, goes_on, stops, returns}
 use Rattle.agent_ask.specs.Parts as chain
-use Rattle.agent_ask.specs.Prompts.{AsksPin, AsksBefore, Tries, IsTry, Repeats, Opens}
+use Rattle.agent_ask.specs.Prompts.{AsksPin, AsksBefore, Tries, IsTry, Repeats}
 use Rattle.agent_ask.specs.Prompts as prompts
 use Rattle.agent_ask.specs.SessionEvents.{CacheTurn, Further, cache_turn, said_last}
 use Rattle.agent_ask.specs.SessionPrompts.{AnyInSession}
@@ -46,7 +46,6 @@ use Rattle.agent_commands.specs.declared.request.Request.{Request}
 use Rattle.key_commands.specs.Events.{Event}
 use Rattle.key_commands.specs.Exchanges.{KeyReply, KeyExchange, PasswdReplies, RenewsPassphrase, RewritesFile, ChangesOpened}
 use Rattle.agent_ask.specs.PartExchanges as part_exchanges
-use Rattle.key_commands.specs.Exchanges as exchange
 use Rattle.key_commands.specs.Files.{FileSays}
 use Rattle.key_commands.specs.Files as files
 use Rattle.key_commands.specs.KeyParts.{ReadsFile, file_in}
@@ -54,7 +53,7 @@ use Rattle.key_commands.specs.KeyParts as parts
 use Rattle.key_commands.specs.Lines.{grip_text}
 use Rattle.agent_ask.specs.ClientParts as client_parts
 use Rattle.key_commands.specs.Parts as small
-use Rattle.key_commands.specs.Passphrases.{OpensBy, PromptsOld, ClientOld, UncachedOld, CachedOld, OpensLocked, OldPassphrase, TakesSeat, old_by, ask_nonce, ask_key, put_key}
+use Rattle.key_commands.specs.Passphrases.{OpensBy, PromptsOld, ClientOld, UncachedOld, CachedOld, OpensLocked, OldPassphrase, TakesSeat, old_by, put_key}
 use Rattle.agent_ask.specs.PinParts as pin_parts
 use Rattle.key_commands.specs.Passphrases as passphrases
 use Rattle.key_commands.specs.declared.wrapping.TheConstants.{MAX_LIST_LEN}
@@ -68,13 +67,13 @@ use Rattle.agent_session.specs.Causes.{Has, here, IsRead, read, IsReadOf, read_o
 use Rattle.agent_session.specs.Completeness.{HasError, Remembers}
 use Rattle.agent_session.specs.Exactly.{OpensIt, IsOpened, clear, by_nonce, cached, typed, given, HasLongList, HasLongFile, IsLong, long, long_file}
 use Rattle.agent_session.proofs.ImportCourses.{some_key}
-use Rattle.agent_session.proofs.ExactParts.{Deciding, IsDecided, IsFree, NoneOwed, SaysTo, closes_free, said_free, decided_before, said_error}
+use Rattle.agent_session.proofs.ExactParts.{Deciding, IsDecided, IsFree, NoneOwed, SaysTo, answer_free, decided_before, said_error}
 use Rattle.agent_session.proofs.ExactReads.{by_file, reads_file, read_refuses, owes}
 use Rattle.agent_session.proofs.KeyRequests.{old_passphrase}
 use Rattle.agent_session.proofs.KeyWorks.{FitsKeys, looks_nonce, old_here, new_here}
 use Rattle.agent_session.proofs.Standing.{each_left, each_right, each_has, has_first, stand_left, stand_right}
 use Rattle.agent_session.proofs.Works as work
-use Rattle.agent_session.proofs.Works.{WorksSo, bind, or_otherwise, keeps_works, each_fits}
+use Rattle.agent_session.proofs.Works.{WorksSo, bind, or_otherwise, each_fits}
 
 -- ---- passphrases that came to nothing
 
@@ -288,7 +287,7 @@ undrawn_keys : FitsKeys IsUndrawn
 undrawn_keys = record {
   memory = tt;
   cut = λ text. tt;
-  limits = λ most. tt;
+  limits = tt;
   clients = λ word inquired. tt;
   notes = λ pid inquired. tt;
   calls = λ event. tt;
@@ -324,7 +323,7 @@ record Behind (more : List Event) : Type 1 where
 behind_of : {held : Option ℕ} {back : List Event} (line : Option (List ℕ)) → Closes None held back (Ok tt) None → Behind (back ++ said_last line)
 behind_of {held} {back} line closes = record {
   vain = λ Vain. back_vain Vain line closes;
-  free = each_append (IsFree ByRead) back (said_last line) (closes_free ByRead closes) (said_free ByRead line);
+  free = answer_free ByRead line closes;
   undrawn = undrawn_said line closes;
 }
 
@@ -352,13 +351,13 @@ module _ (rules : Rules) (kept : Kept) (grip : Grip) (new : Option (List ℕ)) (
     changes_long : (before : Option ℕ) (events : List Event) (result : Result (Unit {0}) Refusal) (after : Option ℕ) → ChangesOpened rules kept.options grip new file key before events result after
         → StandIn events whole → AllByRecursion Remembers events → AllByRecursion IsUndrawn events ⊎ SaysTo NoneOwed result code.BadSecKey
     changes_long _ _ _ _ (stops (parts.long much)) stands_so remembers = inl tt
-    changes_long _ _ _ _ (goes_on (parts.short few) (stops renews)) stands_so remembers = inl (each_fits IsUndrawn tt (renewed.of renews))
+    changes_long _ _ _ _ (goes_on (parts.short few) (stops renews)) stands_so remembers = inl (each_fits IsUndrawn tt (renewed.of _ _ _ _ renews))
       where
         renewed : WorksSo IsUndrawn (RenewsPassphrase rules kept.options grip new)
         renewed = bind IsUndrawn (looks_nonce undrawn_keys new) (λ found. or_otherwise IsUndrawn found (new_here undrawn_keys rules kept.options grip kept.options.mode))
     changes_long _ _ _ _ (goes_on (parts.short few) (goes_on {first = some} {events = last} renews does)) stands_so remembers =
         elim (rewrites_long _ _ _ _ _ does (stand_right some last stands_so) (each_right Remembers some last remembers)) [
-          | inl undrawn ↦ inl (each_append IsUndrawn some last (each_fits IsUndrawn tt (renewed.of renews)) undrawn)
+          | inl undrawn ↦ inl (each_append IsUndrawn some last (each_fits IsUndrawn tt (renewed.of _ _ _ _ renews)) undrawn)
           | inr says ↦ inr says
         ]
       where
@@ -429,13 +428,13 @@ module _ (one_canon : (file : List ℕ) (a b : Option (List ℕ)) → Canon file
   unfolding PasswdReplies
   passwd_long_file _ _ _ _ (stops does) is remembers drawn long_so = absurd (drawn_none _ is (each_fits IsUndrawn tt (work.reads_file IsUndrawn tt (λ answer. tt) _ _ _ _ does).0) drawn)
   passwd_long_file _ _ _ _ (goes_on (parts.is_key {answer} {key} found says) (stops {first = second} does)) is remembers drawn long_so =
-      absurd (drawn_none (Further (Keys (Read grip answer)) ∷ second) is (tt, each_fits IsUndrawn tt ((old_here undrawn_keys rules kept.options grip (λ pass turn. tt) old key key.is_clear).of does)) drawn)
+      absurd (drawn_none (Further (Keys (Read grip answer)) ∷ second) is (tt, each_fits IsUndrawn tt ((old_here undrawn_keys rules kept.options grip (λ pass turn. tt) old key key.is_clear).of _ _ _ _ does)) drawn)
   passwd_long_file _ _ _ _ (goes_on (parts.is_key {answer} {file} {key} found says) (goes_on {first = second} {events = third} {value = opened_key} old_does (stops does))) is remembers drawn long_so =
       let opens = opens_read found says _ is _ _ _ _ _ refl old_does in
       elim (changes_long rules kept grip new file opened_key.key whole (read_of found (has_read found says _ is)) opens long_so _ _ _ _ does
       (stand_right second third (rest_stands found says _ is)) (each_right Remembers second third remembers.1)) [
         | inl undrawn ↦ absurd (drawn_none (Further (Keys (Read grip answer)) ∷ (second ++ third)) is
-            (tt, each_append IsUndrawn second third (each_fits IsUndrawn tt ((old_here undrawn_keys rules kept.options grip (λ pass turn. tt) old key key.is_clear).of old_does)) undrawn) drawn)
+            (tt, each_append IsUndrawn second third (each_fits IsUndrawn tt ((old_here undrawn_keys rules kept.options grip (λ pass turn. tt) old key key.is_clear).of _ _ _ _ old_does)) undrawn) drawn)
         | inr so ↦ so
       ]
   passwd_long_file _ _ _ _ (goes_on (parts.is_key {answer} {file} {key} found says) (goes_on {first = second} {value = opened_key} old_does (goes_on {first = third} does returns))) is remembers drawn long_so =
@@ -444,7 +443,7 @@ module _ (one_canon : (file : List ℕ) (a b : Option (List ℕ)) → Canon file
       (stand_left third [] (stand_right second (third ++ []) (rest_stands found says _ is))) (each_left Remembers third [] (each_right Remembers second (third ++ []) remembers.1))) [
         | inl undrawn ↦ absurd (drawn_none (Further (Keys (Read grip answer)) ∷ (second ++ (third ++ []))) is (
           tt,
-          each_append IsUndrawn second (third ++ []) (each_fits IsUndrawn tt ((old_here undrawn_keys rules kept.options grip (λ pass turn. tt) old key key.is_clear).of old_does))
+          each_append IsUndrawn second (third ++ []) (each_fits IsUndrawn tt ((old_here undrawn_keys rules kept.options grip (λ pass turn. tt) old key key.is_clear).of _ _ _ _ old_does))
               (each_append IsUndrawn third [] undrawn tt),
         ) drawn)
         | inr so ↦ absurd so

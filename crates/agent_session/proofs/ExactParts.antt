@@ -3,12 +3,12 @@ use Rattle.std.specs.List.{AllByRecursion}
 use Rattle.std.proofs.Common.{◌≡◌, ◌≢◌, ◌∙◌, ◌⊎◌, ℕ, List, [], ◌∷◌, ◌++◌, Option, Some, None, Result, Ok, Err, arith, refl, sym, ap, subst, inl, inr}
 use Rattle.std.specs.Option.{option_map}
 use Rattle.agent_ask.specs.Further.{Keys, Read, Removed, Trust}
-use Rattle.agent_ask.specs.Parts.{◌>>=◌, Follows, goes_on, stops, Refuses, needed, or_else}
-use Rattle.agent_ask.specs.Parts as chain
+use Rattle.agent_ask.specs.Parts.{◌>>=◌, Refuses, needed, or_else}
+use Rattle.agent_ask.proofs.Within.{Within, Joins, weaker, returned_so, refused_so, or_otherwise}
+use Rattle.agent_ask.proofs.Within as within
 use Rattle.agent_ask.specs.SessionEvents.{Received, Sent, Cut, Inquiry, CacheTurn, Further, said_last}
 use Rattle.agent_ask.specs.TrustCalls.{TrustCall}
 use Rattle.agent_ask.specs.TurnParts.{Closes}
-use Rattle.agent_ask.specs.TurnParts as turning
 use Rattle.agent_ports.specs.declared.grip.Grip.{Grip}
 use Rattle.agent_ports.specs.declared.keys.KeyDone.{KeyDone}
 use Rattle.agent_ports.specs.declared.keys.KeyRead.{KeyRead}
@@ -23,13 +23,12 @@ use Rattle.session_client.specs.declared.code.Code.{Code}
 use Rattle.session_client.specs.declared.refusal.Refusal.{Refusal}
 use Rattle.session_client.specs.declared.refusal.Refusal.TheVariants.{Agent, Client}
 use Rattle.session_client.specs.declared.unheard.Unheard.{Unheard}
+use Rattle.key_commands.specs.Lines.{max_key_data}
 use Rattle.key_commands.specs.Events.{Event}
-use Rattle.key_commands.specs.KeyParts.{max_key_data}
 use Rattle.key_commands.specs.Parts.{Part}
 use Rattle.agent_ask.specs.ClientParts.{Inquires}
 use Rattle.agent_ask.specs.ClientParts as client_parts
-use Rattle.key_commands.specs.Parts as small
-use Rattle.key_commands.proofs.EachEvent.{each_append}
+use Rattle.key_commands.proofs.EachEvent.{each_answer}
 use Rattle.agent_session.specs.Causes.{Has, here, later}
 use Rattle.agent_session.specs.Completeness.{Remembers, HasError}
 use Rattle.agent_session.specs.Refusals.{refuses, shuts}
@@ -37,7 +36,7 @@ use Rattle.agent_session.proofs.CacheWorks.{FitsCache}
 use Rattle.agent_session.proofs.Explained.{has_split}
 use Rattle.agent_session.proofs.KeyWorks.{FitsKeys}
 use Rattle.agent_session.proofs.Standing.{each_left, each_right, each_has, has_right}
-use Rattle.agent_session.proofs.Works.{unsaid, unheard_by, GoesOn, WorkEnd, no_more, refused, lost, forgot, WorksTo, WorksSo, returned, shuts_fit}
+use Rattle.agent_session.proofs.Works.{unsaid, unheard_by, GoesOn, WorkEnd, no_more, refused, lost, forgot, WorksTo, WorksSo, shuts_fit}
 
 -- the bytes of a key that a client sent, the reads of a key's file, the removals of one, and the calls of the trust file by which a request is refused by a code
 pub record Deciding : Type 1 where
@@ -91,32 +90,29 @@ client_line why unheard refusal code_is same = subst (λ r. refusal_line r ≡ S
 
 module _ (deciding : Deciding) where
   -- A part whose request is refused by what decides it among these events, or before them, where that is due; or behind it, where it is owed then.
-  pub record Heeds {A : Type 0} (Due : Code → Type 0) (part : Part A) (Owed : A → Code → Type 0) : Type 0 where
-    pub of : (before : Option ℕ) (events : List Event) (result : Result A Refusal) (after : Option ℕ) → part before events result after → AllByRecursion Remembers events → (why : Code)
-        → Due why ⊎ IsDecided deciding events why → SaysTo Owed result why
+  abbrev pub HeedLaw : {A : Type 0} → (Code → Type 0) → (A → Code → Type 0) → Part A
+  HeedLaw Due Owed before events result after = AllByRecursion Remembers events → (why : Code) → Due why ⊎ IsDecided deciding events why → SaysTo Owed result why
 
-  -- a part, and then what follows on its value
-  module _ {A B : Type 0} {part : Part A} {next : A → Part B} {Due : Code → Type 0} (Mid : A → Code → Type 0) {Owed : B → Code → Type 0} (first : Heeds Due part Mid)
-      (then : (value : A) → Heeds (Mid value) (next value) Owed) where
-    bind_of : (before : Option ℕ) (events : List Event) (result : Result B Refusal) (after : Option ℕ) → Follows part next before events result after → AllByRecursion Remembers events → (why : Code)
-        → Due why ⊎ IsDecided deciding events why → SaysTo Owed result why
-    bind_of before events result after (goes_on {first = some} {events = more} {value} {mid} does next_does) remembers why due =
-        (then value).of mid more result after next_does (each_right Remembers some more remembers) why (passed due)
-      where
-        by_first : Due why ⊎ IsDecided deciding some why → Mid value why
-        by_first = first.of before some (Ok value) mid does (each_left Remembers some more remembers) why
+  abbrev pub Heeds : {A : Type 0} → (Code → Type 0) → Part A → (A → Code → Type 0) → Type 0
+  Heeds Due part Owed = Within part (HeedLaw Due Owed)
 
-        passed : Due why ⊎ IsDecided deciding (some ++ more) why → Mid value why ⊎ IsDecided deciding more why
-        passed (inl due) = inl (by_first (inl due))
-        passed (inr decided) =
-            elim (has_split some more decided.has) [
-              | inl has ↦ inl (by_first (inr (record { event = decided.event; has = has; decides = decided.decides })))
-              | inr has ↦ inr (record { event = decided.event; has = has; decides = decided.decides })
-            ]
-    bind_of before events result after (stops {refusal} does) remembers why due = first.of before events (Err refusal) after does remembers why due
+  due_then : (Due Mid : Code → Type 0) (some more : List Event) (why : Code) → (Due why ⊎ IsDecided deciding some why → Mid why) → Due why ⊎ IsDecided deciding (some ++ more) why → Mid why ⊎ IsDecided deciding more why
+  due_then Due Mid some more why by_first (inl due) = inl (by_first (inl due))
+  due_then Due Mid some more why by_first (inr decided) =
+      elim (has_split some more decided.has) [
+        | inl has ↦ inl (by_first (inr (record { event = decided.event; has = has; decides = decided.decides })))
+        | inr has ↦ inr (record { event = decided.event; has = has; decides = decided.decides })
+      ]
 
-    pub bind : Heeds Due (part >>= next) Owed
-    bind = record { of = bind_of }
+  heed_joins : {A B : Type 0} {Due : Code → Type 0} {Mid : A → Code → Type 0} {Owed : B → Code → Type 0} → Joins (HeedLaw Due Mid) (λ value. HeedLaw (Mid value) Owed) (HeedLaw Due Owed)
+  heed_joins {Due} {Mid} = record {
+    then = λ some more {value} first next remembers why due. next (each_right Remembers some more remembers) why (due_then Due (Mid value) some more why (first (each_left Remembers some more remembers) why) due);
+    alone = λ first. first;
+  }
+
+  pub bind : {A B : Type 0} {part : Part A} {next : A → Part B} {Due : Code → Type 0} (Mid : A → Code → Type 0) {Owed : B → Code → Type 0} → Heeds Due part Mid → ((value : A) → Heeds (Mid value) (next value) Owed)
+      → Heeds Due (part >>= next) Owed
+  bind Mid = within.bind heed_joins
 
   -- ---- single events
 
@@ -194,45 +190,33 @@ module _ (deciding : Deciding) where
         ]
       where
         so : WorksTo IsSaidAlone events result
-        so = work.of does
+        so = work.of before events result after does
 
     -- a part that is work of such events
     pub said_alone : {part : Part A} → WorksSo IsSaidAlone part → Heeds NoneDue part Owed
     said_alone work = record { of = works_of work }
 
-  pub otherwise : {A : Type 0} (value : Option A) {other : Part A} → Heeds NoneDue other NoneOwed → Heeds NoneDue (or_else value other) NoneOwed
-  otherwise None other = other
-  otherwise (Some value) other = said_alone NoneOwed (returned IsSaidAlone value)
+  -- nothing is due, and nothing decides the request
+  undecided : {Is : Type 0} {why : Code} → NoneDue why ⊎ IsDecided deciding [] why → Is
+  undecided (inl due) = absurd due
+  undecided (inr decided) = absurd (never_decided deciding [] tt decided)
 
-  -- a value that has to be there, where it is due that it isn't
-  needed_of : {A : Type 0} (given : Code) (value : Option A) (before : Option ℕ) (events : List Event) (result : Result A Refusal) (after : Option ℕ) → needed given value before events result after
-      → AllByRecursion Remembers events → (why : Code) → (value ≡ None) × (given ≡ why) ⊎ IsDecided deciding events why → SaysTo NoneOwed result why
-  needed_of given None before events result after chain.refuses remembers why (inl due) = ap (λ c. Some (failed c)) due.1
-  needed_of given None before events result after chain.refuses remembers why (inr decided) = absurd (never_decided deciding [] tt decided)
-  needed_of given (Some value) before events result after chain.returns remembers why (inl due) = absurd (cc (due.0))
-  needed_of given (Some value) before events result after chain.returns remembers why (inr decided) = never_decided deciding [] tt decided
+  module _ {A : Type 0} where
+    pub otherwise : (value : Option A) {other : Part A} → Heeds NoneDue other NoneOwed → Heeds NoneDue (or_else value other) NoneOwed
+    otherwise = or_otherwise (record { of = λ held result remembers why due. undecided due })
 
-  pub is_needed : {A : Type 0} (given : Code) (value : Option A) → Heeds (λ why. (value ≡ None) × (given ≡ why)) (needed given value) NoneOwed
-  is_needed given value = record { of = needed_of given value }
+    -- a refusal that is due
+    pub refuses_due : (given : Code) → Heeds {A = A} (λ why. given ≡ why) (Refuses (Agent given)) NoneOwed
+    refuses_due given = refused_so (Agent given) (λ held remembers why due. elim due [ inl is ↦ ap (λ c. Some (failed c)) is | inr decided ↦ absurd (never_decided deciding [] tt decided) ])
 
-  -- a refusal that is due
-  refuses_due_of : {A : Type 0} (given : Code) (before : Option ℕ) (events : List Event) (result : Result A Refusal) (after : Option ℕ) → Refuses (Agent given) before events result after
-      → AllByRecursion Remembers events → (why : Code) → (given ≡ why) ⊎ IsDecided deciding events why → SaysTo NoneOwed result why
-  refuses_due_of given before events result after chain.refuses remembers why (inl due) = ap (λ c. Some (failed c)) due
-  refuses_due_of given before events result after chain.refuses remembers why (inr decided) = absurd (never_decided deciding [] tt decided)
+    -- a value that has to be there, where it is due that it isn't
+    pub is_needed : (given : Code) (value : Option A) → Heeds (λ why. (value ≡ None) × (given ≡ why)) (needed given value) NoneOwed
+    is_needed given None = refused_so (Agent given) (λ held remembers why due. elim due [ inl is ↦ ap (λ c. Some (failed c)) is.1 | inr decided ↦ absurd (never_decided deciding [] tt decided) ])
+    is_needed given (Some value) = returned_so value (λ held remembers why due. elim due [ inl is ↦ absurd (cc (is.0)) | inr decided ↦ never_decided deciding [] tt decided ])
 
-  pub refuses_due : {A : Type 0} (given : Code) → Heeds {A = A} (λ why. given ≡ why) (Refuses (Agent given)) NoneOwed
-  refuses_due given = record { of = refuses_due_of given }
-
-  -- what is never due
-  module _ {A : Type 0} {part : Part A} {Due : Code → Type 0} {Owed : A → Code → Type 0} (never : (why : Code) → Due why → ⊥) (heeds : Heeds NoneDue part Owed) where
-    undue_of : (before : Option ℕ) (events : List Event) (result : Result A Refusal) (after : Option ℕ) → part before events result after → AllByRecursion Remembers events → (why : Code)
-        → Due why ⊎ IsDecided deciding events why → SaysTo Owed result why
-    undue_of before events result after does remembers why (inl due) = absurd (never why due)
-    undue_of before events result after does remembers why (inr decided) = heeds.of before events result after does remembers why (inr decided)
-
-    pub undue : Heeds Due part Owed
-    undue = record { of = undue_of }
+    -- what is never due
+    pub undue : {part : Part A} {Due : Code → Type 0} {Owed : A → Code → Type 0} → ((why : Code) → Due why → ⊥) → Heeds NoneDue part Owed → Heeds Due part Owed
+    undue never = weaker (record { of = λ before events result after heeds remembers why due. elim due [ inl is ↦ absurd (never why is) | inr decided ↦ heeds remembers why (inr decided) ] })
 
   -- ---- the client
 
@@ -256,7 +240,7 @@ module _ (deciding : Deciding) where
   fits_keys = record {
     memory = free deciding;
     cut = λ text. free deciding;
-    limits = λ most. free deciding;
+    limits = free deciding;
     clients = λ word inquired. no_key_data;
     notes = λ pid inquired. no_note;
     calls = λ event. free deciding;
@@ -283,13 +267,8 @@ module _ (deciding : Deciding) where
 -- ---- the answer
 
 module _ (deciding : Deciding) where
-  pub closes_free : {held : Option ℕ} {back : List Event} → Closes None held back (Ok tt) None → AllByRecursion (IsFree deciding) back
-  closes_free turning.unheld = tt
-  closes_free (turning.closed turn) = (free deciding, tt)
-
-  pub said_free : (line : Option (List ℕ)) → AllByRecursion (IsFree deciding) (said_last line)
-  said_free None = tt
-  said_free (Some line) = (free deciding, tt)
+  pub answer_free : {held : Option ℕ} {back : List Event} (line : Option (List ℕ)) → Closes None held back (Ok tt) None → AllByRecursion (IsFree deciding) (back ++ said_last line)
+  answer_free = each_answer (IsFree deciding) (λ number turn. free deciding) (λ text. free deciding)
 
   -- what decides a request stands before its answer
   pub decided_before : {why : Code} (events more : List Event) → AllByRecursion (IsFree deciding) more → IsDecided deciding (events ++ more) why → IsDecided deciding events why
@@ -310,7 +289,7 @@ module _ (deciding : Deciding) {A : Type 0} {Due : Code → Type 0} {part : Part
     before : Due why ⊎ IsDecided deciding events why
     before = elim due [
       | inl is ↦ inl is
-      | inr decided ↦ inr (decided_before deciding events (back ++ said_last line) (each_append (IsFree deciding) back (said_last line) (closes_free deciding closes) (said_free deciding line)) decided)
+      | inr decided ↦ inr (decided_before deciding events (back ++ said_last line) (answer_free deciding line closes) decided)
     ]
 
     pub never_ok : {value : A} → part None events (Ok value) held → ⊥

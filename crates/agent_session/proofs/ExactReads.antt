@@ -15,10 +15,11 @@ use Rattle.secret_file.specs.Answers.{IsLockedFault}
 use Rattle.secret_file.specs.Opens.{LockedKey}
 use Rattle.sexp_keys.specs.Key.{Key}
 use Rattle.sexp_keys.specs.declared.fault.KeyFault.{KeyFault}
+use Rattle.key_commands.specs.Lines.{max_key_data}
 use Rattle.key_commands.specs.Events.{Event}
 use Rattle.key_commands.specs.Faults.{fault_code}
 use Rattle.key_commands.specs.Files.{FileSays}
-use Rattle.key_commands.specs.KeyParts.{ReadsFile, Removes, IsFree, AsksKeyData, Unwraps, ReceivesKey, file_in, change_fault, max_key_data}
+use Rattle.key_commands.specs.KeyParts.{ReadsFile, Removes, IsFree, AsksKeyData, Unwraps, ReceivesKey, file_in, change_fault}
 use Rattle.key_commands.specs.KeyParts as parts
 use Rattle.key_commands.specs.Parts.{Finds, read_fault}
 use Rattle.agent_ask.specs.Parts.{wanted, refuses, returns}

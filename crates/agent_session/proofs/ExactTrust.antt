@@ -3,9 +3,7 @@ use Rattle.std.specs.List.{AllByRecursion}
 use Rattle.std.proofs.Common.{◌≡◌, ◌⊎◌, ◌∙◌, ◌<◌, ℕ, Bool, true, false, List, [], ◌∷◌, length, Option, Some, None, Result, Ok, arith, refl, sym, ap, subst, inl, inr}
 use Rattle.agent_ask.specs.Parts.{◌>>=◌, Refuses}
 use Rattle.agent_ask.specs.Parts as chain
-use Rattle.agent_ask.specs.SessionEvents.{CacheTurn}
 use Rattle.agent_ask.specs.TrustCalls.{TrustCall, Read, Replaced}
-use Rattle.agent_ask.specs.TurnParts as turning
 use Rattle.assuan_server.specs.Written.{ok}
 use Rattle.agent_commands.specs.declared.went.Went.{Went}
 use Rattle.agent_ports.specs.declared.grip.Grip.{Grip}
@@ -24,8 +22,6 @@ use Rattle.session_options.specs.declared.rules.Rules.{Rules}
 use Rattle.trust_list.specs.Trust.{trust, with_entry}
 use Rattle.trust_list.specs.declared.TheConstants.{MAX_TRUST_FILE_LEN}
 use Rattle.agent_origin.specs.TrustExchanges.{flag_of, trust_question, fingerprint_question, unless_said, TrustedNow, Stores, StoresUnsaid, Consented, asked_in, Marked, Carried, TrustExchange}
-use Rattle.agent_ask.specs.PartExchanges as part_exchanges
-use Rattle.agent_origin.specs.TrustExchanges as trusts
 use Rattle.agent_origin.specs.TrustParts.{ReadsFile, AddsEntry, Replaces, file_in, trust_called}
 use Rattle.agent_origin.specs.TrustParts as parts
 use Rattle.agent_origin.specs.declared.trust.request.TrustPurpose.{TrustPurpose}
@@ -35,9 +31,8 @@ use Rattle.key_commands.specs.Events.{Event}
 use Rattle.key_commands.specs.Parts.{Part}
 use Rattle.agent_session.specs.Completeness.{Remembers, HasError}
 use Rattle.agent_session.proofs.ExactKeys.{by_said}
-use Rattle.agent_session.proofs.ExactParts.{Deciding, IsDecided, never_decided, decided_only, NoneDue, NoneOwed, SaysTo, Heeds, bind, refuses_due, IsSaidAlone, free, said_alone, fits_keys, decided_before, never_ok, error_said}
+use Rattle.agent_session.proofs.ExactParts.{Deciding, IsDecided, never_decided, decided_only, NoneDue, NoneOwed, SaysTo, Heeds, bind, refuses_due, IsSaidAlone, free, said_alone, fits_keys, never_ok, error_said}
 use Rattle.agent_session.proofs.PromptWorks.{agrees_to}
-use Rattle.agent_session.proofs.Standing.{each_left}
 use Rattle.agent_session.proofs.Works as work
 use Rattle.agent_session.proofs.Works.{WorksTo, works, one_works, refused_by, WorksSo, Keeps, keeps_works, returned, refuses_by, turns_of}
 use Rattle.agent_session.proofs.TrustTold.{Told, told}
@@ -174,7 +169,8 @@ module _ (fingerprint : Grip) (purpose : TrustPurpose) where
   stores_long file =
       bind ByLong NoneOwed (record { of = adds_long_of file }) (λ new. so ByLong (replaces_so ByLong (λ file answer why none. none) new))
 
-  unless_long_of : (file : List ℕ) (said : Option Bool) → trust file fingerprint.0 ≡ said → (before : Option ℕ) (events : List Event) (result : _) (after : Option ℕ) → unless_said said (Stores fingerprint purpose file) before events result after
+  unless_long_of : (file : List ℕ) (said : Option Bool) → trust file fingerprint.0 ≡ said → (before : Option ℕ) (events : List Event) (result : _) (after : Option ℕ)
+      → unless_said said (Stores fingerprint purpose file) before events result after
       → AllByRecursion Remembers events → (why : Code) → IsLong file why ⊎ IsDecided ByLong events why → SaysTo NoneOwed result why
   unless_long_of file None is before events result after does remembers why due = (stores_long file).of before events result after does remembers why due
   unless_long_of file (Some true) is before events result after chain.returns remembers why (inl long) = cc (is, long.0)
@@ -187,12 +183,14 @@ module _ (fingerprint : Grip) (purpose : TrustPurpose) where
   stores_unsaid_long = bind ByLong IsLong (record { of = long_of }) (λ file. record { of = unless_long_of file (trust file fingerprint.0) refl })
 
   -- what decides MARKTRUSTED stands behind its first read
-  pub marked_long : (rules : Rules) (options : OptionValues) (name : List ℕ) (before : Option ℕ) (events : List Event) (result : _) (after : Option ℕ) → Marked rules options fingerprint purpose name before events result after → AllByRecursion Remembers events
+  pub marked_long : (rules : Rules) (options : OptionValues) (name : List ℕ) (before : Option ℕ) (events : List Event) (result : _) (after : Option ℕ)
+      → Marked rules options fingerprint purpose name before events result after → AllByRecursion Remembers events
       → (why : Code) (first : Event) (more : List Event) → events ≡ first ∷ more → IsDecided ByLong more why → SaysTo NoneOwed result why
   unfolding Marked
   marked_long rules options name before events result after (chain.goes_on {events = rest} {value = file} (parts.has_read is) does) remembers why first more same decided =
       let rest_is : more ≡ rest = cc same in
-      (unless ByLong (trust file fingerprint.0) (asked_so ByLong rules options fingerprint purpose name stores_unsaid_long options.mode)).of before rest result after does remembers.1 why (inr (subst (λ m. IsDecided ByLong m why) rest_is decided))
+      (unless ByLong (trust file fingerprint.0) (asked_so ByLong rules options fingerprint purpose name stores_unsaid_long options.mode)).of before rest result after does remembers.1 why
+      (inr (subst (λ m. IsDecided ByLong m why) rest_is decided))
   marked_long rules options name before events result after (chain.stops parts.faulted) remembers why first more same decided =
       let none : more ≡ [] = cc same in absurd (never_decided ByLong [] tt (subst (λ m. IsDecided ByLong m why) none decided))
   marked_long rules options name before events result after (chain.stops parts.no_memory) remembers why first more same decided =

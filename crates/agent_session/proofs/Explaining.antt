@@ -23,7 +23,9 @@ use Rattle.agent_commands.specs.Events.{EventWith}
 use Rattle.agent_commands.specs.declared.request.Request.{Request}
 use Rattle.key_commands.specs.Parts.{Part, Finds, Draws}
 use Rattle.agent_ask.specs.ClientParts.{Writes, Inquires, AsksClient}
-use Rattle.agent_ask.specs.Parts.{◌>>=◌, Follows, goes_on, stops, Returns, returns, Refuses, refuses, needed, or_else, unless, wanted}
+use Rattle.agent_ask.specs.Parts.{◌>>=◌, Returns, Refuses, needed, or_else, unless, wanted}
+use Rattle.agent_ask.proofs.Within.{Within, Joins, weaker, returned_so, refused_so}
+use Rattle.agent_ask.proofs.Within as within
 use Rattle.agent_ask.specs.Interrupts.{Interrupts}
 use Rattle.agent_ask.specs.Interrupts as turns
 use Rattle.agent_ask.specs.TurnParts as taken
@@ -62,60 +64,50 @@ module _ (whole : List (EventWith FurtherEvent)) (Causes : Code → Origin → T
   IsExplained Good (Ok value) = Good value
   IsExplained Good (Err why) = CausedRefusal why
 
+  any_value : {A : Type 0} (Good : A → Type 0) (result : Result A Refusal) → IsExplained Good result → IsExplained Anything result
+  any_value Good (Ok value) good = tt
+  any_value Good (Err why) caused = caused
+
   pub record Comes {A : Type 0} (Good : A → Type 0) (events : List (EventWith FurtherEvent)) (result : Result A Refusal) : Type 0 where
     pub silent : AllByRecursion AnswersNothing events
     pub explained : IsExplained Good result
 
-  pub record Explains {A : Type 0} (part : Part A) (Good : A → Type 0) : Type 0 where
-    pub of : (before : Option ℕ) (events : List (EventWith FurtherEvent)) (result : Result A Refusal) (after : Option ℕ) → part before events result after → StandIn events whole
-        → Comes Good events result
+  abbrev pub ExplainLaw : {A : Type 0} → (A → Type 0) → Part A
+  ExplainLaw Good before events result after = StandIn events whole → Comes Good events result
+
+  abbrev pub Explains : {A : Type 0} → Part A → (A → Type 0) → Type 0
+  Explains part Good = Within part (ExplainLaw Good)
 
 module _ {whole : List (EventWith FurtherEvent)} {Causes : Code → Origin → Type 0} where
   -- a part, and then what follows on its value
-  module _ {A B : Type 0} {part : Part A} {next : A → Part B} (First : A → Type 0) (Good : B → Type 0) (first : Explains whole Causes part First)
-      (then : (value : A) → First value → Explains whole Causes (next value) Good) where
-    bind_of : (before : Option ℕ) (events : List (EventWith FurtherEvent)) (result : Result B Refusal) (after : Option ℕ) → Follows part next before events result after → StandIn events whole
-        → Comes whole Causes Good events result
-    bind_of before events result after (goes_on {first = some} {events = more} {value} {mid} does next_does) stands =
-        let one : Comes whole Causes First some (Ok value) = first.of before some (Ok value) mid does (stand_left some more stands) in
-        let two : Comes whole Causes Good more result = (then value one.explained).of mid more result after next_does (stand_right some more stands) in
-        record { silent = each_append AnswersNothing some more one.silent two.silent; explained = two.explained }
-    bind_of before events result after (stops {refusal = why} does) stands =
-        let one : Comes whole Causes First events (Err why) = first.of before events (Err why) after does stands in
-        record { silent = one.silent; explained = one.explained }
+  explained_join : {A B : Type 0} {First : A → Type 0} {Good : B → Type 0} → Joins (ExplainLaw whole Causes First) (λ value before events result after. First value → ExplainLaw whole Causes Good before events result after)
+      (ExplainLaw whole Causes Good)
+  explained_join {First} {Good} = record {
+    then = λ some later {value} {result} first more stands.
+        let one : Comes whole Causes First some (Ok value) = first (stand_left some later stands) in
+        let two : Comes whole Causes Good later result = more one.explained (stand_right some later stands) in
+        record { silent = each_append AnswersNothing some later one.silent two.silent; explained = two.explained };
+    alone = λ {before} {after} {events} {why} first stands. let one : Comes whole Causes First events (Err why) = first stands in record { silent = one.silent; explained = one.explained };
+  }
 
-    pub bind : Explains whole Causes (part >>= next) Good
-    bind = record { of = bind_of }
+  pub bind : {A B : Type 0} {part : Part A} {next : A → Part B} (First : A → Type 0) (Good : B → Type 0) → Explains whole Causes part First → ((value : A) → First value → Explains whole Causes (next value) Good)
+      → Explains whole Causes (part >>= next) Good
+  bind First Good first then = within.bind explained_join first (λ value. record { of = λ before events result after does good. (then value good).of before events result after does })
 
   -- a part whatever value it comes to
-  module _ {A : Type 0} {part : Part A} (Good : A → Type 0) (explains : Explains whole Causes part Good) where
-    any_value : (result : Result A Refusal) → IsExplained whole Causes Good result → IsExplained whole Causes Anything result
-    any_value (Ok value) good = tt
-    any_value (Err why) caused = caused
-
-    whatever_of : (before : Option ℕ) (events : List (EventWith FurtherEvent)) (result : Result A Refusal) (after : Option ℕ) → part before events result after → StandIn events whole
-        → Comes whole Causes Anything events result
-    whatever_of before events result after does stands =
-        let comes : Comes whole Causes Good events result = explains.of before events result after does stands in
-        record { silent = comes.silent; explained = any_value result comes.explained }
-
-    pub whatever : Explains whole Causes part Anything
-    whatever = record { of = whatever_of }
+  pub whatever : {A : Type 0} {part : Part A} (Good : A → Type 0) → Explains whole Causes part Good → Explains whole Causes part Anything
+  whatever Good = weaker (record {
+    of = λ before events result after explains stands.
+        let comes : Comes whole Causes Good events result = explains stands in
+        record { silent = comes.silent; explained = any_value whole Causes Good result comes.explained };
+  })
 
   module _ {A : Type 0} (Good : A → Type 0) where
-    returns_of : (value : A) → Good value → (before : Option ℕ) (events : List (EventWith FurtherEvent)) (result : Result A Refusal) (after : Option ℕ) → Returns value before events result after
-        → StandIn events whole → Comes whole Causes Good events result
-    returns_of value good before events result after returns stands = record { silent = tt; explained = good }
-
     pub returned : (value : A) → Good value → Explains whole Causes (Returns value) Good
-    returned value good = record { of = returns_of value good }
-
-    refuses_of : (why : Refusal) → CausedRefusal whole Causes why → (before : Option ℕ) (events : List (EventWith FurtherEvent)) (result : Result A Refusal) (after : Option ℕ) → Refuses why before events result after
-        → StandIn events whole → Comes whole Causes Good events result
-    refuses_of why caused before events result after refuses stands = record { silent = tt; explained = caused }
+    returned value good = returned_so value (λ held stands. record { silent = tt; explained = good })
 
     pub refused : (why : Refusal) → CausedRefusal whole Causes why → Explains whole Causes (Refuses why) Good
-    refused why caused = record { of = refuses_of why caused }
+    refused why caused = refused_so why (λ held stands. record { silent = tt; explained = caused })
 
     pub is_needed : (why : Code) (value : Option A) → (value ≡ None → Causes why OfAgent) → ((some : A) → value ≡ Some some → Good some) → Explains whole Causes (needed why value) Good
     is_needed why None caused good = refused (Agent why) (caused refl)

@@ -5,7 +5,6 @@ use Rattle.agent_ask.specs.SessionEvents.{Sent, said_last}
 use Rattle.agent_ports.specs.declared.grip.Grip.{Grip}
 use Rattle.agent_ports.specs.declared.keys.KeyDone.{KeyDone}
 use Rattle.agent_ports.specs.declared.keys.KeyDone.TheVariants as key_done
-use Rattle.assuan_server.specs.Clients.{session_lines}
 use Rattle.session_client.specs.declared.code.Code.{Code}
 use Rattle.session_client.specs.declared.code.Code.TheVariants as code
 use Rattle.session_options.specs.OptionValues.{OptionValues}
@@ -19,11 +18,11 @@ use Rattle.agent_commands.specs.declared.request.Request.TheVariants.{Cache, Key
 use Rattle.agent_commands.specs.declared.went.Went.{Went}
 use Rattle.key_commands.specs.Exchanges.{KeyExchange, ImportKeyReplies, StoresKey, FoundOrNew}
 use Rattle.agent_ask.specs.PartExchanges as part_exchanges
-use Rattle.key_commands.specs.Exchanges as exchange
 use Rattle.key_commands.specs.KeyParts.{change_fault}
 use Rattle.key_commands.specs.KeyParts as parts
 use Rattle.key_commands.specs.Parts.{Part, refusal_events}
-use Rattle.agent_ask.specs.Parts.{◌>>=◌, goes_on, stops, Returns}
+use Rattle.agent_ask.specs.Parts.{◌>>=◌, goes_on, stops}
+use Rattle.agent_ask.proofs.Within.{Within, Does, does_join, bind}
 use Rattle.agent_ask.specs.TurnParts.{Closes}
 use Rattle.assuan_server.specs.Written.{refusal_line}
 use Rattle.agent_ask.specs.Parts as chain
@@ -36,7 +35,7 @@ use Rattle.key_commands.specs.declared.request.KeyRequest.{KeyRequest}
 use Rattle.key_commands.specs.declared.request.KeyRequest.TheVariants as on
 use Rattle.key_commands.specs.declared.went.KeyWent.{KeyWent}
 use Rattle.key_commands.specs.declared.wrap_keys.WrapKeys.{WrapKeys}
-use Rattle.key_commands.proofs.EachEvent.{each_append, EachSo, each_bind, each_refused, each_needed, each_otherwise, receives_key, names_key, is_free, looks_over, takes_seat, prompts_new, client_new}
+use Rattle.key_commands.proofs.EachEvent.{each_answer, each_returned, each_append, EachSo, each_bind, each_refused, each_needed, each_otherwise, receives_key, names_key, is_free, looks_over, takes_seat, prompts_new, client_new}
 use Rattle.agent_origin.specs.SessionExchanges.{RequestExchange, cache, keys}
 use Rattle.agent_origin.specs.declared.kept.Kept.{Kept}
 use Rattle.agent_session.specs.Causes.{on_keys}
@@ -64,20 +63,22 @@ course_before last each (replaced early late drawn pass file turn nothing long k
     subst ImportCourse (sym (append_assoc early _ last)) (replaced early (late ++ last) drawn pass file turn nothing long keeps (each_append HandsNothing late last behind each))
 
 abbrev IsImport : {A : Type 0} → Part A → Type 0
-IsImport {A} part = (before : Option ℕ) (events : List (EventWith FurtherEvent)) (result : Result A Refusal) (after : Option ℕ) → part before events result after → ImportCourse events
+IsImport part = Within part (Does ImportCourse)
 
-module _ {A B : Type 0} {part : Part A} {next : A → Part B} (first : EachSo HandsNothing part) (then : (value : A) → IsImport (next value)) where
-  quiet_then : IsImport (part >>= next)
-  quiet_then before events result after (goes_on {first = some} {events = more} {value} {mid} does next_does) =
-      course_behind some (first.of before some (Ok value) mid does) (then value mid more result after next_does)
-  quiet_then before events result after (stops {refusal = why} does) = not_drawn (first.of before events (Err why) after does)
+module _ {A B : Type 0} {part : Part A} {next : A → Part B} where
+  quiet_then : EachSo HandsNothing part → ((value : A) → IsImport (next value)) → IsImport (part >>= next)
+  quiet_then = bind (does_join (λ some later nothing course. course_behind some nothing course) (λ some nothing. not_drawn nothing))
+
+  then_quiet : IsImport part → ((value : A) → EachSo HandsNothing (next value)) → IsImport (part >>= next)
+  then_quiet = bind (does_join (λ some later course nothing. course_before later nothing course) (λ some course. course))
 
 -- ---- the key is stored
 
 undone : (answer : KeyDone) {why : Code} → change_fault answer ≡ Some why → answer ≡ key_done.Done → ⊥
 undone answer is done = let never : None ≡ Some _ = sym (ap change_fault done) ∙ is in cc never
 
-stores_of : (count : ℕ) (key : Key) (grip : Grip) (pass : List ℕ) → IsImport (StoresKey count key grip pass)
+stores_of : (count : ℕ) (key : Key) (grip : Grip) (pass : List ℕ) (before : Option ℕ) (events : List (EventWith FurtherEvent)) (result : Result _ Refusal) (after : Option ℕ) → StoresKey count key grip pass before events result after
+    → ImportCourse events
 stores_of count key grip pass before events result after (stops small.faulted) = not_drawn (tt, tt)
 stores_of count key grip pass before events result after (goes_on (small.drawn long) (stops parts.no_memory)) = not_drawn (tt, (tt, tt))
 stores_of count key grip pass before events result after (goes_on (small.drawn long) (goes_on parts.made (stops (turning.interrupted why)))) = not_put [] [] _ _ tt long why tt
@@ -103,31 +104,23 @@ found_quiet : (rules : Rules) (options : OptionValues) (nonce : Option (List ℕ
 found_quiet rules options nonce grip =
     each_bind HandsNothing (looks_over HandsNothing nonce (λ named turn hands. elim hands [ ])) (λ found. each_otherwise HandsNothing found (new_quiet rules options grip options.mode))
 
-made_of : {A B : Type 0} {part : Part A} (make : A → B) → IsImport part → IsImport (part >>= λ value. Returns (make value))
-made_of make is_import before events result after (goes_on {first = some} {value} {mid} does chain.returns) = course_before [] tt (is_import before some (Ok value) mid does)
-made_of make is_import before events result after (stops {refusal = why} does) = is_import before events (Err why) after does
-
 module _ (rules : Rules) (options : OptionValues) (wraps : WrapKeys) where
   import_so : (force : Bool) (nonce : Option (List ℕ)) → IsImport (ImportKeyReplies rules options wraps force nonce)
   unfolding ImportKeyReplies
   import_so force nonce =
       quiet_then (each_needed HandsNothing code.Parameter wraps.import) (λ wrap. quiet_then (receives_key HandsNothing still_quiet wrap) (λ key. quiet_then (names_key HandsNothing still_quiet key)
-      (λ grip. quiet_then (is_free HandsNothing still_quiet force grip) (λ free. quiet_then (found_quiet rules options nonce grip) (λ pass. made_of _ (stores_of options.s2k_count key grip pass))))))
+      (λ grip. quiet_then (is_free HandsNothing still_quiet force grip) (λ free. quiet_then (found_quiet rules options nonce grip)
+      (λ pass. then_quiet (record { of = stores_of options.s2k_count key grip pass }) (λ cache_nonce. each_returned HandsNothing _))))))
 
-  back_nothing : {held : Option ℕ} {back : List (EventWith FurtherEvent)} → Closes None held back (Ok tt) None → HandNothing back
-  back_nothing turning.unheld = tt
-  back_nothing (turning.closed turn) = (kept_none _, tt)
-
-  refusal_nothing : (line : Option (List ℕ)) → HandNothing (said_last {T = session_lines.Took} {O = session_lines.Outcome} {F = FurtherEvent} line)
-  refusal_nothing None = tt
-  refusal_nothing (Some line) = (tt, tt)
+  answer_nothing : {held : Option ℕ} {back : List (EventWith FurtherEvent)} (line : Option (List ℕ)) → Closes None held back (Ok tt) None → HandNothing (back ++ said_last line)
+  answer_nothing = each_answer HandsNothing (λ number turn. kept_none number) (λ text. tt)
 
   pub import_exchange : (asked : KeyRequest) {force : Bool} {nonce : Option (List ℕ)} → asked ≡ on.ImportKey force nonce → {events : List (EventWith FurtherEvent)} {after : WrapKeys} {went : KeyWent}
       → KeyExchange rules options wraps asked events after went → ImportCourse events
   import_exchange (on.ImportKey force nonce) is (part_exchanges.answered events held reply {back} does closes) =
-      course_before (back ++ Sent reply.text ∷ []) (each_append HandsNothing back _ (back_nothing closes) (tt, tt)) (import_so force nonce None events (Ok reply) held does)
+      course_before (back ++ Sent reply.text ∷ []) (answer_nothing (Some reply.text) closes) ((import_so force nonce).of None events (Ok reply) held does)
   import_exchange (on.ImportKey force nonce) is (part_exchanges.refused events held why {back} does closes) =
-      course_before (back ++ refusal_events why) (each_append HandsNothing back (refusal_events why) (back_nothing closes) (refusal_nothing (refusal_line why))) (import_so force nonce None events (Err why) held does)
+      course_before (back ++ refusal_events why) (answer_nothing (refusal_line why) closes) ((import_so force nonce).of None events (Err why) held does)
   import_exchange (on.HaveKey grips) is exchanged = absurd (cc is)
   import_exchange (on.KeyInfo grip) is exchanged = absurd (cc is)
   import_exchange on.ListKeys is exchanged = absurd (cc is)

@@ -2,6 +2,7 @@
 use Rattle.std.proofs.Common.{◌≡◌, ℕ, Bool, true, false, List, [], ◌∷◌, ◌++◌, Option, Some, None, Result, Ok, Err, refl, ap}
 use Rattle.std.specs.Prelude.{not, drop}
 use Rattle.agent_ask.specs.Further.{Keys, Replaced, Removed}
+use Rattle.agent_ask.proofs.Within.{values_so}
 use Rattle.agent_ask.specs.Parts.{◌>>=◌, goes_on, stops, Returns, returns}
 use Rattle.agent_ask.specs.SessionEvents.{Further}
 use Rattle.agent_ask.specs.TurnParts.{Changes, Closes}
@@ -29,7 +30,7 @@ use Rattle.key_commands.specs.Exchanges.{KeyReply, KeyExchange, HaveKeyReplies, 
 use Rattle.key_commands.specs.Exchanges.{DeleteKeyReplies, KeyReplies, wrap_key, StoresKey, RewritesFile, ChangesOpened}
 use Rattle.agent_ask.specs.PartExchanges as part_exchanges
 use Rattle.key_commands.specs.Exchanges as exchange
-use Rattle.key_commands.specs.KeyParts.{Tells, tells, Replaces, Removes, KeepsNew, HasOne, TellsKeyInfo, WritesInfo, TellsListed, WritesInfos, max_key_data, ReceivesKey, IsFree, WrapsKey, Consents}
+use Rattle.key_commands.specs.KeyParts.{Tells, tells, Replaces, Removes, KeepsNew, TellsKeyInfo, ReceivesKey, IsFree, WrapsKey}
 use Rattle.key_commands.specs.KeyParts as parts
 use Rattle.key_commands.specs.Lines.{grip_text, info_line}
 use Rattle.assuan_server.specs.Written.{ok}
@@ -45,13 +46,13 @@ use Rattle.agent_session.specs.Causes.{on_keys, IsSaid}
 use Rattle.agent_session.specs.Completeness.{EndsInOk}
 use Rattle.agent_session.specs.Completeness as completeness
 use Rattle.agent_session.specs.Refusals.{IsAllowed, IsWorkStep, MayStore, exported, changed, imported, Course}
-use Rattle.key_commands.specs.Lines.{of_limit, of_key}
+use Rattle.key_commands.specs.Lines.{of_passphrase, of_key_data, of_key}
 use Rattle.agent_session.proofs.Asides.{info_status, nonce_status, status_aside}
 use Rattle.agent_session.proofs.Courses.{Ends, ends_with, EndsSo, working_ends, ends_working, bind_ends, made, makes, closed, unwrapped, kept, put, unput, cleared, uncleared, RepliesOk, ok_returns, ok_refuses, ok_then, reply_ends_in_ok, ok_course, err_course, ends_said, gone_only, said_before, answer_heard}
 use Rattle.agent_session.proofs.KeyWorks.{FitsKeys, looks_nonce, old_here, verified_here, new_here, consents, tells_info, writes_infos, has_one}
 use Rattle.agent_session.proofs.Replying.{ends_in_ok, reply_keys}
 use Rattle.agent_session.proofs.Works as work
-use Rattle.agent_session.proofs.Works.{WorksTo, works, ok_works, err_works, behind_work, WorksSo, Keeps, keeps_works, bind, returned, refuses_by, is_needed, or_otherwise, is_unless, is_wanted, turns_of}
+use Rattle.agent_session.proofs.Works.{WorksTo, works, WorksSo, Keeps, keeps_works, bind, returned, refuses_by, is_needed, or_otherwise, is_wanted, turns_of}
 
 module _ (request : Request) where
   abbrev Fits : Event → Type 0
@@ -72,7 +73,7 @@ module _ (request : Request) where
   fits = record {
     memory = tt;
     cut = λ text. tt;
-    limits = of_limit;
+    limits = of_passphrase;
     clients = λ word inquired. tt;
     notes = λ pid inquired. tt;
     calls = λ event. tt;
@@ -91,7 +92,7 @@ module _ (request : Request) where
 
   receives_key : (wrap : List ℕ) → Here (ReceivesKey wrap)
   receives_key wrap =
-      bind Fits (so (work.writes Fits (λ text. tt) (of_limit max_key_data))) (λ told. bind Fits (so (work.asks_key_data Fits (λ inquired. tt) tt)) (λ wrapped. so (work.unwraps Fits tt)))
+      bind Fits (so (work.writes Fits (λ text. tt) of_key_data)) (λ told. bind Fits (so (work.asks_key_data Fits (λ inquired. tt) tt)) (λ wrapped. so (work.unwraps Fits tt)))
 
   is_free : (force : Bool) (grip : Grip) → Here (IsFree force grip)
   is_free true grip = returned Fits tt
@@ -103,51 +104,51 @@ module _ (request : Request) where
     not_done : {A : Type 0} (answer : KeyDone) {why : Code} → parts.change_fault answer ≡ Some why → WorksTo Fits {A = A} (Further (Keys (Replaced grip file answer)) ∷ []) (Err (Agent why))
     not_done answer is = work.not_replaced Fits tt answer (λ given other. other) is
 
-    replaces_so_of : (before : Option ℕ) {after : Option ℕ} {events : List Event} {result : Result (Unit {0}) Refusal} → (Replaces grip file >>= λ replaced. KeepsNew grip pass) before events result after
+    replaces_so_of : (before : Option ℕ) (events : List Event) (result : Result (Unit {0}) Refusal) (after : Option ℕ) → (Replaces grip file >>= λ replaced. KeepsNew grip pass) before events result after
         → Ends request events result after
-    replaces_so_of None (goes_on parts.done taken.done) = ends_with request put
-    replaces_so_of None (goes_on parts.done (taken.interrupted why)) = ends_with request (unput why)
-    replaces_so_of (Some number) (goes_on parts.done (taken.closed turn)) = ends_with request (kept turn)
-    replaces_so_of before (stops (parts.not_done {answer} is)) = working_ends request (not_done answer is)
+    replaces_so_of None _ _ _ (goes_on parts.done taken.done) = ends_with request put
+    replaces_so_of None _ _ _ (goes_on parts.done (taken.interrupted why)) = ends_with request (unput why)
+    replaces_so_of (Some number) _ _ _ (goes_on parts.done (taken.closed turn)) = ends_with request (kept turn)
+    replaces_so_of before _ _ _ (stops (parts.not_done {answer} is)) = working_ends request (not_done answer is)
 
     ends_replacing : EndsSo request (Replaces grip file >>= λ replaced. KeepsNew grip pass)
-    ends_replacing = record { of = λ {before} {after} {events} {result} does. replaces_so_of before does }
+    ends_replacing = record { of = replaces_so_of }
 
     -- and then a value
-    stores_so_of : {A : Type 0} {value : A} (before : Option ℕ) {after : Option ℕ} {events : List Event} {result : Result A Refusal}
+    stores_so_of : {A : Type 0} {value : A} (before : Option ℕ) (events : List Event) (result : Result A Refusal) (after : Option ℕ)
         → (Replaces grip file >>= λ replaced. (KeepsNew grip pass >>= λ kept. Returns value)) before events result after → Ends request events result after
-    stores_so_of None (goes_on parts.done (goes_on taken.done returns)) = ends_with request put
-    stores_so_of None (goes_on parts.done (stops (taken.interrupted why))) = ends_with request (unput why)
-    stores_so_of (Some number) (goes_on parts.done (goes_on (taken.closed turn) returns)) = ends_with request (kept turn)
-    stores_so_of (Some number) (goes_on parts.done (stops never)) = elim never [ ]
-    stores_so_of before (stops (parts.not_done {answer} is)) = working_ends request (not_done answer is)
+    stores_so_of None _ _ _ (goes_on parts.done (goes_on taken.done returns)) = ends_with request put
+    stores_so_of None _ _ _ (goes_on parts.done (stops (taken.interrupted why))) = ends_with request (unput why)
+    stores_so_of (Some number) _ _ _ (goes_on parts.done (goes_on (taken.closed turn) returns)) = ends_with request (kept turn)
+    stores_so_of (Some number) _ _ _ (goes_on parts.done (stops never)) = elim never [ ]
+    stores_so_of before _ _ _ (stops (parts.not_done {answer} is)) = working_ends request (not_done answer is)
 
     ends_storing : {A : Type 0} (value : A) → EndsSo request (Replaces grip file >>= λ replaced. (KeepsNew grip pass >>= λ kept. Returns value))
-    ends_storing value = record { of = λ {before} {after} {events} {result} does. stores_so_of before does }
+    ends_storing value = record { of = stores_so_of }
 
-  removes_so_of : {A : Type 0} {grip : Grip} {value : A} {before after : Option ℕ} {events : List Event} {result : Result A Refusal}
+  removes_so_of : {A : Type 0} {grip : Grip} {value : A} (before : Option ℕ) (events : List Event) (result : Result A Refusal) (after : Option ℕ)
       → (Removes grip >>= λ removed. (Changes (Clear (grip_text grip) Normal) >>= λ cleared. Returns value)) before events result after → Ends request events result after
-  removes_so_of (goes_on parts.done (goes_on taken.done returns)) = ends_with request cleared
-  removes_so_of (goes_on parts.done (stops (taken.interrupted why))) = ends_with request (uncleared why)
-  removes_so_of {grip} (stops (parts.not_done {answer} is)) =
+  removes_so_of _ _ _ _ (goes_on parts.done (goes_on taken.done returns)) = ends_with request cleared
+  removes_so_of _ _ _ _ (goes_on parts.done (stops (taken.interrupted why))) = ends_with request (uncleared why)
+  removes_so_of {grip} _ _ _ _ (stops (parts.not_done {answer} is)) =
       working_ends request (work.unchanged Fits tt answer (λ given. Further (Keys (Removed grip given))) (λ given other. other) (λ given. refl) (λ given. refl) (λ given. refl) is)
 
   -- a ticket is given back
-  gives_back_of : {A : Type 0} {keep : Option (List ℕ)} {value : A} {before after : Option ℕ} {events : List Event} {result : Result A Refusal}
+  gives_back_of : {A : Type 0} {keep : Option (List ℕ)} {value : A} (before : Option ℕ) (events : List Event) (result : Result A Refusal) (after : Option ℕ)
       → (Closes keep >>= λ closed. Returns value) before events result after → Ends request events result after
-  gives_back_of (goes_on taken.unheld returns) = working_ends request (works Fits tt)
-  gives_back_of (goes_on (taken.closed turn) returns) = ends_with request (closed turn)
-  gives_back_of (stops never) = elim never [ ]
+  gives_back_of _ _ _ _ (goes_on taken.unheld returns) = working_ends request (works Fits tt)
+  gives_back_of _ _ _ _ (goes_on (taken.closed turn) returns) = ends_with request (closed turn)
+  gives_back_of _ _ _ _ (stops never) = elim never [ ]
 
-  wraps_last_of : {keep : Option (List ℕ)} {wrap : List ℕ} {key : Key} {wraps : WrapKeys} {before after : Option ℕ} {events : List Event} {result : Result KeyReply Refusal}
+  wraps_last_of : {keep : Option (List ℕ)} {wrap : List ℕ} {key : Key} {wraps : WrapKeys} (before : Option ℕ) (events : List Event) (result : Result KeyReply Refusal) (after : Option ℕ)
       → (Closes keep >>= λ closed. (WrapsKey wrap key >>= λ wrapped. (Tells wrapped >>= λ text. Returns (exchange.key_reply wraps text)))) before events result after → Ends request events result after
-  wraps_last_of (goes_on taken.unheld (goes_on parts.is_wrapped (goes_on (tells answers) returns))) = working_ends request (works Fits tt)
-  wraps_last_of (goes_on taken.unheld (stops parts.no_memory)) = working_ends request (work.no_memory Fits tt)
-  wraps_last_of (goes_on (taken.closed turn) (goes_on parts.is_wrapped (goes_on (tells answers) returns))) = ends_with request (closed turn)
-  wraps_last_of (goes_on (taken.closed turn) (stops parts.no_memory)) = ends_with request (unwrapped turn)
-  wraps_last_of (goes_on taken.unheld (goes_on parts.is_wrapped (stops never))) = elim never [ ]
-  wraps_last_of (goes_on (taken.closed turn) (goes_on parts.is_wrapped (stops never))) = elim never [ ]
-  wraps_last_of (stops never) = elim never [ ]
+  wraps_last_of _ _ _ _ (goes_on taken.unheld (goes_on parts.is_wrapped (goes_on (tells answers) returns))) = working_ends request (works Fits tt)
+  wraps_last_of _ _ _ _ (goes_on taken.unheld (stops parts.no_memory)) = working_ends request (work.no_memory Fits tt)
+  wraps_last_of _ _ _ _ (goes_on (taken.closed turn) (goes_on parts.is_wrapped (goes_on (tells answers) returns))) = ends_with request (closed turn)
+  wraps_last_of _ _ _ _ (goes_on (taken.closed turn) (stops parts.no_memory)) = ends_with request (unwrapped turn)
+  wraps_last_of _ _ _ _ (goes_on taken.unheld (goes_on parts.is_wrapped (stops never))) = elim never [ ]
+  wraps_last_of _ _ _ _ (goes_on (taken.closed turn) (goes_on parts.is_wrapped (stops never))) = elim never [ ]
+  wraps_last_of _ _ _ _ (stops never) = elim never [ ]
 
   -- ---- requests
 
@@ -232,16 +233,16 @@ abbrev ReplyOk : Part KeyReply → Type 0
 ReplyOk = RepliesOk (λ reply. reply.text)
 
 -- what is known of a key, and an OK line
-info_ok_of : (grip : Grip) (key : Key) (wraps : WrapKeys) {before after : Option ℕ} {events : List Event} {reply : KeyReply}
+info_ok_of : (grip : Grip) (key : Key) (wraps : WrapKeys) (before : Option ℕ) (events : List Event) (reply : KeyReply) (after : Option ℕ)
     → (TellsKeyInfo grip key >>= λ line. Returns (exchange.key_reply wraps (line ++ ok))) before events (Ok reply) after → EndsInOk reply.text
-info_ok_of grip key wraps (goes_on (goes_on {value = cached} peeks line) returns) = info_told line
+info_ok_of grip key wraps _ _ _ _ (goes_on (goes_on {value = cached} peeks line) returns) = info_told line
   where
     info_told : {before after : Option ℕ} {events : List Event} {line : List ℕ} → Returns (info_line grip cached key.is_clear) before events (Ok line) after → EndsInOk (line ++ ok)
     info_told returns = ends_in_ok (status_aside (info_status grip cached key.is_clear))
 
-tells_ok_of : (bytes : List ℕ) (make : List ℕ → WrapKeys) {before after : Option ℕ} {events : List Event} {reply : KeyReply}
+tells_ok_of : (bytes : List ℕ) (make : List ℕ → WrapKeys) (before : Option ℕ) (events : List Event) (reply : KeyReply) (after : Option ℕ)
     → (Tells bytes >>= λ text. Returns (exchange.key_reply (make text) text)) before events (Ok reply) after → EndsInOk reply.text
-tells_ok_of bytes make (goes_on (tells answers) returns) = reply_ends_in_ok (reply_keys answers)
+tells_ok_of bytes make _ _ _ _ (goes_on (tells answers) returns) = reply_ends_in_ok (reply_keys answers)
 
 module _ (rules : Rules) (options : OptionValues) (wraps : WrapKeys) where
   have_key_ok : (grips : List Grip) → ReplyOk (HaveKeyReplies rules options wraps grips)
@@ -250,7 +251,7 @@ module _ (rules : Rules) (options : OptionValues) (wraps : WrapKeys) where
 
   key_info_ok : (grip : Grip) → ReplyOk (KeyInfoReplies rules options wraps grip)
   unfolding KeyInfoReplies
-  key_info_ok grip = ok_then (λ file. record { of = info_ok_of grip file.key wraps })
+  key_info_ok grip = ok_then (λ file. values_so (info_ok_of grip file.key wraps))
 
   list_keys_ok : ReplyOk (ListKeysReplies rules options wraps)
   unfolding ListKeysReplies
@@ -258,7 +259,7 @@ module _ (rules : Rules) (options : OptionValues) (wraps : WrapKeys) where
 
   key_wrap_ok : (way : Direction) → ReplyOk (KeyWrapReplies rules options wraps way)
   unfolding KeyWrapReplies
-  key_wrap_ok way = ok_then (λ key. record { of = tells_ok_of key _ })
+  key_wrap_ok way = ok_then (λ key. values_so (tells_ok_of key _))
 
   import_key_ok : (force : Bool) (id : Option (List ℕ)) → ReplyOk (ImportKeyReplies rules options wraps force id)
   unfolding ImportKeyReplies
@@ -266,7 +267,7 @@ module _ (rules : Rules) (options : OptionValues) (wraps : WrapKeys) where
 
   export_key_ok : (grip : Grip) (id : Option (List ℕ)) → ReplyOk (ExportKeyReplies rules options wraps grip id)
   unfolding ExportKeyReplies
-  export_key_ok grip id = ok_then (λ wrap. ok_then (λ file. ok_then (λ opened. ok_then (λ closed. ok_then (λ wrapped. record { of = tells_ok_of wrapped _ })))))
+  export_key_ok grip id = ok_then (λ wrap. ok_then (λ file. ok_then (λ opened. ok_then (λ closed. ok_then (λ wrapped. values_so (tells_ok_of wrapped _))))))
 
   passwd_ok : (grip : Grip) (id new_id : Option (List ℕ)) → ReplyOk (PasswdReplies rules options wraps grip id new_id)
   unfolding PasswdReplies
@@ -295,16 +296,17 @@ module _ (rules : Rules) (options : OptionValues) (wraps : WrapKeys) where
 module _ (request : Request) (rules : Rules) (options : OptionValues) (wraps : WrapKeys) where
   module _ {asked : KeyRequest} (is : on_keys request ≡ Some asked) where
     pub key_course : {events : List Event} {after : WrapKeys} {went : KeyWent} → KeyExchange rules options wraps asked events after went → Course request events
-    key_course (part_exchanges.answered some held reply does closes_so) = ok_course request ((replies_ok rules options wraps asked).of does) ((replies request rules options wraps asked is).of does) closes_so
-    key_course (part_exchanges.refused some held why does closes_so) = err_course request ((replies request rules options wraps asked is).of does) closes_so
+    key_course (part_exchanges.answered some held reply does closes_so) =
+        ok_course request ((replies_ok rules options wraps asked).of None some (Ok reply) held does) ((replies request rules options wraps asked is).of _ _ _ _ does) closes_so
+    key_course (part_exchanges.refused some held why does closes_so) = err_course request ((replies request rules options wraps asked is).of _ _ _ _ does) closes_so
 
     -- a client that is gone ends its session
     pub key_gone : {events : List Event} {after : WrapKeys} {went : KeyWent} {how : Gone} → KeyExchange rules options wraps asked events after went → IsSaid events (unheard.Gone how) → went ≡ key_went.Gone how
     key_gone (part_exchanges.answered some held reply does closes_so) says_so =
-        let ends = (replies request rules options wraps asked is).of does in
+        let ends = (replies request rules options wraps asked is).of _ _ _ _ does in
         absurd (cc (gone_only (ends_said request ends (said_before some _ (answer_heard (Some reply.text) closes_so) says_so))))
     key_gone {how} (part_exchanges.refused some held why does closes_so) says_so =
-        let ends = (replies request rules options wraps asked is).of does in
+        let ends = (replies request rules options wraps asked is).of _ _ _ _ does in
         let same : Err why ≡ Err (Client (unheard.Gone how)) = gone_only (ends_said request ends (said_before some _ (answer_heard (refusal_line why) closes_so) says_so)) in
         let refusal : why ≡ Client (unheard.Gone how) = cc same in
         ap (λ w. key_went_after (gone_by w)) refusal

@@ -23,11 +23,12 @@ use Rattle.sexp_keys.specs.Key.{Key}
 use Rattle.sexp_keys.specs.Lists.{grip_of}
 use Rattle.agent_commands.specs.Events.{EventWith}
 use Rattle.agent_commands.specs.declared.request.Request.{Request}
+use Rattle.key_commands.specs.Lines.{max_key_data}
 use Rattle.key_commands.specs.Exchanges.{KeyReply, HaveKeyReplies, KeyInfoReplies, ListKeysReplies, KeyWrapReplies, ImportKeyReplies, ExportKeyReplies, PasswdReplies, VerifyReplies, DeleteKeyReplies}
 use Rattle.key_commands.specs.Exchanges.{KeyReplies, wrap_key, StoresKey, FoundOrNew, RenewsPassphrase, RewritesFile, ChangesOpened}
 use Rattle.key_commands.specs.Files.{Rewrites}
 use Rattle.key_commands.specs.Files as files
-use Rattle.key_commands.specs.KeyParts.{Tells, tells, Protects, IsShort, HasOne as HasOneKey, TellsKeyInfo, ListsGrips, ReadsListed, WritesInfo, TellsListed, WritesInfos, max_key_data, AsksKeyData}
+use Rattle.key_commands.specs.KeyParts.{Tells, tells, Protects, IsShort, HasOne as HasOneKey, TellsKeyInfo, ListsGrips, ReadsListed, WritesInfo, TellsListed, WritesInfos, AsksKeyData}
 use Rattle.key_commands.specs.KeyParts.{Unwraps, ReceivesKey, NamesKey, IsFree, LooksOver, WrapsKey, Consents}
 use Rattle.key_commands.specs.KeyParts as parts
 use Rattle.assuan_server.specs.Written.{limit_line}

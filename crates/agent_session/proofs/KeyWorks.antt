@@ -27,7 +27,7 @@ use Rattle.key_commands.specs.KeyParts.{Consents, HasOne, TellsKeyInfo, WritesIn
 use Rattle.key_commands.specs.Lines.{grip_text, info_line}
 use Rattle.assuan_server.specs.Written.{limit_line}
 use Rattle.key_commands.specs.Parts.{Part}
-use Rattle.key_commands.specs.Passphrases.{AsksSecret, PromptsOld, PromptsNew, ClientOld, UncachedOld, OpensLocked, ClientNew, ask_nonce, ask_key, seat_for, put_key, way_of}
+use Rattle.key_commands.specs.Passphrases.{AsksSecret, PromptsOld, PromptsNew, ClientOld, UncachedOld, OpensLocked, ClientNew, ask_nonce, ask_key, seat_for, put_key}
 use Rattle.key_commands.specs.Passphrases as passphrases
 use Rattle.agent_session.proofs.PromptWorks.{pin_works, pin_comes, agrees_to}
 use Rattle.agent_session.proofs.Works as work
@@ -37,7 +37,7 @@ use Rattle.agent_session.proofs.Works.{WorksTo, works, ok_works, err_works, behi
 pub record FitsKeys (Fits : Event → Type 0) : Type 0 where
   pub memory : Fits out_of_memory
   pub cut : (text : List ℕ) → Fits (Cut text)
-  pub limits : (most : ℕ) → Fits (Sent (limit_line most))
+  pub limits : Fits (Sent (limit_line MAX_SECRET_LEN))
   pub clients : (word : List ℕ) (inquired : _) → Fits (Inquiry word [] MAX_SECRET_LEN inquired)
   pub notes : (pid : ℕ) (inquired : _) → Fits (note pid inquired)
   pub calls : (event : PromptEvent) → Fits (Further (Prompt event))
@@ -57,7 +57,7 @@ module _ {Fits : Event → Type 0} (fits : FitsKeys Fits) where
   so keeps = keeps_works Fits keeps
 
   asks_client : (word : List ℕ) → Here (AsksSecret word)
-  asks_client word = work.asks_client Fits (fits.clients word) fits.cut (limit_line MAX_SECRET_LEN) (fits.limits MAX_SECRET_LEN)
+  asks_client word = work.asks_client Fits (fits.clients word) fits.cut (limit_line MAX_SECRET_LEN) fits.limits
 
   pub looks_nonce : (id : Option (List ℕ)) → Here (passphrases.LooksForNonce id)
   looks_nonce id = work.looks_for_nonce Fits (λ named. turns_of Fits refl (fits.nonces named)) id
@@ -65,13 +65,13 @@ module _ {Fits : Event → Type 0} (fits : FitsKeys Fits) where
   -- ---- prompts
 
   module _ (rules : Rules) (options : OptionValues) (grip : Grip) where
-    prompts_old_of : {locked : LockedKey} {before after : Option ℕ} {events : List Event} {result : Result _ Refusal} → PromptsOld rules options grip locked before events result after → WorksTo Fits events result
-    prompts_old_of (passphrases.opens_by spec is prompt to) = pin_works Fits fits.calls fits.notes prompt.asks refl prompt.in_session
-    prompts_old_of (passphrases.refused {answer} spec is prompt refusal) = pin_works Fits fits.calls fits.notes prompt.asks (pin_comes answer refusal) prompt.in_session
+    prompts_old_of : {locked : LockedKey} (before : Option ℕ) (events : List Event) (result : Result _ Refusal) (after : Option ℕ) → PromptsOld rules options grip locked before events result after → WorksTo Fits events result
+    prompts_old_of _ _ _ _ (passphrases.opens_by spec is prompt to) = pin_works Fits fits.calls fits.notes prompt.asks refl prompt.in_session
+    prompts_old_of _ _ _ _ (passphrases.refused {answer} spec is prompt refusal) = pin_works Fits fits.calls fits.notes prompt.asks (pin_comes answer refusal) prompt.in_session
 
-    prompts_new_of : {before after : Option ℕ} {events : List Event} {result : Result (List ℕ) Refusal} → PromptsNew rules options grip before events result after → WorksTo Fits events result
-    prompts_new_of (passphrases.given spec is prompt) = pin_works Fits fits.calls fits.notes prompt.asks refl prompt.in_session
-    prompts_new_of (passphrases.refused {answer} spec is prompt refusal) = pin_works Fits fits.calls fits.notes prompt.asks (pin_comes answer refusal) prompt.in_session
+    prompts_new_of : (before : Option ℕ) (events : List Event) (result : Result (List ℕ) Refusal) (after : Option ℕ) → PromptsNew rules options grip before events result after → WorksTo Fits events result
+    prompts_new_of _ _ _ _ (passphrases.given spec is prompt) = pin_works Fits fits.calls fits.notes prompt.asks refl prompt.in_session
+    prompts_new_of _ _ _ _ (passphrases.refused {answer} spec is prompt refusal) = pin_works Fits fits.calls fits.notes prompt.asks (pin_comes answer refusal) prompt.in_session
 
     -- ---- passphrases
 
@@ -132,14 +132,14 @@ module _ {Fits : Event → Type 0} (fits : FitsKeys Fits) where
   writes_info_of : (grip : Grip) (key : Option Key) (before : Option ℕ) (events : List Event) (result : Result (Unit {0}) Refusal) (after : Option ℕ) → WritesInfo grip key before events result after → WorksTo Fits events result
   writes_info_of grip None before events result after returns = works Fits tt
   writes_info_of grip (Some key) before events result after (goes_on {first} tells_so writes_so) =
-      behind_work Fits first (ok_works Fits ((tells_info grip key).of tells_so)) ((so (work.writes Fits fits.cut (info_fits grip key tells_so))).of writes_so)
-  writes_info_of grip (Some key) before events result after (stops tells_so) = err_works Fits ((tells_info grip key).of tells_so)
+      behind_work Fits first (ok_works Fits ((tells_info grip key).of _ _ _ _ tells_so)) ((so (work.writes Fits fits.cut (info_fits grip key tells_so))).of _ _ _ _ writes_so)
+  writes_info_of grip (Some key) before events result after (stops tells_so) = err_works Fits ((tells_info grip key).of _ _ _ _ tells_so)
 
   module _ (reads : (grip : Grip) (answer : KeyRead) → Fits (read grip answer)) where
     pub writes_infos : (grips : List Grip) → Here (WritesInfos grips)
     writes_infos [] = returned Fits tt
     writes_infos (grip ∷ more) =
-        bind Fits (bind Fits (so (work.reads_listed Fits fits.memory (reads grip))) (λ key. record { of = λ {before} {after} {events} {result} does. writes_info_of grip key before events result after does }))
+        bind Fits (bind Fits (so (work.reads_listed Fits fits.memory (reads grip))) (λ key. record { of = writes_info_of grip key }))
         (λ told. writes_infos more)
 
     pub has_one : (grips : List Grip) → Here (HasOne grips)

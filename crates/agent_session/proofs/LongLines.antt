@@ -1,10 +1,11 @@
 -- A session ends where a line of its client's was too long, and its client is told so exactly where it ends by that.
 use Rattle.std.specs.List.{AllByRecursion}
 use Rattle.std.proofs.Common.{◌≡◌, ◌∙◌, ◌++◌, ◌⊎◌, ℕ, List, [], ◌∷◌, Option, None, Some, codes, arith, refl, sym, ap, subst, inl, inr}
+use Rattle.agent_ask.specs.Answering.{whole, cut}
 use Rattle.agent_ask.specs.SessionEvents.{Received, Sent, Cut, CutAtLast}
 use Rattle.agent_commands.specs.Requests.{request_of}
 use Rattle.agent_commands.specs.Endings.{end_of}
-use Rattle.agent_commands.specs.Talks.{WholeOrCut, whole, cut, Talk, Session}
+use Rattle.agent_commands.specs.Talks.{Talk, Session}
 use Rattle.agent_commands.specs.Talks as talks
 use Rattle.agent_commands.specs.declared.request.Request.{Request}
 use Rattle.agent_commands.specs.declared.request.Request.TheVariants.{Key}
@@ -15,8 +16,6 @@ use Rattle.agent_commands.specs.declared.went.Went.TheVariants.{On, End}
 use Rattle.agent_origin.specs.DoorSessions.{AllowedExchange, DoorExchange}
 use Rattle.agent_origin.specs.DoorSessions as doors
 use Rattle.agent_origin.specs.TrustExchanges.{TrustExchange}
-use Rattle.agent_ask.specs.PartExchanges as part_exchanges
-use Rattle.agent_origin.specs.TrustExchanges as trusts
 use Rattle.agent_origin.specs.TrustNames.{trust_command_named}
 use Rattle.agent_origin.specs.SessionExchanges.{RequestExchange, cache, keys, went_after_key}
 use Rattle.agent_origin.specs.declared.door.Door.{Door}
@@ -35,10 +34,9 @@ use Rattle.session_client.specs.declared.unheard.Gone.TheVariants as gone
 use Rattle.session_client.specs.declared.unheard.Unheard.TheVariants as unheard
 use Rattle.session_options.specs.declared.rules.Rules.{Rules}
 use Rattle.agent_session.specs.Causes.{Has, here, later, IsSaid, said}
-use Rattle.agent_session.specs.Completeness.{AnswersNothing, AnswersAtLast, IsAnsweredBy, HasError, Exchanges, CausedInSession}
+use Rattle.agent_session.specs.Completeness.{AnswersNothing, AnswersAtLast, IsAnsweredBy, HasError, Exchanges, CausedInSession, CausedAtDoor}
 use Rattle.agent_session.specs.Completeness as answers
 use Rattle.agent_session.specs.DoorCauses.{IsCausedBy}
-use Rattle.agent_session.specs.DoorCompleteness.{CausedAtDoor}
 use Rattle.agent_session.specs.Exactly.{WasTooLong, at_read, at_inquiry, EndsTooLong}
 use Rattle.agent_session.proofs.CacheCourses.{cache_gone}
 use Rattle.agent_session.proofs.Courses.{heard_so}

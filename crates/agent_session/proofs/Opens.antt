@@ -1,8 +1,9 @@
 -- In a request a prompt is opened before the prompter is called, and once.
 use Rattle.std.specs.List.{AllByRecursion}
+use Rattle.std.specs.Prelude.{⊤}
 use Rattle.std.proofs.Common.{◌≡◌, ℕ, Bool, true, false, List, [], ◌∷◌, ◌++◌, Option, Some, None, Result, Ok, Err, refl, subst, inl, inr, append-nil}
 use Rattle.agent_ask.specs.Further.{FurtherEvent, Keys, Dice, NoMemory, Prompt, Trust}
-use Rattle.agent_ask.specs.SessionEvents.{Received, Sent, Cut, Inquiry, CacheTurn, Further}
+use Rattle.agent_ask.specs.SessionEvents.{Received, Sent, Cut, Inquiry, CacheTurn, Further, said_last}
 use Rattle.agent_ports.specs.declared.grip.Grip.{Grip}
 use Rattle.session_client.specs.declared.code.Code.TheVariants as code
 use Rattle.secret_file.specs.Opens.{LockedKey}
@@ -12,33 +13,34 @@ use Rattle.session_options.specs.declared.options.PinMode.TheVariants as mode
 use Rattle.session_options.specs.declared.rules.Rules.{Rules}
 use Rattle.sexp_keys.specs.Key.{Key}
 use Rattle.agent_commands.specs.Events.{EventWith}
+use Rattle.key_commands.specs.Events.{IsUncalled}
 use Rattle.key_commands.specs.Exchanges.{KeyReply, KeyExchange, HaveKeyReplies, KeyInfoReplies, ListKeysReplies, KeyWrapReplies, ImportKeyReplies, ExportKeyReplies, PasswdReplies, VerifyReplies}
-use Rattle.key_commands.specs.Exchanges.{DeleteKeyReplies, KeyReplies, wrap_key, FoundOrNew, RenewsPassphrase, ChangesOpened}
+use Rattle.key_commands.specs.Exchanges.{DeleteKeyReplies, KeyReplies, wrap_key, RenewsPassphrase, ChangesOpened}
 use Rattle.agent_ask.specs.PartExchanges as part_exchanges
 use Rattle.key_commands.specs.Exchanges as exchange
 use Rattle.key_commands.specs.KeyParts.{IsShort, Consents}
 use Rattle.key_commands.specs.KeyParts as parts
 use Rattle.assuan_server.specs.Written.{ok}
-use Rattle.key_commands.specs.Parts.{Part, refusal_events}
-use Rattle.agent_ask.specs.Parts.{◌>>=◌, Follows, goes_on, stops, Returns, or_else}
+use Rattle.assuan_server.specs.Written.{refusal_line}
+use Rattle.key_commands.specs.Parts.{Part}
+use Rattle.agent_ask.specs.Parts.{◌>>=◌, goes_on, stops, Returns, or_else}
+use Rattle.agent_ask.proofs.Within.{Within, Does, does_join, weaker, bind, or_otherwise}
 use Rattle.agent_ask.specs.TurnParts.{Closes}
 use Rattle.agent_ask.specs.Parts as chain
 use Rattle.agent_ask.specs.TurnParts as taken
-use Rattle.key_commands.specs.Passphrases.{PromptsOld, PromptsNew, UncachedOld, OpensLocked, OldPassphrase, NewPassphrase, LooksForNonce, TakesSeat}
+use Rattle.key_commands.specs.Passphrases.{PromptsOld, PromptsNew, UncachedOld, OpensLocked, OldPassphrase, LooksForNonce, TakesSeat}
 use Rattle.key_commands.specs.Passphrases as passphrases
 use Rattle.session_client.specs.declared.refusal.Refusal.{Refusal}
-use Rattle.session_client.specs.declared.refusal.Refusal.TheVariants.{Agent, Pinentry, Client}
+use Rattle.session_client.specs.declared.refusal.Refusal.TheVariants.{Agent}
 use Rattle.key_commands.specs.declared.request.Direction.{Direction}
 use Rattle.key_commands.specs.declared.request.KeyRequest.{KeyRequest}
 use Rattle.key_commands.specs.declared.request.KeyRequest.TheVariants as on
 use Rattle.key_commands.specs.declared.went.KeyWent.{KeyWent}
 use Rattle.key_commands.specs.declared.wrap_keys.WrapKeys.{WrapKeys}
-use Rattle.key_commands.proofs.EachEvent.{each_append, IsStill, EachSo, each_bind, each_returned, each_refused, each_needed, each_otherwise, each_wanted, each_looks, each_seats, each_changes, looks_nonce}
-use Rattle.session_client.specs.declared.unheard.Gone.TheVariants as gone
-use Rattle.session_client.specs.declared.unheard.Unheard.TheVariants as unheard
-use Rattle.agent_session.specs.Refusals.{IsUncalled, IsUnopening, OpensFirst}
+use Rattle.key_commands.proofs.EachEvent.{each_append, IsStill, still_uncalled, agrees_to, each_answer, EachSo, each_bind, each_returned, each_refused, each_needed, each_otherwise, each_wanted, each_looks, each_seats, each_changes, looks_nonce}
+use Rattle.agent_session.specs.Refusals.{IsUnopening, OpensFirst}
 use Rattle.key_commands.proofs.EachEvent.{looks_over, takes_seat, each_closes, finds, draws, reads_file, lists, told, is_short, names_key, wraps_key, receives_key, is_free, has_one, locks}
-use Rattle.key_commands.proofs.EachEvent.{tries_found, removes, tells_info, writes_infos, client_old, rewrites_file, stores_key, client_new, prompts_old, prompts_new, agrees}
+use Rattle.key_commands.proofs.EachEvent.{tries_found, removes, tells_info, writes_infos, client_old, rewrites_file, stores_key, client_new, prompts_old, prompts_new}
 
 abbrev pub Uncalled : List (EventWith FurtherEvent) → Type 0
 Uncalled events = AllByRecursion IsUncalled events
@@ -51,18 +53,6 @@ UncalledSo part = EachSo IsUncalled part
 
 abbrev pub UnopeningSo : {A : Type 0} → Part A → Type 0
 UnopeningSo part = EachSo IsUnopening part
-
-still_uncalled : (event : EventWith FurtherEvent) → IsStill event → IsUncalled event
-still_uncalled (Sent text) still = tt
-still_uncalled (Cut text) still = tt
-still_uncalled (Inquiry word params limit inquired) still = tt
-still_uncalled (Further (Keys call)) still = tt
-still_uncalled (Further (Dice draw)) still = tt
-still_uncalled (Further (Trust call)) still = absurd still
-still_uncalled (Further NoMemory) still = tt
-still_uncalled (Further (Prompt event)) still = absurd still
-still_uncalled (CacheTurn taken) still = tt
-still_uncalled (Received took) still = tt
 
 pub still_unopening : (event : EventWith FurtherEvent) → IsStill event → IsUnopening event
 still_unopening (Sent text) still = tt
@@ -96,57 +86,51 @@ uncalled_opens events each = subst OpensFirst (append-nil events) (uncalled_firs
 -- ---- parts
 
 -- a part, by which the prompter is called only where it leaves a ticket out
-record PromptsSo {A : Type 0} (part : Part A) : Type 0 where
-  opens : (before : Option ℕ) (events : List (EventWith FurtherEvent)) (result : Result A Refusal) (after : Option ℕ) → part before events result after → OpensFirst events
-  seated : (before : Option ℕ) (events : List (EventWith FurtherEvent)) (result : Result A Refusal) (after : Option ℕ) → part before events result after → after ≡ None → Uncalled events
+abbrev PromptLaw : {A : Type 0} → Part A
+PromptLaw before events result after = OpensFirst events × (after ≡ None → Uncalled events)
+
+abbrev PromptsSo : {A : Type 0} → Part A → Type 0
+PromptsSo part = Within part PromptLaw
 
 -- one from its first event on, whatever is behind
-record OpensSo {A : Type 0} (part : Part A) : Type 0 where
-  of : (before : Option ℕ) (events : List (EventWith FurtherEvent)) (result : Result A Refusal) (after : Option ℕ) → part before events result after → OpensFirst events
+abbrev pub OpensSo : {A : Type 0} → Part A → Type 0
+OpensSo part = Within part (Does OpensFirst)
 
 uncalled_prompts : {A : Type 0} {part : Part A} → UncalledSo part → PromptsSo part
-uncalled_prompts each = record {
-  opens = λ before events result after does. uncalled_opens events (each.of before events result after does);
-  seated = λ before events result after does none. each.of before events result after does;
-}
+uncalled_prompts = weaker (record { of = λ before events result after each. (uncalled_opens events each, λ none. each) })
 
 prompts_opens : {A : Type 0} {part : Part A} → PromptsSo part → OpensSo part
-prompts_opens prompts = record { of = prompts.opens }
+prompts_opens = weaker (record { of = λ before events result after prompts. prompts.0 })
+
+pub calls_nobody : {A : Type 0} {part : Part A} → UncalledSo part → OpensSo part
+calls_nobody = weaker (record { of = λ before events result after each. uncalled_opens events each })
 
 unopening_part_opens : {A : Type 0} {part : Part A} → UnopeningSo part → OpensSo part
-unopening_part_opens each = record { of = λ before events result after does. unopening_opens events (each.of before events result after does) }
+unopening_part_opens = weaker (record { of = λ before events result after each. unopening_opens events each })
 
-module _ {A B : Type 0} {part : Part A} {next : A → Part B} (first : UncalledSo part) where
-  module _ (then : (value : A) → OpensSo (next value)) where
-    before_opens_of : (before : Option ℕ) (events : List (EventWith FurtherEvent)) (result : Result B Refusal) (after : Option ℕ) → Follows part next before events result after → OpensFirst events
-    before_opens_of before events result after (goes_on {first = some} {events = more} {value} {mid} does next_does) =
-        uncalled_first some more (first.of before some (Ok value) mid does) ((then value).of mid more result after next_does)
-    before_opens_of before events result after (stops {refusal = why} does) = uncalled_opens events (first.of before events (Err why) after does)
+-- behind one, which always holds a ticket
+seated_prompts : {A : Type 0} {part : Part A} → UnopeningSo part
+    → ((before : Option ℕ) (events : List (EventWith FurtherEvent)) (result : Result A Refusal) (after : Option ℕ) → part before events result after → after ≡ None → ⊥) → PromptsSo part
+seated_prompts each holds = record {
+  of = λ before events result after does. (unopening_opens events (each.of before events result after does), λ none. absurd (holds before events result after does none));
+}
 
-    before_opens : OpensSo (part >>= next)
-    before_opens = record { of = before_opens_of }
+module _ {A B : Type 0} {part : Part A} {next : A → Part B} where
+  before_opens : UncalledSo part → ((value : A) → OpensSo (next value)) → OpensSo (part >>= next)
+  before_opens = bind (does_join uncalled_first uncalled_opens)
 
-  module _ (then : (value : A) → PromptsSo (next value)) where
-    before_seated_of : (before : Option ℕ) (events : List (EventWith FurtherEvent)) (result : Result B Refusal) (after : Option ℕ) → Follows part next before events result after → after ≡ None → Uncalled events
-    before_seated_of before events result after (goes_on {first = some} {events = more} {value} {mid} does next_does) none =
-        each_append IsUncalled some more (first.of before some (Ok value) mid does) ((then value).seated mid more result after next_does none)
-    before_seated_of before events result after (stops {refusal = why} does) none = first.of before events (Err why) after does
+  before_prompts : UncalledSo part → ((value : A) → PromptsSo (next value)) → PromptsSo (part >>= next)
+  before_prompts = bind (record {
+    then = λ some later each prompts. (uncalled_first some later each prompts.0, λ none. each_append IsUncalled some later each (prompts.1 none));
+    alone = λ {before} {after} {events} each. (uncalled_opens events each, λ none. each);
+  })
 
-    before_prompts : PromptsSo (part >>= next)
-    before_prompts = record { opens = (before_opens (λ value. prompts_opens (then value))).of; seated = before_seated_of }
-
-module _ {A B : Type 0} {part : Part A} {next : A → Part B} (first : OpensSo part) (then : (value : A) → UnopeningSo (next value)) where
-  behind_opens_of : (before : Option ℕ) (events : List (EventWith FurtherEvent)) (result : Result B Refusal) (after : Option ℕ) → Follows part next before events result after → OpensFirst events
-  behind_opens_of before events result after (goes_on {first = some} {events = more} {value} {mid} does next_does) =
-      then_unopening some more (first.of before some (Ok value) mid does) ((then value).of mid more result after next_does)
-  behind_opens_of before events result after (stops {refusal = why} does) = first.of before events (Err why) after does
-
-  behind_opens : OpensSo (part >>= next)
-  behind_opens = record { of = behind_opens_of }
+  -- nothing behind it opens another
+  pub behind_opens : OpensSo part → ((value : A) → UnopeningSo (next value)) → OpensSo (part >>= next)
+  behind_opens = bind (does_join then_unopening (λ some opens. opens))
 
 otherwise_prompts : {A : Type 0} (value : Option A) {other : Part A} → PromptsSo other → PromptsSo (or_else value other)
-otherwise_prompts None other = other
-otherwise_prompts (Some value) other = uncalled_prompts (each_returned IsUncalled value)
+otherwise_prompts = or_otherwise (record { of = λ held result. (tt, λ none. tt) })
 
 -- ---- prompts
 
@@ -156,20 +140,14 @@ module _ (rules : Rules) (options : OptionValues) (grip : Grip) where
   old_seated locked before events result after (passphrases.refused spec is prompt refusal) none = absurd (cc none)
 
   old_prompts : (locked : LockedKey) → PromptsSo (PromptsOld rules options grip locked)
-  old_prompts locked = record {
-    opens = (unopening_part_opens (prompts_old IsUnopening still_unopening (λ event. tt) rules options grip locked)).of;
-    seated = λ before events result after does none. absurd (old_seated locked before events result after does none);
-  }
+  old_prompts locked = seated_prompts (prompts_old IsUnopening still_unopening (λ event. tt) rules options grip locked) (old_seated locked)
 
   new_seated : (before : Option ℕ) (events : List (EventWith FurtherEvent)) (result : Result (List ℕ) Refusal) (after : Option ℕ) → PromptsNew rules options grip before events result after → after ≡ None → ⊥
   new_seated before events result after (passphrases.given spec is prompt) none = absurd (cc none)
   new_seated before events result after (passphrases.refused spec is prompt refusal) none = absurd (cc none)
 
   new_prompts : PromptsSo (PromptsNew rules options grip)
-  new_prompts = record {
-    opens = (unopening_part_opens (prompts_new IsUnopening still_unopening (λ event. tt) rules options grip)).of;
-    seated = λ before events result after does none. absurd (new_seated before events result after does none);
-  }
+  new_prompts = seated_prompts (prompts_new IsUnopening still_unopening (λ event. tt) rules options grip) new_seated
 
   -- ---- passphrases
 
@@ -200,76 +178,73 @@ module _ (rules : Rules) (options : OptionValues) (grip : Grip) where
   new_by_prompts mode.Loopback = uncalled_prompts (client_new IsUncalled still_uncalled)
 
 agrees_opens : (rules : Rules) (options : OptionValues) (grip : Grip) (way : PinMode) (force : Bool) → OpensSo (Consents rules (record options { mode = way }) force grip)
-agrees_opens rules options grip way true = prompts_opens (uncalled_prompts (each_returned IsUncalled tt))
+agrees_opens rules options grip way true = calls_nobody (each_returned IsUncalled tt)
 agrees_opens rules options grip mode.Ask false =
-    before_opens (each_seats IsUncalled (λ turn. tt)) (λ seated_so. unopening_part_opens (agrees IsUnopening still_unopening (λ event. tt) rules (record options { mode = mode.Ask }) grip))
-agrees_opens rules options grip mode.Cancel false = prompts_opens (uncalled_prompts (each_refused IsUncalled (Agent code.Cancelled)))
-agrees_opens rules options grip mode.Error false = prompts_opens (uncalled_prompts (each_refused IsUncalled (Agent code.NoPinentry)))
-agrees_opens rules options grip mode.Loopback false = prompts_opens (uncalled_prompts (each_refused IsUncalled (Agent code.NoPinentry)))
+    before_opens (each_seats IsUncalled (λ turn. tt)) (λ seated_so. unopening_part_opens (agrees_to IsUnopening still_unopening (λ event. tt) rules (record options { mode = mode.Ask }) _))
+agrees_opens rules options grip mode.Cancel false = calls_nobody (each_refused IsUncalled (Agent code.Cancelled))
+agrees_opens rules options grip mode.Error false = calls_nobody (each_refused IsUncalled (Agent code.NoPinentry))
+agrees_opens rules options grip mode.Loopback false = calls_nobody (each_refused IsUncalled (Agent code.NoPinentry))
+
+-- what follows the parts of a request
+pub answer_unopening : {held : Option ℕ} {back : List (EventWith FurtherEvent)} (line : Option (List ℕ)) → Closes None held back (Ok tt) None → Unopening (back ++ said_last line)
+answer_unopening = each_answer IsUnopening (λ number turn. refl) (λ text. tt)
 
 -- ---- a request that has a ticket opens no other prompt
 
-record Seated {A : Type 0} (part : Part A) : Type 0 where
-  each : (number : ℕ) (events : List (EventWith FurtherEvent)) (result : Result A Refusal) (after : Option ℕ) → part (Some number) events result after → Unopening events
-  stays : (number : ℕ) (events : List (EventWith FurtherEvent)) (result : Result A Refusal) (after : Option ℕ) → part (Some number) events result after → after ≡ Some number
+abbrev IsHeld : Option ℕ → Type 0
+IsHeld None = ⊥
+IsHeld (Some number) = ⊤
 
-module _ {A B : Type 0} {part : Part A} {next : A → Part B} (first : Seated part) (then : (value : A) (number : ℕ) (events : List (EventWith FurtherEvent)) (result : Result B Refusal) (after : Option ℕ)
-    → next value (Some number) events result after → Unopening events) where
-  seated_then : (number : ℕ) (events : List (EventWith FurtherEvent)) (result : Result B Refusal) (after : Option ℕ) → Follows part next (Some number) events result after → Unopening events
-  seated_then number events result after (goes_on {first = some} {events = more} {value} {mid} does next_does) =
-      each_append IsUnopening some more (first.each number some (Ok value) mid does)
-      ((then value) number more result after (subst (λ m. next value m more result after) (first.stays number some (Ok value) mid does) next_does))
-  seated_then number events result after (stops {refusal = why} does) = first.each number events (Err why) after does
+-- a part of such a request, and one that keeps the ticket too
+abbrev SeatedLaw : {A : Type 0} → Part A
+SeatedLaw before events result after = IsHeld before → Unopening events
 
-short_stays : (key : Key) (number : ℕ) (events : List (EventWith FurtherEvent)) (result : Result (Unit {0}) Refusal) (after : Option ℕ) → IsShort key (Some number) events result after → after ≡ Some number
-short_stays key number events result after (parts.short few) = refl
-short_stays key number events result after (parts.long many) = refl
+abbrev StayLaw : {A : Type 0} → Part A
+StayLaw before events result after = IsHeld before → Unopening events × IsHeld after
 
-nonce_stays : (id : Option (List ℕ)) (number : ℕ) (events : List (EventWith FurtherEvent)) (result : Result (Option (List ℕ)) Refusal) (after : Option ℕ) → LooksForNonce id (Some number) events result after → after ≡ Some number
-nonce_stays None number events result after chain.returns = refl
-nonce_stays (Some id) number events result after taken.given = refl
-nonce_stays (Some id) number events result after taken.empty = refl
-nonce_stays (Some id) number events result after (taken.interrupted why) = refl
+abbrev SeatedSo : {A : Type 0} → Part A → Type 0
+SeatedSo part = Within part SeatedLaw
 
-seat_taken_stays : (grip : Grip) (number : ℕ) (events : List (EventWith FurtherEvent)) (result : Result (Unit {0}) Refusal) (after : Option ℕ) → TakesSeat grip (Some number) events result after → after ≡ Some number
-seat_taken_stays grip number events result after chain.returns = refl
+seated_so : {A : Type 0} {part : Part A} → UnopeningSo part → SeatedSo part
+seated_so = weaker (record { of = λ before events result after each held. each })
 
-seat_taken_each : (grip : Grip) (number : ℕ) (events : List (EventWith FurtherEvent)) (result : Result (Unit {0}) Refusal) (after : Option ℕ) → TakesSeat grip (Some number) events result after → Unopening events
-seat_taken_each grip number events result after chain.returns = tt
+module _ {A B : Type 0} {part : Part A} {next : A → Part B} where
+  stays_then : Within part StayLaw → ((value : A) → SeatedSo (next value)) → SeatedSo (part >>= next)
+  stays_then = bind (record { then = λ some later stays more held. let so = stays held in each_append IsUnopening some later so.0 (more so.1); alone = λ stays held. (stays held).0 })
+
+  seated_then : SeatedSo part → ((value : A) → UnopeningSo (next value)) → SeatedSo (part >>= next)
+  seated_then = bind (record { then = λ some later seated each held. each_append IsUnopening some later (seated held) each; alone = λ seated. seated })
+
+short_stays : (key : Key) (before : Option ℕ) (events : List (EventWith FurtherEvent)) (result : Result (Unit {0}) Refusal) (after : Option ℕ) → IsShort key before events result after → StayLaw before events result after
+short_stays key _ _ _ _ (parts.short few) held = (tt, held)
+short_stays key _ _ _ _ (parts.long many) held = (tt, held)
+
+nonce_stays : (id : Option (List ℕ)) (before : Option ℕ) (events : List (EventWith FurtherEvent)) (result : Result (Option (List ℕ)) Refusal) (after : Option ℕ) → LooksForNonce id before events result after
+    → StayLaw before events result after
+nonce_stays None _ _ _ _ chain.returns held = (tt, held)
+nonce_stays (Some id) _ _ _ _ taken.given held = ((refl, tt), held)
+nonce_stays (Some id) _ _ _ _ taken.empty held = ((refl, tt), held)
+nonce_stays (Some id) _ _ _ _ taken.opened held = absurd held
+nonce_stays (Some id) _ _ _ _ (taken.interrupted why) held = ((refl, tt), held)
+
+seat_stays : (grip : Grip) (before : Option ℕ) (events : List (EventWith FurtherEvent)) (result : Result (Unit {0}) Refusal) (after : Option ℕ) → TakesSeat grip before events result after → StayLaw before events result after
+seat_stays grip None events result after does held = absurd held
+seat_stays grip (Some number) _ _ _ chain.returns held = (tt, held)
 
 module _ (rules : Rules) (options : OptionValues) (grip : Grip) where
-  new_by_seated : (way : PinMode) (number : ℕ) (events : List (EventWith FurtherEvent)) (result : Result (List ℕ) Refusal) (after : Option ℕ) → passphrases.new_by rules options grip way (Some number) events result after
-      → Unopening events
-  new_by_seated mode.Ask number events result after does =
-      seated_then (record { each = seat_taken_each grip; stays = seat_taken_stays grip })
-      (λ seated_so number more came held. (prompts_new IsUnopening still_unopening (λ event. tt) rules options grip).of (Some number) more came held) number events result after does
-  new_by_seated mode.Cancel number events result after does = (each_refused IsUnopening (Agent code.Cancelled)).of (Some number) events result after does
-  new_by_seated mode.Error number events result after does = (each_refused IsUnopening (Agent code.NoPinentry)).of (Some number) events result after does
-  new_by_seated mode.Loopback number events result after does = (client_new IsUnopening still_unopening).of (Some number) events result after does
+  new_by_seated : (way : PinMode) → SeatedSo (passphrases.new_by rules options grip way)
+  new_by_seated mode.Ask = stays_then (record { of = seat_stays grip }) (λ seated. seated_so (prompts_new IsUnopening still_unopening (λ event. tt) rules options grip))
+  new_by_seated mode.Cancel = seated_so (each_refused IsUnopening (Agent code.Cancelled))
+  new_by_seated mode.Error = seated_so (each_refused IsUnopening (Agent code.NoPinentry))
+  new_by_seated mode.Loopback = seated_so (client_new IsUnopening still_unopening)
 
-  found_seated : (found : Option (List ℕ)) (number : ℕ) (events : List (EventWith FurtherEvent)) (result : Result (List ℕ) Refusal) (after : Option ℕ)
-      → or_else found (NewPassphrase rules options grip) (Some number) events result after → Unopening events
-  found_seated None number events result after does = new_by_seated options.mode number events result after does
-  found_seated (Some pass) number events result after does = (each_returned IsUnopening pass).of (Some number) events result after does
+  renews_seated : (id : Option (List ℕ)) → SeatedSo (RenewsPassphrase rules options grip id)
+  renews_seated id = stays_then (record { of = nonce_stays id }) (λ found. or_otherwise (record { of = λ held result seat. tt }) found (new_by_seated options.mode))
 
-  renews_seated : (id : Option (List ℕ)) (number : ℕ) (events : List (EventWith FurtherEvent)) (result : Result (List ℕ) Refusal) (after : Option ℕ) → RenewsPassphrase rules options grip id (Some number) events result after
-      → Unopening events
-  renews_seated id = seated_then
-      (record { each = λ number events result after does. (looks_nonce IsUnopening id (λ named turn. refl)).of (Some number) events result after does; stays = nonce_stays id })
-      (λ found. found_seated found)
-
-  changes_seated : (id : Option (List ℕ)) (file : List ℕ) (key : Key) (number : ℕ) (events : List (EventWith FurtherEvent)) (result : Result (Unit {0}) Refusal) (after : Option ℕ)
-      → ChangesOpened rules options grip id file key (Some number) events result after → Unopening events
-  changes_seated id file key = seated_then
-      (record { each = λ number events result after does. (is_short IsUnopening still_unopening key).of (Some number) events result after does; stays = short_stays key })
-      (λ short number events result after does. renewed number events result after does)
-    where
-      renewed : (number : ℕ) (events : List (EventWith FurtherEvent)) (result : Result (Unit {0}) Refusal) (after : Option ℕ)
-          → (RenewsPassphrase rules options grip id >>= λ pass. exchange.RewritesFile rules options grip file key pass) (Some number) events result after → Unopening events
-      renewed number events result after (goes_on {first = some} {events = more} {value = pass} {mid} does next_does) =
-          each_append IsUnopening some more (renews_seated id number some (Ok pass) mid does)
-          ((rewrites_file IsUnopening still_unopening (λ key_grip secret turn. refl) (λ ticket keep turn. refl) rules options grip file key pass).of mid more result after next_does)
-      renewed number events result after (stops {refusal = why} does) = renews_seated id number events (Err why) after does
+  changes_seated : (id : Option (List ℕ)) (file : List ℕ) (key : Key) → SeatedSo (ChangesOpened rules options grip id file key)
+  changes_seated id file key =
+      stays_then (record { of = short_stays key }) (λ short. seated_then (renews_seated id)
+      (λ pass. rewrites_file IsUnopening still_unopening (λ key_grip secret turn. refl) (λ ticket keep turn. refl) rules options grip file key pass))
 
   changes_opens : (id : Option (List ℕ)) (file : List ℕ) (key : Key) → OpensSo (ChangesOpened rules options grip id file key)
   changes_opens id file key =
@@ -277,44 +252,39 @@ module _ (rules : Rules) (options : OptionValues) (grip : Grip) where
       (prompts_opens (before_prompts (looks_nonce IsUncalled id (λ named turn. tt)) (λ found. otherwise_prompts found (new_by_prompts rules options grip options.mode))))
       (λ pass. rewrites_file IsUnopening still_unopening (λ key_grip secret turn. refl) (λ ticket keep turn. refl) rules options grip file key pass))
 
-  changed_seated : (wraps : WrapKeys) (id : Option (List ℕ)) (file : List ℕ) (key : Key) (number : ℕ) (events : List (EventWith FurtherEvent)) (result : Result KeyReply Refusal) (after : Option ℕ)
-      → (ChangesOpened rules options grip id file key >>= λ changed. Returns (exchange.key_reply wraps ok)) (Some number) events result after → Unopening events
-  changed_seated wraps id file key number events result after (goes_on {first = some} {events = more} {value} {mid} does chain.returns) =
-      each_append IsUnopening some more (changes_seated id file key number some (Ok value) mid does) tt
-  changed_seated wraps id file key number events result after (stops {refusal = why} does) = changes_seated id file key number events (Err why) after does
-
   -- both passphrases, under one ticket
   both_of : (wraps : WrapKeys) (old_id new_id : Option (List ℕ)) (file : List ℕ) (key : Key) (before : Option ℕ) (events : List (EventWith FurtherEvent)) (result : Result KeyReply Refusal) (after : Option ℕ)
       → (OldPassphrase rules options grip old_id key >>= λ opened. (ChangesOpened rules options grip new_id file opened.key >>= λ changed. Returns (exchange.key_reply wraps ok))) before events result after
       → OpensFirst events
   both_of wraps old_id new_id file key before events result after (goes_on {first = some} {events = more} {value = opened} {mid = None} does next_does) =
-      uncalled_first some more ((old_by_prompts rules options grip old_id key key.is_clear).seated before some (Ok opened) None does refl)
+      uncalled_first some more (((old_by_prompts rules options grip old_id key key.is_clear).of before some (Ok opened) None does).1 refl)
       ((behind_opens (changes_opens new_id file opened.key) (λ changed. each_returned IsUnopening _)).of None more result after next_does)
   both_of wraps old_id new_id file key before events result after (goes_on {first = some} {events = more} {value = opened} {mid = Some number} does next_does) =
-      then_unopening some more ((old_by_prompts rules options grip old_id key key.is_clear).opens before some (Ok opened) (Some number) does) (changed_seated wraps new_id file opened.key number more result after next_does)
-  both_of wraps old_id new_id file key before events result after (stops {refusal = why} does) = (old_by_prompts rules options grip old_id key key.is_clear).opens before events (Err why) after does
+      then_unopening some more ((old_by_prompts rules options grip old_id key key.is_clear).of before some (Ok opened) (Some number) does).0
+      ((seated_then (changes_seated new_id file opened.key) (λ changed. each_returned IsUnopening _)).of (Some number) more result after next_does tt)
+  both_of wraps old_id new_id file key before events result after (stops {refusal = why} does) = ((old_by_prompts rules options grip old_id key key.is_clear).of before events (Err why) after does).0
 
 -- ---- requests
 
 module _ (rules : Rules) (options : OptionValues) (wraps : WrapKeys) where
   have_key : (grips : List Grip) → OpensSo (HaveKeyReplies rules options wraps grips)
   unfolding HaveKeyReplies
-  have_key grips = prompts_opens (uncalled_prompts (each_bind IsUncalled (has_one IsUncalled still_uncalled grips) (λ one. each_returned IsUncalled _)))
+  have_key grips = calls_nobody (each_bind IsUncalled (has_one IsUncalled still_uncalled grips) (λ one. each_returned IsUncalled _))
 
   key_info : (grip : Grip) → OpensSo (KeyInfoReplies rules options wraps grip)
   unfolding KeyInfoReplies
-  key_info grip = prompts_opens (uncalled_prompts (each_bind IsUncalled (reads_file IsUncalled still_uncalled grip)
-      (λ file. each_bind IsUncalled (tells_info IsUncalled still_uncalled (λ key turn. tt) grip file.key) (λ line. each_returned IsUncalled _))))
+  key_info grip = calls_nobody (each_bind IsUncalled (reads_file IsUncalled still_uncalled grip)
+      (λ file. each_bind IsUncalled (tells_info IsUncalled still_uncalled (λ key turn. tt) grip file.key) (λ line. each_returned IsUncalled _)))
 
   list_keys : OpensSo (ListKeysReplies rules options wraps)
   unfolding ListKeysReplies
-  list_keys = prompts_opens (uncalled_prompts (each_bind IsUncalled (lists IsUncalled still_uncalled) (λ grips. each_bind IsUncalled (writes_infos IsUncalled still_uncalled (λ key turn. tt) grips) (λ written. each_returned IsUncalled _))))
+  list_keys = calls_nobody (each_bind IsUncalled (lists IsUncalled still_uncalled) (λ grips. each_bind IsUncalled (writes_infos IsUncalled still_uncalled (λ key turn. tt) grips) (λ written. each_returned IsUncalled _)))
 
   key_wrap : (way : Direction) → OpensSo (KeyWrapReplies rules options wraps way)
   unfolding KeyWrapReplies
   key_wrap way =
-      prompts_opens (uncalled_prompts (each_bind IsUncalled (each_otherwise IsUncalled (wrap_key way wraps) (draws IsUncalled still_uncalled 16))
-      (λ key. each_bind IsUncalled (told IsUncalled still_uncalled key) (λ text. each_returned IsUncalled _))))
+      calls_nobody (each_bind IsUncalled (each_otherwise IsUncalled (wrap_key way wraps) (draws IsUncalled still_uncalled 16))
+      (λ key. each_bind IsUncalled (told IsUncalled still_uncalled key) (λ text. each_returned IsUncalled _)))
 
   export_key : (grip : Grip) (id : Option (List ℕ)) → OpensSo (ExportKeyReplies rules options wraps grip id)
   unfolding ExportKeyReplies
@@ -358,24 +328,8 @@ module _ (rules : Rules) (options : OptionValues) (wraps : WrapKeys) where
   replies (on.Passwd grip old new true) = verify grip
   replies (on.Passwd grip old new false) = passwd grip old new
   replies (on.DeleteKey grip force) = delete_key force grip
-  replies (on.Bad why) = prompts_opens (uncalled_prompts (each_refused IsUncalled (Agent why)))
-
-  back_unopening : {held : Option ℕ} {back : List (EventWith FurtherEvent)} (last : List (EventWith FurtherEvent)) → Unopening last → Closes None held back (Ok tt) None → Unopening (back ++ last)
-  back_unopening last each taken.unheld = each
-  back_unopening last each (taken.closed turn) = (refl, each)
-
-  refusal_unopening : (why : Refusal) → Unopening (refusal_events why)
-  refusal_unopening (Agent why) = (tt, tt)
-  refusal_unopening (Pinentry why) = (tt, tt)
-  refusal_unopening (Client unheard.Cancelled) = (tt, tt)
-  refusal_unopening (Client unheard.TooMuch) = (tt, tt)
-  refusal_unopening (Client unheard.Unexpected) = (tt, tt)
-  refusal_unopening (Client (unheard.Gone gone.TooLong)) = (tt, tt)
-  refusal_unopening (Client (unheard.Gone gone.Ended)) = tt
-  refusal_unopening (Client (unheard.Gone gone.Spent)) = tt
-  refusal_unopening (Client (unheard.Gone gone.ReadFault)) = tt
-  refusal_unopening (Client (unheard.Gone gone.WriteFault)) = tt
+  replies (on.Bad why) = calls_nobody (each_refused IsUncalled (Agent why))
 
   pub key_opens : (asked : KeyRequest) {events : List (EventWith FurtherEvent)} {after : WrapKeys} {went : KeyWent} → KeyExchange rules options wraps asked events after went → OpensFirst events
-  key_opens asked (part_exchanges.answered events held reply does closes) = then_unopening events _ ((replies asked).of None events (Ok reply) held does) (back_unopening _ (tt, tt) closes)
-  key_opens asked (part_exchanges.refused events held why does closes) = then_unopening events _ ((replies asked).of None events (Err why) held does) (back_unopening _ (refusal_unopening why) closes)
+  key_opens asked (part_exchanges.answered events held reply does closes) = then_unopening events _ ((replies asked).of None events (Ok reply) held does) (answer_unopening (Some reply.text) closes)
+  key_opens asked (part_exchanges.refused events held why does closes) = then_unopening events _ ((replies asked).of None events (Err why) held does) (answer_unopening (refusal_line why) closes)

@@ -9,8 +9,9 @@ use Rattle.agent_ask.specs.ConsentParts as consent
 use Rattle.agent_ask.specs.Further.{FurtherEvent}
 use Rattle.agent_ask.specs.PartExchanges.{AnyExchange}
 use Rattle.agent_ask.specs.PartExchanges as exchange
-use Rattle.agent_ask.specs.Parts.{◌>>=◌, goes_on, stops, Returns, returns, Refuses, needed, or_else}
-use Rattle.agent_ask.specs.Parts as chain
+use Rattle.agent_ask.specs.Parts.{◌>>=◌, Returns, Refuses, needed, or_else}
+use Rattle.agent_ask.proofs.Within.{HoldsOf, Within, Joins, returned_so, refused_so}
+use Rattle.agent_ask.proofs.Within as within
 use Rattle.agent_ask.specs.SessionEvents.{Sent, cache_turn, said_last}
 use Rattle.agent_ask.specs.TurnParts.{Asks, Seats, Changes, Closes}
 use Rattle.agent_ask.specs.TurnParts as turning
@@ -58,16 +59,12 @@ use Rattle.agent_session.specs.OwnAnswers as answers
 use Rattle.agent_session.specs.OwnPassphrases.{by_command, WantsTicket, by_id, unkept, HasTicket, has_ticket, IsAccepted, any, HandsIn, StoresOwn}
 use Rattle.agent_session.specs.OwnPassphrases as whose
 use Rattle.agent_session.specs.Refusals.{preset, given}
-use Rattle.key_commands.specs.Lines.{of_limit}
+use Rattle.key_commands.specs.Lines.{of_passphrase}
 use Rattle.agent_session.proofs.OwnFacts.{ticket_more, accepted_more, sent_more}
 use Rattle.agent_session.proofs.OwnLines.{IsOpen, IsPlain, Open, Plain, each_first, each_second, shown_plain, refusal_plain, back_plain, open_are_own, said_last_own}
 use Rattle.agent_session.proofs.OwnKeys.{stand_last, key_own}
-use Rattle.agent_session.proofs.OwnParts.{IsQuiet, Fit, AreOwn, own_then, quiet_are_own, HoldsOf, whatever, Anything}
+use Rattle.agent_session.proofs.OwnParts.{IsQuiet, Fit, Fact, AreOwn, own_then, quiet_are_own, whatever, Anything}
 use Rattle.agent_session.proofs.Standing.{has_left, has_right}
-
--- what is so of what was done before and of the ticket that is held
-abbrev Fact : Type 1
-Fact = List (EventWith FurtherEvent) → Option ℕ → Type 0
 
 module _ (rules : Rules) where
   agrees_of : {options : OptionValues} {question : List ℕ} (before : Option ℕ) (events : List (EventWith FurtherEvent)) (result : Result (Unit {0}) Refusal) (after : Option ℕ)
@@ -89,39 +86,42 @@ module _ (rules : Rules) where
     Owns {A} Pre part Post = (prior : List (EventWith FurtherEvent)) (before : Option ℕ) (events : List (EventWith FurtherEvent)) (result : Result A Refusal) (after : Option ℕ) → part before events result after → Pre prior before
         → AreOwn request prior events × Open rules events × HoldsOf (λ value. Post value (prior ++ events) after) result
 
-    record OwnUntold {A : Type 0} (Pre : Fact) (part : CachePart A) (Post : A → Fact) : Type 0 where
-      of : Owns Pre part Post
+    record Owned {A : Type 0} (Pre : Fact) (Post : A → Fact) (before : Option ℕ) (events : List (EventWith FurtherEvent)) (result : Result A Refusal) (after : Option ℕ) : Type 0 where
+      so : (prior : List (EventWith FurtherEvent)) → Pre prior before → AreOwn request prior events × Open rules events × HoldsOf (λ value. Post value (prior ++ events) after) result
 
-    module _ {A B : Type 0} {Pre : Fact} {Mid : A → Fact} {Post : B → Fact} {part : CachePart A} {next : A → CachePart B} (first : OwnUntold Pre part Mid) (then : (value : A) → OwnUntold (Mid value) (next value) Post) where
-      bind_of : Owns Pre (part >>= next) Post
-      bind_of prior before events result after (goes_on {first = some} {events = more} {value} {mid} does next_does) pre =
-          let one = first.of prior before some (Ok value) mid does pre in
-          let two = (then value).of (prior ++ some) mid more result after next_does one.2 in
-          (own_then request prior some more one.0 two.0, each_append (IsOpen rules) some more one.1 two.1, subst (λ p. HoldsOf (λ value. Post value p after) result) (append_assoc prior some more) two.2)
-      bind_of prior before events result after (stops {refusal = why} does) pre = let one = first.of prior before events (Err why) after does pre in (one.0, one.1, tt)
+    abbrev OwnUntold : {A : Type 0} → Fact → CachePart A → (A → Fact) → Type 0
+    OwnUntold Pre part Post = Within part (Owned Pre Post)
 
-      bind : OwnUntold Pre (part >>= next) Post
-      bind = record { of = bind_of }
+    owned : {A : Type 0} {Pre : Fact} {Post : A → Fact} {part : CachePart A} → Owns Pre part Post → OwnUntold Pre part Post
+    owned owns = record { of = λ before events result after does. record { so = λ prior. owns prior before events result after does } }
 
-    module _ {A : Type 0} (Pre : Fact) (Post : A → Fact) where
-      returned_of : (value : A) → ((prior : List (EventWith FurtherEvent)) (held : Option ℕ) → Pre prior held → Post value prior held) → Owns Pre (Returns value) Post
-      returned_of value so prior before events result after returns pre = (tt, tt, subst (λ p. Post value p before) (sym (append-nil prior)) (so prior before pre))
+    owned_join : {A B : Type 0} {Pre : Fact} {Mid : A → Fact} {Post : B → Fact} → Joins (Owned Pre Mid) (λ value. Owned (Mid value) Post) (Owned Pre Post)
+    owned_join {Post} = record {
+      then = λ {before} {mid} {after} some later {value} {result} first more. record {
+        so = λ prior pre.
+            let one = first.so prior pre in
+            let two = more.so (prior ++ some) one.2 in
+            (own_then request prior some later one.0 two.0, each_append (IsOpen rules) some later one.1 two.1, subst (λ p. HoldsOf (λ value. Post value p after) result) (append_assoc prior some later) two.2);
+      };
+      alone = λ first. record { so = λ prior pre. let one = first.so prior pre in (one.0, one.1, tt) };
+    }
 
-      refused_of : (why : Refusal) → Owns Pre (Refuses {A = A} why) Post
-      refused_of why prior before events result after chain.refuses pre = (tt, tt, tt)
+    bind : {A B : Type 0} {Pre : Fact} {Mid : A → Fact} {Post : B → Fact} {part : CachePart A} {next : A → CachePart B} → OwnUntold Pre part Mid → ((value : A) → OwnUntold (Mid value) (next value) Post)
+        → OwnUntold Pre (part >>= next) Post
+    bind = within.bind owned_join
 
     module _ {A : Type 0} {Pre : Fact} {Post : A → Fact} where
       returned : (value : A) → ((prior : List (EventWith FurtherEvent)) (held : Option ℕ) → Pre prior held → Post value prior held) → OwnUntold Pre (Returns value) Post
-      returned value so = record { of = returned_of Pre Post value so }
+      returned value so = returned_so value (λ held. record { so = λ prior pre. (tt, tt, subst (λ p. Post value p held) (sym (append-nil prior)) (so prior held pre)) })
 
       refused : (why : Refusal) → OwnUntold Pre (Refuses {A = A} why) Post
-      refused why = record { of = refused_of Pre Post why }
+      refused why = refused_so why (λ held. record { so = λ prior pre. (tt, tt, tt) })
 
     plain_own : (prior events : List (EventWith FurtherEvent)) → Plain rules events → AreOwn request prior events × Open rules events
     plain_own prior events each = (quiet_are_own request prior events (each_first IsQuiet (IsOpen rules) events each), each_second IsQuiet (IsOpen rules) events each)
 
     plainly : {A : Type 0} {Pre : Fact} {part : CachePart A} → EachSo (IsPlain rules) part → OwnUntold Pre part (λ value. Anything)
-    plainly each = record { of = λ prior before events result after does pre. let so = plain_own prior events (each.of before events result after does) in (so.0, so.1, whatever result tt) }
+    plainly each = owned (λ prior before events result after does pre. let so = plain_own prior events (each.of before events result after does) in (so.0, so.1, whatever result tt))
 
     -- a turn that changes the cache
     module _ (Is After : List (EventWith FurtherEvent) → Type 0) (step : MarkStep) (own : (prior : List (EventWith FurtherEvent)) → Is prior → HandsIn step → StoresOwn request prior step)
@@ -131,7 +131,7 @@ module _ (rules : Rules) where
       changes_of prior before events result after (turning.interrupted why) pre = ((own prior pre, tt), (tt, tt), tt)
 
       changes : OwnUntold (λ prior held. Is prior) (Changes step) (λ changed prior held. After prior)
-      changes = record { of = changes_of }
+      changes = owned changes_of
 
     -- ---- the client
 
@@ -140,7 +140,7 @@ module _ (rules : Rules) where
 
     module _ (Pre : Fact) (Post : List ℕ → Fact) (gives : (pass : List ℕ) (prior : List (EventWith FurtherEvent)) (held : Option ℕ) → IsSaid pass prior held → Post pass prior held) where
       writes_of : Owns Pre (Writes (limit_line MAX_SECRET_LEN)) (λ wrote. Anything)
-      writes_of prior before events result after client.written pre = ((tt, tt), (notice (of_limit MAX_SECRET_LEN), tt), tt)
+      writes_of prior before events result after client.written pre = ((tt, tt), (notice of_passphrase, tt), tt)
       writes_of prior before events result after (client.cut unsent is) pre = ((tt, tt), (tt, tt), tt)
 
       inquires_of : Owns Anything (Inquires session_lines (codes "PASSPHRASE") MAX_SECRET_LEN) Post
@@ -148,7 +148,7 @@ module _ (rules : Rules) where
       inquires_of prior before events result after (client.not_given is) pre = ((tt, tt), (tt, tt), tt)
 
       asks_client : OwnUntold Pre AsksPassphrase Post
-      asks_client = bind (record { of = writes_of }) (λ wrote. record { of = inquires_of })
+      asks_client = bind (owned writes_of) (λ wrote. owned inquires_of)
 
     -- ---- the ticket
 
@@ -192,18 +192,14 @@ module _ (rules : Rules) where
 
       looks_for : (id : Option (List ℕ)) → fields.id ≡ id → OwnUntold Held (LooksFor id) Known
       looks_for None same = returned None (λ prior held pre. pre)
-      looks_for (Some id) same = record {
-        of = λ prior before events result after does pre.
-            let unopened : (ticket : ℕ) → before ≡ None → after ≡ Some ticket → WantsTicket request (ask id) = λ ticket none some. absurd (cc (none, some, does.keeps)) in
-            asks_of (ask id) (λ hands. elim hands [ ]) (λ prior grant has. cached same has) prior before events result after unopened does.asks pre;
-      }
+      looks_for (Some id) same = owned (λ prior before events result after does pre.
+          let unopened : (ticket : ℕ) → before ≡ None → after ≡ Some ticket → WantsTicket request (ask id) = λ ticket none some. absurd (cc (none, some, does.keeps)) in
+          asks_of (ask id) (λ hands. elim hands [ ]) (λ prior grant has. cached same has) prior before events result after unopened does.asks pre)
 
       wants_prompt : (id : Option (List ℕ)) → fields.id ≡ id → OwnUntold Held (WantsPrompt id) Known
-      wants_prompt None same = bind (record { of = seats_of }) (λ seated. returned None (λ prior held pre. pre))
-      wants_prompt (Some id) same = record {
-        of = λ prior before events result after does pre.
-            asks_of (ask_or_open id) (λ hands. elim hands [ ]) (λ prior grant has. unprompted same has) prior before events result after (λ ticket none some. by_id fields is_get same) does pre;
-      }
+      wants_prompt None same = bind (owned seats_of) (λ seated. returned None (λ prior held pre. pre))
+      wants_prompt (Some id) same = owned (λ prior before events result after does pre.
+          asks_of (ask_or_open id) (λ hands. elim hands [ ]) (λ prior grant has. unprompted same has) prior before events result after (λ ticket none some. by_id fields is_get same) does pre)
 
       found_or : (found : Option (List ℕ)) {other : CachePart (List ℕ)} → OwnUntold Held other IsFound → OwnUntold (Known found) (or_else found other) IsFound
       found_or None other = other
@@ -243,7 +239,7 @@ module _ (rules : Rules) where
         by_user : (texts : Texts) → OwnUntold Held (ByUser rules options texts fields.check fields.quality fields.repeat fields.id) IsFound
         by_user texts =
             bind (wants_prompt fields.id refl)
-            (λ found. found_or found (bind (record { of = prompts_of texts }) (λ pin. bind (record { of = closes_of pin }) (λ kept. returned pin (λ prior held so. typed so)))))
+            (λ found. found_or found (bind (owned (prompts_of texts)) (λ pin. bind (owned (closes_of pin)) (λ kept. returned pin (λ prior held so. typed so)))))
 
         wanted_by : (way : PinMode) (texts : Texts) → OwnUntold Held (as_wanted rules options fields way texts) IsFound
         wanted_by mode.Ask texts = by_user texts
@@ -300,10 +296,10 @@ module _ (rules : Rules) where
     replies options on.Help is = says _ helps
     replies options (on.SetOption text) is = option_own (applied options text.items).answer (applied options text.items).after
     replies options (on.SetKeyDesc text) is = says _ done
-    replies options (on.GetInfo what) is = bind (record { of = tells_info_of what }) (λ text. returned _ (λ prior held so. so))
+    replies options (on.GetInfo what) is = bind (owned (tells_info_of what)) (λ text. returned _ (λ prior held so. so))
     replies options (on.GetPassphrase plain check no_ask repeat quality id texts) is =
         let fields : GetFields = record { plain = plain; check = check; no_ask = no_ask; repeat = repeat; quality = quality; id = id; texts = texts } in
-        bind (found_by fields is options no_ask texts) (λ secret. bind (record { of = tells_of fields is secret }) (λ text. returned _ (λ prior held so. so)))
+        bind (found_by fields is options no_ask texts) (λ secret. bind (owned (tells_of fields is secret)) (λ text. returned _ (λ prior held so. so)))
     replies options (on.PresetPassphrase id life secret) is = bind (presets id life secret is) (λ stored. says _ done)
     replies options (on.ClearPassphrase id way) is = bind (changes_plainly (λ hands. elim hands [ ])) (λ changed. says _ done)
     replies options (on.GetConfirmation description) is = bind (plainly (confirms_plain options options.mode description)) (λ agreed. says _ done)
@@ -326,9 +322,10 @@ module _ (rules : Rules) where
     abbrev AllOwn : List (EventWith FurtherEvent) → Type 0
     AllOwn events = AreOwn request [] events × SaysOwnAlone rules request events
 
-    exchange_own : {part : CachePart CacheReply} {before after : OptionValues} {events : List (EventWith FurtherEvent)} {went : Went} → OwnUntold Held part Says → AnyExchange refusal_line went_after part before events after went → AllOwn events
+    exchange_own : {part : CachePart CacheReply} {before after : OptionValues} {events : List (EventWith FurtherEvent)} {went : Went} → OwnUntold Held part Says
+        → AnyExchange refusal_line went_after part before events after went → AllOwn events
     exchange_own own (exchange.answered events held reply {back} does closes_so) =
-        let so = own.of [] None events (Ok reply) held does (λ ticket is. absurd (cc is)) in
+        let so = (own.of None events (Ok reply) held does).so [] (λ ticket is. absurd (cc is)) in
         let plain : Plain rules back = back_plain rules closes_so in
         let quiet : AllByRecursion IsQuiet (back ++ Sent reply.text ∷ []) = each_append IsQuiet back (Sent reply.text ∷ []) (each_first IsQuiet (IsOpen rules) back plain) (tt, tt) in (
           own_then request [] events (back ++ Sent reply.text ∷ []) so.0 (quiet_are_own request events (back ++ Sent reply.text ∷ []) quiet),
@@ -337,7 +334,7 @@ module _ (rules : Rules) where
               (append_assoc events back (Sent reply.text ∷ []) ∙ is),
         )
     exchange_own own (exchange.refused events held why {back} does closes_so) =
-        let so = own.of [] None events (Err why) held does (λ ticket is. absurd (cc is)) in
+        let so = (own.of None events (Err why) held does).so [] (λ ticket is. absurd (cc is)) in
         let last = back ++ said_last (refusal_line why) in
         let plain : Plain rules last = each_append (IsPlain rules) back (said_last (refusal_line why)) (back_plain rules closes_so) (refusal_plain rules why) in (
           own_then request [] events last so.0 (quiet_are_own request events last (each_first IsQuiet (IsOpen rules) last plain)),

@@ -7,22 +7,23 @@ use Rattle.secret_file.specs.Opens.{LockedKey, IsLocked}
 use Rattle.sexp_keys.specs.Key.{Key}
 use Rattle.agent_commands.specs.Events.{EventWith}
 use Rattle.agent_commands.specs.declared.request.Request.{Request}
-use Rattle.key_commands.specs.KeyParts.{Tells, tells, ReadsFile, Replaces, Protects, IsShort, AsksKeyData, Unwraps, NamesKey, LooksOver, WrapsKey}
+use Rattle.key_commands.specs.KeyParts.{ReadsFile, LooksOver}
 use Rattle.key_commands.specs.KeyParts as parts
-use Rattle.key_commands.specs.Parts.{Finds, Draws}
-use Rattle.agent_ask.specs.ClientParts.{Writes, Inquires}
+use Rattle.key_commands.specs.Parts.{Draws}
+use Rattle.agent_ask.specs.ClientParts.{Inquires}
 use Rattle.agent_ask.specs.TurnParts.{Asks}
 use Rattle.agent_ask.specs.Parts as chain
 use Rattle.agent_ask.specs.TurnParts as turning
 use Rattle.assuan_server.specs.Clients.{session_lines}
 use Rattle.agent_ask.specs.ClientParts as client_parts
 use Rattle.key_commands.specs.Parts as small
-use Rattle.key_commands.specs.Passphrases.{LooksForNonce, Locks, TriesPassphrase, ask_nonce}
+use Rattle.key_commands.specs.Passphrases.{LooksForNonce, Locks, ask_nonce}
 use Rattle.key_commands.specs.Passphrases as passphrases
 use Rattle.session_client.specs.declared.refusal.Refusal.{Refusal}
 use Rattle.agent_session.specs.Causes.{here, StandIn, IsSent, sent, IsDrawn, IsRead, read, IsReadLocked}
 use Rattle.agent_session.specs.OwnPassphrases.{HasTicket, has_ticket, IsAccepted, any, opening, IsGivenNew, given, NamesNew}
-use Rattle.agent_session.proofs.OwnParts.{IsQuiet, Fit, HoldsOf, Quiet, QuietWith}
+use Rattle.agent_ask.proofs.Within.{HoldsOf}
+use Rattle.agent_session.proofs.OwnParts.{IsQuiet, Fit, Quiet, QuietWith}
 use Rattle.agent_session.proofs.Standing.{has_left, has_right}
 
 pub stand_more : {E : Type 0} {part whole : List E} (more : List E) → StandIn part whole → StandIn part (whole ++ more)

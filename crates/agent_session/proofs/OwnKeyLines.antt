@@ -1,7 +1,7 @@
 -- No line of a request on keys has a passphrase in it: what is written before its reply are notices, and the reply is one of these.
 use Rattle.std.specs.List.{AllByRecursion}
 use Rattle.std.specs.Prelude.{⊤, drop}
-use Rattle.std.proofs.Common.{◌≡◌, ℕ, Bool, true, false, List, [], ◌∷◌, ◌++◌, Option, Some, None, Result, Ok, Err, refl, sym, ap, ◌∙◌, subst, append-nil, append_assoc}
+use Rattle.std.proofs.Common.{◌≡◌, ℕ, Bool, true, false, List, [], ◌∷◌, ◌++◌, Option, Some, None, Result, Ok, Err, refl, sym, subst, append-nil, append_assoc}
 use Rattle.std.specs.Option.{option_map}
 use Rattle.agent_ask.specs.PartExchanges.{answered, refused}
 use Rattle.agent_ask.specs.Parts.{goes_on, returns, needed, or_else}
@@ -36,7 +36,7 @@ use Rattle.key_commands.specs.declared.request.KeyRequest.TheVariants as on
 use Rattle.key_commands.specs.declared.went.KeyWent.{KeyWent}
 use Rattle.key_commands.specs.declared.wrap_keys.WrapKeys.{WrapKeys}
 use Rattle.key_commands.proofs.EachEvent.{each_append}
-use Rattle.key_commands.proofs.EachRequest.{IsKeyWork, replies}
+use Rattle.key_commands.proofs.EachRequest.{IsKeyWork, each_carries, key_replies}
 use Rattle.agent_session.specs.Causes.{here, IsDrawn, OpensRead, is_clear, opens, read, on_keys, exports, exported}
 use Rattle.agent_session.specs.OwnAnswers.{IsWrapKey, had, drew, TellsOfKeys, fails, succeeds, notes, known, drawn, wrap, wrapped, TellsOfKeysAlone}
 use Rattle.agent_session.proofs.ImportCourses.{some_key}
@@ -108,7 +108,8 @@ module _ (rules : Rules) (kept : Kept) where
   unfolding KeyWrapReplies
   key_wrap way _ _ _ (goes_on draws (goes_on (tells data_so) returns)) = wrap refl (more_wrap _ (wrap_of way (wrap_key way kept.wraps) refl _ _ draws)) data_so
 
-  import_key : (force : Bool) (id : Option (List ℕ)) (more : List Event) (reply : KeyReply) (held : Option ℕ) → ImportKeyReplies rules kept.options kept.wraps force id None more (Ok reply) held → TellsOfKeys kept.wraps more (on.ImportKey force id) reply.text
+  import_key : (force : Bool) (id : Option (List ℕ)) (more : List Event) (reply : KeyReply) (held : Option ℕ) → ImportKeyReplies rules kept.options kept.wraps force id None more (Ok reply) held
+      → TellsOfKeys kept.wraps more (on.ImportKey force id) reply.text
   unfolding ImportKeyReplies
   import_key force id _ _ _ (goes_on {first = a} wants (goes_on {first = b} receives (goes_on {first = c} names (goes_on {first = d} free (goes_on {first = e} finds (goes_on {first = f} stores returns)))))) =
       let found = stored_nonce _ _ _ _ stores in
@@ -126,19 +127,23 @@ module _ (rules : Rules) (kept : Kept) where
         (stand_left e f (stand_right c d stands)) in
         wrapped opened.key refl (there_is _ kept.wraps.export _ _ _ wants) comes.explained data_so
 
-  passwd : (grip : Grip) (id new_id : Option (List ℕ)) (more : List Event) (reply : KeyReply) (held : Option ℕ) → PasswdReplies rules kept.options kept.wraps grip id new_id None more (Ok reply) held → TellsOfKeys kept.wraps more (on.Passwd grip id new_id false) reply.text
+  passwd : (grip : Grip) (id new_id : Option (List ℕ)) (more : List Event) (reply : KeyReply) (held : Option ℕ) → PasswdReplies rules kept.options kept.wraps grip id new_id None more (Ok reply) held
+      → TellsOfKeys kept.wraps more (on.Passwd grip id new_id false) reply.text
   unfolding PasswdReplies
   passwd grip id new_id _ _ _ (goes_on reads (goes_on old (goes_on changes returns))) = succeeds
 
-  verify : (grip : Grip) (id new_id : Option (List ℕ)) (more : List Event) (reply : KeyReply) (held : Option ℕ) → VerifyReplies rules kept.options kept.wraps grip None more (Ok reply) held → TellsOfKeys kept.wraps more (on.Passwd grip id new_id true) reply.text
+  verify : (grip : Grip) (id new_id : Option (List ℕ)) (more : List Event) (reply : KeyReply) (held : Option ℕ) → VerifyReplies rules kept.options kept.wraps grip None more (Ok reply) held
+      → TellsOfKeys kept.wraps more (on.Passwd grip id new_id true) reply.text
   unfolding VerifyReplies
   verify grip id new_id _ _ _ (goes_on reads (goes_on old (goes_on closes returns))) = succeeds
 
-  delete_key : (force : Bool) (grip : Grip) (more : List Event) (reply : KeyReply) (held : Option ℕ) → DeleteKeyReplies rules kept.options kept.wraps force grip None more (Ok reply) held → TellsOfKeys kept.wraps more (on.DeleteKey grip force) reply.text
+  delete_key : (force : Bool) (grip : Grip) (more : List Event) (reply : KeyReply) (held : Option ℕ) → DeleteKeyReplies rules kept.options kept.wraps force grip None more (Ok reply) held
+      → TellsOfKeys kept.wraps more (on.DeleteKey grip force) reply.text
   unfolding DeleteKeyReplies
   delete_key force grip _ _ _ (goes_on finds (goes_on there (goes_on agrees (goes_on removes (goes_on clears returns))))) = succeeds
 
-  reply_of : (request : Request) (asked : KeyRequest) → on_keys request ≡ Some asked → (more : List Event) (reply : KeyReply) (held : Option ℕ) → KeyReplies rules kept.options kept.wraps asked None more (Ok reply) held → TellsOfKeys kept.wraps more asked reply.text
+  reply_of : (request : Request) (asked : KeyRequest) → on_keys request ≡ Some asked → (more : List Event) (reply : KeyReply) (held : Option ℕ) → KeyReplies rules kept.options kept.wraps asked None more (Ok reply) held
+      → TellsOfKeys kept.wraps more asked reply.text
   reply_of request (on.HaveKey grips) is more reply held does = have_key grips more reply held does
   reply_of request (on.KeyInfo grip) is more reply held does = key_info grip more reply held does
   reply_of request on.ListKeys is more reply held does = list_keys more reply held does
@@ -191,7 +196,7 @@ module _ (rules : Rules) (kept : Kept) where
     refusal_told first (Client why) each = code_told first (refusal_code why) each
 
     noted : (some : List Event) (result : Result KeyReply Refusal) (held : Option ℕ) → KeyReplies rules kept.options kept.wraps asked None some result held → AllByRecursion IsNoted some
-    noted some result held does = (replies IsNoted work_noted rules kept.options kept.wraps asked).of None some result held does
+    noted some result held does = (key_replies (each_carries IsNoted work_noted) rules kept.options kept.wraps asked).of None some result held does
 
     keys_told : (request : Request) → on_keys request ≡ Some asked → {some : List Event} {after : WrapKeys} {went : KeyWent} → KeyExchange rules kept.options kept.wraps asked some after went
         → TellsOfKeysAlone kept.wraps asked some

@@ -22,7 +22,6 @@ use Rattle.sexp_keys.specs.Key.{Key}
 use Rattle.agent_commands.specs.Events.{EventWith}
 use Rattle.agent_commands.specs.declared.request.Request.{Request}
 use Rattle.agent_ask.specs.PartExchanges as part_exchanges
-use Rattle.key_commands.specs.Exchanges as exchange
 use Rattle.key_commands.specs.Exchanges.{KeyExchange, KeyReplies, HaveKeyReplies, KeyInfoReplies, ListKeysReplies, KeyWrapReplies, DeleteKeyReplies, wrap_key}
 use Rattle.key_commands.specs.Exchanges.{RewritesFile, ChangesOpened, StoresKey, FoundOrNew, ExportKeyReplies, PasswdReplies, VerifyReplies, ImportKeyReplies}
 use Rattle.key_commands.specs.KeyParts.{KeepsNew, ReceivesKey, IsFree, Consents}
@@ -43,7 +42,7 @@ use Rattle.key_commands.specs.declared.request.KeyRequest.TheVariants as on
 use Rattle.key_commands.specs.declared.went.KeyWent.{KeyWent}
 use Rattle.key_commands.specs.declared.wrap_keys.WrapKeys.{WrapKeys}
 use Rattle.key_commands.proofs.EachEvent.{each_append, each_shown, IsStill, EachSo, each_bind, each_returned, each_refused, each_otherwise, each_wanted, each_seats}
-use Rattle.key_commands.proofs.EachEvent.{each_changes, finds, draws, reads_file, lists, told, has_one, removes, tells_info, writes_infos, agrees}
+use Rattle.key_commands.proofs.EachEvent.{each_changes, finds, draws, reads_file, lists, told, has_one, removes, tells_info, writes_infos, agrees_to}
 use Rattle.agent_session.specs.Causes as causes
 use Rattle.agent_session.specs.Causes.{here, StandIn, on_keys, Unlocks, IsSent, IsDrawn, IsRead, IsReadLocked}
 use Rattle.agent_session.specs.OwnPassphrases.{IsAbout, named, brought, by_command, of_key, NamesNew, brings, changes, WantsTicket, by_key, by_seat, HasTicket, has_ticket, IsAccepted, any, opening, IsGivenNew, StoresOwn, HandsIn}
@@ -51,7 +50,8 @@ use Rattle.agent_session.specs.OwnPassphrases as whose
 use Rattle.agent_session.specs.Refusals.{imported}
 use Rattle.agent_session.proofs.OwnFacts.{sent_more, drawn_more, read_more, locked_more, ticket_more, accepted_more, given_more, FoundNew}
 use Rattle.agent_session.proofs.OwnFacts as quiet
-use Rattle.agent_session.proofs.OwnParts.{IsQuiet, kept_none, Fit, AreOwn, own_then, each_quiet, quiet_keeps, HoldsOf, OwnSo, own_bind}
+use Rattle.agent_ask.proofs.Within.{HoldsOf}
+use Rattle.agent_session.proofs.OwnParts.{IsQuiet, kept_none, Fit, AreOwn, own_then, each_quiet, quiet_keeps, OwnSo, owns, own_bind}
 use Rattle.agent_session.proofs.OwnParts.{own_weaker, own_where, Stays, quiet_with, quietly, quiet_are_own, Anything, own_returned, own_refused, own_needed, own_wanted}
 use Rattle.agent_session.proofs.AtOnce.{FitsTurn}
 use Rattle.agent_session.proofs.Standing.{has_right, each_left}
@@ -184,10 +184,10 @@ module _ (request : Request) where
       unfolding ClientOld
       client_old way =
           own_bind request (asks_client (codes "PASSPHRASE") MAX_SECRET_LEN unheld_stays) (λ pass. own_bind request (quietly request (sent_stays _ pass _) (quiet_keeps (work.tries IsQuiet tt)))
-          (λ tried. own_bind request (own_needed request code.BadPass tried) (λ opened. own_bind request (record { of = put_of pass }) (λ kept. own_returned request opened (unheld_opened way opened.by)))))
+          (λ tried. own_bind request (own_needed request code.BadPass tried) (λ opened. own_bind request (owns request (put_of pass)) (λ kept. own_returned request opened (unheld_opened way opened.by)))))
 
       uncached_old : (way : PinMode) → OwnSo request (Ready way) (UncachedOld rules options grip way locked) (λ opened. OpenedAt way opened.by)
-      uncached_old mode.Ask = own_bind request (record { of = takes_of }) (λ seated_so. record { of = old_of })
+      uncached_old mode.Ask = own_bind request (owns request takes_of) (λ seated_so. owns request old_of)
       uncached_old mode.Cancel = own_refused request (Agent code.Cancelled)
       uncached_old mode.Error = own_refused request (Agent code.NoPinentry)
       uncached_old mode.Loopback = own_where request (λ prior held ready. loopback_unheld prior held ready.1) (client_old mode.Loopback)
@@ -241,7 +241,7 @@ module _ (request : Request) where
       opens_locked id =
           own_bind request (quietly request free_stays (quiet.looks_for_nonce_quiet id)) (λ by_nonce. own_bind request (tries_free by_nonce)
           (λ first. or_own first (λ opened is prior held so. unheld_opened options.mode opened.by prior held so.1)
-          (λ none. own_bind request (record { of = asks_of options.mode }) (λ cached. own_bind request (tries_asked options.mode cached) (λ second. after_asked options.mode second)))))
+          (λ none. own_bind request (owns request (asks_of options.mode)) (λ cached. own_bind request (tries_asked options.mode cached) (λ second. after_asked options.mode second)))))
 
     -- a key's file was read, and no ticket is held
     abbrev ReadAt : Key → List (EventWith FurtherEvent) → Option ℕ → Type 0
@@ -279,7 +279,7 @@ module _ (request : Request) where
     closes_of way by prior before events result after (turning.closed {ticket} turn) fits pre = (((λ hands. opened_own way by prior ticket pre hands), tt), tt)
 
     closes_own : (way : PinMode) (by : Option (List ℕ)) → OwnSo request (OpenedAt way by) (Closes by) (λ done. Anything)
-    closes_own way by = record { of = closes_of way by }
+    closes_own way by = owns request (closes_of way by)
 
   -- ---- a new passphrase
 
@@ -316,7 +316,7 @@ module _ (request : Request) where
     keeps_of pass prior (Some number) events result after (turning.closed turn) fits pre = (((λ hands. close_new pass prior number pre), tt), tt)
 
     keeps_new : (pass : List ℕ) → OwnSo request (NewAt pass) (KeepsNew grip pass) (λ done. Anything)
-    keeps_new pass = record { of = keeps_of pass }
+    keeps_new pass = owns request (keeps_of pass)
 
     takes_new : (prior : List (EventWith FurtherEvent)) (before : Option ℕ) (events : List (EventWith FurtherEvent)) (result : Result (Unit {0}) Refusal) (after : Option ℕ) → TakesSeat grip before events result after
         → Fit events → TicketAt mode.Ask prior before → AreOwn request prior events × HoldsOf (λ done. Seated (prior ++ events) after) result
@@ -343,7 +343,7 @@ module _ (request : Request) where
           (λ some. own_returned request pass (λ prior held so. subst (NewAt pass prior) (sym so.0) (by_client so.1))))
 
       new_here : (way : PinMode) → OwnSo request (TicketAt way) (passphrases.new_by rules options grip way) (λ pass. NewAt pass)
-      new_here mode.Ask = own_bind request (record { of = takes_new }) (λ seated_so. record { of = prompts_new_of })
+      new_here mode.Ask = own_bind request (owns request takes_new) (λ seated_so. owns request prompts_new_of)
       new_here mode.Cancel = own_refused request (Agent code.Cancelled)
       new_here mode.Error = own_refused request (Agent code.NoPinentry)
       new_here mode.Loopback = own_where request loopback_unheld client_new
@@ -403,7 +403,7 @@ module _ (request : Request) where
         stores_key : (count : ℕ) (key : Key) (pass : List ℕ) → OwnSo request (NewAt pass) (StoresKey count key grip pass) (λ done. Anything)
         stores_key count key pass =
             own_bind request (quiet_with request (new_stays pass) (quiet.draws_quiet 32)) (λ drawn. own_bind request (quietly request (drawn_stays pass drawn) (quiet_keeps (work.protects IsQuiet tt)))
-            (λ file. own_bind request (record { of = nonce_of pass drawn }) (λ cached. own_bind request (quietly request (new_stays pass) (quiet_keeps (work.replaces IsQuiet tt (λ answer. tt))))
+            (λ file. own_bind request (owns request (nonce_of pass drawn)) (λ cached. own_bind request (quietly request (new_stays pass) (quiet_keeps (work.replaces IsQuiet tt (λ answer. tt))))
             (λ replaced. own_bind request (keeps_new pass) (λ kept. own_returned request (drop 20 drawn) (λ prior held so. tt))))))
 
   -- ---- requests
@@ -449,7 +449,7 @@ module _ (request : Request) where
 
     delete_agrees : (grip : Grip) (way : PinMode) (force : Bool) → EachSo IsQuiet (Consents rules (record options { mode = way }) force grip)
     delete_agrees grip way true = each_returned IsQuiet tt
-    delete_agrees grip mode.Ask false = each_bind IsQuiet (each_seats IsQuiet (λ turn hands. elim hands [ ])) (λ seated_so. agrees IsQuiet still_quiet (λ event. tt) rules (record options { mode = mode.Ask }) grip)
+    delete_agrees grip mode.Ask false = each_bind IsQuiet (each_seats IsQuiet (λ turn hands. elim hands [ ])) (λ seated_so. agrees_to IsQuiet still_quiet (λ event. tt) rules (record options { mode = mode.Ask }) _)
     delete_agrees grip mode.Cancel false = each_refused IsQuiet (Agent code.Cancelled)
     delete_agrees grip mode.Error false = each_refused IsQuiet (Agent code.NoPinentry)
     delete_agrees grip mode.Loopback false = each_refused IsQuiet (Agent code.NoPinentry)
@@ -507,6 +507,6 @@ module _ (request : Request) where
     pub key_own : (asked : KeyRequest) → on_keys request ≡ Some asked → {events : List (EventWith FurtherEvent)} {after : WrapKeys} {went : KeyWent} → KeyExchange rules options wraps asked events after went → Fit events
         → AreOwn request [] events
     key_own asked is (part_exchanges.answered events held reply {back} does closes_so) fits =
-        ended_own events back (Sent reply.text ∷ []) ((replies asked is).of [] None events (Ok reply) held does (each_left FitsTurn events _ fits) refl).0 (back_quiet closes_so) (tt, tt)
+        ended_own events back (Sent reply.text ∷ []) (((replies asked is).of None events (Ok reply) held does).so [] (each_left FitsTurn events _ fits) refl).0 (back_quiet closes_so) (tt, tt)
     key_own asked is (part_exchanges.refused events held why {back} does closes_so) fits =
-        ended_own events back (refusal_events why) ((replies asked is).of [] None events (Err why) held does (each_left FitsTurn events _ fits) refl).0 (back_quiet closes_so) (refusal_quiet (refusal_line why))
+        ended_own events back (refusal_events why) (((replies asked is).of None events (Err why) held does).so [] (each_left FitsTurn events _ fits) refl).0 (back_quiet closes_so) (refusal_quiet (refusal_line why))

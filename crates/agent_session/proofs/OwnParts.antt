@@ -11,8 +11,8 @@ use Rattle.agent_commands.specs.Events.{EventWith}
 use Rattle.agent_commands.specs.declared.request.Request.{Request}
 use Rattle.session_client.specs.declared.code.Code.{Code}
 use Rattle.key_commands.specs.Parts.{Part}
-use Rattle.agent_ask.specs.Parts.{◌>>=◌, Follows, goes_on, stops, Returns, returns, Refuses, needed, wanted}
-use Rattle.agent_ask.specs.Parts as chain
+use Rattle.agent_ask.specs.Parts.{◌>>=◌, Returns, Refuses, needed, wanted}
+use Rattle.agent_ask.proofs.Within.{HoldsOf, Within, Joins, weaker, bind, returned_so, refused_so}
 use Rattle.session_client.specs.declared.refusal.Refusal.{Refusal}
 use Rattle.session_client.specs.declared.refusal.Refusal.TheVariants.{Agent}
 use Rattle.key_commands.proofs.EachEvent.{EachSo}
@@ -33,19 +33,18 @@ kept_none ticket hands = elim hands [ ]
 abbrev pub Fit : List (EventWith FurtherEvent) → Type 0
 Fit events = AllByRecursion FitsTurn events
 
--- ---- parts
+-- what is so of what was done before and of the ticket that is held
+abbrev pub Fact : Type 1
+Fact = List (EventWith FurtherEvent) → Option ℕ → Type 0
 
--- what is so of a part's value, where it comes to one
-abbrev pub HoldsOf : {A : Type 0} → (A → Type 0) → Result A Refusal → Type 0
-HoldsOf Post (Ok value) = Post value
-HoldsOf Post (Err why) = ⊤
+-- ---- parts
 
 pub whatever : {A : Type 0} {Is : Type 0} (result : Result A Refusal) → Is → HoldsOf (λ value. Is) result
 whatever (Ok value) is = is
 whatever (Err why) is = tt
 
 -- what stays so, whatever is done
-pub record Stays (Pre : List (EventWith FurtherEvent) → Option ℕ → Type 0) : Type 0 where
+pub record Stays (Pre : Fact) : Type 0 where
   pub of : (prior more : List (EventWith FurtherEvent)) (held : Option ℕ) → Pre prior held → Pre (prior ++ more) held
 
 -- a part that hands nothing in, and leaves the ticket, by which something becomes so
@@ -53,9 +52,8 @@ pub record QuietWith {A : Type 0} (part : Part A) (Extra : A → List (EventWith
   pub of : (prior : List (EventWith FurtherEvent)) (before : Option ℕ) (events : List (EventWith FurtherEvent)) (result : Result A Refusal) (after : Option ℕ) → part before events result after → Fit events
       → AllByRecursion IsQuiet events × (after ≡ before) × HoldsOf (λ value. Extra value (prior ++ events)) result
 
-pub record Quiet {A : Type 0} (part : Part A) : Type 0 where
-  pub of : (before : Option ℕ) (events : List (EventWith FurtherEvent)) (result : Result A Refusal) (after : Option ℕ) → part before events result after → Fit events
-      → AllByRecursion IsQuiet events × (after ≡ before)
+abbrev pub Quiet : {A : Type 0} → Part A → Type 0
+Quiet part = Within part (λ before events result after. Fit events → AllByRecursion IsQuiet events × (after ≡ before))
 
 -- work in which nothing is handed in, and that leaves the ticket
 pub quiet_keeps : {A : Type 0} {part : Part A} → Keeps IsQuiet part → Quiet part
@@ -69,7 +67,7 @@ with_both Extra (Ok value) is extra = (is, extra)
 with_both Extra (Err why) is extra = tt
 
 -- nothing is known
-abbrev pub Anything : List (EventWith FurtherEvent) → Option ℕ → Type 0
+abbrev pub Anything : Fact
 Anything prior held = ⊤
 
 module _ (request : Request) where
@@ -123,78 +121,68 @@ module _ (request : Request) where
   -- ---- parts
 
   -- where this is so of what was done before and of the ticket that is held, a part's events are the request's own, and then that is so
-  pub record OwnSo {A : Type 0} (Pre : List (EventWith FurtherEvent) → Option ℕ → Type 0) (part : Part A) (Post : A → List (EventWith FurtherEvent) → Option ℕ → Type 0) : Type 0 where
-    pub of : (prior : List (EventWith FurtherEvent)) (before : Option ℕ) (events : List (EventWith FurtherEvent)) (result : Result A Refusal) (after : Option ℕ) → part before events result after → Fit events
-        → Pre prior before → AreOwn prior events × HoldsOf (λ value. Post value (prior ++ events) after) result
+  pub record Owns {A : Type 0} (Pre : Fact) (Post : A → Fact) (before : Option ℕ) (events : List (EventWith FurtherEvent)) (result : Result A Refusal) (after : Option ℕ) : Type 0 where
+    pub so : (prior : List (EventWith FurtherEvent)) → Fit events → Pre prior before → AreOwn prior events × HoldsOf (λ value. Post value (prior ++ events) after) result
 
-  module _ {A B : Type 0} {Pre : List (EventWith FurtherEvent) → Option ℕ → Type 0} {Mid : A → List (EventWith FurtherEvent) → Option ℕ → Type 0} {Post : B → List (EventWith FurtherEvent) → Option ℕ → Type 0}
-      {part : Part A} {next : A → Part B} (first : OwnSo Pre part Mid) (then : (value : A) → OwnSo (Mid value) (next value) Post) where
-    own_bind_of : (prior : List (EventWith FurtherEvent)) (before : Option ℕ) (events : List (EventWith FurtherEvent)) (result : Result B Refusal) (after : Option ℕ) → Follows part next before events result after → Fit events
-        → Pre prior before → AreOwn prior events × HoldsOf (λ value. Post value (prior ++ events) after) result
-    own_bind_of prior before events result after (goes_on {first = some} {events = more} {value} {mid} does next_does) fits pre =
-        let one = first.of prior before some (Ok value) mid does (each_left FitsTurn some more fits) pre in
-        let two = (then value).of (prior ++ some) mid more result after next_does (each_right FitsTurn some more fits) one.1 in
-        (own_then prior some more one.0 two.0, subst (λ p. HoldsOf (λ value. Post value p after) result) (append_assoc prior some more) two.1)
-    own_bind_of prior before events result after (stops {refusal = why} does) fits pre = ((first.of prior before events (Err why) after does fits pre).0, tt)
+  abbrev pub OwnSo : {A : Type 0} → Fact → Part A → (A → Fact) → Type 0
+  OwnSo Pre part Post = Within part (Owns Pre Post)
 
-    pub own_bind : OwnSo Pre (part >>= next) Post
-    own_bind = record { of = own_bind_of }
+  pub owns : {A : Type 0} {Pre : Fact} {Post : A → Fact} {part : Part A} → ((prior : List (EventWith FurtherEvent)) (before : Option ℕ) (events : List (EventWith FurtherEvent)) (result : Result A Refusal) (after : Option ℕ)
+      → part before events result after → Fit events → Pre prior before → AreOwn prior events × HoldsOf (λ value. Post value (prior ++ events) after) result) → OwnSo Pre part Post
+  owns so = record { of = λ before events result after does. record { so = λ prior. so prior before events result after does } }
+
+  owns_join : {A B : Type 0} {Pre : Fact} {Mid : A → Fact} {Post : B → Fact} → Joins (Owns Pre Mid) (λ value. Owns (Mid value) Post) (Owns Pre Post)
+  owns_join {Post} = record {
+    then = λ {before} {mid} {after} some later {value} {result} first more. record {
+      so = λ prior fits pre.
+          let one = first.so prior (each_left FitsTurn some later fits) pre in
+          let two = more.so (prior ++ some) (each_right FitsTurn some later fits) one.1 in
+          (own_then prior some later one.0 two.0, subst (λ p. HoldsOf (λ value. Post value p after) result) (append_assoc prior some later) two.1);
+    };
+    alone = λ first. record { so = λ prior fits pre. ((first.so prior fits pre).0, tt) };
+  }
+
+  pub own_bind : {A B : Type 0} {Pre : Fact} {Mid : A → Fact} {Post : B → Fact} {part : Part A} {next : A → Part B} → OwnSo Pre part Mid → ((value : A) → OwnSo (Mid value) (next value) Post) → OwnSo Pre (part >>= next) Post
+  own_bind = bind owns_join
 
   -- what is so then is more than is wanted
-  module _ {A : Type 0} {Pre : List (EventWith FurtherEvent) → Option ℕ → Type 0} {Post Other : A → List (EventWith FurtherEvent) → Option ℕ → Type 0} {part : Part A} (own : OwnSo Pre part Post)
-      (weaker : (value : A) (prior : List (EventWith FurtherEvent)) (held : Option ℕ) → Post value prior held → Other value prior held) where
-    weaker_of : (prior : List (EventWith FurtherEvent)) (after : Option ℕ) (result : Result A Refusal) → HoldsOf (λ value. Post value prior after) result → HoldsOf (λ value. Other value prior after) result
-    weaker_of prior after (Ok value) holds = weaker value prior after holds
-    weaker_of prior after (Err why) holds = tt
+  module _ {A : Type 0} {Post Other : A → Fact} (narrows : (value : A) (prior : List (EventWith FurtherEvent)) (held : Option ℕ) → Post value prior held → Other value prior held) where
+    narrows_of : (prior : List (EventWith FurtherEvent)) (after : Option ℕ) (result : Result A Refusal) → HoldsOf (λ value. Post value prior after) result → HoldsOf (λ value. Other value prior after) result
+    narrows_of prior after (Ok value) holds = narrows value prior after holds
+    narrows_of prior after (Err why) holds = tt
 
-    pub own_weaker : OwnSo Pre part Other
-    own_weaker = record {
-      of = λ prior before events result after does fits pre.
-          let so = own.of prior before events result after does fits pre in (so.0, weaker_of (prior ++ events) after result so.1);
-    }
+  pub own_weaker : {A : Type 0} {Pre : Fact} {Post Other : A → Fact} {part : Part A} → OwnSo Pre part Post
+      → ((value : A) (prior : List (EventWith FurtherEvent)) (held : Option ℕ) → Post value prior held → Other value prior held) → OwnSo Pre part Other
+  own_weaker own narrows = weaker (record {
+    of = λ before events result after owned. record { so = λ prior fits pre. let so = owned.so prior fits pre in (so.0, narrows_of narrows (prior ++ events) after result so.1) };
+  }) own
 
-  pub own_where : {A : Type 0} {Pre Wider : List (EventWith FurtherEvent) → Option ℕ → Type 0} {Post : A → List (EventWith FurtherEvent) → Option ℕ → Type 0} {part : Part A}
-      → ((prior : List (EventWith FurtherEvent)) (held : Option ℕ) → Pre prior held → Wider prior held) → OwnSo Wider part Post → OwnSo Pre part Post
-  own_where narrows own = record { of = λ prior before events result after does fits pre. own.of prior before events result after does fits (narrows prior before pre) }
+  pub own_where : {A : Type 0} {Pre Wider : Fact} {Post : A → Fact} {part : Part A} → ((prior : List (EventWith FurtherEvent)) (held : Option ℕ) → Pre prior held → Wider prior held) → OwnSo Wider part Post → OwnSo Pre part Post
+  own_where narrows = weaker (record { of = λ before events result after owned. record { so = λ prior fits pre. owned.so prior fits (narrows prior before pre) } })
 
-  module _ {Pre : List (EventWith FurtherEvent) → Option ℕ → Type 0} (stays : Stays Pre) {A : Type 0} {part : Part A} where
+  module _ {Pre : Fact} (stays : Stays Pre) {A : Type 0} {part : Part A} where
     pub quiet_with : {Extra : A → List (EventWith FurtherEvent) → Type 0} → QuietWith part Extra → OwnSo Pre part (λ value prior held. Pre prior held × Extra value prior)
-    quiet_with {Extra} quiet = record {
-      of = λ prior before events result after does fits pre.
-          let so = quiet.of prior before events result after does fits in
-          (quiet_are_own prior events so.0, with_both (λ value. Extra value (prior ++ events)) result (subst (Pre (prior ++ events)) (sym so.1) (stays.of prior events before pre)) so.2);
-    }
+    quiet_with {Extra} quiet = owns (λ prior before events result after does fits pre.
+        let so = quiet.of prior before events result after does fits in
+        (quiet_are_own prior events so.0, with_both (λ value. Extra value (prior ++ events)) result (subst (Pre (prior ++ events)) (sym so.1) (stays.of prior events before pre)) so.2))
 
     pub quietly : Quiet part → OwnSo Pre part (λ value. Pre)
-    quietly quiet = record {
-      of = λ prior before events result after does fits pre.
-          let so = quiet.of before events result after does fits in
-          (quiet_are_own prior events so.0, whatever result (subst (Pre (prior ++ events)) (sym so.1) (stays.of prior events before pre)));
-    }
+    quietly quiet = owns (λ prior before events result after does fits pre.
+        let so = quiet.of before events result after does fits in
+        (quiet_are_own prior events so.0, whatever result (subst (Pre (prior ++ events)) (sym so.1) (stays.of prior events before pre))))
 
   -- one of which each event is quiet
-  pub each_quiet : {A : Type 0} {Pre : List (EventWith FurtherEvent) → Option ℕ → Type 0} {part : Part A} → EachSo IsQuiet part → OwnSo Pre part (λ value. Anything)
-  each_quiet each = record { of = λ prior before events result after does fits pre. (quiet_are_own prior events (each.of before events result after does), whatever result tt) }
+  pub each_quiet : {A : Type 0} {Pre : Fact} {part : Part A} → EachSo IsQuiet part → OwnSo Pre part (λ value. Anything)
+  each_quiet each = owns (λ prior before events result after does fits pre. (quiet_are_own prior events (each.of before events result after does), whatever result tt))
 
   -- ---- the simplest ones
 
-  module _ {A : Type 0} (Pre : List (EventWith FurtherEvent) → Option ℕ → Type 0) (Post : A → List (EventWith FurtherEvent) → Option ℕ → Type 0) where
-    own_returned_of : (value : A) → ((prior : List (EventWith FurtherEvent)) (held : Option ℕ) → Pre prior held → Post value prior held) → (prior : List (EventWith FurtherEvent)) (before : Option ℕ)
-        (events : List (EventWith FurtherEvent)) (result : Result A Refusal) (after : Option ℕ) → Returns value before events result after → Fit events
-        → Pre prior before → AreOwn prior events × HoldsOf (λ value. Post value (prior ++ events) after) result
-    own_returned_of value so prior before events result after returns fits pre = (tt, subst (λ p. Post value p before) (sym (append-nil prior)) (so prior before pre))
+  module _ {Pre : Fact} where
+    pub own_returned : {A : Type 0} {Post : A → Fact} (value : A) → ((prior : List (EventWith FurtherEvent)) (held : Option ℕ) → Pre prior held → Post value prior held) → OwnSo Pre (Returns value) Post
+    own_returned {Post} value so = returned_so value (λ held. record { so = λ prior fits pre. (tt, subst (λ p. Post value p held) (sym (append-nil prior)) (so prior held pre)) })
 
-    own_refused_of : (why : Refusal) (prior : List (EventWith FurtherEvent)) (before : Option ℕ) (events : List (EventWith FurtherEvent)) (result : Result A Refusal) (after : Option ℕ)
-        → Refuses {A = A} why before events result after → Fit events → Pre prior before → AreOwn prior events × HoldsOf (λ value. Post value (prior ++ events) after) result
-    own_refused_of why prior before events result after chain.refuses fits pre = (tt, tt)
-
-  module _ {Pre : List (EventWith FurtherEvent) → Option ℕ → Type 0} where
-    pub own_returned : {A : Type 0} {Post : A → List (EventWith FurtherEvent) → Option ℕ → Type 0} (value : A) → ((prior : List (EventWith FurtherEvent)) (held : Option ℕ) → Pre prior held → Post value prior held)
-        → OwnSo Pre (Returns value) Post
-    own_returned {Post} value so = record { of = own_returned_of Pre Post value so }
-
-    pub own_refused : {A : Type 0} {Post : A → List (EventWith FurtherEvent) → Option ℕ → Type 0} (why : Refusal) → OwnSo Pre (Refuses {A = A} why) Post
-    own_refused {Post} why = record { of = own_refused_of Pre Post why }
+    pub own_refused : {A : Type 0} {Post : A → Fact} (why : Refusal) → OwnSo Pre (Refuses {A = A} why) Post
+    own_refused why = refused_so why (λ held. record { so = λ prior fits pre. (tt, tt) })
 
     pub own_needed : {A : Type 0} (why : Code) (value : Option A) → OwnSo Pre (needed why value) (λ value. Pre)
     own_needed why None = own_refused (Agent why)

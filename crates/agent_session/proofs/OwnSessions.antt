@@ -2,6 +2,7 @@
 use Rattle.std.specs.List.{AllByRecursion}
 use Rattle.std.specs.Prelude.{⊤}
 use Rattle.std.proofs.Common.{◌≡◌, ℕ, List, [], ◌∷◌, ◌++◌, refl, sym, ap, ◌∙◌, subst, append_assoc}
+use Rattle.agent_ask.specs.Answering.{WholeOrCut, whole, cut}
 use Rattle.agent_ask.specs.Further.{FurtherEvent}
 use Rattle.agent_ask.specs.SessionEvents.{Received, Sent, Cut, Inquiry, CacheTurn, Further, cache_turn, CutAtLast}
 use Rattle.assuan_line.specs.declared.reader.Took.TheVariants as took
@@ -9,9 +10,10 @@ use Rattle.assuan_server.specs.Written.{failed}
 use Rattle.session_client.specs.declared.code.Code.TheVariants.{Forbidden, LineTooLong}
 use Rattle.cache_policy.specs.Turns.{Turn}
 use Rattle.cache_policy.specs.declared.mark.MarkStep.{MarkStep}
+use Rattle.agent_commands.specs.Endings.{went_after}
 use Rattle.agent_commands.specs.Events.{EventWith}
 use Rattle.agent_commands.specs.Requests.{request_of}
-use Rattle.agent_commands.specs.Talks.{WholeOrCut, whole, cut, Talk, Session}
+use Rattle.agent_commands.specs.Talks.{Talk, Session}
 use Rattle.agent_commands.specs.Talks as talks
 use Rattle.agent_commands.specs.declared.went.SessionEnd.{SessionEnd}
 use Rattle.agent_commands.specs.declared.went.Went.{Went}
@@ -90,9 +92,9 @@ cut_turnless last = cut_one last.before last.sent last.unsent last.whole last.do
 module _ (exchange : Kept → List ℕ → List (EventWith FurtherEvent) → Kept → Went → Type 0)
     (own : (before : Kept) (line : List ℕ) (events : List (EventWith FurtherEvent)) (after : Kept) (went : Went) → exchange before line events after went → Fit events → LineOwn line events) where
   -- a line's events, of which a write of the last may have failed
-  line_own : {before after : Kept} (line : List ℕ) {events : List (EventWith FurtherEvent)} {went : Went} → WholeOrCut (λ kept. exchange kept line) before events after went → Fit events → LineOwn line events
+  line_own : {before after : Kept} (line : List ℕ) {events : List (EventWith FurtherEvent)} {went : Went} → WholeOrCut went_after (exchange before line) events after went → Fit events → LineOwn line events
   line_own {before} {after} line {events} {went} (whole exchanged) fits = own before line events after went exchanged fits
-  line_own {before} line {events = done} (cut {events} {after} {went} exchanged last) fits =
+  line_own {before} line {events = done} (cut {events} {kept = after} {went} exchanged last) fits =
       let kept : Fit last.before = each_left FitsTurn last.before (Cut last.sent ∷ []) (subst Fit last.done_is fits) in
       let fit : Fit events = subst Fit (sym last.whole) (each_append FitsTurn last.before (Sent (last.sent ++ last.unsent) ∷ []) kept (tt, tt)) in
       let so = own before line events after went exchanged fit in

@@ -253,10 +253,10 @@ module _ (Fits : Event → Type 0) (calls : (event : PromptEvent) → Fits (Furt
 
   -- ---- consent
 
-  agrees_of : {rules : Rules} {options : OptionValues} {question : List ℕ} {before after : Option ℕ} {events : List Event} {result : Result (Unit {0}) Refusal}
+  agrees_of : {rules : Rules} {options : OptionValues} {question : List ℕ} (before : Option ℕ) (events : List Event) (result : Result (Unit {0}) Refusal) (after : Option ℕ)
       → AgreesTo session_lines rules options question before events result after → WorksTo Fits events result
-  agrees_of (consenting.consents spec is prompt) = consent_works prompt.asks refl prompt.in_session
-  agrees_of (consenting.refused {answer} spec is prompt refusal) = consent_works prompt.asks (consent_comes answer refusal) prompt.in_session
+  agrees_of _ _ _ _ (consenting.consents spec is prompt) = consent_works prompt.asks refl prompt.in_session
+  agrees_of _ _ _ _ (consenting.refused {answer} spec is prompt refusal) = consent_works prompt.asks (consent_comes answer refusal) prompt.in_session
 
   pub agrees_to : (rules : Rules) (options : OptionValues) (question : List ℕ) → WorksSo Fits (AgreesTo session_lines rules options question)
   agrees_to rules options question = record { of = agrees_of }

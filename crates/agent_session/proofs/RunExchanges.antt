@@ -1,14 +1,16 @@
 -- Each exchange of a session stands between two states of its desk and of its further ends, and the laws on single requests hold of it.
 use Rattle.std.proofs.Common.{ℕ, List, [], ◌∷◌, ◌++◌, sym, subst}
+use Rattle.agent_ask.specs.Answering.{WholeOrCut, whole, cut}
 use Rattle.agent_ask.specs.Events.{Call}
 use Rattle.agent_ask.specs.Prompters.{AtPrompter, IsCall}
 use Rattle.agent_ask.specs.SessionEvents.{Sent, Cut, CutAtLast}
 use Rattle.agent_ask.specs.Worlds.{Outside, Does}
 use Rattle.agent_ask.specs.Worlds as worlds
+use Rattle.agent_commands.specs.Endings.{went_after}
 use Rattle.agent_commands.specs.Events.{EventWith}
 use Rattle.agent_commands.specs.Outside.{World}
 use Rattle.agent_commands.specs.Requests.{request_of}
-use Rattle.agent_commands.specs.Talks.{WholeOrCut, Talk, Session}
+use Rattle.agent_commands.specs.Talks.{Talk, Session}
 use Rattle.agent_commands.specs.Talks as talks
 use Rattle.agent_commands.specs.declared.went.SessionEnd.{SessionEnd}
 use Rattle.agent_commands.specs.declared.went.Went.{Went}
@@ -84,19 +86,19 @@ module _ {w : World} where
     stays none so = so
     stays {before} (one {mid} {event} does leads) so = stays leads (keeps before event mid does so)
 
-    one_between : {kept now : S} {events : List (EventWith w.Further)} {went : Went} (line : List ℕ) (start mid : Outside w) → Stays start.desk → WholeOrCut (λ k. relation k line) kept events now went
-        → Leads (Does w supply) start events mid → WholeOrCut (λ state. Here state line) (between kept start) events (between now mid) went
-    one_between {kept} {now} {events} {went} line start mid so (talks.whole exchanged) leads =
-        talks.whole (record {
+    one_between : {kept now : S} {events : List (EventWith w.Further)} {went : Went} (line : List ℕ) (start mid : Outside w) → Stays start.desk → WholeOrCut went_after (relation kept line) events now went
+        → Leads (Does w supply) start events mid → WholeOrCut went_after (Here (between kept start) line) events (between now mid) went
+    one_between {kept} {now} {events} {went} line start mid so (whole exchanged) leads =
+        whole (record {
           exchange = exchanged;
           link = link_of start;
           link_now = link_of mid;
           leads = leads;
           says = says (link_of start) (link_of mid) (between kept start) line events (between now mid) went so exchanged leads;
         })
-    one_between {kept} {now} line start mid so (talks.cut {events} {went} exchanged last) leads =
+    one_between {kept} {now} line start mid so (cut {events} {went} exchanged last) leads =
         let full = uncut last leads in
-        talks.cut (record {
+        cut (record {
           exchange = exchanged;
           link = link_of start;
           link_now = full.link;

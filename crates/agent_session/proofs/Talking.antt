@@ -1,8 +1,10 @@
 -- Sessions whose exchanges are each seen otherwise, by what holds of their events.
 use Rattle.std.proofs.Common.{◌≡◌, ℕ, List, [], ◌∷◌, ◌++◌, refl, sym, subst}
+use Rattle.agent_ask.specs.Answering.{WholeOrCut, whole, cut}
 use Rattle.agent_ask.specs.SessionEvents.{CutAtLast}
+use Rattle.agent_commands.specs.Endings.{went_after}
 use Rattle.agent_commands.specs.Events.{EventWith}
-use Rattle.agent_commands.specs.Talks.{WholeOrCut, whole, cut, Talk, Session}
+use Rattle.agent_commands.specs.Talks.{Talk, Session}
 use Rattle.agent_commands.specs.Talks as talks
 use Rattle.agent_commands.specs.declared.went.SessionEnd.{SessionEnd}
 use Rattle.agent_commands.specs.declared.went.SessionEnd.TheVariants.{WriteFault}
@@ -11,8 +13,8 @@ use Rattle.agent_commands.specs.declared.went.Went.TheVariants.{End}
 use Rattle.agent_session.specs.Completeness.{WholeTalk, WholeSession, IsFaultless}
 use Rattle.agent_session.specs.Completeness as faultless
 
-whole_of : {S F : Type 0} {before after : S} {events : List (EventWith F)} {went : Went} (exchange : S → List (EventWith F) → S → Went → Type 0) → (went ≡ End WriteFault → ⊥)
-    → WholeOrCut exchange before events after went → exchange before events after went
+whole_of : {S F : Type 0} {after : S} {events : List (EventWith F)} {went : Went} (exchange : List (EventWith F) → S → Went → Type 0) → (went ≡ End WriteFault → ⊥)
+    → WholeOrCut went_after exchange events after went → exchange events after went
 whole_of exchange never (whole exchanged) = exchanged
 whole_of exchange never (cut exchanged last) = absurd (never refl)
 
@@ -30,8 +32,8 @@ module _ {S F : Type 0} (One Other : S → List ℕ → List (EventWith F) → S
   talk_whole : {before : S} {events : List (EventWith F)} {end : SessionEnd} → Talk One before events end → IsFaultless end → Fine events → WholeTalk Other before events end
   talk_whole (talks.goes_on {events} {more} line exchanged talk) well fine =
       let rest = tail _ (events ++ more) fine in
-      faultless.goes_on line (moves _ line _ _ _ (left events more rest) (whole_of (λ kept. One kept line) (λ is. absurd (cc is)) exchanged)) (talk_whole talk well (right events more rest))
-  talk_whole {end} (talks.over {events} line exchanged) well fine = faultless.over line (moves _ line _ _ _ (tail _ events fine) (whole_of (λ kept. One kept line) (ends_well end well) exchanged))
+      faultless.goes_on line (moves _ line _ _ _ (left events more rest) (whole_of (One _ line) (λ is. absurd (cc is)) exchanged)) (talk_whole talk well (right events more rest))
+  talk_whole {end} (talks.over {events} line exchanged) well fine = faultless.over line (moves _ line _ _ _ (tail _ events fine) (whole_of (One _ line) (ends_well end well) exchanged))
   talk_whole talks.ended well fine = faultless.ended
   talk_whole talks.spent well fine = faultless.spent
   talk_whole talks.read_fault well fine = absurd well
@@ -45,8 +47,8 @@ module _ {S F : Type 0} (One Other : S → List ℕ → List (EventWith F) → S
   -- ---- all sessions
 
   module _ (uncut : (events done : List (EventWith F)) → CutAtLast events done → Fine done → Fine events) where
-    exchange_moved : {before after : S} {events : List (EventWith F)} {went : Went} (line : List ℕ) → WholeOrCut (λ kept. One kept line) before events after went → Fine events
-        → WholeOrCut (λ kept. Other kept line) before events after went
+    exchange_moved : {before after : S} {events : List (EventWith F)} {went : Went} (line : List ℕ) → WholeOrCut went_after (One before line) events after went → Fine events
+        → WholeOrCut went_after (Other before line) events after went
     exchange_moved line (whole exchanged) fine = whole (moves _ line _ _ _ fine exchanged)
     exchange_moved line (cut {events} {done} exchanged last) fine = cut (moves _ line _ _ _ (uncut events done last fine) exchanged) last
 

@@ -1,7 +1,7 @@
 -- A request on the trust list is answered Not trusted wherever a read of the file says so.
 use Rattle.std.specs.List.{AllByRecursion}
-use Rattle.std.proofs.Common.{◌≡◌, ◌⊎◌, ◌∙◌, ℕ, Bool, true, false, List, [], ◌∷◌, ◌++◌, Option, Some, None, Ok, Err, refl, sym, subst, inl, inr}
-use Rattle.agent_ask.specs.SessionEvents.{CacheTurn, said_last}
+use Rattle.std.proofs.Common.{◌≡◌, ◌⊎◌, ◌∙◌, ℕ, Bool, true, false, List, [], ◌∷◌, ◌++◌, Option, Some, None, Result, Ok, Err, refl, sym, subst, inl, inr}
+use Rattle.agent_ask.specs.SessionEvents.{said_last}
 use Rattle.agent_ask.specs.TrustCalls.{TrustCall}
 use Rattle.assuan_server.specs.Written.{ok}
 use Rattle.agent_commands.specs.declared.went.Went.{Went}
@@ -9,34 +9,31 @@ use Rattle.agent_ports.specs.declared.grip.Grip.{Grip}
 use Rattle.assuan_server.specs.Written.{failed, refusal_line}
 use Rattle.session_client.specs.declared.code.Code.TheVariants as code
 use Rattle.assuan_server.specs.declared.errors.Origin.TheVariants.{Agent}
-use Rattle.cache_policy.specs.declared.mark.MarkStep.TheVariants.{Seat}
-use Rattle.cache_policy.specs.Extending.{Taken}
-use Rattle.key_commands.specs.Events.{Event}
-use Rattle.key_commands.proofs.EachRequest.{IsBesideTrust}
+use Rattle.session_client.specs.declared.refusal.Refusal.{Refusal}
+use Rattle.agent_ask.proofs.Within.{Within, Joins, OfNothing, Does, weaker, bind, returned, refused, refused_so}
+use Rattle.key_commands.specs.Events.{Event, out_of_memory}
+use Rattle.key_commands.proofs.EachEvent.{EachSo, each_seats, agrees_to}
+use Rattle.key_commands.proofs.EachRequest.{IsBesideTrust, still_beside}
 use Rattle.session_options.specs.OptionValues.{OptionValues}
 use Rattle.session_options.specs.declared.options.PinMode.{PinMode}
 use Rattle.session_options.specs.declared.options.PinMode.TheVariants as mode
 use Rattle.session_options.specs.declared.rules.Rules.{Rules}
 use Rattle.trust_list.specs.Trust.{trust}
 use Rattle.agent_origin.specs.TrustExchanges.{flag_of, trust_question, fingerprint_question, unless_said, TrustedNow, Stores, StoresUnsaid, Consented, asked_in, Marked, Carried, TrustExchange}
-use Rattle.agent_ask.specs.PartExchanges as part_exchanges
-use Rattle.agent_origin.specs.TrustExchanges as trusts
-use Rattle.agent_ask.specs.ConsentParts as consent
-use Rattle.agent_ask.specs.Parts.{◌>>=◌, Follows, Returns, Refuses}
+use Rattle.agent_ask.specs.Parts.{◌>>=◌, Follows, Refuses}
 use Rattle.agent_ask.specs.Parts as chain
-use Rattle.agent_ask.specs.TurnParts.{Seats}
 use Rattle.agent_ask.specs.TurnParts as taken
-use Rattle.agent_origin.specs.TrustParts.{ReadsFile, AddsEntry, Replaces, file_in, trust_called}
+use Rattle.agent_origin.specs.TrustParts.{ReadsFile, Replaces, trust_called}
 use Rattle.key_commands.specs.Parts.{Part}
 use Rattle.agent_origin.specs.TrustParts as parts
 use Rattle.agent_origin.specs.declared.trust.request.TrustPurpose.{TrustPurpose}
 use Rattle.agent_origin.specs.declared.trust.request.TrustRequest.{TrustRequest}
-use Rattle.agent_origin.proofs.EachLine.{shown_so}
+use Rattle.agent_origin.proofs.EachTrust.{each_adds}
 use Rattle.agent_session.specs.Causes.{Has, here, later}
 use Rattle.agent_session.specs.Completeness.{HasError}
 use Rattle.agent_session.specs.DoorCauses.{IsReadTrust, read_trust, IsAsked, IsNotTrusted, unsaid, denied, denied_mark}
 use Rattle.agent_session.proofs.Standing.{has_right}
-use Rattle.agent_session.proofs.TrustTold.{Told, answered, refused, told}
+use Rattle.agent_session.proofs.TrustTold.{Told, answered, refused as refused_then, told}
 use Rattle.agent_ask.specs.ConsentParts.{AgreesTo}
 use Rattle.assuan_server.specs.Clients.{session_lines}
 use Rattle.agent_ask.specs.TurnParts.{Closes}
@@ -56,100 +53,76 @@ split (other ∷ first) more (later has) = elim (split first more has) [ inl bef
 split_read : (first more : List Event) {file : List ℕ} → IsReadTrust (first ++ more) file → IsReadTrust first file ⊎ IsReadTrust more file
 split_read first more (read_trust {answer} is has) = elim (split first more has) [ inl before ↦ inl (read_trust {answer = answer} is before) | inr behind ↦ inr (read_trust {answer = answer} is behind) ]
 
+-- a part that comes to nothing else than Not trusted
+abbrev IsDenial : {A : Type 0} → Result A Refusal → Type 0
+IsDenial (Ok value) = ⊥
+IsDenial (Err why) = refusal_line why ≡ Some (failed code.NotTrusted)
+
+abbrev Denies : {A : Type 0} → Part A → Type 0
+Denies part = Within part (λ before events result after. IsDenial result)
+
+denies_refused : {A : Type 0} {why : Refusal} → refusal_line why ≡ Some (failed code.NotTrusted) → Denies (Refuses {A = A} why)
+denies_refused {why} is = refused_so why (λ held. is)
+
 -- this is what the read file says of the certificate
 module _ (fingerprint : Grip) (file : List ℕ) where
   -- by no event of such a part the file is read that has these bytes
-  record ReadsNot {A : Type 0} (part : Part A) : Type 0 where
-    never : {before after : Option ℕ} (events : List Event) {result : _} → part before events result after → ¬ IsReadTrust events file
+  abbrev Unread : List Event → Type 0
+  Unread events = ¬ IsReadTrust events file
+
+  abbrev ReadsNot : {A : Type 0} → Part A → Type 0
+  ReadsNot part = Within part (Does Unread)
 
   -- where it is read by a part, that is refused as Not trusted
-  record Heeds {A : Type 0} (part : Part A) : Type 0 where
-    fine : {before after : Option ℕ} (events : List Event) (value : A) → part before events (Ok value) after → ¬ IsReadTrust events file
-    denies : {before after : Option ℕ} (events : List Event) {why : _} → part before events (Err why) after → IsReadTrust events file → refusal_line why ≡ Some (failed code.NotTrusted)
+  abbrev HeedLaw : {A : Type 0} → Part A
+  HeedLaw before events result after = IsReadTrust events file → IsDenial result
+
+  abbrev Heeds : {A : Type 0} → Part A → Type 0
+  Heeds part = Within part HeedLaw
 
   by_never : {A : Type 0} {part : Part A} → ReadsNot part → Heeds part
-  by_never reads = record { fine = λ events value does is_read. reads.never events does is_read; denies = λ events does is_read. absurd (reads.never events does is_read) }
+  by_never = weaker (record { of = λ before events result after never is_read. absurd (never is_read) })
 
-  none_read : ¬ IsReadTrust [] file
+  none_read : Unread []
   none_read (read_trust is has) = elim has [ ]
 
-  returns_never : {A : Type 0} (value : A) → ReadsNot (Returns value)
-  returns_never value = record { never = none_of }
-    where
-      none_of : {before after : Option ℕ} (events : List Event) {result : _} → Returns value before events result after → ¬ IsReadTrust events file
-      none_of events chain.returns is_read = none_read is_read
+  heeds_nothing : {A : Type 0} → OfNothing {A = A} HeedLaw
+  heeds_nothing = record { of = λ held result is_read. absurd (none_read is_read) }
 
-  refuses_never : {A : Type 0} {why : _} → ReadsNot (Refuses {A = A} why)
-  refuses_never {A} {why} = record { never = none_of }
-    where
-      none_of : {before after : Option ℕ} (events : List Event) {result : _} → Refuses {A = A} why before events result after → ¬ IsReadTrust events file
-      none_of events chain.refuses is_read = none_read is_read
+  refuses_heeds : {A : Type 0} {why : Refusal} → Heeds (Refuses {A = A} why)
+  refuses_heeds {why} = refused heeds_nothing why
 
-  seats_never : ReadsNot (Seats (Seat None None))
-  seats_never = record { never = none_of }
-    where
-      none_of : {before after : Option ℕ} (events : List Event) {result : _} → Seats (Seat None None) before events result after → ¬ IsReadTrust events file
-      none_of events taken.opened (read_trust is (later has)) = elim has [ ]
-      none_of events (taken.interrupted why) (read_trust is (later has)) = elim has [ ]
+  -- an event by which it isn't read
+  abbrev IsUnread : Event → Type 0
+  IsUnread event = Unread (event ∷ [])
+
+  none_among : (events : List Event) → AllByRecursion IsUnread events → Unread events
+  none_among [] each is_read = none_read is_read
+  none_among (event ∷ more) each is_read = elim (split_read (event ∷ []) more is_read) [ inl before ↦ each.0 before | inr behind_it ↦ none_among more each.1 behind_it ]
+
+  each_unread : {A : Type 0} {part : Part A} → EachSo IsUnread part → ReadsNot part
+  each_unread = weaker (record { of = λ before events result after each. none_among events each })
+
+  beside_unread : (event : Event) → IsBesideTrust event → IsUnread event
+  beside_unread event beside (read_trust found has) = none_called (event ∷ []) (beside, tt) has
 
   agrees_never : (rules : Rules) (options : OptionValues) (question : List ℕ) → ReadsNot (AgreesTo session_lines rules options question)
-  agrees_never rules options question = record { never = none_of }
-    where
-      none_of : {before after : Option ℕ} (events : List Event) {result : _} → AgreesTo session_lines rules options question before events result after → ¬ IsReadTrust events file
-      none_of events (consent.consents spec is prompt) (read_trust found has) = none_called events (shown_so IsBesideTrust (λ event is. is) prompt.in_session) has
-      none_of events (consent.refused spec is prompt refusal) (read_trust found has) = none_called events (shown_so IsBesideTrust (λ event is. is) prompt.in_session) has
+  agrees_never rules options question = each_unread (agrees_to IsUnread (λ event still. beside_unread event (still_beside event still)) (λ event. beside_unread _ tt) rules options question)
 
-  adds_never : (old : List ℕ) (flag : ℕ) → ReadsNot (AddsEntry old fingerprint flag)
-  adds_never old flag = record { never = none_of }
-    where
-      none_of : {before after : Option ℕ} (events : List Event) {result : _} → AddsEntry old fingerprint flag before events result after → ¬ IsReadTrust events file
-      none_of events (parts.added fits) is_read = none_read is_read
-      none_of events (parts.too_long long) is_read = none_read is_read
-      none_of events parts.no_memory (read_trust is (later has)) = elim has [ ]
-
-  replaces_never : (new : List ℕ) → ReadsNot (Replaces new)
-  replaces_never new = record { never = none_of }
-    where
-      none_of : {before after : Option ℕ} (events : List Event) {result : _} → Replaces new before events result after → ¬ IsReadTrust events file
-      none_of events parts.replaced (read_trust is (later has)) = elim has [ ]
-      none_of events parts.faulted (read_trust is (later has)) = elim has [ ]
-      none_of events parts.no_memory (read_trust is (later has)) = elim has [ ]
+  replaces_of : (new : List ℕ) (before : Option ℕ) (events : List Event) (result : Result (Unit {0}) Refusal) (after : Option ℕ) → Replaces new before events result after → Unread events
+  replaces_of new _ _ _ _ parts.replaced (read_trust is (later has)) = elim has [ ]
+  replaces_of new _ _ _ _ parts.faulted (read_trust is (later has)) = elim has [ ]
+  replaces_of new _ _ _ _ parts.no_memory (read_trust is (later has)) = elim has [ ]
 
   -- a part that doesn't read, and then one that heeds what it reads
-  module _ {A B : Type 0} {part : Part A} {next : A → Part B} (reads : ReadsNot part) (heeds : (value : A) → Heeds (next value)) where
-    behind : Heeds (part >>= next)
-    behind = record { fine = is_fine; denies = is_denied }
-      where
-        is_fine : {before after : Option ℕ} (events : List Event) (value : B) → Follows part next before events (Ok value) after → ¬ IsReadTrust events file
-        is_fine _ value (chain.goes_on {first} {events = more} {value = mid} does next_does) is_read =
-            elim (split_read first more is_read) [ inl before ↦ reads.never first does before | inr later_read ↦ (heeds mid).fine more value next_does later_read ]
+  unread_joins : {A B : Type 0} → Joins {A = A} {B = B} (Does Unread) (λ value. HeedLaw) HeedLaw
+  unread_joins = record {
+    then = λ some more never heeds is_read. elim (split_read some more is_read) [ inl before ↦ absurd (never before) | inr behind_it ↦ heeds behind_it ];
+    alone = λ never is_read. absurd (never is_read);
+  }
 
-        is_denied : {before after : Option ℕ} (events : List Event) {why : _} → Follows part next before events (Err why) after → IsReadTrust events file → refusal_line why ≡ Some (failed code.NotTrusted)
-        is_denied _ (chain.goes_on {first} {events = more} {value = mid} does next_does) is_read =
-            elim (split_read first more is_read) [ inl before ↦ absurd (reads.never first does before) | inr later_read ↦ (heeds mid).denies more next_does later_read ]
-        is_denied events (chain.stops does) is_read = absurd (reads.never events does is_read)
-
-  -- a part that comes to nothing else than Not trusted
-  record Denies {A : Type 0} (part : Part A) : Type 0 where
-    never : {before after : Option ℕ} (events : List Event) (value : A) → part before events (Ok value) after → ⊥
-    denial_is_said : {before after : Option ℕ} (events : List Event) {why : _} → part before events (Err why) after → refusal_line why ≡ Some (failed code.NotTrusted)
-
-  denies_refused : {A : Type 0} {why : _} → refusal_line why ≡ Some (failed code.NotTrusted) → Denies (Refuses {A = A} why)
-  denies_refused {A} {why} is = record { never = never_ok; denial_is_said = is_denied }
-    where
-      comes_to : {before after : Option ℕ} {events : List Event} {result : _} → Refuses {A = A} why before events result after → result ≡ Err why
-      comes_to chain.refuses = refl
-
-      never_ok : {before after : Option ℕ} (events : List Event) (value : A) → Refuses {A = A} why before events (Ok value) after → ⊥
-      never_ok events value does = absurd (cc (comes_to does))
-
-      is_denied : {before after : Option ℕ} (events : List Event) {other : _} → Refuses {A = A} why before events (Err other) after → refusal_line other ≡ Some (failed code.NotTrusted)
-      is_denied events chain.refuses = is
-
-  unless_heeds : (said : Option Bool) (other : Part (Unit {0})) → Heeds other → Heeds (unless_said said other)
-  unless_heeds (Some true) other heeds = by_never (returns_never tt)
-  unless_heeds (Some false) other heeds = by_never refuses_never
-  unless_heeds None other heeds = heeds
+  behind : {A B : Type 0} {part : Part A} {next : A → Part B} → ReadsNot part → ((value : A) → Heeds (next value)) → Heeds (part >>= next)
+  behind = bind unread_joins
 
   -- a read, by which the request is decided where the file says something
   module _ (bad : ¬ (trust file fingerprint.0 ≡ Some true)) (otherwise : List ℕ → Part (Unit {0})) (heeds : (other : List ℕ) → Heeds (otherwise other))
@@ -157,35 +130,34 @@ module _ (fingerprint : Grip) (file : List ℕ) where
     abbrev Decided : List ℕ → Part (Unit {0})
     Decided other = unless_said (trust other fingerprint.0) (otherwise other)
 
+    unless_heeds : (said : Option Bool) (other : Part (Unit {0})) → Heeds other → Heeds (unless_said said other)
+    unless_heeds (Some true) other heeds_so = returned heeds_nothing tt
+    unless_heeds (Some false) other heeds_so = refuses_heeds
+    unless_heeds None other heeds_so = heeds_so
+
     unless_denies : (said : Option Bool) → trust file fingerprint.0 ≡ said → Denies (unless_said said (otherwise file))
     unless_denies (Some true) is = absurd (bad is)
     unless_denies (Some false) is = denies_refused refl
     unless_denies None is = denies_too is
 
     decides : Heeds (ReadsFile >>= Decided)
-    decides = record { fine = is_fine; denies = is_denied }
+    decides = record { of = decides_of }
       where
-        is_fine : {before after : Option ℕ} (events : List Event) (value : Unit {0}) → Follows ReadsFile Decided before events (Ok value) after → ¬ IsReadTrust events file
-        is_fine {before} {after} _ value (chain.goes_on {events = more} (parts.has_read {file = other} is) does) (read_trust found here) =
-            let same : other ≡ file = cc in (unless_denies (trust file fingerprint.0) refl).never more value (subst (λ o. Decided o before more (Ok value) after) same does)
-        is_fine _ value (chain.goes_on {events = more} (parts.has_read {file = other} is) does) (read_trust {answer} found (later has)) =
-            (unless_heeds (trust other fingerprint.0) (otherwise other) (heeds other)).fine more value does (read_trust {answer = answer} found has)
-
-        is_denied : {before after : Option ℕ} (events : List Event) {why : _} → Follows ReadsFile Decided before events (Err why) after → IsReadTrust events file → refusal_line why ≡ Some (failed code.NotTrusted)
-        is_denied {before} {after} _ {why} (chain.goes_on {events = more} (parts.has_read {file = other} is) does) (read_trust found here) =
-            let same : other ≡ file = cc in (unless_denies (trust file fingerprint.0) refl).denial_is_said more (subst (λ o. Decided o before more (Err why) after) same does)
-        is_denied _ (chain.goes_on {events = more} (parts.has_read {file = other} is) does) (read_trust {answer} found (later has)) =
-            (unless_heeds (trust other fingerprint.0) (otherwise other) (heeds other)).denies more does (read_trust {answer = answer} found has)
-        is_denied _ (chain.stops parts.faulted) (read_trust found here) = absurd (cc found)
-        is_denied _ (chain.stops parts.faulted) (read_trust found (later has)) = elim has [ ]
-        is_denied _ (chain.stops parts.no_memory) (read_trust found here) = absurd (cc found)
-        is_denied _ (chain.stops parts.no_memory) (read_trust found (later has)) = elim has [ ]
+        decides_of : (before : Option ℕ) (events : List Event) (result : Result (Unit {0}) Refusal) (after : Option ℕ) → Follows ReadsFile Decided before events result after → IsReadTrust events file → IsDenial result
+        decides_of before _ result after (chain.goes_on {events = more} (parts.has_read {file = other} is) does) (read_trust found here) =
+            let same : other ≡ file = cc in (unless_denies (trust file fingerprint.0) refl).of before more result after (subst (λ o. Decided o before more result after) same does)
+        decides_of before _ result after (chain.goes_on {events = more} (parts.has_read {file = other} is) does) (read_trust {answer} found (later has)) =
+            (unless_heeds (trust other fingerprint.0) (otherwise other) (heeds other)).of before more result after does (read_trust {answer = answer} found has)
+        decides_of _ _ _ _ (chain.stops parts.faulted) (read_trust found here) = absurd (cc found)
+        decides_of _ _ _ _ (chain.stops parts.faulted) (read_trust found (later has)) = elim has [ ]
+        decides_of _ _ _ _ (chain.stops parts.no_memory) (read_trust found here) = absurd (cc found)
+        decides_of _ _ _ _ (chain.stops parts.no_memory) (read_trust found (later has)) = elim has [ ]
 
   -- ---- whole requests
 
   asked_heeds : ¬ (trust file fingerprint.0 ≡ Some true) → Heeds (TrustedNow fingerprint)
   unfolding TrustedNow
-  asked_heeds bad = decides bad _ (λ other. by_never refuses_never) (λ none. denies_refused refl)
+  asked_heeds bad = decides bad _ (λ other. refuses_heeds) (λ none. denies_refused refl)
 
   module _ (rules : Rules) (options : OptionValues) (purpose : TrustPurpose) (name : List ℕ) (bad : trust file fingerprint.0 ≡ Some false) where
     not_true : ¬ (trust file fingerprint.0 ≡ Some true)
@@ -193,7 +165,7 @@ module _ (fingerprint : Grip) (file : List ℕ) where
 
     stores_heeds : (old : List ℕ) → Heeds (Stores fingerprint purpose old)
     unfolding Stores
-    stores_heeds old = behind (adds_never old (flag_of purpose)) (λ new. by_never (replaces_never new))
+    stores_heeds old = behind (each_unread (each_adds IsUnread (beside_unread out_of_memory tt) old fingerprint (flag_of purpose))) (λ new. by_never (record { of = replaces_of new }))
 
     unsaid_heeds : Heeds (StoresUnsaid fingerprint purpose)
     unfolding StoresUnsaid
@@ -204,10 +176,10 @@ module _ (fingerprint : Grip) (file : List ℕ) where
     consented_heeds = behind (agrees_never rules options (trust_question name)) (λ trusted. behind (agrees_never rules options (fingerprint_question fingerprint name)) (λ right. unsaid_heeds))
 
     prompt_heeds : (way : PinMode) → Heeds (asked_in rules options fingerprint purpose name way)
-    prompt_heeds mode.Ask = behind seats_never (λ seated. consented_heeds)
-    prompt_heeds mode.Cancel = by_never refuses_never
-    prompt_heeds mode.Error = by_never refuses_never
-    prompt_heeds mode.Loopback = by_never refuses_never
+    prompt_heeds mode.Ask = behind (each_unread (each_seats IsUnread (λ turn. beside_unread _ tt))) (λ seated. consented_heeds)
+    prompt_heeds mode.Cancel = refuses_heeds
+    prompt_heeds mode.Error = refuses_heeds
+    prompt_heeds mode.Loopback = refuses_heeds
 
     marked_heeds : Heeds (Marked rules options fingerprint purpose name)
     unfolding Marked
@@ -234,8 +206,8 @@ none_behind events line (taken.closed turn) is_read =
 module _ (rules : Rules) (options : OptionValues) where
   told_heeded : (fingerprint : Grip) (file : List ℕ) (request : TrustRequest) → Heeds fingerprint file (Carried rules options request) → {events : List Event} {went : Went}
       → Told rules options request events went → IsReadTrust events file → HasError code.NotTrusted Agent events
-  told_heeded fingerprint file request heeds (answered events back does closes) is_read = absurd (heeds.fine events tt does (none_behind events (Some ok) closes is_read))
-  told_heeded fingerprint file request heeds (refused events back why does closes) is_read = refused_last events back (heeds.denies events does (none_behind events (refusal_line why) closes is_read))
+  told_heeded fingerprint file request heeds (answered events back does closes) is_read = absurd (heeds.of None events (Ok tt) _ does (none_behind events (Some ok) closes is_read))
+  told_heeded fingerprint file request heeds (refused_then events back why does closes) is_read = refused_last events back (heeds.of None events (Err why) _ does (none_behind events (refusal_line why) closes is_read))
 
   heeded : (fingerprint : Grip) (file : List ℕ) (request : TrustRequest) → Heeds fingerprint file (Carried rules options request) → {events : List Event} {went : Went}
       → TrustExchange rules options request events went → IsReadTrust events file → HasError code.NotTrusted Agent events

@@ -37,10 +37,8 @@ use Rattle.assuan_text.specs.Options.{arguments_of}
 use Rattle.assuan_text.specs.Words.{command_of, rest_of, words}
 use Rattle.key_commands.specs.Events.{Event}
 use Rattle.session_client.specs.Fields as fields
-use Rattle.key_commands.specs.Requests as requests
 use Rattle.key_commands.specs.Requests.{grip, first_grip}
 use Rattle.session_client.specs.Fields.{in_form}
-use Rattle.key_commands.proofs.EachEvent.{each_append}
 use Rattle.session_client.specs.Asking.{gone_of}
 use Rattle.session_client.specs.declared.refusal.Refusal.{Refusal}
 use Rattle.session_client.specs.declared.refusal.Refusal.TheVariants as refusals
@@ -54,8 +52,6 @@ use Rattle.session_options.specs.declared.rules.Rules.{Rules}
 use Rattle.trust_list.specs.Trust.{trust, with_entry}
 use Rattle.trust_list.specs.declared.TheConstants.{MAX_TRUST_FILE_LEN}
 use Rattle.agent_origin.specs.TrustExchanges.{flag_of, trust_question, fingerprint_question, unless_said, TrustedNow, Stores, StoresUnsaid, Consented, asked_in, Marked, Carried, TrustExchange}
-use Rattle.agent_ask.specs.PartExchanges as part_exchanges
-use Rattle.agent_origin.specs.TrustExchanges as trusts
 use Rattle.agent_ask.specs.ConsentParts.{consent_refusal}
 use Rattle.agent_ask.specs.ConsentParts as consent
 use Rattle.agent_ask.specs.TurnParts.{Seats}

@@ -1,5 +1,5 @@
 -- An exchange on the trust list by what its request came to: its work, the return of a ticket that it still holds, and its line.
-use Rattle.std.proofs.Common.{◌≡◌, ℕ, List, [], ◌∷◌, ◌++◌, Option, None, Result, Ok, Err, sym, subst, append-nil}
+use Rattle.std.proofs.Common.{ℕ, List, [], ◌∷◌, ◌++◌, Option, None, Ok, Err, sym, subst, append-nil}
 use Rattle.agent_ask.specs.PartExchanges.{AnyExchange}
 use Rattle.agent_ask.specs.PartExchanges as exchange
 use Rattle.agent_ask.specs.Parts.{goes_on, stops, returns}

@@ -1,7 +1,8 @@
 -- Worked examples: exchanges in which a cause stands, and their answers.
 use Rattle.std.specs.List.{AllByRecursion}
-use Rattle.std.proofs.Common.{◌≡◌, ◌<◌, ◌⊎◌, ◌∙◌, ◌++◌, ℕ, Bool, true, false, List, [], ◌∷◌, length, codes, Option, Some, None, Ok, refl, sym, ap, subst, inl, inr}
+use Rattle.std.proofs.Common.{◌≡◌, ◌<◌, ◌≤◌, ◌⊎◌, ◌∙◌, ◌++◌, ℕ, Bool, true, false, List, [], ◌∷◌, length, take, drop, codes, Option, Some, None, Ok, refl, sym, ap, subst, inl, inr}
 use Rattle.arrayvec.specs.ArrayVec.{ArrayVec}
+use Rattle.agent_ask.specs.Answering.{whole}
 use Rattle.agent_ask.specs.Further.{Replaced}
 use Rattle.agent_ask.specs.SessionEvents.{Received, Sent, Inquiry, cache_turn}
 use Rattle.agent_ask.specs.ClientParts as client
@@ -27,16 +28,18 @@ use Rattle.session_client.specs.declared.code.Code.TheVariants as code
 use Rattle.assuan_server.specs.declared.errors.Origin.TheVariants.{Agent}
 use Rattle.assuan_text.specs.LineEnds.{line_of}
 use Rattle.assuan_text.specs.Words.{command_of}
-use Rattle.cache_policy.specs.Turns.{Empty}
+use Rattle.cache_policy.specs.Turns.{Empty, Given}
+use Rattle.cache_policy.specs.declared.grant.Grant.{Grant}
 use Rattle.cache_policy.specs.declared.life.Life.{Life}
 use Rattle.cache_policy.specs.declared.secret.TheConstants.{MAX_SECRET_LEN}
-use Rattle.key_commands.specs.Events.{Event, called, read}
-use Rattle.key_commands.specs.Exchanges.{KeyExchange, KeyInfoReplies, PasswdReplies}
-use Rattle.key_commands.specs.Exchanges as key_exchanges
-use Rattle.key_commands.specs.Files.{FileSays}
+use Rattle.key_commands.specs.Events.{Event, called, read, drew}
+use Rattle.key_commands.specs.Exchanges.{KeyExchange, KeyInfoReplies, PasswdReplies, RewritesFile}
+use Rattle.key_commands.specs.Files.{FileSays, IsWithList}
+use Rattle.key_commands.specs.Files as files
 use Rattle.key_commands.specs.KeyParts.{file_in}
 use Rattle.key_commands.specs.KeyParts as key_parts
-use Rattle.key_commands.specs.Passphrases.{old_by}
+use Rattle.key_commands.specs.Parts as small
+use Rattle.key_commands.specs.Passphrases.{old_by, ask_nonce}
 use Rattle.agent_ask.specs.Parts as chain
 use Rattle.agent_ask.specs.TurnParts as turning
 use Rattle.key_commands.specs.Requests.{key_request_of}
@@ -44,11 +47,13 @@ use Rattle.session_client.specs.declared.refusal.Refusal.TheVariants as refusals
 use Rattle.key_commands.specs.declared.request.KeyRequest.TheVariants as on
 use Rattle.key_commands.specs.declared.went.KeyWent.TheVariants as key_went
 use Rattle.key_commands.specs.declared.wrapping.TheConstants.{MAX_LIST_LEN}
-use Rattle.key_lines.specs.Canon.{Canon}
+use Rattle.key_lines.specs.Canon.{Canon, is_canonical}
+use Rattle.secret_file.specs.Protects.{ocb_protection, protected_file}
 use Rattle.session_client.specs.Asking.{Asked}
 use Rattle.session_client.specs.declared.unheard.Gone.TheVariants as gone
 use Rattle.session_client.specs.declared.unheard.Unheard.TheVariants as unheard
 use Rattle.session_options.specs.declared.rules.Rules.{Rules}
+use Rattle.sexp_canonical.specs.Spelling.{most_bytes}
 use Rattle.sexp_keys.specs.Key.{Key}
 use Rattle.sexp_keys.specs.Lists.{key_list_of}
 use Rattle.agent_origin.specs.DoorSessions.{DoorExchange}
@@ -60,10 +65,10 @@ use Rattle.agent_origin.specs.declared.door.Door.{Door}
 use Rattle.agent_origin.specs.declared.kept.Kept.{Kept}
 use Rattle.agent_origin.specs.declared.trust.names.TrustCommandName.TheVariants as name
 use Rattle.agent_origin.specs.declared.trust.request.TrustRequest.TheVariants.{Bad}
-use Rattle.agent_session.specs.Causes.{Has, here, later, LacksKeys, empty, IsRead, opens, said}
+use Rattle.agent_session.specs.Causes.{Has, here, later, LacksKeys, empty, IsRead, IsReadOf, read_of, OpensRead, opens, protected, said}
 use Rattle.agent_session.specs.Causes as causes
 use Rattle.agent_session.specs.Completeness.{Remembers, HasError}
-use Rattle.agent_session.specs.Exactly.{on_trust, clear, long, HasLongList, EndsTooLong, at_inquiry}
+use Rattle.agent_session.specs.Exactly.{on_trust, clear, long, long_file, HasLongList, HasLongFile, EndsTooLong, at_inquiry}
 use Rattle.agent_session.proofs.Exact.{cause_answered}
 use Rattle.agent_session.proofs.Exact.{door_cause}
 use Rattle.agent_session.proofs.ExactEnds.{end_told}
@@ -75,6 +80,17 @@ one_of_two : {event first second : Event} → Has event (first ∷ second ∷ []
 one_of_two here = inl refl
 one_of_two (later here) = inr refl
 one_of_two (later (later none)) = elim none [ ]
+
+one_of_four : {event first second third fourth : Event} → Has event (first ∷ second ∷ third ∷ fourth ∷ []) → (event ≡ first) ⊎ ((event ≡ second) ⊎ ((event ≡ third) ⊎ (event ≡ fourth)))
+one_of_four here = inl refl
+one_of_four (later here) = inr (inl refl)
+one_of_four (later (later here)) = inr (inr (inl refl))
+one_of_four (later (later (later here))) = inr (inr (inr refl))
+one_of_four (later (later (later (later none)))) = elim none [ ]
+
+-- the list of a clear key under this passphrase, by the bytes that were drawn for it
+abbrev list_under : Key → List ℕ → ℕ → List ℕ → List ℕ
+list_under key bytes count pass = protected_file key (ocb_protection key pass (take 8 bytes) (drop 8 bytes) count None) None
 
 found_recalls : (grip : Grip) (answer : KeyRead) {file : List ℕ} → file_in answer ≡ Some file → Remembers (read grip answer)
 found_recalls grip (key_read.Found bytes) found wants = wants
@@ -139,43 +155,97 @@ module _ (one_canon : (file : List ℕ) (a b : Option (List ℕ)) → Canon file
     out_of_form : {went : Went} → DoorExchange door rules kept line malformed kept went → HasError code.Parameter Agent malformed
     out_of_form exchanged = door_cause rules kept one_canon line door exchanged ((λ none. none), tt) code.Parameter (on_trust allows named is)
 
+  -- a clear key needs no passphrase
+  open_clear : (grip : Grip) (old : Option (List ℕ)) (key : Key) (clear : Bool) → clear ≡ true → old_by rules kept.options grip old key clear None [] (Ok (record { key = key; by = None })) None
+  open_clear grip old key true same = chain.returns
+  open_clear grip old key false same = absurd (cc same)
+
+  -- the file of a clear key, which is read once
+  module _ (grip : Grip) (answer : KeyRead) (file : List ℕ) (found : file_in answer ≡ Some file) (key : Key) (says : FileSays file (Ok key)) (clear_one : key.is_clear ≡ true) (events : List Event)
+      (read_once : (other : KeyRead) → Has (read grip other) events → other ≡ answer) where
+    same_bytes : (other : KeyRead) {bytes : List ℕ} → file_in other ≡ Some bytes → Has (read grip other) events → bytes ≡ file
+    same_bytes other {bytes} found_too has = let both : Some bytes ≡ Some file = sym found_too ∙ ap file_in (read_once other has) ∙ found in cc both
+
+    same_file : {other : List ℕ} → IsReadOf events grip other → other ≡ file
+    same_file (read_of {answer = other} found_too has) = same_bytes other found_too has
+
+    same_key : {other : Key} → IsRead events grip (Ok other) → other ≡ key
+    same_key {other} (causes.read {file = bytes} found_too says_too has) =
+        let one : Ok other ≡ Ok key = one_says one_canon file (Ok other) (Ok key) (subst (λ b. FileSays b (Ok other)) (same_bytes _ found_too has) says_too) says in
+        cc one
+
+    opens_alone : {other : Key} → OpensRead events grip other → other ≡ key
+    opens_alone (causes.is_clear is_read clear_too) = same_key is_read
+    opens_alone (opens {locked} is_locked to) =
+        let shut = is_locked.protection.protected in
+        let open_key : locked.key.is_clear ≡ true = ap (λ (k : Key). k.is_clear) (same_key is_locked.key) ∙ clear_one in
+        absurd (cc (shut, open_key))
+
   -- PASSWD of a clear key whose list is too long
-  module _ (line : ArrayVec ℕ) (grip : Grip) (old new : Option (List ℕ)) (is : key_request_of line.items ≡ on.Passwd grip old new false) (answer : KeyRead) (file : List ℕ) (found : file_in answer ≡ Some file) (key : Key) (says : FileSays file (Ok key))
+  module _ (line : ArrayVec ℕ) (grip : Grip) (old new : Option (List ℕ)) (is : key_request_of line.items ≡ on.Passwd grip old new false) (answer : KeyRead) (file : List ℕ) (found : file_in answer ≡ Some file)
+      (key : Key) (says : FileSays file (Ok key))
       (clear_one : key.is_clear ≡ true) (much : MAX_LIST_LEN < length (key_list_of key)) where
     abbrev too_long_key : List Event
     too_long_key = read grip answer ∷ Sent (failed code.BadSecKey) ∷ []
-
-    open_clear : (clear : Bool) → clear ≡ true → old_by rules kept.options grip old key clear None [] (Ok (record { key = key; by = None })) None
-    open_clear true same = chain.returns
-    open_clear false same = absurd (cc same)
 
     long_run : KeyExchange rules kept.options kept.wraps (on.Passwd grip old new false) too_long_key kept.wraps key_went.On
     unfolding PasswdReplies
     long_run =
         exchanges.refused (read grip answer ∷ []) None (refusals.Agent code.BadSecKey)
-        (chain.goes_on (key_parts.is_key found says) (chain.goes_on {first = []} (open_clear key.is_clear clear_one) (chain.stops (chain.stops (key_parts.long much))))) turning.unheld
+        (chain.goes_on (key_parts.is_key found says) (chain.goes_on {first = []} (open_clear grip old key key.is_clear clear_one) (chain.stops (chain.stops (key_parts.long much))))) turning.unheld
 
-    same_answer : {other : KeyRead} → Has (read grip other) too_long_key → other ≡ answer
-    same_answer has = elim (one_of_two has) [ inl same ↦ cc same | inr same ↦ absurd (cc same) ]
-
-    same_key : {other : Key} → IsRead too_long_key grip (Ok other) → other ≡ key
-    same_key {other} (causes.read {file = bytes} found_too says_too has) =
-        let bytes_is : Some bytes ≡ Some file = sym found_too ∙ ap file_in (same_answer has) ∙ found in
-        let bytes_same : bytes ≡ file = cc in
-        let one : Ok other ≡ Ok key = one_says one_canon file (Ok other) (Ok key) (subst (λ b. FileSays b (Ok other)) bytes_same says_too) says in
-        cc one
+    same_answer : (other : KeyRead) → Has (read grip other) too_long_key → other ≡ answer
+    same_answer other has = elim (one_of_two has) [ inl same ↦ cc same | inr same ↦ absurd (cc same) ]
 
     all_long : HasLongList too_long_key grip
-    all_long other (causes.is_clear is_read clear_too) = subst (λ k. MAX_LIST_LEN < length (key_list_of k)) (sym (same_key is_read)) much
-    all_long other (opens {locked} is_locked to) =
-        let shut = is_locked.protection.protected in
-        let open_key : locked.key.is_clear ≡ true = ap (λ (k : Key). k.is_clear) (same_key is_locked.key) ∙ clear_one in
-        absurd (cc (shut, open_key))
+    all_long other opened = subst (λ k. MAX_LIST_LEN < length (key_list_of k)) (sym (opens_alone grip answer file found key says clear_one too_long_key same_answer opened)) much
 
     bad_secret_key : HasError code.BadSecKey Agent too_long_key
     bad_secret_key =
         cause_answered one_canon rules kept (OnKeys line) (keys (subst (λ a. KeyExchange rules kept.options kept.wraps a too_long_key kept.wraps key_went.On) (sym is) long_run)) (found_recalls grip answer found, ((λ none. none), tt))
-        code.BadSecKey (inr (long (ap (λ a. Some a) is) (clear (causes.read found says here) (λ other is_read. ap (λ (k : Key). k.is_clear) (same_key is_read) ∙ clear_one)) all_long))
+        code.BadSecKey
+        (inr (long (ap (λ a. Some a) is)
+        (clear (causes.read found says here) (λ other is_read. ap (λ (k : Key). k.is_clear) (same_key grip answer file found key says clear_one too_long_key same_answer is_read) ∙ clear_one)) all_long))
+
+  -- PASSWD of a clear key in an extended file, which is too long with the list of that key, whatever passphrase that is under
+  module _ (line : ArrayVec ℕ) (grip : Grip) (old : Option (List ℕ)) (fresh : List ℕ) (is : key_request_of line.items ≡ on.Passwd grip old (Some fresh) false) (answer : KeyRead) (file : List ℕ) (found : file_in answer ≡ Some file)
+      (key : Key) (says : FileSays file (Ok key)) (clear_one : key.is_clear ≡ true) (within : length (key_list_of key) ≤ MAX_LIST_LEN) (entry : Grant) (bytes : List ℕ) (twenty : length bytes ≡ 20) (extended : is_canonical file ≡ false)
+      (much : (pass changed : List ℕ) → IsWithList file (list_under key bytes kept.options.s2k_count pass) changed → most_bytes < length changed)
+      (made_file : List ℕ) (with_list : IsWithList file (list_under key bytes kept.options.s2k_count entry.entry.secret) made_file) where
+    abbrev too_long_file : List Event
+    too_long_file = read grip answer ∷ cache_turn (ask_nonce fresh) (Given entry) ∷ drew bytes ∷ Sent (failed code.BadSecKey) ∷ []
+
+    long_file_run : KeyExchange rules kept.options kept.wraps (on.Passwd grip old (Some fresh) false) too_long_file kept.wraps key_went.On
+    unfolding PasswdReplies RewritesFile
+    long_file_run =
+        exchanges.refused (read grip answer ∷ cache_turn (ask_nonce fresh) (Given entry) ∷ drew bytes ∷ []) None (refusals.Agent code.BadSecKey)
+        (chain.goes_on (key_parts.is_key found says)
+        (chain.goes_on {first = []} (open_clear grip old key key.is_clear clear_one)
+        (chain.stops
+        (chain.goes_on {first = []} {value = tt} {mid = None} (key_parts.short within)
+        (chain.goes_on {first = cache_turn (ask_nonce fresh) (Given entry) ∷ []} (chain.goes_on turning.given chain.returns)
+        (chain.goes_on (small.drawn twenty)
+        (chain.goes_on key_parts.made
+        (chain.stops (files.too_long made_file extended with_list (much entry.entry.secret made_file with_list)))))))))) turning.unheld
+
+    same_read : (other : KeyRead) → Has (read grip other) too_long_file → other ≡ answer
+    same_read other has = elim (one_of_four has) [ inl same ↦ cc same | inr (inl same) ↦ absurd (cc same) | inr (inr (inl same)) ↦ absurd (cc same) | inr (inr (inr same)) ↦ absurd (cc same) ]
+
+    same_draw : {other : List ℕ} → Has (drew other) too_long_file → other ≡ bytes
+    same_draw has = elim (one_of_four has) [ inl same ↦ absurd (cc same) | inr (inl same) ↦ absurd (cc same) | inr (inr (inl same)) ↦ cc same | inr (inr (inr same)) ↦ absurd (cc same) ]
+
+    all_long_files : HasLongFile too_long_file grip kept.options.s2k_count
+    all_long_files other another pass list is_read opened (protected {drawn} is_drawn list_is) =
+        let file_is = same_file grip answer file found key says clear_one too_long_file same_read is_read in
+        let key_is = opens_alone grip answer file found key says clear_one too_long_file same_read opened in
+        let draw_is : drawn ≡ bytes = same_draw is_drawn.has in
+        (ap is_canonical file_is ∙ extended, λ changed has_list. much pass changed (rw (sym key_is, sym draw_is, sym file_is, sym list_is) has_list))
+
+    bad_secret_file : HasError code.BadSecKey Agent too_long_file
+    bad_secret_file =
+        cause_answered one_canon rules kept (OnKeys line) (keys (subst (λ a. KeyExchange rules kept.options kept.wraps a too_long_file kept.wraps key_went.On) (sym is) long_file_run))
+        (found_recalls grip answer found, ((λ e. absurd (cc e)), ((λ none. none), ((λ none. none), tt)))) code.BadSecKey
+        (inr (long_file (ap (λ a. Some a) is) (record { long = twenty; has = later (later here) }) all_long_files))
 
   -- ---- sessions
 
@@ -197,7 +267,7 @@ module _ (one_canon : (file : List ℕ) (a b : Option (List ℕ)) → Canon file
     ends_so : EndsTooLong in_session ends.TooLong
     ends_so =
         long_session (session_long (allowing id life)) {before = kept}
-        (talks.greeted (talks.over line (talks.whole (exchange_caused (allowing id life) kept line (λ grip file has. never_replaced has)
+        (talks.greeted (talks.over line (whole (exchange_caused (allowing id life) kept line (λ grip file has. never_replaced has)
         (subst (λ r. RequestExchange (allowing id life) kept r (long_lines id life ++ Sent (failed code.LineTooLong) ∷ []) kept (End ends.TooLong)) (sym is) (cache (long_exchange id life)))))))
       where
         never_replaced : {grip : Grip} {file : List ℕ} → Has (called (Replaced grip file key_done.Absent)) (long_lines id life ++ Sent (failed code.LineTooLong) ∷ []) → ⊥

@@ -1,8 +1,7 @@
 -- Failures at a session's link, counted: a read that failed behind the greeting, and an inquiry whose line couldn't be written.
 use Rattle.std.specs.List.{count_by}
 use Rattle.std.specs.Prelude.{codes}
-use Rattle.std.proofs.Common.{◌≡◌, ℕ, List, [], ◌∷◌, refl}
-use Rattle.agent_ask.specs.Further.{FurtherEvent}
+use Rattle.std.proofs.Common.{◌≡◌, List, [], ◌∷◌, refl}
 use Rattle.agent_ask.specs.LinkFaults.{fails_at_input, fails_at_output}
 use Rattle.agent_ask.specs.SessionEvents.{Received, Sent, Inquiry}
 use Rattle.assuan_line.specs.declared.reader.Took.TheVariants.{Line, ReadFault}

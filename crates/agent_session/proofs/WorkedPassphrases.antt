@@ -2,6 +2,7 @@
 use Rattle.std.specs.Prelude.{⊤, take, drop}
 use Rattle.arrayvec.specs.ArrayVec.{ArrayVec}
 use Rattle.std.proofs.Common.{◌≡◌, ◌≤◌, ℕ, false, true, List, [], ◌∷◌, ◌++◌, length, Some, None, Ok, Err, refl, sym, ap, subst, arith, codes}
+use Rattle.agent_ask.specs.Answering.{whole}
 use Rattle.agent_ask.specs.Events.{PromptEvent, Start, GetPin, Shut, Called}
 use Rattle.agent_ask.specs.Further.{FurtherEvent, Prompt, Replaced}
 use Rattle.agent_ask.specs.Plans.{IsSpec, plan_of}
@@ -43,7 +44,7 @@ use Rattle.agent_commands.specs.Exchanges.{CacheExchange, Presets, put, reply}
 use Rattle.agent_commands.specs.Passphrases.{ask_or_open, ByUser, as_wanted}
 use Rattle.agent_commands.specs.Passphrases as passphrases
 use Rattle.agent_commands.specs.Requests.{GetFields, get_passphrase, request_of}
-use Rattle.agent_commands.specs.Talks.{Session, whole, greeted}
+use Rattle.agent_commands.specs.Talks.{Session, greeted}
 use Rattle.agent_commands.specs.Talks as talks
 use Rattle.agent_commands.specs.declared.request.CacheCommand.TheVariants.{PresetPassphrase}
 use Rattle.agent_commands.specs.declared.request.Request.{Request}
@@ -51,15 +52,14 @@ use Rattle.agent_commands.specs.declared.request.Request.TheVariants.{Cache, Key
 use Rattle.agent_commands.specs.declared.request.Texts.{Texts}
 use Rattle.agent_commands.specs.declared.went.SessionEnd.TheVariants.{Ended}
 use Rattle.agent_commands.specs.declared.went.Went.TheVariants.{On}
+use Rattle.key_commands.specs.Lines.{max_key_data}
 use Rattle.key_commands.specs.Events.{drew, called}
-use Rattle.key_commands.specs.Exchanges as key_exchange
 use Rattle.key_commands.specs.Exchanges.{KeyExchange, KeyWrapReplies, ImportKeyReplies, key_reply, wrap_key, with_wrap_key}
 use Rattle.key_commands.specs.Parts.{Draws}
 use Rattle.key_commands.specs.Requests.{key_request_of}
 use Rattle.key_commands.specs.declared.request.Direction.{Direction}
 use Rattle.key_commands.specs.declared.went.KeyWent.TheVariants as key_went
 use Rattle.key_commands.specs.KeyParts as parts
-use Rattle.key_commands.specs.KeyParts.{max_key_data}
 use Rattle.assuan_server.specs.Written.{limit_line, IsDataAnswer}
 use Rattle.agent_ask.specs.Interrupts as interrupts
 use Rattle.agent_ask.specs.TurnParts as turning

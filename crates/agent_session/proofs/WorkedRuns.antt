@@ -1,6 +1,7 @@
 -- Worked examples: a session with the one request NOP, of whose exchange the laws hold.
 use Rattle.std.proofs.Common.{◌≡◌, List, [], ◌∷◌, None, refl, sym, subst}
 use Rattle.std.specs.Prelude.{⊤, codes}
+use Rattle.agent_ask.specs.Answering as answering
 use Rattle.agent_ask.specs.Events.{Call}
 use Rattle.agent_ask.specs.PartExchanges as whole
 use Rattle.agent_ask.specs.Parts.{returns}
@@ -62,7 +63,7 @@ module _ (rules : Rules) (kept : Kept) (supply : Supply) (desk : AtDesk) (prompt
   nop = subst (λ (r : Request). RequestExchange rules kept r (Sent ok ∷ []) kept On) (sym nop_line) (cache (whole.answered [] None _ returns unheld))
 
   session : Session (SessionExchange rules) kept events Ended
-  session = talks.greeted (talks.goes_on (codes "NOP") (talks.whole nop) talks.ended)
+  session = talks.greeted (talks.goes_on (codes "NOP") (answering.whole nop) talks.ended)
 
   leads : Leads (Does (FurtherWorld no_turn no_call) supply) at events at
   leads = one worlds.sent (one (worlds.received {input = None} {source = None} tt tt) (one worlds.sent (one (worlds.received {input = None} {source = None} tt tt) none)))

@@ -1,15 +1,16 @@
 -- The one form of what is done for a request: each event goes on, but a last one by which the request is refused or its client is gone. It is so of nothing, of a
 -- part and what follows on its value, and of the smallest parts of a request.
 use Rattle.std.specs.List.{AllByRecursion}
-use Rattle.std.proofs.Common.{codes, ◌≡◌, ◌≢◌, ℕ, Bool, true, false, List, [], ◌∷◌, ◌++◌, Option, Some, None, Result, Ok, Err, refl, sym, ap, ◌∙◌, subst, append_assoc, append-nil}
+use Rattle.std.proofs.Common.{codes, ◌≡◌, ◌≢◌, ℕ, Bool, List, [], ◌∷◌, ◌++◌, Option, Some, None, Result, Ok, Err, refl, sym, ap, ◌∙◌, subst, append_assoc, append-nil}
 use Rattle.agent_ask.specs.ClientParts.{Writes, Inquires, AsksClient}
 use Rattle.agent_ask.specs.ClientParts as client
 use Rattle.agent_ask.specs.Events.{Called, Shut}
 use Rattle.agent_ask.specs.Further.{Listed, Replaced, Dice, Draw, Prompt}
 use Rattle.agent_ask.specs.Interrupts.{Interrupts}
 use Rattle.agent_ask.specs.Interrupts as turns
-use Rattle.agent_ask.specs.Parts.{◌>>=◌, Follows, goes_on, stops, Returns, returns, Refuses, needed, or_else, unless, wanted}
-use Rattle.agent_ask.specs.Parts as chain
+use Rattle.agent_ask.specs.Parts.{◌>>=◌, Returns, Refuses, needed, or_else, unless, wanted}
+use Rattle.agent_ask.proofs.Within.{Within, Joins, OfNothing}
+use Rattle.agent_ask.proofs.Within as within
 use Rattle.agent_ask.specs.SessionEvents.{Received, Sent, Cut, Inquiry, CacheTurn, Further, cache_turn}
 use Rattle.agent_ask.specs.TurnParts.{Asks, Seats, Changes, Peeks, Closes}
 use Rattle.agent_ask.specs.TurnParts as taken
@@ -37,12 +38,12 @@ use Rattle.session_client.specs.declared.unheard.Gone.TheVariants as gone
 use Rattle.session_client.specs.declared.unheard.Unheard.{Unheard}
 use Rattle.session_client.specs.declared.unheard.Unheard.TheVariants as unheard
 use Rattle.sexp_keys.specs.Key.{Key}
+use Rattle.key_commands.specs.Lines.{max_key_data}
 use Rattle.key_commands.specs.Events.{Event, called, read, out_of_memory}
 use Rattle.key_commands.specs.Files.{Rewrites}
 use Rattle.key_commands.specs.Files as files
-use Rattle.key_commands.specs.KeyParts.{Tells, tells, ReadsFile, Replaces, KeepsNew, Protects, IsShort, ListsGrips, ReadsListed, max_key_data, AsksKeyData, Unwraps, NamesKey, LooksOver, WrapsKey, file_in, grips_in, change_fault}
+use Rattle.key_commands.specs.KeyParts.{Tells, tells, ReadsFile, Replaces, KeepsNew, Protects, IsShort, ListsGrips, ReadsListed, AsksKeyData, Unwraps, NamesKey, LooksOver, WrapsKey, file_in, grips_in, change_fault}
 use Rattle.key_commands.specs.KeyParts as parts
-use Rattle.assuan_server.specs.Written.{limit_line}
 use Rattle.key_commands.specs.Parts.{Part, Finds, Draws, read_fault}
 use Rattle.key_commands.specs.Parts as small
 use Rattle.key_commands.specs.Passphrases.{LooksForNonce, TakesSeat, Locks, TriesPassphrase, TriesFound, ask_nonce, put_key, seat_for}
@@ -160,8 +161,11 @@ module _ (Fits : Event → Type 0) where
 
   -- ---- parts
 
-  pub record WorksSo {A : Type 0} (part : Part A) : Type 0 where
-    pub of : {before after : Option ℕ} {events : List Event} {result : Result A Refusal} → part before events result after → WorksTo events result
+  abbrev pub WorkLaw : {A : Type 0} → Part A
+  WorkLaw before events result after = WorksTo events result
+
+  abbrev pub WorksSo : {A : Type 0} → Part A → Type 0
+  WorksSo part = Within part WorkLaw
 
   -- one that leaves the ticket, too
   abbrev pub Kept : {A : Type 0} → Option ℕ → List Event → Result A Refusal → Option ℕ → Type 0
@@ -171,45 +175,34 @@ module _ (Fits : Event → Type 0) where
   Keeps {A} part = (before : Option ℕ) (events : List Event) (result : Result A Refusal) (after : Option ℕ) → part before events result after → Kept before events result after
 
   pub keeps_works : {A : Type 0} {part : Part A} → Keeps part → WorksSo part
-  keeps_works keeps = record { of = λ {before} {after} {events} {result} does. (keeps before events result after does).0 }
+  keeps_works keeps = record { of = λ before events result after does. (keeps before events result after does).0 }
 
-  -- a part, and then what follows on its value
-  module _ {A B : Type 0} {part : Part A} {next : A → Part B} (first : WorksSo part) (then : (value : A) → WorksSo (next value)) where
-    bind_of : {before after : Option ℕ} {events : List Event} {result : Result B Refusal} → Follows part next before events result after → WorksTo events result
-    bind_of (goes_on {first = some} {value} does next_does) = behind_work some (ok_works (first.of does)) ((then value).of next_does)
-    bind_of (stops does) = err_works (first.of does)
+  works_join : {A B : Type 0} → Joins {A = A} {B = B} WorkLaw (λ value. WorkLaw) WorkLaw
+  works_join = record { then = λ some later one other. behind_work some (ok_works one) other; alone = λ one. err_works one }
 
-    pub bind : WorksSo (part >>= next)
-    bind = record { of = bind_of }
+  works_nothing : {A : Type 0} → OfNothing {A = A} WorkLaw
+  works_nothing = record { of = λ held result. works tt }
 
-  module _ {A : Type 0} where
-    returning : {value : A} → Keeps (Returns value)
-    returning _ _ _ _ returns = (works tt, refl)
+  pub bind : {A B : Type 0} {part : Part A} {next : A → Part B} → WorksSo part → ((value : A) → WorksSo (next value)) → WorksSo (part >>= next)
+  bind = within.bind works_join
 
-    pub returned : (value : A) → WorksSo (Returns value)
-    returned value = keeps_works returning
+  pub returned : {A : Type 0} (value : A) → WorksSo (Returns value)
+  returned = within.returned works_nothing
 
-    refusing : {why : Refusal} → Keeps (Refuses {A = A} why)
-    refusing _ _ _ _ chain.refuses = (works tt, refl)
+  pub refuses_by : {A : Type 0} (why : Refusal) → WorksSo (Refuses {A = A} why)
+  refuses_by = within.refused works_nothing
 
-    pub refuses_by : (why : Refusal) → WorksSo (Refuses {A = A} why)
-    refuses_by why = keeps_works refusing
+  pub is_needed : {A : Type 0} (why : Code) (value : Option A) → WorksSo (needed why value)
+  is_needed = within.is_needed works_nothing
 
-    pub is_needed : (why : Code) (value : Option A) → WorksSo (needed why value)
-    is_needed why None = refuses_by (Agent why)
-    is_needed why (Some value) = returned value
-
-    pub or_otherwise : (value : Option A) {other : Part A} → WorksSo other → WorksSo (or_else value other)
-    or_otherwise None other = other
-    or_otherwise (Some value) other = returned value
+  pub or_otherwise : {A : Type 0} (value : Option A) {other : Part A} → WorksSo other → WorksSo (or_else value other)
+  or_otherwise = within.or_otherwise works_nothing
 
   pub is_unless : (so : Bool) {other : Part (Unit {0})} → WorksSo other → WorksSo (unless so other)
-  is_unless true other = returned tt
-  is_unless false other = other
+  is_unless = within.is_unless works_nothing
 
   pub is_wanted : (why : Code) (so : Bool) → WorksSo (wanted why so)
-  is_wanted why true = returned tt
-  is_wanted why false = refuses_by (Agent why)
+  is_wanted = within.is_wanted works_nothing
 
   -- ---- turns at the desk
 
@@ -230,18 +223,18 @@ module _ (Fits : Event → Type 0) where
     interrupted_turn turns.stopping = goes_turn _ refl
     interrupted_turn turns.late = goes_turn _ refl
 
-    asks_of : {before after : Option ℕ} {events : List Event} {result : Result (Option (List ℕ)) Refusal} → Asks step before events result after → WorksTo events result
-    asks_of taken.given = goes_turn _ refl
-    asks_of taken.empty = goes_turn _ refl
-    asks_of taken.opened = goes_turn _ refl
-    asks_of (taken.interrupted why) = interrupted_turn why
+    asks_of : (before : Option ℕ) (events : List Event) (result : Result (Option (List ℕ)) Refusal) (after : Option ℕ) → Asks step before events result after → WorksTo events result
+    asks_of _ _ _ _ taken.given = goes_turn _ refl
+    asks_of _ _ _ _ taken.empty = goes_turn _ refl
+    asks_of _ _ _ _ taken.opened = goes_turn _ refl
+    asks_of _ _ _ _ (taken.interrupted why) = interrupted_turn why
 
     pub asks : WorksSo (Asks step)
     asks = record { of = asks_of }
 
-    seats_of : {before after : Option ℕ} {events : List Event} {result : Result (Unit {0}) Refusal} → Seats step before events result after → WorksTo events result
-    seats_of taken.opened = goes_turn _ refl
-    seats_of (taken.interrupted why) = interrupted_turn why
+    seats_of : (before : Option ℕ) (events : List Event) (result : Result (Unit {0}) Refusal) (after : Option ℕ) → Seats step before events result after → WorksTo events result
+    seats_of _ _ _ _ taken.opened = goes_turn _ refl
+    seats_of _ _ _ _ (taken.interrupted why) = interrupted_turn why
 
     pub seats : WorksSo (Seats step)
     seats = record { of = seats_of }
@@ -267,16 +260,16 @@ module _ (Fits : Event → Type 0) where
     looks_over _ _ _ _ (parts.no_memory {nonce}) = (interrupted_turn (each nonce) turns.refused, refl)
 
   takes_seat_of : (grip : Grip) → Turns (seat_for grip) → (before : Option ℕ) (events : List Event) (result : Result (Unit {0}) Refusal) (after : Option ℕ) → TakesSeat grip before events result after → WorksTo events result
-  takes_seat_of grip each None events result after does = (seats each).of does
-  takes_seat_of grip each (Some ticket) events result after does = (returned tt).of does
+  takes_seat_of grip each None events result after does = (seats each).of None events result after does
+  takes_seat_of grip each (Some ticket) events result after does = (returned tt).of (Some ticket) events result after does
 
   pub takes_seat : (grip : Grip) → Turns (seat_for grip) → WorksSo (TakesSeat grip)
-  takes_seat grip each = record { of = λ {before} {after} {events} {result} does. takes_seat_of grip each before events result after does }
+  takes_seat grip each = record { of = takes_seat_of grip each }
 
-  closes_of : {keep : Option (List ℕ)} → ((ticket : ℕ) (turn : Turn) → Fits (cache_turn (Close ticket keep) turn)) → {before after : Option ℕ} {events : List Event} {result : Result (Unit {0}) Refusal}
+  closes_of : {keep : Option (List ℕ)} → ((ticket : ℕ) (turn : Turn) → Fits (cache_turn (Close ticket keep) turn)) → (before : Option ℕ) (events : List Event) (result : Result (Unit {0}) Refusal) (after : Option ℕ)
       → Closes keep before events result after → WorksTo events result
-  closes_of fits taken.unheld = works tt
-  closes_of fits (taken.closed turn) = one_works (fits _ turn) refl refl
+  closes_of fits _ _ _ _ taken.unheld = works tt
+  closes_of fits _ _ _ _ (taken.closed turn) = one_works (fits _ turn) refl refl
 
   pub closes_ticket : {keep : Option (List ℕ)} → ((ticket : ℕ) (turn : Turn) → Fits (cache_turn (Close ticket keep) turn)) → WorksSo (Closes keep)
   closes_ticket fits = record { of = closes_of fits }
@@ -284,10 +277,10 @@ module _ (Fits : Event → Type 0) where
   keeps_new_of : (grip : Grip) (pass : List ℕ) → Turns (put_key grip pass) → ((ticket : ℕ) (turn : Turn) → Fits (cache_turn (Close ticket (Some pass)) turn))
       → (before : Option ℕ) (events : List Event) (result : Result (Unit {0}) Refusal) (after : Option ℕ) → KeepsNew grip pass before events result after → WorksTo events result
   keeps_new_of grip pass puts fits None events result after does = (changes puts None events result after does).0
-  keeps_new_of grip pass puts fits (Some ticket) events result after does = closes_of fits does
+  keeps_new_of grip pass puts fits (Some ticket) events result after does = closes_of fits (Some ticket) events result after does
 
   pub keeps_new : (grip : Grip) (pass : List ℕ) → Turns (put_key grip pass) → ((ticket : ℕ) (turn : Turn) → Fits (cache_turn (Close ticket (Some pass)) turn)) → WorksSo (KeepsNew grip pass)
-  keeps_new grip pass puts fits = record { of = λ {before} {after} {events} {result} does. keeps_new_of grip pass puts fits before events result after does }
+  keeps_new grip pass puts fits = record { of = keeps_new_of grip pass puts fits }
 
   -- ---- the client
 

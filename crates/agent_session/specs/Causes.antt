@@ -57,9 +57,10 @@ use Rattle.agent_commands.specs.Requests.{GetFields, get_passphrase}
 use Rattle.agent_commands.specs.declared.request.CacheCommand.TheVariants.{SetOption, PresetPassphrase, GetConfirmation}
 use Rattle.agent_commands.specs.declared.request.Request.{Request}
 use Rattle.agent_commands.specs.declared.request.Request.TheVariants.{Cache, Key as OnKeys, Bad}
+use Rattle.key_commands.specs.Lines.{max_key_data}
 use Rattle.key_commands.specs.Faults.{fault_code}
 use Rattle.key_commands.specs.Files.{FileSays, IsWithList}
-use Rattle.key_commands.specs.KeyParts.{file_in, max_key_data}
+use Rattle.key_commands.specs.KeyParts.{file_in}
 use Rattle.key_commands.specs.Passphrases.{OpensBy, ask_nonce, ask_key}
 use Rattle.key_commands.specs.Requests.{key_request_of}
 use Rattle.key_commands.specs.Wrapping.{WrappedSays}

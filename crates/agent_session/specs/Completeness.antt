@@ -35,10 +35,15 @@ use Rattle.agent_commands.specs.declared.went.SessionEnd.{SessionEnd}
 use Rattle.agent_commands.specs.declared.went.SessionEnd.TheVariants.{Bye, Killed, Ended, TooLong, Spent, ReadFault, WriteFault}
 use Rattle.agent_commands.specs.declared.went.Went.{Went}
 use Rattle.agent_commands.specs.declared.went.Went.TheVariants.{On, End}
+use Rattle.agent_session.specs.DoorCauses.{IsMarkUnprompted, IsNotTrusted, IsCausedAtDoor}
 use Rattle.agent_session.specs.Causes.{Has, IsCaused, HasOne, HasCall, HasTrustCall, WantsMemory, FailsAtKeysOrDice, FailsAtTrust, is_broken, IsUnprompted, IsSaid}
+use Rattle.agent_origin.specs.DoorSessions.{DoorExchange}
+use Rattle.agent_origin.specs.Doors.{allowed}
 use Rattle.agent_origin.specs.FurtherStates.{FurtherWorld}
 use Rattle.agent_origin.specs.SessionExchanges.{SessionExchange, kept_at_start}
 use Rattle.agent_origin.specs.Sessions.{Surroundings}
+use Rattle.agent_origin.specs.TrustRequests.{trust_request_of}
+use Rattle.agent_origin.specs.declared.door.Door.{Door}
 use Rattle.agent_origin.specs.declared.kept.Kept.{Kept}
 
 -- ---- answers
@@ -230,3 +235,23 @@ module _ (rules : Rules) where
 
   abbrev pub FaultlessInSession : Exchanges
   FaultlessInSession = FaultlessExchange CausedInSession (λ before line events. IsUnprompted events rules before (request_of line))
+
+-- ---- the sessions of `serve_door`
+
+-- the client wants no prompt
+pub data WantsNoPrompt (rules : Rules) (before : Kept) (line : List ℕ) (events : List Event) : Type 0 where
+  any : IsUnprompted events rules before (request_of line) → WantsNoPrompt rules before line events
+  on_trust : IsMarkUnprompted events (trust_request_of line) before.options → WantsNoPrompt rules before line events
+
+-- The exchange of a line, in which the request has its one answer, and each error line its cause.
+pub record CausedAtDoor (door : Door) (rules : Rules) (before : Kept) (line : List ℕ) (events : List Event) (after : Kept) (went : Went) : Type 0 where
+  pub by_cause : CausedExchange (DoorExchange door rules) (IsCausedAtDoor door rules) before line events after went
+  -- and Not trusted is answered wherever a read of the trust file has that cause
+  pub not_trusted : IsNotTrusted events (trust_request_of line) → HasError code.NotTrusted Agent events
+  -- a line that isn't allowed is answered by Forbidden, and nothing else is done for it
+  pub forbidden : allowed door line ≡ false → events ≡ Sent (failed code.Forbidden) ∷ []
+  -- one that is allowed is never answered so
+  pub is_allowed : allowed door line ≡ true → ¬ HasError code.Forbidden Agent events
+
+abbrev pub FaultlessAtDoor : Door → Rules → Exchanges
+FaultlessAtDoor door rules = FaultlessExchange (CausedAtDoor door rules) (WantsNoPrompt rules)

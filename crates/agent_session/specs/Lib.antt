@@ -1,7 +1,6 @@
 pub mod Causes
 pub mod Completeness
 pub mod DoorCauses
-pub mod DoorCompleteness
 pub mod Exactly
 pub mod Imports
 pub mod OwnAnswers

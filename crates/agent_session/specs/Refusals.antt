@@ -38,6 +38,7 @@ use Rattle.agent_commands.specs.Requests.{GetFields, get_passphrase}
 use Rattle.agent_commands.specs.declared.request.CacheCommand.TheVariants.{GetPassphrase, PresetPassphrase, ClearPassphrase, ReloadAgent, KillAgent}
 use Rattle.agent_commands.specs.declared.request.Request.{Request}
 use Rattle.agent_commands.specs.declared.request.Request.TheVariants.{Cache}
+use Rattle.key_commands.specs.Events.{IsUncalled}
 use Rattle.key_commands.specs.Lines.{IsNotice, grip_text}
 use Rattle.agent_ask.specs.Interrupts.{Interrupts}
 use Rattle.key_commands.specs.Passphrases.{put_key}
@@ -217,11 +218,6 @@ pub data IsOwnCode : Code → Type 0 where
   fault : IsOwnCode code.General
 
 -- ---- prompts
-
--- an event that is no call of the prompter
-abbrev pub IsUncalled : EventWith FurtherEvent → Type 0
-IsUncalled (Further (Prompt (Called call))) = ⊥
-IsUncalled _ = ⊤
 
 -- one that isn't a turn that may open a prompt
 abbrev pub IsUnopening : EventWith FurtherEvent → Type 0

@@ -12,12 +12,14 @@ ghost use Rattle.session_options.specs.declared.rules.Rules.{Rules};
 ghost use Rattle.agent_session.specs.Counting.{CountsFailures, CountsLink};
 ghost use Rattle.agent_session.specs.Completeness.{SessionCauses, CausedInSession};
 ghost use Rattle.agent_session.specs.Completeness.{FaultlessInSession, IsUncaused, IsAnsweredOk};
+ghost use Rattle.agent_session.specs.Completeness.{CausedAtDoor, FaultlessAtDoor};
 ghost use Rattle.agent_session.specs.Completeness.{FailuresRise, IsStopped, AnswersAtOnce};
 ghost use Rattle.agent_session.specs.Completeness.{Remembers, NoCountRose, AnswersAll};
 ghost use Rattle.agent_origin.specs.DoorSessions.{ServesDoor};
 ghost use Rattle.agent_origin.specs.FurtherStates.{FurtherWorld};
 ghost use Rattle.agent_origin.specs.SessionExchanges.{kept_at_start, SessionExchange};
 ghost use Rattle.agent_origin.specs.Sessions.{Surroundings};
+ghost use Rattle.agent_session.specs.DoorCauses.{IsCausedAtDoor};
 ghost use Rattle.agent_session.specs.Sessions.{ServesRules};
 ghost use Rattle.agent_origin.specs.declared.door.Door.{Door};
 ghost use Rattle.agent_origin.specs.declared.kept.Kept.{Kept};
@@ -28,18 +30,29 @@ use cache_policy::Desk;
 /// In each exchange of a session the request has its one answer, unless its own inquiry ended the
 /// session or a write failed, and each error line has its cause among the events of that exchange.
 /// Of an exchange that a failed write cut this is said of the whole one.
+///
+/// So in a session that came in by a door: there a line is answered `Forbidden` exactly where it
+/// isn't allowed at the door.
 pub fn each_error_has_its_cause<D: Desk, P: Prompter>()
-    ensures { (rules : Rules) (before after : Surroundings (FurtherWorld D.turned P.prompted))
-        (end : Ends) → (served : ServesRules D.turned P.prompted rules before end after)
+    ensures session { (rules : Rules)
+        (before after : Surroundings (FurtherWorld D.turned P.prompted)) (end : Ends)
+        → (served : ServesRules D.turned P.prompted rules before end after)
         → Session (CausedInSession rules) (kept_at_start rules) served.events end }
+    ensures door { (door : Door) (rules : Rules)
+        (before after : Surroundings (FurtherWorld D.turned P.prompted)) (end : Ends)
+        → (served : ServesDoor D.turned P.prompted door rules before end after)
+        → Session (CausedAtDoor door rules) (kept_at_start rules) served.events end }
 {}
 
 /// A request none of whose errors has a cause in its exchange is answered by OK, unless its own
-/// inquiry ended the session or a write failed.
+/// inquiry ended the session or a write failed; a request at a door, too.
 pub fn without_a_cause_the_answer_is_ok()
-    ensures { (rules : Rules) (kept now : Kept) (line : List ℕ) (events : List Event) (went : Went)
-        → CausedInSession rules kept line events now went
+    ensures session { (rules : Rules) (kept now : Kept) (line : List ℕ) (events : List Event)
+        (went : Went) → CausedInSession rules kept line events now went
         → IsUncaused (SessionCauses rules) kept line events → IsAnsweredOk went events }
+    ensures door { (door : Door) (rules : Rules) (kept now : Kept) (line : List ℕ)
+        (events : List Event) (went : Went) → CausedAtDoor door rules kept line events now went
+        → IsUncaused (IsCausedAtDoor door rules) kept line events → IsAnsweredOk went events }
 {}
 
 /// A failure of the keys, of the dice, of the prompter or of the trust file that is among events
@@ -90,10 +103,17 @@ pub fn requests_without_a_prompt_are_answered<D: Desk, P: Prompter>()
 /// Where no count of faults rose and no memory was wanted, a session ends by no fault, and each of
 /// its requests is answered, but a last one whose own inquiry ended the session: by no error
 /// without a code of its own, by none for want of memory, and by none for want of a pinentry but
-/// where the client wants no prompt or the pinentry broke its protocol.
+/// where the client wants no prompt or the pinentry broke its protocol. So is a session that came in
+/// by a door.
 pub fn a_session_without_faults_is_answered<D: Desk, P: Prompter>()
-    ensures { (rules : Rules) (before after : Surroundings (FurtherWorld D.turned P.prompted))
-        (end : Ends) → (served : ServesRules D.turned P.prompted rules before end after)
+    ensures session { (rules : Rules)
+        (before after : Surroundings (FurtherWorld D.turned P.prompted)) (end : Ends)
+        → (served : ServesRules D.turned P.prompted rules before end after)
         → NoCountRose D.turned P.prompted P.at before after → AllByRecursion Remembers served.events
         → AnswersAll (FaultlessInSession rules) rules served.events end }
+    ensures door { (door : Door) (rules : Rules)
+        (before after : Surroundings (FurtherWorld D.turned P.prompted)) (end : Ends)
+        → (served : ServesDoor D.turned P.prompted door rules before end after)
+        → NoCountRose D.turned P.prompted P.at before after → AllByRecursion Remembers served.events
+        → AnswersAll (FaultlessAtDoor door rules) rules served.events end }
 {}

@@ -27,20 +27,17 @@ use cache_policy::Desk;
 /// error line of that code, unless memory was wanted: so each of them is answered exactly where its
 /// cause stands. A list that is too long for `Bad secret key` is here that of each key to which the
 /// file opens, where the cause of that error line names one.
-pub fn each_cause_has_its_error()
-    ensures { (rules : Rules) (kept now : Kept) (line : List ℕ) (events : List Event) (went : Went)
-        → SessionExchange rules kept line events now went → AllByRecursion Remembers events
-        → (why : Code) → ExactCause events rules kept (request_of line) why
-        → HasError why Agent events }
-{
-    key_lines::one_answer();
-}
-
+///
 /// The same of a line at a door, whether it isn't allowed there, is a request on the trust list, or
 /// is one of any session.
-pub fn each_cause_at_a_door_has_its_error()
-    ensures { (door : Door) (rules : Rules) (kept now : Kept) (line : List ℕ) (events : List Event)
-        (went : Went) → DoorExchange door rules kept line events now went
+pub fn each_cause_has_its_error()
+    ensures session { (rules : Rules) (kept now : Kept) (line : List ℕ) (events : List Event)
+        (went : Went) → SessionExchange rules kept line events now went
+        → AllByRecursion Remembers events
+        → (why : Code) → ExactCause events rules kept (request_of line) why
+        → HasError why Agent events }
+    ensures door { (door : Door) (rules : Rules) (kept now : Kept) (line : List ℕ)
+        (events : List Event) (went : Went) → DoorExchange door rules kept line events now went
         → AllByRecursion Remembers events
         → (why : Code) → ExactCauseAtDoor door rules kept line events why
         → HasError why Agent events }

@@ -1,38 +1,50 @@
-ghost use Rattle.std.specs.Prelude.{◌≡◌, List, map};
+ghost use Rattle.std.specs.Prelude.{◌≡◌, List, ℕ, None, map, true};
 ghost use Rattle.cache_policy.specs.Extending.{ExtendsDesk};
 ghost use Rattle.agent_ask.specs.SessionEvents.{turns_in};
 ghost use Rattle.agent_commands.specs.Names.{key_commands};
 ghost use Rattle.agent_commands.specs.declared.went.SessionEnd.{SessionEnd as Ends};
+ghost use Rattle.agent_commands.specs.declared.went.Went.{Went};
+ghost use Rattle.assuan_text.specs.Words.{command_of};
+ghost use Rattle.key_commands.specs.Events.{Event};
 ghost use Rattle.key_commands.specs.Names.{commands_on_keys as read_commands};
 ghost use Rattle.session_options.specs.declared.rules.Rules.{Rules};
-ghost use Rattle.agent_origin.specs.DoorSessions.{ServesDoor};
+ghost use Rattle.agent_origin.specs.DoorSessions.{DoorExchange, ServesDoor, door_command_named};
+ghost use Rattle.agent_origin.specs.Doors.{allowed};
 ghost use Rattle.agent_origin.specs.FurtherStates.{FurtherWorld};
+ghost use Rattle.agent_origin.specs.SessionExchanges.{SessionExchange};
 ghost use Rattle.agent_origin.specs.Sessions.{Surroundings};
 ghost use Rattle.agent_origin.specs.declared.door.Door.{Door};
+ghost use Rattle.agent_origin.specs.declared.kept.Kept.{Kept};
 ghost use Rattle.agent_session.specs.Sessions.{ServesRules};
 
 use agent_ask::Prompter;
 use cache_policy::{Desk, turns_extend_a_run};
 
 /// What a session does extends its desk's run, where that is known: the session's marks in it are
-/// those of the turns among its events, in their order, and it stays legal.
+/// those of the turns among its events, in their order, and it stays legal. So does a session that
+/// came in by a door.
 pub fn a_session_extends_a_run<D: Desk, P: Prompter>()
-    ensures { (rules : Rules) (before after : Surroundings (FurtherWorld D.turned P.prompted))
-        (end : Ends) → (served : ServesRules D.turned P.prompted rules before end after)
+    ensures session { (rules : Rules)
+        (before after : Surroundings (FurtherWorld D.turned P.prompted)) (end : Ends)
+        → (served : ServesRules D.turned P.prompted rules before end after)
         → ExtendsDesk (D.at before.desk) (turns_in served.events) (D.at after.desk) }
-{
-    turns_extend_a_run::<D>();
-}
-
-/// The same of a session that came in by a door.
-pub fn a_session_at_a_door_extends_a_run<D: Desk, P: Prompter>()
-    ensures { (door : Door) (rules : Rules)
+    ensures door { (door : Door) (rules : Rules)
         (before after : Surroundings (FurtherWorld D.turned P.prompted)) (end : Ends)
         → (served : ServesDoor D.turned P.prompted door rules before end after)
         → ExtendsDesk (D.at before.desk) (turns_in served.events) (D.at after.desk) }
 {
     turns_extend_a_run::<D>();
 }
+
+/// What is done for a line that is allowed at its session's door, and whose command isn't the
+/// door's own, is what a session without doors does for it. So each law on such requests, as those
+/// of what stands after a refusal, is one on this line.
+pub fn an_exchange_at_a_door_is_a_sessions()
+    ensures { (door : Door) (rules : Rules) (kept now : Kept) (line : List ℕ)
+        (events : List Event) (went : Went) → DoorExchange door rules kept line events now went
+        → allowed door line ≡ true → door_command_named (command_of line) ≡ None
+        → SessionExchange rules kept line events now went }
+{}
 
 /// The commands on keys that HELP tells, and that are handed on, are those that are read, in their
 /// order.

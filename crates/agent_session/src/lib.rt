@@ -6,13 +6,11 @@
 //! has its cause ([`each_error_has_its_cause`]), mostly exactly where that stands
 //! ([`each_cause_has_its_error`]), and without one there is an answer
 //! ([`a_session_without_faults_is_answered`]). A line that is too long ends its session
-//! ([`a_line_that_is_too_long_ends_its_session`]). At a door it is the same
-//! ([`each_error_at_a_door_has_its_cause`]). Definitions begin in `specs/Sessions`, the causes in
-//! `specs/Causes`.
+//! ([`a_line_that_is_too_long_ends_its_session`]). A law that holds at a door too says so by a
+//! second clause. Definitions begin in `specs/Sessions`, the causes in `specs/Causes`.
 #![tactic(auto)]
 
 mod completeness;
-mod doors;
 mod exactly;
 mod laws;
 mod own_passphrases;
@@ -21,21 +19,19 @@ mod session;
 
 pub use completeness::{
     a_session_without_faults_is_answered, each_error_has_its_cause, each_failure_is_counted,
-    failures_raise_counts, requests_without_a_prompt_are_answered,
-    without_a_cause_the_answer_is_ok,
-};
-pub use doors::{
-    a_session_at_a_door_without_faults_is_answered, an_exchange_at_a_door_is_a_sessions,
-    each_error_at_a_door_has_its_cause, without_a_cause_the_answer_at_a_door_is_ok,
+    failures_at_the_link_are_counted, failures_raise_counts,
+    requests_without_a_prompt_are_answered, without_a_cause_the_answer_is_ok,
 };
 pub use exactly::{
     a_line_that_ends_a_session_is_answered, a_line_that_is_too_long_ends_its_session,
-    each_cause_at_a_door_has_its_error, each_cause_has_its_error,
+    each_cause_has_its_error,
 };
-pub use laws::{a_session_at_a_door_extends_a_run, a_session_extends_a_run, key_commands_are_read};
+pub use laws::{
+    a_session_extends_a_run, an_exchange_at_a_door_is_a_sessions, key_commands_are_read,
+};
 pub use own_passphrases::{
     a_session_stores_its_requests_own, each_passphrase_is_written_to_its_request,
-    each_request_stores_its_own,
+    each_request_stores_its_own, no_passphrase_is_written_for_a_request_on_keys,
 };
 pub use refusals::{
     a_call_of_the_trust_file_decides_its_request, a_prompt_is_opened_first,

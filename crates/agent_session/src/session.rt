@@ -3,10 +3,9 @@ ghost use Rattle.agent_ask.specs.Prompters.{IsShut};
 ghost use Rattle.agent_session.specs.Sessions.{no_trust, without_trust, ServesRules};
 
 use agent_ask::Prompter;
-use agent_commands::{SessionEnd, Went};
+use agent_commands::{CutLine, SessionEnd, Went};
 use agent_origin::{Answers, Kept, answer, serve};
 use agent_ports::{Dice, Keys, Link, TrustDone, TrustFile, TrustRead};
-use assuan_line::Line;
 use assuan_server::Conn;
 use cache_policy::Desk;
 use session_options::Rules;
@@ -24,7 +23,7 @@ impl Answers for EveryLine {
     fn answer<L: Link, D: Desk, P: Prompter, K: Keys, R: Dice, T: TrustFile>(
         &self,
         alloc: Global,
-        line: &Line,
+        line: &CutLine<'_>,
         rules: &Rules,
         kept: &mut Kept,
         conn: &mut Conn<'_, L>,

@@ -16,8 +16,7 @@ use Rattle.agent_ports.specs.declared.session.SessionId.{SessionId}
 use Rattle.agent_serve.specs.Serves.{LinkSides, ServesOne}
 use Rattle.agent_session.proofs.Answering.{in_session, each_caused, all_answered}
 use Rattle.agent_session.proofs.DoorAnswering.{at_door}
-use Rattle.agent_session.specs.Completeness.{Remembers, AnswersAll}
-use Rattle.agent_session.specs.DoorCompleteness.{CausedAtDoor, FaultlessAtDoor}
+use Rattle.agent_session.specs.Completeness.{Remembers, AnswersAll, CausedAtDoor, FaultlessAtDoor}
 use Rattle.counted_lock.specs.Passes.{AtPass}
 use Rattle.counted_lock.specs.Turns.{CountedTurn}
 use Rattle.pinentry_client.specs.Dialogues.{PinentryDoes}

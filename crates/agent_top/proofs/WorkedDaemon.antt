@@ -5,6 +5,7 @@ use Rattle.std.specs.List.{AllByRecursion}
 use Rattle.std.specs.Prelude.{◌≡◌, ◌≤◌, ◌<◌, ℕ, zero, suc, nat_eq, List, [], ◌∷◌, ◌++◌, length, codes, true, false, Some, None, refl, ⊤}
 use Rattle.std.proofs.Common.{inl, lit<, lit≤, sym, subst, arith}
 use Rattle.std.proofs.lemmas.Bool.Decides.{nat_tests}
+use Rattle.agent_ask.specs.Answering.{whole}
 use Rattle.agent_ask.specs.SessionEvents.{Received, Sent, cache_turn}
 use Rattle.agent_ask.specs.Worlds.{Outside, Does}
 use Rattle.agent_ask.specs.Worlds as worlds
@@ -43,8 +44,7 @@ use Rattle.agent_serve.specs.Serves as serves
 use Rattle.agent_serve.specs.Working.{HostViews, Works, ServesNext, home_post, last_post}
 use Rattle.agent_serve.specs.Working as working
 use Rattle.agent_session.specs.Causes.{here}
-use Rattle.agent_session.specs.Completeness.{AnswersAll, AnswersFromCache, Remembers}
-use Rattle.agent_session.specs.DoorCompleteness.{CausedAtDoor, FaultlessAtDoor}
+use Rattle.agent_session.specs.Completeness.{AnswersAll, AnswersFromCache, Remembers, CausedAtDoor, FaultlessAtDoor}
 use Rattle.agent_session.specs.OwnPassphrases.{puts}
 use Rattle.agent_session.specs.Refusals.{AnswersAlone}
 use Rattle.assuan_line.specs.Next.{next_of}
@@ -240,8 +240,8 @@ module _ (some : AtCounted) where
   first_talk : Session (DoorExchange Home rules) (kept rules) first_events Bye
   unfolding door_command_named
   first_talk =
-      talks.greeted (talks.goes_on preset (talks.whole (own_way preset refl (is_stored of_two))) (talks.goes_on clear (talks.whole (own_way clear refl (is_cleared rules)))
-      (talks.over bye (talks.whole (own_way bye refl (is_left rules))))))
+      talks.greeted (talks.goes_on preset (whole (own_way preset refl (is_stored of_two))) (talks.goes_on clear (whole (own_way clear refl (is_cleared rules)))
+      (talks.over bye (whole (own_way bye refl (is_left rules))))))
 
   abbrev first_link : LinkSides
   first_link = link_of (side (lines (preset ∷ clear ∷ bye ∷ []))) (side [])
@@ -359,8 +359,8 @@ module _ (some : AtCounted) where
   second_talk : Session (DoorExchange Home rules) (kept rules) second_events Killed
   unfolding door_command_named
   second_talk =
-      talks.greeted (talks.goes_on get (talks.whole (own_way get refl (is_given rules grant refl))) (talks.goes_on get (talks.whole (own_way get refl (is_empty rules)))
-      (talks.over kill (talks.whole (own_way kill refl (is_stopped rules))))))
+      talks.greeted (talks.goes_on get (whole (own_way get refl (is_given rules grant refl))) (talks.goes_on get (whole (own_way get refl (is_empty rules)))
+      (talks.over kill (whole (own_way kill refl (is_stopped rules))))))
 
   abbrev second_link : LinkSides
   second_link = link_of (side (lines (get ∷ get ∷ kill ∷ []))) (side [])

@@ -1,6 +1,7 @@
 -- A worked run of `--server`, in which the user is to confirm and the pinentry can't be started: its one prompt has no child, and its failure is counted. The laws on runs hold of it.
 use Rattle.std.specs.Prelude.{◌≡◌, ℕ, List, [], ◌∷◌, ◌++◌, codes, false, Some, None, Err, refl}
 use Rattle.std.proofs.Common.{inl, lit<, lit≤, sym, subst, arith}
+use Rattle.agent_ask.specs.Answering as answering
 use Rattle.agent_ask.specs.ConsentParts.{AgreesTo, IsQuestion}
 use Rattle.agent_ask.specs.ConsentParts as consent
 use Rattle.agent_ask.specs.Consents as consents
@@ -161,7 +162,7 @@ abbrev events : List Event
 events = Sent (line_of greeting) ∷ Received (took.Line confirm) ∷ (unconfirmed ++ Received (took.Line bye) ∷ Sent closing ∷ [])
 
 talk : Session (SessionExchange rules) (kept rules) events Bye
-talk = talks.greeted (talks.goes_on confirm (talks.whole is_unconfirmed) (talks.over bye (talks.whole (is_left rules))))
+talk = talks.greeted (talks.goes_on confirm (answering.whole is_unconfirmed) (talks.over bye (answering.whole (is_left rules))))
 
 -- ---- what it has to do with
 

@@ -2,6 +2,7 @@
 -- such sessions, and the laws on a daemon's sessions, hold of it.
 use Rattle.std.specs.Prelude.{◌≡◌, ℕ, List, [], ◌∷◌, ◌++◌, true, false, Some, None, refl, ⊤}
 use Rattle.std.proofs.Common.{inl, lit<, lit≤, sym, subst}
+use Rattle.agent_ask.specs.Answering.{whole}
 use Rattle.agent_ask.specs.Doing.{called}
 use Rattle.agent_ask.specs.Further as further
 use Rattle.agent_ask.specs.SessionEvents.{Received, Sent, turns_in}
@@ -40,7 +41,7 @@ use Rattle.agent_serve.proofs.PromptedSessions.{session_prompted, have_prompts}
 use Rattle.agent_serve.specs.Prompts.{HavePrompts}
 use Rattle.agent_serve.specs.Serves.{LinkSides, ServesOne, link_of, at_pass, desk_at}
 use Rattle.agent_serve.specs.Serves as serves
-use Rattle.agent_session.specs.DoorCompleteness.{CausedAtDoor}
+use Rattle.agent_session.specs.Completeness.{CausedAtDoor}
 use Rattle.assuan_line.specs.Next.{next_of}
 use Rattle.assuan_line.specs.declared.reader.Took.TheVariants as took
 use Rattle.assuan_server.specs.Written.{failed, greeting}
@@ -111,8 +112,8 @@ events =
 talk : Session (DoorExchange Outer rules) (kept rules) events Bye
 unfolding command_named door_command_named request_of rule_named
 talk =
-    talks.greeted (talks.goes_on get (talks.whole (forbidden refl)) (talks.goes_on confirm (talks.whole (own_way confirm refl refl is_unconfirmed))
-    (talks.over bye (talks.whole (own_way bye refl refl (is_left rules))))))
+    talks.greeted (talks.goes_on get (whole (forbidden refl)) (talks.goes_on confirm (whole (own_way confirm refl refl is_unconfirmed))
+    (talks.over bye (whole (own_way bye refl refl (is_left rules))))))
 
 -- ---- what it has to do with
 

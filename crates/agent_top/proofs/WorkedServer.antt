@@ -4,6 +4,7 @@ use Rattle.std.proofs.Common.{inl, lit<, lit≤, arith}
 use Rattle.std.specs.Fmt.{digits}
 use Rattle.std.specs.List.{AllByRecursion}
 use Rattle.hex.proofs.OnLiterals.{hex_on_literals}
+use Rattle.agent_ask.specs.Answering.{whole}
 use Rattle.agent_ask.specs.SessionEvents.{Received, Sent, cache_turn}
 use Rattle.agent_ask.specs.Worlds.{Outside, Does}
 use Rattle.agent_ask.specs.Worlds as worlds
@@ -121,8 +122,8 @@ events =
 
 talk : Session (SessionExchange rules) (kept rules) events Bye
 talk =
-    talks.greeted (talks.goes_on get (talks.whole (is_empty rules)) (talks.goes_on preset (talks.whole (is_stored default_rules))
-    (talks.goes_on get (talks.whole (is_given rules grant refl)) (talks.over bye (talks.whole (is_left rules))))))
+    talks.greeted (talks.goes_on get (whole (is_empty rules)) (talks.goes_on preset (whole (is_stored default_rules))
+    (talks.goes_on get (whole (is_given rules grant refl)) (talks.over bye (whole (is_left rules))))))
 
 -- ---- what it has to do with
 

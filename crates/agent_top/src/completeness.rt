@@ -18,7 +18,7 @@ ghost use Rattle.agent_ports.specs.Sides.{Side};
 ghost use Rattle.agent_ports.specs.declared.session.SessionId.{SessionId};
 ghost use Rattle.agent_serve.specs.Serves.{LinkSides, ServesOne};
 ghost use Rattle.agent_session.specs.Completeness.{AnswersAll, IsStopped, Remembers};
-ghost use Rattle.agent_session.specs.DoorCompleteness.{CausedAtDoor, FaultlessAtDoor};
+ghost use Rattle.agent_session.specs.Completeness.{CausedAtDoor, FaultlessAtDoor};
 ghost use Rattle.agent_session.specs.Refusals.{AnswersAlone};
 ghost use Rattle.agent_top.specs.Completeness.{NoLinkFault, NoFault, NoFaultOfOne, SessionEndsWell};
 ghost use Rattle.agent_top.specs.Completeness.{IsAnsweredRun, IsCausedRun, DaemonEndsWell};

@@ -1,5 +1,5 @@
 -- A connection as that of a session's client: what is done with it, and what its client has said.
-use Rattle.std.proofs.Common.{◌≡◌, ◌≤◌, ℕ, Bool, true, List, [], ◌++◌, ◌⊎◌, inl, inr, Option, None, Some, Result, Ok, Err, refl, ap, sym, ◌∙◌, subst, arith}
+use Rattle.std.proofs.Common.{◌≡◌, ℕ, true, List, [], ◌++◌, ◌⊎◌, inl, inr, Option, None, Some, Result, Ok, Err, refl, ap, sym, ◌∙◌, subst, arith}
 use Rattle.std.specs.Prelude.{codes, decimal}
 use Rattle.std.specs.Option.{option_map}
 use Rattle.agent_ports.specs.Counts.{Rose}
@@ -12,7 +12,7 @@ use Rattle.assuan_line.specs.declared.reader.Took.TheVariants as took
 use Rattle.assuan_line.proofs.ReadingOn.{fewer_are_held, fault_count_rose}
 use Rattle.assuan_text.specs.Forms.{is_ignored}
 use Rattle.cache_policy.specs.declared.secret.TheConstants.{MAX_SECRET_LEN}
-use Rattle.session_client.specs.Asking.{Asked, NotAsked, LeavesInput, HasSaid, HasReceived, HasInquired, LeftBy, Inquires, TellsClient, AsksClient, without_data, is_unread}
+use Rattle.session_client.specs.Asking.{Asked, NotAsked, LeavesInput, HasSaid, SaysLine, HasReceived, HasInquired, LeftBy, Inquires, TellsClient, AsksClient, without_data, is_unread}
 use Rattle.session_client.specs.Lines.{TakesNeeded}
 use Rattle.session_client.specs.declared.client.TheConstants.{MAX_NOTE_LEN}
 use Rattle.session_client.specs.declared.unheard.Gone.TheVariants as gone
@@ -25,7 +25,7 @@ use Rattle.assuan_server.specs.Inquiries as outcome
 use Rattle.assuan_server.specs.Inquiries.{Outcome, Inquiry as Comes, IsData, AnswersDropped, ended_of, inquire_text, is_skipped}
 use Rattle.assuan_server.specs.Reading.{Supply, ReadsRequest, ReadsInquiry, IsSupply, unread}
 use Rattle.assuan_server.specs.Requests.{NextRequest}
-use Rattle.assuan_server.specs.Written.{WritesText}
+use Rattle.assuan_server.specs.Written.{WritesText, WritesLine}
 use Rattle.assuan_server.specs.declared.inquiry.Dropped.{Dropped}
 use Rattle.assuan_server.specs.declared.inquiry.Dropped.TheVariants as dropped
 use Rattle.assuan_server.specs.declared.inquiry.InquiredSecret.{InquiredSecret}
@@ -53,6 +53,11 @@ module _ (start now : Connection) (input : now.input ≡ start.input) (reader : 
 -- a text was written, whole or in part
 abbrev pub said_so : {text : List ℕ} {start now : Connection} {result : Result (Unit {0}) WriteFault} → WritesText text start result now → HasSaid connection_views text start result now
 said_so {start} {now} said = record { output = said.output; leaves = leaves start now said.input said.reader said.link }
+
+-- a line, where there is one
+pub line_so : (line : Option (List ℕ)) (start now : Connection) (written : Result (Unit {0}) WriteFault) → WritesLine line start written now → SaysLine connection_views line start written now
+line_so None start now written says = says
+line_so (Some text) start now written says = said_so says
 
 -- what a read took
 needed_known : (Undecided : List ℕ → Type 0) (reader : Reader) (before after : Option (List ℕ)) → reader.ended ≡ None

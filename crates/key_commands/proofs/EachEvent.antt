@@ -1,12 +1,13 @@
 -- Parts of a request on keys each of whose events is so.
 use Rattle.std.specs.List.{AllByRecursion}
-use Rattle.std.proofs.Common.{◌==◌, ◌++◌, ℕ, Bool, true, false, List, [], ◌∷◌, length, codes, Option, Some, None, Result, Ok, Err}
+use Rattle.std.proofs.Common.{◌==◌, ◌++◌, ℕ, Bool, true, false, List, [], ◌∷◌, length, codes, Option, Some, None, Result, Ok}
 use Rattle.std.specs.Prelude.{⊤, not, take, drop}
 use Rattle.agent_ask.specs.Events.{PromptEvent}
-use Rattle.agent_ask.specs.Further.{Keys, Dice, NoMemory, Prompt}
-use Rattle.agent_ask.specs.SessionEvents.{Sent, Cut, Inquiry, Further, cache_turn}
+use Rattle.agent_ask.specs.Further.{Keys, Dice, NoMemory, Prompt, Trust}
+use Rattle.agent_ask.specs.SessionEvents.{Received, Sent, Cut, Inquiry, CacheTurn, Further, cache_turn, said_last}
 use Rattle.agent_ask.specs.SessionPrompts.{AnyInSession}
 use Rattle.agent_ask.specs.SessionPrompts as session
+use Rattle.agent_ask.proofs.Within.{Within, Joins, OfNothing, Does, does_join, bind, returned, refused, is_needed, or_otherwise, is_unless, is_wanted}
 use Rattle.agent_ports.specs.declared.grip.Grip.{Grip}
 use Rattle.assuan_server.specs.Clients.{session_lines}
 use Rattle.session_client.specs.declared.code.Code.{Code}
@@ -22,21 +23,21 @@ use Rattle.secret_file.specs.Opens.{LockedKey}
 use Rattle.session_options.specs.OptionValues.{OptionValues}
 use Rattle.session_options.specs.declared.rules.Rules.{Rules}
 use Rattle.sexp_keys.specs.Key.{Key}
-use Rattle.key_commands.specs.Events.{Event}
+use Rattle.key_commands.specs.Events.{Event, IsUncalled}
 use Rattle.key_commands.specs.Exchanges.{StoresKey, RewritesFile}
 use Rattle.key_commands.specs.Files.{Rewrites}
 use Rattle.key_commands.specs.Files as files
-use Rattle.key_commands.specs.KeyParts.{Tells, tells, ReadsFile, Replaces, Removes, KeepsNew, Protects, IsShort, HasOne, TellsKeyInfo, ListsGrips, ReadsListed, WritesInfo, TellsListed, WritesInfos}
-use Rattle.key_commands.specs.KeyParts.{max_key_data, AsksKeyData, Unwraps, ReceivesKey, NamesKey, IsFree, LooksOver, WrapsKey, Agrees}
+use Rattle.key_commands.specs.KeyParts.{Tells, tells, ReadsFile, Replaces, Removes, KeepsNew, Protects, IsShort, HasOne, TellsKeyInfo, ListsGrips, ReadsListed, WritesInfo, WritesInfos}
+use Rattle.key_commands.specs.KeyParts.{AsksKeyData, Unwraps, ReceivesKey, NamesKey, IsFree, LooksOver, WrapsKey}
 use Rattle.key_commands.specs.KeyParts as parts
-use Rattle.key_commands.specs.Lines.{grip_text, IsNotice, of_limit, of_key}
+use Rattle.key_commands.specs.Lines.{max_key_data, grip_text, IsNotice, of_passphrase, of_key_data, of_key}
 use Rattle.assuan_server.specs.Written.{limit_line}
 use Rattle.key_commands.specs.Parts.{Part, Finds, Draws}
-use Rattle.agent_ask.specs.Parts.{◌>>=◌, Follows, goes_on, stops, Returns, returns, Refuses, needed, or_else, unless, wanted}
+use Rattle.agent_ask.specs.Parts.{◌>>=◌, goes_on, stops, Returns, returns, Refuses, needed, or_else, unless, wanted}
 use Rattle.agent_ask.specs.TurnParts.{Asks, Seats, Changes, Peeks, Closes}
-use Rattle.agent_ask.specs.Parts as chain
 use Rattle.agent_ask.specs.ClientParts.{Writes, Inquires}
 use Rattle.agent_ask.specs.ClientParts as client
+use Rattle.agent_ask.specs.ConsentParts.{AgreesTo}
 use Rattle.agent_ask.specs.ConsentParts as consent
 use Rattle.agent_ask.specs.TurnParts as taken
 use Rattle.key_commands.specs.Parts as small
@@ -60,6 +61,18 @@ IsStill (Further (Dice draw)) = ⊤
 IsStill (Further NoMemory) = ⊤
 IsStill _ = ⊥
 
+pub still_uncalled : (event : Event) → IsStill event → IsUncalled event
+still_uncalled (Sent text) still = tt
+still_uncalled (Cut text) still = tt
+still_uncalled (Inquiry word params limit inquired) still = tt
+still_uncalled (Further (Keys call)) still = tt
+still_uncalled (Further (Dice draw)) still = tt
+still_uncalled (Further (Trust call)) still = absurd still
+still_uncalled (Further NoMemory) still = tt
+still_uncalled (Further (Prompt event)) still = absurd still
+still_uncalled (CacheTurn taken) still = tt
+still_uncalled (Received took) still = tt
+
 -- what is told of a key is a notice
 told_info : (grip : Grip) (key : Key) {before after : Option ℕ} {events : List Event} {line : List ℕ} → TellsKeyInfo grip key before events (Ok line) after → IsNotice line
 told_info grip key (goes_on {value = cached} peeks returns) = of_key grip cached key.is_clear
@@ -68,46 +81,35 @@ module _ (Is : Event → Type 0) where
   abbrev pub All : List Event → Type 0
   All events = AllByRecursion Is events
 
-  pub record EachSo {A : Type 0} (part : Part A) : Type 0 where
-    pub of : (before : Option ℕ) (events : List Event) (result : Result A Refusal) (after : Option ℕ) → part before events result after → All events
+  abbrev pub EachSo : {A : Type 0} → Part A → Type 0
+  EachSo part = Within part (Does All)
 
-  module _ {A B : Type 0} {part : Part A} {next : A → Part B} (first : EachSo part) (then : (value : A) → EachSo (next value)) where
-    each_bind_of : (before : Option ℕ) (events : List Event) (result : Result B Refusal) (after : Option ℕ) → Follows part next before events result after → All events
-    each_bind_of before events result after (goes_on {first = some} {events = more} {value} {mid} does next_does) =
-        each_append Is some more (first.of before some (Ok value) mid does) ((then value).of mid more result after next_does)
-    each_bind_of before events result after (stops {refusal = why} does) = first.of before events (Err why) after does
+  each_join : {A B : Type 0} → Joins {A = A} {B = B} (Does All) (λ value. Does All) (Does All)
+  each_join = does_join (each_append Is) (λ some each. each)
 
-    pub each_bind : EachSo (part >>= next)
-    each_bind = record { of = each_bind_of }
+  each_nothing : {A : Type 0} → OfNothing {A = A} (Does All)
+  each_nothing = record { of = λ held result. tt }
 
-  module _ {A : Type 0} where
-    each_returned_of : (value : A) (before : Option ℕ) (events : List Event) (result : Result A Refusal) (after : Option ℕ) → Returns value before events result after → All events
-    each_returned_of value before events result after returns = tt
+  pub each_bind : {A B : Type 0} {part : Part A} {next : A → Part B} → EachSo part → ((value : A) → EachSo (next value)) → EachSo (part >>= next)
+  each_bind = bind each_join
 
-    pub each_returned : (value : A) → EachSo (Returns value)
-    each_returned value = record { of = each_returned_of value }
+  pub each_returned : {A : Type 0} (value : A) → EachSo (Returns value)
+  each_returned = returned each_nothing
 
-    each_refused_of : (why : Refusal) (before : Option ℕ) (events : List Event) (result : Result A Refusal) (after : Option ℕ) → Refuses {A = A} why before events result after → All events
-    each_refused_of why before events result after chain.refuses = tt
+  pub each_refused : {A : Type 0} (why : Refusal) → EachSo (Refuses {A = A} why)
+  each_refused = refused each_nothing
 
-    pub each_refused : (why : Refusal) → EachSo (Refuses {A = A} why)
-    each_refused why = record { of = each_refused_of why }
+  pub each_needed : {A : Type 0} (why : Code) (value : Option A) → EachSo (needed why value)
+  each_needed = is_needed each_nothing
 
-    pub each_needed : (why : Code) (value : Option A) → EachSo (needed why value)
-    each_needed why None = each_refused (Agent why)
-    each_needed why (Some value) = each_returned value
-
-    pub each_otherwise : (value : Option A) {other : Part A} → EachSo other → EachSo (or_else value other)
-    each_otherwise None other = other
-    each_otherwise (Some value) other = each_returned value
+  pub each_otherwise : {A : Type 0} (value : Option A) {other : Part A} → EachSo other → EachSo (or_else value other)
+  each_otherwise = or_otherwise each_nothing
 
   each_unless : (so : Bool) {other : Part (Unit {0})} → EachSo other → EachSo (unless so other)
-  each_unless true other = each_returned tt
-  each_unless false other = other
+  each_unless = is_unless each_nothing
 
   pub each_wanted : (why : Code) (so : Bool) → EachSo (wanted why so)
-  each_wanted why true = each_returned tt
-  each_wanted why false = each_refused (Agent why)
+  each_wanted = is_wanted each_nothing
 
   -- ---- turns, each of whose outcomes is so
   module _ {step : MarkStep} (turns : (turn : Turn) → Is (cache_turn step turn)) where
@@ -175,16 +177,16 @@ module _ (Is : Event → Type 0) where
     one : (event : Event) → IsStill event → All (event ∷ [])
     one event is = (still event is, tt)
 
-    writes_of : (text : List ℕ) → IsNotice text → (before : Option ℕ) (events : List Event) (result : Result (Unit {0}) Refusal) (after : Option ℕ) → Writes text before events result after → All events
+    pub writes_of : (text : List ℕ) → IsNotice text → (before : Option ℕ) (events : List Event) (result : Result (Unit {0}) Refusal) (after : Option ℕ) → Writes text before events result after → All events
     writes_of text noted before events result after client.written = one _ noted
     writes_of text noted before events result after (client.cut unsent is) = one _ tt
 
-    inquires_of : (word : List ℕ) (most : ℕ) (before : Option ℕ) (events : List Event) (result : Result (List ℕ) Refusal) (after : Option ℕ) → Inquires session_lines word most before events result after → All events
+    pub inquires_of : (word : List ℕ) (most : ℕ) (before : Option ℕ) (events : List Event) (result : Result (List ℕ) Refusal) (after : Option ℕ) → Inquires session_lines word most before events result after → All events
     inquires_of word most before events result after (client.given is) = one _ tt
     inquires_of word most before events result after (client.not_given is) = one _ tt
 
-    asks_secret : (word : List ℕ) → EachSo (AsksSecret word)
-    asks_secret word = each_bind (record { of = writes_of (limit_line MAX_SECRET_LEN) (of_limit MAX_SECRET_LEN) }) (λ told. record { of = inquires_of word MAX_SECRET_LEN })
+    pub asks_secret : (word : List ℕ) → EachSo (AsksSecret word)
+    asks_secret word = each_bind (record { of = writes_of (limit_line MAX_SECRET_LEN) of_passphrase }) (λ told. record { of = inquires_of word MAX_SECRET_LEN })
 
     finds_of : (grip : Grip) (before : Option ℕ) (events : List Event) (result : Result Bool Refusal) (after : Option ℕ) → Finds grip before events result after → All events
     finds_of grip before events result after small.found = one _ tt
@@ -274,7 +276,7 @@ module _ (Is : Event → Type 0) where
     unwraps_of wrap wrapped before events result after parts.no_memory = one _ tt
 
     pub receives_key : (wrap : List ℕ) → EachSo (ReceivesKey wrap)
-    receives_key wrap = each_bind (record { of = writes_of (limit_line max_key_data) (of_limit max_key_data) }) (λ told_so. each_bind (record { of = asks_key_data_of }) (λ wrapped. record { of = unwraps_of wrap wrapped }))
+    receives_key wrap = each_bind (record { of = writes_of (limit_line max_key_data) of_key_data }) (λ told_so. each_bind (record { of = asks_key_data_of }) (λ wrapped. record { of = unwraps_of wrap wrapped }))
 
     pub is_free : (force : Bool) (grip : Grip) → EachSo (IsFree force grip)
     is_free true grip = each_returned tt
@@ -381,9 +383,27 @@ module _ (Is : Event → Type 0) where
         pub prompts_new : EachSo (PromptsNew rules options grip)
         prompts_new = record { of = prompts_new_of }
 
-        agrees_of : (before : Option ℕ) (events : List Event) (result : Result (Unit {0}) Refusal) (after : Option ℕ) → Agrees rules options grip before events result after → All events
+      module _ (rules : Rules) (options : OptionValues) (question : List ℕ) where
+        agrees_of : (before : Option ℕ) (events : List Event) (result : Result (Unit {0}) Refusal) (after : Option ℕ) → AgreesTo session_lines rules options question before events result after → All events
         agrees_of before events result after (consent.consents spec is prompt) = each_shown prompt.in_session
         agrees_of before events result after (consent.refused spec is prompt refusal) = each_shown prompt.in_session
 
-        pub agrees : EachSo (Agrees rules options grip)
-        agrees = record { of = agrees_of }
+        pub agrees_to : EachSo (AgreesTo session_lines rules options question)
+        agrees_to = record { of = agrees_of }
+
+  -- ---- what follows a request's parts
+
+  module _ (gives_back : (number : ℕ) (turn : Turn) → Is (cache_turn (Close number None) turn)) where
+    -- a ticket that is held then is given back
+    pub each_behind : {held : Option ℕ} {back : List Event} (last : List Event) → Closes None held back (Ok tt) None → All last → All (back ++ last)
+    each_behind last taken.unheld each = each
+    each_behind last (taken.closed turn) each = (gives_back _ turn, each)
+
+    module _ (said : (text : List ℕ) → Is (Sent text)) where
+      -- and the request is answered, where it is
+      each_said : (line : Option (List ℕ)) → All (said_last line)
+      each_said None = tt
+      each_said (Some text) = (said text, tt)
+
+      pub each_answer : {held : Option ℕ} {back : List Event} (line : Option (List ℕ)) → Closes None held back (Ok tt) None → All (back ++ said_last line)
+      each_answer line closes = each_behind (said_last line) closes (each_said line)

@@ -1,8 +1,25 @@
 -- Requests on keys each of whose events is so, where each event but a read request and a call of the trust file is so.
-use Rattle.std.proofs.Common.{ℕ, Bool, true, false, List, ◌++◌, Option, Some, None, Ok, Err}
+use Rattle.std.proofs.Common.{ℕ, Bool, true, false, List, [], ◌++◌, Option, Some, None, Result, Ok, Err}
 use Rattle.std.specs.Prelude.{⊤}
 use Rattle.agent_ask.specs.Further.{Keys, Dice, NoMemory, Prompt, Trust}
-use Rattle.agent_ask.specs.SessionEvents.{Received, Sent, Cut, Inquiry, CacheTurn, Further, said_last}
+use Rattle.agent_ask.specs.SessionEvents.{Received, Sent, Cut, Inquiry, CacheTurn, Further, cache_turn}
+use Rattle.agent_ask.specs.ConsentParts.{AgreesTo, PromptsConsent}
+use Rattle.agent_ask.specs.ConsentParts as consent
+use Rattle.agent_ask.specs.PartExchanges.{AnyReply, AnyExchange}
+use Rattle.agent_ask.specs.PartExchanges as exchange
+use Rattle.agent_ask.specs.Parts.{◌>>=◌}
+use Rattle.agent_ask.specs.PinParts.{PromptsPin}
+use Rattle.agent_ask.specs.declared.ask.Asked.{Asked}
+use Rattle.agent_ask.specs.declared.consent.Agreed.{Agreed}
+use Rattle.agent_ask.specs.declared.spec.AskPlan.{AskPlan}
+use Rattle.agent_ask.specs.declared.spec.PromptSpec.{PromptSpec}
+use Rattle.agent_ask.proofs.Within.{Within, OfNothing, Does, does_join, weaker, bind, or_otherwise}
+use Rattle.assuan_server.specs.Clients.{session_lines}
+use Rattle.cache_policy.specs.Turns.{Turn}
+use Rattle.cache_policy.specs.declared.mark.MarkStep.{MarkStep}
+use Rattle.key_commands.specs.Parts.{Part}
+use Rattle.session_client.specs.declared.refusal.Refusal.{Refusal}
+use Rattle.session_client.specs.declared.unheard.Gone.{Gone}
 use Rattle.agent_ports.specs.declared.grip.Grip.{Grip}
 use Rattle.session_client.specs.declared.code.Code.TheVariants as code
 use Rattle.secret_file.specs.Opens.{LockedKey}
@@ -14,21 +31,19 @@ use Rattle.sexp_keys.specs.Key.{Key}
 use Rattle.key_commands.specs.Events.{Event}
 use Rattle.key_commands.specs.Exchanges.{KeyExchange, HaveKeyReplies, KeyInfoReplies, ListKeysReplies, KeyWrapReplies, ImportKeyReplies, ExportKeyReplies, PasswdReplies, VerifyReplies}
 use Rattle.key_commands.specs.Exchanges.{DeleteKeyReplies, KeyReplies, wrap_key, FoundOrNew, RenewsPassphrase, ChangesOpened}
-use Rattle.agent_ask.specs.PartExchanges as exchange
 use Rattle.key_commands.specs.Lines.{IsNotice}
 use Rattle.key_commands.specs.KeyParts.{Consents}
-use Rattle.agent_ask.specs.TurnParts.{Closes}
-use Rattle.assuan_server.specs.Written.{refusal_line}
-use Rattle.key_commands.specs.Passphrases.{UncachedOld, OpensLocked, old_by, verified_by, new_by}
+use Rattle.key_commands.specs.Passphrases.{PromptsOld, PromptsNew, UncachedOld, OpensLocked, old_by, verified_by, new_by}
+use Rattle.key_commands.specs.Passphrases as passphrases
 use Rattle.session_client.specs.declared.refusal.Refusal.TheVariants.{Agent}
 use Rattle.key_commands.specs.declared.request.Direction.{Direction}
 use Rattle.key_commands.specs.declared.request.KeyRequest.{KeyRequest}
 use Rattle.key_commands.specs.declared.request.KeyRequest.TheVariants as on
 use Rattle.key_commands.specs.declared.went.KeyWent.{KeyWent}
 use Rattle.key_commands.specs.declared.wrap_keys.WrapKeys.{WrapKeys}
-use Rattle.key_commands.proofs.EachEvent.{each_append, IsStill, All, EachSo, each_bind, each_returned, each_refused, each_needed, each_otherwise, each_wanted, each_looks, each_seats, each_changes, looks_nonce}
+use Rattle.key_commands.proofs.EachEvent.{IsStill, All, each_append, each_shown, each_answer, EachSo, each_returned, each_refused, each_needed, each_otherwise, each_wanted, each_looks, each_seats, each_changes, looks_nonce}
 use Rattle.key_commands.proofs.EachEvent.{looks_over, takes_seat, each_closes, finds, draws, reads_file, lists, told, is_short, names_key, wraps_key, receives_key, is_free, has_one, locks}
-use Rattle.key_commands.proofs.EachEvent.{tries_found, removes, tells_info, writes_infos, client_old, rewrites_file, stores_key, client_new, prompts_old, prompts_new, agrees}
+use Rattle.key_commands.proofs.EachEvent.{tries_found, removes, tells_info, writes_infos, client_old, rewrites_file, stores_key, client_new}
 
 -- what may be done for a request that has nothing to do with the trust file
 abbrev pub IsBesideTrust : Event → Type 0
@@ -53,7 +68,7 @@ still_works (Further (Trust call)) still = absurd still
 still_works (CacheTurn taken) still = absurd still
 still_works (Received took) still = absurd still
 
-works_beside : (event : Event) → IsKeyWork event → IsBesideTrust event
+pub works_beside : (event : Event) → IsKeyWork event → IsBesideTrust event
 works_beside (Sent text) work = tt
 works_beside (Cut text) work = work
 works_beside (Inquiry word params limit inquired) work = work
@@ -65,135 +80,181 @@ works_beside (Further (Prompt event)) work = work
 works_beside (Further (Trust call)) work = work
 works_beside (Received took) work = work
 
-pub said_last_so : (Is : Event → Type 0) → ((event : Event) → IsBesideTrust event → Is event) → (line : Option (List ℕ)) → All Is (said_last line)
-said_last_so Is every None = tt
-said_last_so Is every (Some text) = (every (Sent text) tt, tt)
+pub still_beside : (event : Event) → IsStill event → IsBesideTrust event
+still_beside event still = works_beside event (still_works event still)
 
-module _ (Is : Event → Type 0) (every : (event : Event) → IsKeyWork event → Is event) where
-  still : (event : Event) → IsStill event → Is event
-  still event is = every event (still_works event is)
+-- What is so of a request's events, where it is so of one list behind another, of events each of which is so, and of those of a prompt.
+pub record Carries (Is : Event → Type 0) (So : List Event → Type 0) : Type 1 where
+  pub still : (event : Event) → IsStill event → Is event
+  pub turns : (step : MarkStep) (turn : Turn) → Is (cache_turn step turn)
+  pub behind : (first more : List Event) → So first → So more → So (first ++ more)
+  pub each : (events : List Event) → All Is events → So events
+  pub pins : {spec : PromptSpec} {plan : AskPlan} {Rule : List ℕ → Type 0} {shown : List Event} {answer : Asked} → PromptsPin session_lines spec plan Rule shown answer → So shown
+  pub consents : {spec : PromptSpec} {notify : Bool} {shown : List Event} {answer : Agreed} → PromptsConsent session_lines spec notify shown answer → So shown
+
+-- that each of them is so
+pub each_carries : (Is : Event → Type 0) → ((event : Event) → IsKeyWork event → Is event) → Carries Is (All Is)
+each_carries Is every = record {
+  still = λ event still. every event (still_works event still);
+  turns = λ step turn. every _ tt;
+  behind = each_append Is;
+  each = λ events each. each;
+  pins = λ prompt. each_shown Is (λ event still. every event (still_works event still)) (λ event. every _ tt) prompt.in_session;
+  consents = λ prompt. each_shown Is (λ event still. every event (still_works event still)) (λ event. every _ tt) prompt.in_session;
+}
+
+module _ {Is : Event → Type 0} {So : List Event → Type 0} (law : Carries Is So) where
+  abbrev Here : {A : Type 0} → Part A → Type 0
+  Here part = Within part (Does So)
+
+  pub so : {A : Type 0} {part : Part A} → EachSo Is part → Here part
+  so = weaker (record { of = λ before events result after each. law.each events each })
+
+  pub then : {A B : Type 0} {part : Part A} {next : A → Part B} → Here part → ((value : A) → Here (next value)) → Here (part >>= next)
+  then = bind (does_join law.behind (λ some one. one))
+
+  pub nothing : {A : Type 0} → OfNothing {A = A} (Does So)
+  nothing = record { of = λ held result. law.each [] tt }
+
+  -- ---- prompts
+
+  module _ (rules : Rules) (options : OptionValues) where
+    prompts_old_of : (grip : Grip) (locked : LockedKey) (before : Option ℕ) (events : List Event) (result : Result _ Refusal) (after : Option ℕ) → PromptsOld rules options grip locked before events result after → So events
+    prompts_old_of grip locked before events result after (passphrases.opens_by spec is prompt to) = law.pins prompt
+    prompts_old_of grip locked before events result after (passphrases.refused spec is prompt refusal) = law.pins prompt
+
+    prompts_new_of : (grip : Grip) (before : Option ℕ) (events : List Event) (result : Result (List ℕ) Refusal) (after : Option ℕ) → PromptsNew rules options grip before events result after → So events
+    prompts_new_of grip before events result after (passphrases.given spec is prompt) = law.pins prompt
+    prompts_new_of grip before events result after (passphrases.refused spec is prompt refusal) = law.pins prompt
+
+    agrees_of : (question : List ℕ) (before : Option ℕ) (events : List Event) (result : Result (Unit {0}) Refusal) (after : Option ℕ) → AgreesTo session_lines rules options question before events result after → So events
+    agrees_of question before events result after (consent.consents spec is prompt) = law.consents prompt
+    agrees_of question before events result after (consent.refused spec is prompt refusal) = law.consents prompt
+
+    pub agrees : (question : List ℕ) → Here (AgreesTo session_lines rules options question)
+    agrees question = record { of = agrees_of question }
+
+  -- ---- passphrases
 
   module _ (rules : Rules) (options : OptionValues) (grip : Grip) where
-    each_uncached : (locked : LockedKey) (way : PinMode) → EachSo Is (UncachedOld rules options grip way locked)
-    each_uncached locked mode.Ask = each_bind Is (takes_seat Is grip (λ turn. every _ tt)) (λ seated. prompts_old Is still (λ event. every _ tt) rules options grip locked)
-    each_uncached locked mode.Cancel = each_refused Is (Agent code.Cancelled)
-    each_uncached locked mode.Error = each_refused Is (Agent code.NoPinentry)
-    each_uncached locked mode.Loopback = client_old Is still (λ key pass turn. every _ tt) rules options grip locked
+    uncached_so : (locked : LockedKey) (way : PinMode) → Here (UncachedOld rules options grip way locked)
+    uncached_so locked mode.Ask = then (so (takes_seat Is grip (law.turns _))) (λ seated. record { of = prompts_old_of rules options grip locked })
+    uncached_so locked mode.Cancel = so (each_refused Is (Agent code.Cancelled))
+    uncached_so locked mode.Error = so (each_refused Is (Agent code.NoPinentry))
+    uncached_so locked mode.Loopback = so (client_old Is law.still (λ key pass. law.turns _) rules options grip locked)
 
-    each_locked : (id : Option (List ℕ)) (locked : LockedKey) → EachSo Is (OpensLocked rules options grip id locked)
+    locked_so : (id : Option (List ℕ)) (locked : LockedKey) → Here (OpensLocked rules options grip id locked)
     unfolding OpensLocked
-    each_locked id locked =
-        each_bind Is (looks_nonce Is id (λ named turn. every _ tt)) (λ by_nonce. each_bind Is (tries_found Is still locked by_nonce) (λ first. each_otherwise Is first
-        (each_bind Is (each_looks Is (λ turn. every _ tt)) (λ cached. each_bind Is (tries_found Is still locked cached) (λ second. each_otherwise Is second (each_uncached locked options.mode))))))
+    locked_so id locked =
+        then (so (looks_nonce Is id (λ named. law.turns _))) (λ by_nonce. then (so (tries_found Is law.still locked by_nonce)) (λ first. or_otherwise nothing first
+        (then (so (each_looks Is (law.turns _))) (λ cached. then (so (tries_found Is law.still locked cached)) (λ second. or_otherwise nothing second (uncached_so locked options.mode))))))
 
-    each_old : (id : Option (List ℕ)) (key : Key) (clear : Bool) → EachSo Is (old_by rules options grip id key clear)
-    each_old id key true = each_returned Is _
-    each_old id key false = each_bind Is (locks Is still key) (λ locked. each_locked id locked)
+    old_so : (id : Option (List ℕ)) (key : Key) (clear : Bool) → Here (old_by rules options grip id key clear)
+    old_so id key true = so (each_returned Is _)
+    old_so id key false = then (so (locks Is law.still key)) (λ locked. locked_so id locked)
 
-    each_verified : (key : Key) (clear : Bool) → EachSo Is (verified_by rules options grip key clear)
-    each_verified key true = each_returned Is _
-    each_verified key false = each_bind Is (locks Is still key) (λ locked. each_uncached locked options.mode)
+    verified_so : (key : Key) (clear : Bool) → Here (verified_by rules options grip key clear)
+    verified_so key true = so (each_returned Is _)
+    verified_so key false = then (so (locks Is law.still key)) (λ locked. uncached_so locked options.mode)
 
-    each_new : (way : PinMode) → EachSo Is (new_by rules options grip way)
-    each_new mode.Ask = each_bind Is (takes_seat Is grip (λ turn. every _ tt)) (λ seated. prompts_new Is still (λ event. every _ tt) rules options grip)
-    each_new mode.Cancel = each_refused Is (Agent code.Cancelled)
-    each_new mode.Error = each_refused Is (Agent code.NoPinentry)
-    each_new mode.Loopback = client_new Is still
+    new_so : (way : PinMode) → Here (new_by rules options grip way)
+    new_so mode.Ask = then (so (takes_seat Is grip (law.turns _))) (λ seated. record { of = prompts_new_of rules options grip })
+    new_so mode.Cancel = so (each_refused Is (Agent code.Cancelled))
+    new_so mode.Error = so (each_refused Is (Agent code.NoPinentry))
+    new_so mode.Loopback = so (client_new Is law.still)
 
-    each_agreed : (way : PinMode) → EachSo Is (Consents rules (record options { mode = way }) false grip)
-    each_agreed mode.Ask = each_bind Is (each_seats Is (λ turn. every _ tt)) (λ seated. agrees Is still (λ event. every _ tt) rules (record options { mode = mode.Ask }) grip)
-    each_agreed mode.Cancel = each_refused Is (Agent code.Cancelled)
-    each_agreed mode.Error = each_refused Is (Agent code.NoPinentry)
-    each_agreed mode.Loopback = each_refused Is (Agent code.NoPinentry)
+    agreed_so : (way : PinMode) → Here (Consents rules (record options { mode = way }) false grip)
+    agreed_so mode.Ask = then (so (each_seats Is (law.turns _))) (λ seated. agrees rules (record options { mode = mode.Ask }) _)
+    agreed_so mode.Cancel = so (each_refused Is (Agent code.Cancelled))
+    agreed_so mode.Error = so (each_refused Is (Agent code.NoPinentry))
+    agreed_so mode.Loopback = so (each_refused Is (Agent code.NoPinentry))
 
-    each_consented : (force : Bool) → EachSo Is (Consents rules options force grip)
-    each_consented true = each_returned Is tt
-    each_consented false = each_agreed options.mode
+    consented_so : (force : Bool) → Here (Consents rules options force grip)
+    consented_so true = so (each_returned Is tt)
+    consented_so false = agreed_so options.mode
 
-    each_found : (id : Option (List ℕ)) → EachSo Is (FoundOrNew rules options id grip)
-    each_found id = each_bind Is (looks_over Is id (λ named turn. every _ tt)) (λ found. each_otherwise Is found (each_new options.mode))
+    found_so : (id : Option (List ℕ)) → Here (FoundOrNew rules options id grip)
+    found_so id = then (so (looks_over Is id (λ named. law.turns _))) (λ found. or_otherwise nothing found (new_so options.mode))
 
-    each_renewed : (id : Option (List ℕ)) → EachSo Is (RenewsPassphrase rules options grip id)
-    each_renewed id = each_bind Is (looks_nonce Is id (λ named turn. every _ tt)) (λ found. each_otherwise Is found (each_new options.mode))
+    renewed_so : (id : Option (List ℕ)) → Here (RenewsPassphrase rules options grip id)
+    renewed_so id = then (so (looks_nonce Is id (λ named. law.turns _))) (λ found. or_otherwise nothing found (new_so options.mode))
 
-    each_opened : (id : Option (List ℕ)) (file : List ℕ) (key : Key) → EachSo Is (ChangesOpened rules options grip id file key)
-    each_opened id file key =
-        each_bind Is (is_short Is still key) (λ short. each_bind Is (each_renewed id)
-        (λ pass. rewrites_file Is still (λ key_grip secret turn. every _ tt) (λ ticket keep turn. every _ tt) rules options grip file key pass))
+    opened_so : (id : Option (List ℕ)) (file : List ℕ) (key : Key) → Here (ChangesOpened rules options grip id file key)
+    opened_so id file key =
+        then (so (is_short Is law.still key)) (λ short. then (renewed_so id)
+        (λ pass. so (rewrites_file Is law.still (λ key_grip secret. law.turns _) (λ ticket keep. law.turns _) rules options grip file key pass)))
 
   module _ (rules : Rules) (options : OptionValues) (wraps : WrapKeys) where
-    have_key : (grips : List Grip) → EachSo Is (HaveKeyReplies rules options wraps grips)
+    have_key : (grips : List Grip) → Here (HaveKeyReplies rules options wraps grips)
     unfolding HaveKeyReplies
-    have_key grips = each_bind Is (has_one Is still grips) (λ one. each_returned Is _)
+    have_key grips = then (so (has_one Is law.still grips)) (λ one. so (each_returned Is _))
 
-    key_info : (grip : Grip) → EachSo Is (KeyInfoReplies rules options wraps grip)
+    key_info : (grip : Grip) → Here (KeyInfoReplies rules options wraps grip)
     unfolding KeyInfoReplies
-    key_info grip = each_bind Is (reads_file Is still grip) (λ file. each_bind Is (tells_info Is still (λ key turn. every _ tt) grip file.key) (λ line. each_returned Is _))
+    key_info grip = then (so (reads_file Is law.still grip)) (λ file. then (so (tells_info Is law.still (λ key. law.turns _) grip file.key)) (λ line. so (each_returned Is _)))
 
-    list_keys : EachSo Is (ListKeysReplies rules options wraps)
+    list_keys : Here (ListKeysReplies rules options wraps)
     unfolding ListKeysReplies
-    list_keys = each_bind Is (lists Is still) (λ grips. each_bind Is (writes_infos Is still (λ key turn. every _ tt) grips) (λ written. each_returned Is _))
+    list_keys = then (so (lists Is law.still)) (λ grips. then (so (writes_infos Is law.still (λ key. law.turns _) grips)) (λ written. so (each_returned Is _)))
 
-    key_wrap : (way : Direction) → EachSo Is (KeyWrapReplies rules options wraps way)
+    key_wrap : (way : Direction) → Here (KeyWrapReplies rules options wraps way)
     unfolding KeyWrapReplies
-    key_wrap way = each_bind Is (each_otherwise Is (wrap_key way wraps) (draws Is still 16)) (λ key. each_bind Is (told Is still key) (λ text. each_returned Is _))
+    key_wrap way = then (so (each_otherwise Is (wrap_key way wraps) (draws Is law.still 16))) (λ key. then (so (told Is law.still key)) (λ text. so (each_returned Is _)))
 
-    import_key : (force : Bool) (id : Option (List ℕ)) → EachSo Is (ImportKeyReplies rules options wraps force id)
+    import_key : (force : Bool) (id : Option (List ℕ)) → Here (ImportKeyReplies rules options wraps force id)
     unfolding ImportKeyReplies
     import_key force id =
-        each_bind Is (each_needed Is code.Parameter wraps.import) (λ wrap. each_bind Is (receives_key Is still wrap) (λ key. each_bind Is (names_key Is still key)
-        (λ grip. each_bind Is (is_free Is still force grip) (λ free. each_bind Is (each_found rules options grip id)
-        (λ pass. each_bind Is (stores_key Is still (λ key_grip secret turn. every _ tt) (λ ticket keep turn. every _ tt) (λ named secret turn. every _ tt) options.s2k_count key grip pass)
-        (λ cache_nonce. each_returned Is _))))))
+        then (so (each_needed Is code.Parameter wraps.import)) (λ wrap. then (so (receives_key Is law.still wrap)) (λ key. then (so (names_key Is law.still key))
+        (λ grip. then (so (is_free Is law.still force grip)) (λ free. then (found_so rules options grip id)
+        (λ pass. then (so (stores_key Is law.still (λ key_grip secret. law.turns _) (λ ticket keep. law.turns _) (λ named secret. law.turns _) options.s2k_count key grip pass))
+        (λ cache_nonce. so (each_returned Is _)))))))
 
-    export_key : (grip : Grip) (id : Option (List ℕ)) → EachSo Is (ExportKeyReplies rules options wraps grip id)
+    export_key : (grip : Grip) (id : Option (List ℕ)) → Here (ExportKeyReplies rules options wraps grip id)
     unfolding ExportKeyReplies
     export_key grip id =
-        each_bind Is (each_needed Is code.Parameter wraps.export) (λ wrap. each_bind Is (reads_file Is still grip) (λ file. each_bind Is (each_old rules options grip id file.key file.key.is_clear)
-        (λ opened. each_bind Is (each_closes Is opened.by (λ number turn. every _ tt)) (λ closed. each_bind Is (wraps_key Is still wrap opened.key)
-        (λ wrapped. each_bind Is (told Is still wrapped) (λ text. each_returned Is _))))))
+        then (so (each_needed Is code.Parameter wraps.export)) (λ wrap. then (so (reads_file Is law.still grip)) (λ file. then (old_so rules options grip id file.key file.key.is_clear)
+        (λ opened. then (so (each_closes Is opened.by (λ number. law.turns _))) (λ closed. then (so (wraps_key Is law.still wrap opened.key))
+        (λ wrapped. then (so (told Is law.still wrapped)) (λ text. so (each_returned Is _)))))))
 
-    passwd : (grip : Grip) (id new_id : Option (List ℕ)) → EachSo Is (PasswdReplies rules options wraps grip id new_id)
+    passwd : (grip : Grip) (id new_id : Option (List ℕ)) → Here (PasswdReplies rules options wraps grip id new_id)
     unfolding PasswdReplies
     passwd grip id new_id =
-        each_bind Is (reads_file Is still grip) (λ file. each_bind Is (each_old rules options grip id file.key file.key.is_clear)
-        (λ opened. each_bind Is (each_opened rules options grip new_id file.bytes opened.key) (λ changed. each_returned Is _)))
+        then (so (reads_file Is law.still grip)) (λ file. then (old_so rules options grip id file.key file.key.is_clear)
+        (λ opened. then (opened_so rules options grip new_id file.bytes opened.key) (λ changed. so (each_returned Is _))))
 
-    verify : (grip : Grip) → EachSo Is (VerifyReplies rules options wraps grip)
+    verify : (grip : Grip) → Here (VerifyReplies rules options wraps grip)
     unfolding VerifyReplies
     verify grip =
-        each_bind Is (reads_file Is still grip) (λ file. each_bind Is (each_verified rules options grip file.key file.key.is_clear)
-        (λ opened. each_bind Is (each_closes Is opened.by (λ number turn. every _ tt)) (λ closed. each_returned Is _)))
+        then (so (reads_file Is law.still grip)) (λ file. then (verified_so rules options grip file.key file.key.is_clear)
+        (λ opened. then (so (each_closes Is opened.by (λ number. law.turns _))) (λ closed. so (each_returned Is _))))
 
-    delete_key : (force : Bool) (grip : Grip) → EachSo Is (DeleteKeyReplies rules options wraps force grip)
+    delete_key : (force : Bool) (grip : Grip) → Here (DeleteKeyReplies rules options wraps force grip)
     unfolding DeleteKeyReplies
     delete_key force grip =
-        each_bind Is (finds Is still grip) (λ there. each_bind Is (each_wanted Is code.NoSecKey there) (λ some. each_bind Is (each_consented rules options grip force)
-        (λ agreed. each_bind Is (removes Is still grip) (λ removed. each_bind Is (each_changes Is (λ turn. every _ tt)) (λ cleared. each_returned Is _)))))
+        then (so (finds Is law.still grip)) (λ there. then (so (each_wanted Is code.NoSecKey there)) (λ some. then (consented_so rules options grip force)
+        (λ agreed. then (so (removes Is law.still grip)) (λ removed. then (so (each_changes Is (law.turns _))) (λ cleared. so (each_returned Is _))))))
 
     -- all that is done for a request up to its reply
-    pub replies : (asked : KeyRequest) → EachSo Is (KeyReplies rules options wraps asked)
-    replies (on.HaveKey grips) = have_key grips
-    replies (on.KeyInfo grip) = key_info grip
-    replies on.ListKeys = list_keys
-    replies (on.KeyWrap way) = key_wrap way
-    replies (on.ImportKey force id) = import_key force id
-    replies (on.ExportKey grip id) = export_key grip id
-    replies (on.Passwd grip old new true) = verify grip
-    replies (on.Passwd grip old new false) = passwd grip old new
-    replies (on.DeleteKey grip force) = delete_key force grip
-    replies (on.Bad why) = each_refused Is (Agent why)
+    pub key_replies : (asked : KeyRequest) → Here (KeyReplies rules options wraps asked)
+    key_replies (on.HaveKey grips) = have_key grips
+    key_replies (on.KeyInfo grip) = key_info grip
+    key_replies on.ListKeys = list_keys
+    key_replies (on.KeyWrap way) = key_wrap way
+    key_replies (on.ImportKey force id) = import_key force id
+    key_replies (on.ExportKey grip id) = export_key grip id
+    key_replies (on.Passwd grip old new true) = verify grip
+    key_replies (on.Passwd grip old new false) = passwd grip old new
+    key_replies (on.DeleteKey grip force) = delete_key force grip
+    key_replies (on.Bad why) = so (each_refused Is (Agent why))
 
--- all that is done for a request
-module _ (Is : Event → Type 0) (every : (event : Event) → IsBesideTrust event → Is event) (rules : Rules) (options : OptionValues) (wraps : WrapKeys) where
-  ends_so : (events back last : List Event) {held : Option ℕ} → All Is events → Closes None held back (Ok tt) None → All Is last → All Is (events ++ (back ++ last))
-  ends_so events back last each closes each_last =
-      each_append Is events (back ++ last) each
-      (each_append Is back last ((each_closes Is None (λ number turn. every _ tt)).of _ back (Ok tt) None closes) each_last)
+  -- all that is done for one, where its answer is so
+  module _ (said : (text : List ℕ) → Is (Sent text)) where
+    pub whole : {S W : Type 0} {refusal_text : Refusal → Option (List ℕ)} {went_after : Option Gone → W} {parts : Part (AnyReply S W)} {before after : S} {events : List Event} {went : W} → Here parts
+        → AnyExchange refusal_text went_after parts before events after went → So events
+    whole parts (exchange.answered events held reply does closes) =
+        law.behind events _ (parts.of None events (Ok reply) held does) (law.each _ (each_answer Is (λ number. law.turns _) said (Some reply.text) closes))
+    whole {refusal_text} parts (exchange.refused events held why does closes) =
+        law.behind events _ (parts.of None events (Err why) held does) (law.each _ (each_answer Is (λ number. law.turns _) said (refusal_text why) closes))
 
-  each_work : (asked : KeyRequest) → EachSo Is (KeyReplies rules options wraps asked)
-  each_work = replies Is (λ event work. every event (works_beside event work)) rules options wraps
-
-  pub each_exchange : (asked : KeyRequest) {events : List Event} {after : WrapKeys} {went : KeyWent} → KeyExchange rules options wraps asked events after went → All Is events
-  each_exchange asked (exchange.answered events held reply {back} does closes) = ends_so events back _ ((each_work asked).of None events (Ok reply) held does) closes (every _ tt, tt)
-  each_exchange asked (exchange.refused events held why {back} does closes) = ends_so events back _ ((each_work asked).of None events (Err why) held does) closes (said_last_so Is every (refusal_line why))
+    pub key_whole : (rules : Rules) (options : OptionValues) (wraps : WrapKeys) (asked : KeyRequest) {events : List Event} {after : WrapKeys} {went : KeyWent} → KeyExchange rules options wraps asked events after went → So events
+    key_whole rules options wraps asked = whole (key_replies rules options wraps asked)

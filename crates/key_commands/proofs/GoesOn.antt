@@ -1,6 +1,7 @@
 -- A session goes on after each request on keys that is answered.
 use Rattle.std.proofs.Common.{◌≡◌, ℕ, Bool, true, false, List, Option, Ok, refl}
-use Rattle.agent_ask.specs.Parts.{◌>>=◌, Follows, goes_on, Returns, returns}
+use Rattle.agent_ask.specs.Parts.{◌>>=◌, Returns}
+use Rattle.agent_ask.proofs.Within.{Within, Yields, yields_then, returned_so}
 use Rattle.agent_ports.specs.declared.grip.Grip.{Grip}
 use Rattle.session_options.specs.OptionValues.{OptionValues}
 use Rattle.session_options.specs.declared.rules.Rules.{Rules}
@@ -14,22 +15,18 @@ use Rattle.key_commands.specs.declared.request.KeyRequest.TheVariants as on
 use Rattle.key_commands.specs.declared.went.KeyWent.TheVariants.{On}
 use Rattle.key_commands.specs.declared.wrap_keys.WrapKeys.{WrapKeys}
 
--- after each of its replies
-record GoesOn (part : Part KeyReply) : Type 0 where
-  pub of : (before : Option ℕ) (events : List Event) (reply : KeyReply) (after : Option ℕ) → part before events (Ok reply) after → reply.went ≡ On
+abbrev IsOn : KeyReply → Type 0
+IsOn reply = reply.went ≡ On
 
-module _ {A : Type 0} {part : Part A} {next : A → Part KeyReply} (each : (value : A) → GoesOn (next value)) where
-  then_of : (before : Option ℕ) (events : List Event) (reply : KeyReply) (after : Option ℕ) → Follows part next before events (Ok reply) after → reply.went ≡ On
-  then_of before events reply after (goes_on {events = more} {value} {mid} first later) = (each value).of mid more reply after later
+-- after each of a part's replies
+abbrev GoesOn : Part KeyReply → Type 0
+GoesOn part = Within part (Yields IsOn)
 
-  then_goes : GoesOn (part >>= next)
-  then_goes = record { of = then_of }
-
-replied_of : (wraps : WrapKeys) (text : List ℕ) (before : Option ℕ) (events : List Event) (reply : KeyReply) (after : Option ℕ) → Returns (key_reply wraps text) before events (Ok reply) after → reply.went ≡ On
-replied_of wraps text before events reply after returns = refl
+then_goes : {A : Type 0} {part : Part A} {next : A → Part KeyReply} → ((value : A) → GoesOn (next value)) → GoesOn (part >>= next)
+then_goes = yields_then IsOn
 
 replied : {wraps : WrapKeys} {text : List ℕ} → GoesOn (Returns (key_reply wraps text))
-replied {wraps} {text} = record { of = replied_of wraps text }
+replied {wraps} {text} = returned_so (key_reply wraps text) (λ held. refl)
 
 module _ (rules : Rules) (options : OptionValues) (wraps : WrapKeys) where
   have_key : (grips : List Grip) → GoesOn (HaveKeyReplies rules options wraps grips)
@@ -69,13 +66,13 @@ module _ (rules : Rules) (options : OptionValues) (wraps : WrapKeys) where
   delete_key force grip = then_goes (λ there. then_goes (λ some. then_goes (λ agreed. then_goes (λ removed. then_goes (λ cleared. replied)))))
 
   pub goes_on_after : (request : KeyRequest) (before after : Option ℕ) (events : List Event) (reply : KeyReply) → KeyReplies rules options wraps request before events (Ok reply) after → reply.went ≡ On
-  goes_on_after (on.HaveKey grips) before after events reply does = (have_key grips).of before events reply after does
-  goes_on_after (on.KeyInfo grip) before after events reply does = (key_info grip).of before events reply after does
-  goes_on_after on.ListKeys before after events reply does = list_keys.of before events reply after does
-  goes_on_after (on.KeyWrap way) before after events reply does = (key_wrap way).of before events reply after does
-  goes_on_after (on.ImportKey force id) before after events reply does = (import_key force id).of before events reply after does
-  goes_on_after (on.ExportKey grip id) before after events reply does = (export_key grip id).of before events reply after does
-  goes_on_after (on.Passwd grip old new true) before after events reply does = (verify grip).of before events reply after does
-  goes_on_after (on.Passwd grip old new false) before after events reply does = (passwd grip old new).of before events reply after does
-  goes_on_after (on.DeleteKey grip force) before after events reply does = (delete_key force grip).of before events reply after does
+  goes_on_after (on.HaveKey grips) before after events reply does = (have_key grips).of before events (Ok reply) after does
+  goes_on_after (on.KeyInfo grip) before after events reply does = (key_info grip).of before events (Ok reply) after does
+  goes_on_after on.ListKeys before after events reply does = list_keys.of before events (Ok reply) after does
+  goes_on_after (on.KeyWrap way) before after events reply does = (key_wrap way).of before events (Ok reply) after does
+  goes_on_after (on.ImportKey force id) before after events reply does = (import_key force id).of before events (Ok reply) after does
+  goes_on_after (on.ExportKey grip id) before after events reply does = (export_key grip id).of before events (Ok reply) after does
+  goes_on_after (on.Passwd grip old new true) before after events reply does = (verify grip).of before events (Ok reply) after does
+  goes_on_after (on.Passwd grip old new false) before after events reply does = (passwd grip old new).of before events (Ok reply) after does
+  goes_on_after (on.DeleteKey grip force) before after events reply does = (delete_key force grip).of before events (Ok reply) after does
   goes_on_after (on.Bad why) before after events reply does = elim does [ ]

@@ -24,8 +24,9 @@ use Rattle.secret_file.proofs.Within.{file_fits}
 use Rattle.session_client.specs.Asking.{Asked, AsksClient, LeftBy}
 use Rattle.sexp_keys.specs.Key.{Key}
 use Rattle.sexp_keys.specs.Lists.{key_list_of, grip_of}
+use Rattle.key_commands.specs.Lines.{max_key_data}
 use Rattle.key_commands.specs.Events.{out_of_memory}
-use Rattle.key_commands.specs.KeyParts.{AsksKeyData, asked, no_memory, max_key_data, Unwraps, is_key, refused, no_memory as no_key_memory, NamesKey, named as grip_named, no_memory as no_name_memory}
+use Rattle.key_commands.specs.KeyParts.{AsksKeyData, asked, no_memory, Unwraps, is_key, refused, no_memory as no_key_memory, NamesKey, named as grip_named, no_memory as no_name_memory}
 use Rattle.key_commands.specs.Partial.{NoCall, DoesBesideKeys, no_memory as wants_memory, LeavesKeys, DoesAtClient}
 use Rattle.key_commands.specs.Steps.{key_data_of, DoesAlone, nothing, memory as memory_wanted}
 use Rattle.key_commands.specs.Trials.{IsUsable}

@@ -1,18 +1,13 @@
 -- Requests for whose reply all was done, new passphrases that are kept, and clear keys, which need no passphrase.
 use Rattle.std.proofs.Common.{◌≡◌, ℕ, Bool, true, false, List, [], Option, Some, None, Result, Ok, is_some, refl}
 use Rattle.agent_ask.specs.Events.{Call}
-use Rattle.agent_ask.specs.PartReplies.{SaysLine, comes_to}
+use Rattle.agent_ask.specs.PartReplies.{comes_to}
 use Rattle.agent_ask.specs.Parts.{returns}
 use Rattle.agent_ask.specs.PartStates.{still, one}
 use Rattle.agent_ask.specs.Seats.{GivesTicket}
 use Rattle.agent_ask.specs.TurnParts.{Changes, Closes}
 use Rattle.agent_ask.proofs.PartsDone.{ticket_given}
 use Rattle.agent_ports.specs.declared.grip.Grip.{Grip}
-use Rattle.agent_ports.specs.declared.link.WriteFault.{WriteFault}
-use Rattle.assuan_server.specs.Clients.{connection_views}
-use Rattle.assuan_server.specs.Connections.{Connection}
-use Rattle.assuan_server.specs.Written.{WritesLine}
-use Rattle.assuan_server.proofs.Clients.{said_so}
 use Rattle.cache_policy.specs.declared.mark.MarkStep.{MarkStep}
 use Rattle.cache_policy.specs.Turns.{Turn}
 use Rattle.session_client.specs.declared.refusal.Refusal.{Refusal}
@@ -36,11 +31,6 @@ use Rattle.key_commands.specs.declared.wrap_keys.WrapKeys.{WrapKeys}
 pub gone_as_it_went : (how : Option Gone) → key_gone (key_went_after how) ≡ how
 gone_as_it_went None = refl
 gone_as_it_went (Some how) = refl
-
--- a line that was written to a connection, where there is one
-pub line_so : (line : Option (List ℕ)) (start now : Connection) (written : Result (Unit {0}) WriteFault) → WritesLine line start written now → SaysLine connection_views line start written now
-line_so None start now written says = says
-line_so (Some text) start now written says = said_so says
 
 -- a request whose reply is OK alone
 pub replies_ok : {D P : Type 0} {turned : D → MarkStep → Turn → D → Type 0} {prompted : P → Call → P → Type 0} {part : Part KeyReply} {before after : WrapKeys} {held : Option ℕ}

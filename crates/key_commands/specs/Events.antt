@@ -1,6 +1,7 @@
 -- What a session does for its requests on keys, over the lines that this project's server reads.
-use Rattle.std.specs.Prelude.{ℕ, List}
-use Rattle.agent_ask.specs.Further.{EventOf, KeyCall, Read, Keys, Dice, Drew, NotDrawn, NoMemory}
+use Rattle.std.specs.Prelude.{ℕ, List, ⊤}
+use Rattle.agent_ask.specs.Events.{Called}
+use Rattle.agent_ask.specs.Further.{EventOf, KeyCall, Read, Keys, Dice, Drew, NotDrawn, NoMemory, Prompt}
 use Rattle.agent_ask.specs.SessionEvents.{Further}
 use Rattle.agent_ports.specs.declared.grip.Grip.{Grip}
 use Rattle.agent_ports.specs.declared.keys.KeyRead.{KeyRead}
@@ -26,3 +27,8 @@ not_drawn count = Further (Dice (NotDrawn count))
 -- the command found no memory for work of its own
 abbrev pub out_of_memory : Event
 out_of_memory = Further NoMemory
+
+-- an event that is no call of the prompter
+abbrev pub IsUncalled : Event → Type 0
+IsUncalled (Further (Prompt (Called call))) = ⊥
+IsUncalled _ = ⊤

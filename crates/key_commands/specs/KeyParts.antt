@@ -29,7 +29,7 @@ use Rattle.sexp_keys.specs.Lists.{grip_of, key_list_of}
 use Rattle.sexp_keys.specs.declared.fault.KeyFault.{KeyFault}
 use Rattle.key_commands.specs.Events.{Event, called, read, out_of_memory}
 use Rattle.key_commands.specs.Files.{FileSays}
-use Rattle.key_commands.specs.Lines.{grip_text, info_line, described, delete_description}
+use Rattle.key_commands.specs.Lines.{grip_text, info_line, max_key_data, described, delete_description}
 use Rattle.assuan_server.specs.Written.{IsDataAnswer, limit_line}
 use Rattle.agent_ask.specs.ConsentParts.{AgreesTo}
 use Rattle.key_commands.specs.Parts.{Part, Finds, read_fault}
@@ -148,10 +148,6 @@ WritesInfos (grip ∷ more) = do
   WritesInfos more
 
 -- ---- IMPORT_KEY
-
--- how many bytes of a key are taken
-abbrev pub max_key_data : ℕ
-max_key_data = 65544
 
 -- The client sends a wrapped key. Where there is no memory for its bytes they are read to their end.
 pub data AsksKeyData (held : Option ℕ) : List Event → Result (List ℕ) Refusal → Option ℕ → Type 0 where

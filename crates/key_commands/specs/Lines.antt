@@ -5,6 +5,7 @@ use Rattle.assuan_escape.specs.Escapes.{hex_text}
 use Rattle.agent_ports.specs.declared.grip.Grip.{Grip}
 use Rattle.assuan_server.specs.Written.{limit_line, status_text}
 use Rattle.assuan_text.specs.LineEnds.{line_of}
+use Rattle.cache_policy.specs.declared.secret.TheConstants.{MAX_SECRET_LEN}
 
 -- a key's grip in uppercase hexadecimal digits: its name in lines, texts and the cache
 abbrev pub grip_text : Grip → List ℕ
@@ -18,9 +19,14 @@ info_text grip cached clear =
 abbrev pub info_line : Grip → Bool → Bool → List ℕ
 info_line grip cached clear = line_of (status_text (codes "KEYINFO") (info_text grip cached clear))
 
--- a line that answers nothing: how much the client may send, or what is known of a key
+-- how many bytes of a key the client may send
+abbrev pub max_key_data : ℕ
+max_key_data = 65544
+
+-- a line that answers nothing: how much the client may send of a passphrase or of a key, or what is known of a key
 pub data IsNotice : List ℕ → Type 0 where
-  of_limit : (limit : ℕ) → IsNotice (limit_line limit)
+  of_passphrase : IsNotice (limit_line MAX_SECRET_LEN)
+  of_key_data : IsNotice (limit_line max_key_data)
   of_key : (grip : Grip) (cached clear : Bool) → IsNotice (info_line grip cached clear)
 
 -- the nonce under which a passphrase was cached

@@ -56,6 +56,11 @@ module _ {lines : Lines} {C : Type 0} (views : Views lines C) where
     pub output : Writes text (views.output start) result (views.output now)
     pub leaves : LeavesInput start now
 
+  -- a line was written, where there is one
+  abbrev pub SaysLine : Option (List ℕ) → C → Result (Unit {0}) Fault → C → Type 0
+  SaysLine None start result now = (result ≡ Ok tt) × (now ≡ start)
+  SaysLine (Some text) start result now = HasSaid text start result now
+
   -- bytes were read, and are this by the link's lines, or the link failed; of the output this is left
   pub record HasRead (Reads : lines.Supply → List ℕ → List ℕ → Type 0) (Needs : List ℕ → List ℕ → List ℕ → Type 0) (failed : Bool) (output : Option (List ℕ)) (start now : C) : Type 0 where
     pub reads : (supply : lines.Supply) → views.has_supply supply start

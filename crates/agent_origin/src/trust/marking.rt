@@ -3,6 +3,7 @@
 ghost use Rattle.std.specs.Prelude.{◌≡◌, None, Some};
 ghost use Rattle.agent_ask.specs.PartStates.{NoTurn};
 ghost use Rattle.agent_ask.specs.Prompters.{IsShut};
+ghost use Rattle.agent_ask.specs.Seats.{IsReady};
 ghost use Rattle.assuan_server.specs.Connections.{IsOpen};
 ghost use Rattle.agent_origin.specs.TrustExchanges.{Consented, Marked, asked_in};
 ghost use Rattle.agent_origin.specs.TrustStates.{LeavesKeys};
@@ -42,14 +43,12 @@ pub(crate) fn mark_trusted<L: Link, D: Desk, P: Prompter, T: TrustFile>(
 ) -> Result<(), Refusal>
     requires none { held.old ≡ None }
     requires open { IsOpen conn.old }
-    requires out { (D.at desk.old).out ≡ held.old }
-    requires shut { IsShut (P.at prompter.old) }
+    requires ready { IsReady (D.at desk.old) (P.at prompter.old) held.old }
     ensures marks { LeavesKeys D.turned P.prompted
         (Marked marking.now.rules.now marking.now.options.now marking.now.fingerprint.now
         marking.now.purpose marking.now.name.now.items) None conn.old desk.old prompter.old
         (T.trust trust.old) result held.new conn.new desk.new prompter.new (T.trust trust.new) }
-    ensures out { (D.at desk.new).out ≡ held.new }
-    ensures shut { IsShut (P.at prompter.new) }
+    ensures ready { IsReady (D.at desk.new) (P.at prompter.new) held.new }
 {
     let file = read_file(marking.alloc, trust)?;
     match trusted(&file, marking.fingerprint) {
@@ -71,15 +70,13 @@ fn ask<L: Link, D: Desk, P: Prompter, T: TrustFile>(
 ) -> Result<(), Refusal>
     requires none { held.old ≡ None }
     requires open { IsOpen conn.old }
-    requires out { (D.at desk.old).out ≡ held.old }
-    requires shut { IsShut (P.at prompter.old) }
+    requires ready { IsReady (D.at desk.old) (P.at prompter.old) held.old }
     ensures asks { LeavesKeys D.turned P.prompted
         (asked_in marking.now.rules.now marking.now.options.now marking.now.fingerprint.now
         marking.now.purpose marking.now.name.now.items marking.now.options.now.mode)
         None conn.old desk.old prompter.old (T.trust trust.old) result held.new conn.new
         desk.new prompter.new (T.trust trust.new) }
-    ensures out { (D.at desk.new).out ≡ held.new }
-    ensures shut { IsShut (P.at prompter.new) }
+    ensures ready { IsReady (D.at desk.new) (P.at prompter.new) held.new }
 {
     match marking.options.mode() {
         PinMode::Ask => {

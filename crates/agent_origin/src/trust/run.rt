@@ -2,6 +2,7 @@
 
 ghost use Rattle.std.specs.Prelude.{◌≡◌, None};
 ghost use Rattle.agent_ask.specs.Prompters.{IsShut};
+ghost use Rattle.agent_ask.specs.Seats.{IsReady};
 ghost use Rattle.assuan_server.specs.Connections.{IsOpen};
 ghost use Rattle.agent_origin.specs.TrustExchanges.{AnswersTrust, Carried};
 ghost use Rattle.agent_origin.specs.TrustStates.{LeavesKeys};
@@ -63,13 +64,11 @@ fn carry_out<L: Link, D: Desk, P: Prompter, T: TrustFile>(
 ) -> Result<(), Refusal>
     requires none { held.old ≡ None }
     requires open { IsOpen conn.old }
-    requires out { (D.at desk.old).out ≡ held.old }
-    requires shut { IsShut (P.at prompter.old) }
+    requires ready { IsReady (D.at desk.old) (P.at prompter.old) held.old }
     ensures carries { LeavesKeys D.turned P.prompted
         (Carried rules.now options.now request.now) None conn.old desk.old prompter.old
         (T.trust trust.old) result held.new conn.new desk.new prompter.new (T.trust trust.new) }
-    ensures out { (D.at desk.new).out ≡ held.new }
-    ensures shut { IsShut (P.at prompter.new) }
+    ensures ready { IsReady (D.at desk.new) (P.at prompter.new) held.new }
 {
     match request {
         TrustRequest::IsTrusted { fingerprint } => trusted_now(alloc, fingerprint, trust),

@@ -38,5 +38,6 @@ returns-in_default-texts-clause-comes g c =
     ] in
     rw (c.in-GetPassphrase.is, c.requires.none)
     (asked_cache c.args.rules.now c.args.options.now
-    (fields c.in-GetPassphrase.plain c.in-GetPassphrase.check c.in-GetPassphrase.no_ask c.in-GetPassphrase.repeat c.in-GetPassphrase.quality c.in-GetPassphrase.id (c.in-GetPassphrase.texts)) c.in-GetPassphrase.no_ask c.in-GetPassphrase.texts quiets
+    (fields c.in-GetPassphrase.plain c.in-GetPassphrase.check c.in-GetPassphrase.no_ask c.in-GetPassphrase.repeat c.in-GetPassphrase.quality c.in-GetPassphrase.id
+    (c.in-GetPassphrase.texts)) c.in-GetPassphrase.no_ask c.in-GetPassphrase.texts quiets
     (beside_desk g.D.Desk.turned g.P.Prompter.prompted c.args.prompter.now (part_turns c.requires.open c.by_cache.ensures.turn)))

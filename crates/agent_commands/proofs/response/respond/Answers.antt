@@ -1,6 +1,5 @@
 use Rattle.agent_ask.specs.PartReplies.{replied, refused}
-use Rattle.assuan_server.proofs.Clients.{said_so}
-use Rattle.agent_commands.proofs.Replying.{line_so}
+use Rattle.assuan_server.proofs.Clients.{said_so, line_so}
 use Rattle.agent_commands.proofs.response.respond.Goals as goal
 
 pub returns-in-Ok : goal.returns-in-Ok

@@ -1,7 +1,7 @@
 use Rattle.std.proofs.Common.{◌<◌, arith}
 use Rattle.assuan_line.specs.Next.{held}
 use Rattle.agent_origin.specs.FurtherStates.{FurtherWorld}
-use Rattle.agent_origin.proofs.Serving.{serves_none, serves_on, is_over, at_end, at_spent, at_read_fault, at_too_long, cut_at_too_long}
+use Rattle.agent_origin.proofs.Serving.{serves_none, stands_on, is_over, at_end, at_spent, at_read_fault, at_too_long, cut_at_too_long}
 use Rattle.assuan_server.proofs.Saying.{said}
 use Rattle.agent_origin.proofs.service.serve_requests.Goals as goal
 
@@ -19,21 +19,20 @@ next_request-took-requires g c = c.loop-line.invariant.going
 pub loop-line-smaller : goal.loop-line-smaller
 loop-line-smaller g c =
     let fewer : held c.next_request-took.new.self.reader < held c.loop-line.conn.reader = rw c.in-Line.is at c.next_request-took.ensures.read.progress in
-    let answered = rw c.in-On.is at c.answer-went.ensures.answers in
+    let answered = rw (c.of.ensures, c.in-On.is) at c.answer-went.ensures.answers in
     omega (arith, fewer, answered.fits.1)
+
+pub loop-line-preserved : goal.loop-line-preserved
+loop-line-preserved g c =
+    let i = c.loop-line.invariant in
+    stands_on {w = FurtherWorld g.D.Desk.turned g.P.Prompter.prompted} (g.A.Answers.exchange c.args.so.now c.args.rules.now) c.args.kept.now _ _ _ i.serving
+    _ _ i.going c.next_request-took.ensures c.in-Line.line c.in-Line.is _ _ (rw (c.of.ensures, c.in-On.is) at c.answer-went.ensures.answers) c.answer-went.ensures.free c.answer-went.ensures.shut
 
 pub loop-line-preserved-in-On : goal.loop-line-preserved-in-On
 loop-line-preserved-in-On g c =
     let i = c.loop-line.invariant in
-    let answered = rw c.in-On.is at c.answer-went.ensures.answers in
-    record {
-      serving =
-          serves_on {w = FurtherWorld g.D.Desk.turned g.P.Prompter.prompted} (g.A.Answers.exchange c.args.so.now c.args.rules.now) c.args.kept.now _ _ _ i.serving
-          _ _ i.going c.next_request-took.ensures c.in-Line.line c.in-Line.is _ _ answered;
-      going = answered.fits.0;
-      free = c.answer-went.ensures.free;
-      shut = c.answer-went.ensures.shut;
-    }
+    stands_on {w = FurtherWorld g.D.Desk.turned g.P.Prompter.prompted} (g.A.Answers.exchange c.args.so.now c.args.rules.now) c.args.kept.now _ _ _ i.serving
+    _ _ i.going c.next_request-took.ensures c.in-Line.line c.in-Line.is _ _ (rw (c.of.ensures, c.in-On.is) at c.answer-went.ensures.answers) c.answer-went.ensures.free c.answer-went.ensures.shut
 
 pub returns-in-End-went : goal.returns-in-End-went
 returns-in-End-went g c =
@@ -41,7 +40,7 @@ returns-in-End-went g c =
     record {
       serves =
           is_over {w = FurtherWorld g.D.Desk.turned g.P.Prompter.prompted} (g.A.Answers.exchange c.args.so.now c.args.rules.now) c.args.kept.now _ _ _ i.serving
-          _ _ i.going c.next_request-took.ensures c.in-Line.line c.in-Line.is _ _ c.in-End-went.end (rw c.in-End-went.is at c.answer-went.ensures.answers);
+          _ _ i.going c.next_request-took.ensures c.in-Line.line c.in-Line.is _ _ c.in-End-went.end (rw (c.of.ensures, c.in-End-went.is) at c.answer-went.ensures.answers);
       free = c.answer-went.ensures.free;
       shut = c.answer-went.ensures.shut;
     }

@@ -1,6 +1,5 @@
 use Rattle.agent_ask.specs.PartReplies.{replied, refused}
-use Rattle.assuan_server.proofs.Clients.{said_so}
-use Rattle.key_commands.proofs.Requesting.{line_so}
+use Rattle.assuan_server.proofs.Clients.{said_so, line_so}
 use Rattle.key_commands.proofs.reply.respond.Goals as goal
 
 pub returns-in-Ok : goal.returns-in-Ok

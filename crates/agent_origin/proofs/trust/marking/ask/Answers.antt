@@ -1,12 +1,9 @@
 use Rattle.std.proofs.Common.{◌≡◌, Some, sym, ap, ◌∙◌, inl, inr, refl}
 use Rattle.std.proofs.lemmas.Result.{err_from_is_err_and}
 use Rattle.std.specs.Option.{option_copied}
-use Rattle.agent_ask.specs.Further.{DoesFurther}
 use Rattle.agent_ask.specs.Parts.{refuses}
 use Rattle.agent_ask.proofs.PartsDone.{part_then, part_stops, part_still, part_turned}
 use Rattle.agent_commands.proofs.Carrying.{seat_turn}
-use Rattle.assuan_server.specs.Clients.{connection_views}
-use Rattle.agent_origin.specs.FurtherStates.{further_ends}
 use Rattle.agent_origin.proofs.TrustDone.{beside_desk}
 use Rattle.agent_origin.proofs.trust.marking.ask.Goals as goal
 

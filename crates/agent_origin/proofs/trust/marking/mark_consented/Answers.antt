@@ -1,9 +1,7 @@
 use Rattle.std.proofs.Common.{Some}
 use Rattle.std.proofs.lemmas.Result.{err_from_is_err_and}
-use Rattle.agent_ask.specs.Further.{DoesFurther}
 use Rattle.agent_ask.specs.PartStates.{NoTurn}
 use Rattle.agent_ask.proofs.PartsDone.{part_then, part_stops}
-use Rattle.assuan_server.specs.Clients.{connection_views}
 use Rattle.agent_origin.specs.TrustExchanges.{Consented}
 use Rattle.agent_origin.proofs.TrustDone.{agreed_done, beside_all}
 use Rattle.agent_origin.proofs.trust.marking.mark_consented.Goals as goal

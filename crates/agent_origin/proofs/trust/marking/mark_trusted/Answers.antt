@@ -1,9 +1,7 @@
 use Rattle.std.proofs.Common.{◌≡◌, Some, None, true, false, refl, ap, sym, ◌∙◌}
 use Rattle.std.proofs.lemmas.Result.{err_from_is_err_and}
-use Rattle.agent_ask.specs.Further.{DoesFurther}
 use Rattle.agent_ask.specs.Parts.{returns, refuses}
 use Rattle.agent_ask.proofs.PartsDone.{part_then, part_stops}
-use Rattle.assuan_server.specs.Clients.{connection_views}
 use Rattle.trust_list.specs.Trust.{trust}
 use Rattle.agent_origin.specs.TrustExchanges.{asked_in, Marked}
 use Rattle.agent_origin.proofs.TrustDone.{file_left, said_done, beside_all}

@@ -1,7 +1,6 @@
 use Rattle.std.proofs.Common.{refl}
 use Rattle.agent_ask.specs.PartReplies.{replied, refused}
-use Rattle.agent_commands.proofs.Replying.{line_so}
-use Rattle.assuan_server.proofs.Clients.{said_so}
+use Rattle.assuan_server.proofs.Clients.{said_so, line_so}
 use Rattle.agent_origin.proofs.trust.reply.respond.Goals as goal
 use Rattle.assuan_server.proofs.Saying.{said}
 

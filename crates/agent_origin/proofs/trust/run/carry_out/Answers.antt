@@ -1,9 +1,6 @@
 use Rattle.std.proofs.Common.{refl}
-use Rattle.agent_ask.specs.Further.{DoesFurther}
 use Rattle.agent_ask.specs.Parts.{refuses}
 use Rattle.agent_ask.proofs.PartsDone.{part_still}
-use Rattle.assuan_server.specs.Clients.{connection_views}
-use Rattle.agent_origin.specs.FurtherStates.{further_ends}
 use Rattle.agent_origin.proofs.TrustDone.{beside_all}
 use Rattle.agent_origin.proofs.trust.run.carry_out.Goals as goal
 

@@ -1,4 +1,3 @@
-use Rattle.agent_ask.specs.Further.{DoesFurther}
 use Rattle.agent_commands.proofs.Replying.{answers}
 use Rattle.agent_origin.specs.FurtherStates.{further_ends}
 use Rattle.agent_origin.specs.TrustExchanges.{TrustReplies}

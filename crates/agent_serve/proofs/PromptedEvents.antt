@@ -1,0 +1,84 @@
+-- Events among which the prompter's calls are those of prompts, one after another.
+use Rattle.std.specs.List.{AllByRecursion}
+use Rattle.std.proofs.Common.{◌≡◌, List, [], ◌∷◌, ◌++◌, refl, sym, ap, subst, ◌∙◌, append_assoc, append-nil}
+use Rattle.agent_ask.specs.Events.{Call, Called, Notified, OutOfMemory, PromptEvent}
+use Rattle.agent_ask.specs.Further.{Keys, Dice, NoMemory, Prompt, Trust}
+use Rattle.agent_ask.specs.SessionEvents.{Received, Sent, Cut, Inquiry, CacheTurn, Further}
+use Rattle.agent_ask.specs.SessionPrompts.{AnyInSession}
+use Rattle.agent_serve.specs.Prompts.{calls_in}
+use Rattle.agent_serve.proofs.OnePrompt.{calls_of, pin_is_one, consent_is_one, shown_calls}
+use Rattle.assuan_server.specs.Clients.{session_lines}
+use Rattle.key_commands.specs.Events.{Event, IsUncalled}
+use Rattle.key_commands.proofs.EachEvent.{still_uncalled}
+use Rattle.key_commands.proofs.EachRequest.{Carries}
+use Rattle.pinentry_client.specs.Children.{ArePrompts, none, next}
+use Rattle.pinentry_client.specs.Whole.{IsOnePrompt}
+
+-- the prompter's calls among these events are those of prompts
+pub record Prompted (events : List Event) : Type 0 where
+  pub prompts : List (List Call)
+  pub are : ArePrompts prompts (calls_in events)
+
+-- ---- lists
+
+pub calls_append : (first more : List Event) → calls_in (first ++ more) ≡ calls_in first ++ calls_in more
+calls_append [] more = refl
+calls_append (Further (Prompt (Called call)) ∷ first) more = ap (λ (calls : List Call). call ∷ calls) (calls_append first more)
+calls_append (Further (Prompt (Notified pid heard)) ∷ first) more = calls_append first more
+calls_append (Further (Prompt OutOfMemory) ∷ first) more = calls_append first more
+calls_append (Further (Keys call) ∷ first) more = calls_append first more
+calls_append (Further (Dice draw) ∷ first) more = calls_append first more
+calls_append (Further (Trust call) ∷ first) more = calls_append first more
+calls_append (Further NoMemory ∷ first) more = calls_append first more
+calls_append (Received took ∷ first) more = calls_append first more
+calls_append (Sent text ∷ first) more = calls_append first more
+calls_append (Cut text ∷ first) more = calls_append first more
+calls_append (Inquiry word params limit inquired ∷ first) more = calls_append first more
+calls_append (CacheTurn taken ∷ first) more = calls_append first more
+
+are_append : {prompts others : List (List Call)} {calls more : List Call} → ArePrompts prompts calls → ArePrompts others more → ArePrompts (prompts ++ others) (calls ++ more)
+are_append none later = later
+are_append {prompts} {others} {more} (next {prompt} {calls} is are) later =
+    subst (λ (c : List Call). ArePrompts (prompts ++ others) c) (sym (append_assoc prompt calls more)) (next is (are_append are later))
+
+pub prompted_append : (first more : List Event) → Prompted first → Prompted more → Prompted (first ++ more)
+prompted_append first more one other =
+    record { prompts = one.prompts ++ other.prompts; are = subst (ArePrompts (one.prompts ++ other.prompts)) (sym (calls_append first more)) (are_append one.are other.are) }
+
+none_called : (events : List Event) → AllByRecursion IsUncalled events → calls_in events ≡ []
+none_called [] each = refl
+none_called (Further (Prompt (Called call)) ∷ more) each = absurd each.0
+none_called (Further (Prompt (Notified pid heard)) ∷ more) each = none_called more each.1
+none_called (Further (Prompt OutOfMemory) ∷ more) each = none_called more each.1
+none_called (Further (Keys call) ∷ more) each = none_called more each.1
+none_called (Further (Dice draw) ∷ more) each = none_called more each.1
+none_called (Further (Trust call) ∷ more) each = none_called more each.1
+none_called (Further NoMemory ∷ more) each = none_called more each.1
+none_called (Received took ∷ more) each = none_called more each.1
+none_called (Sent text ∷ more) each = none_called more each.1
+none_called (Cut text ∷ more) each = none_called more each.1
+none_called (Inquiry word params limit inquired ∷ more) each = none_called more each.1
+none_called (CacheTurn taken ∷ more) each = none_called more each.1
+
+pub uncalled : (events : List Event) → AllByRecursion IsUncalled events → Prompted events
+uncalled events each = record { prompts = []; are = subst (ArePrompts []) (sym (none_called events each)) none }
+
+-- one prompt
+pub shown_prompted : {prompt : List PromptEvent} {shown : List Event} → IsOnePrompt (calls_of prompt) → AnyInSession session_lines prompt shown → Prompted shown
+shown_prompted {prompt} {shown} is in_session =
+    record {
+      prompts = calls_of prompt ∷ [];
+      are = subst (ArePrompts (calls_of prompt ∷ [])) (append-nil (calls_of prompt) ∙ sym (shown_calls in_session)) (next is none);
+    }
+
+-- ---- requests
+
+pub prompted_carries : Carries IsUncalled Prompted
+prompted_carries = record {
+  still = still_uncalled;
+  turns = λ step turn. tt;
+  behind = prompted_append;
+  each = uncalled;
+  pins = λ prompt. shown_prompted (pin_is_one prompt.asks) prompt.in_session;
+  consents = λ prompt. shown_prompted (consent_is_one prompt.asks) prompt.in_session;
+}

@@ -1,7 +1,0 @@
-use Rattle.agent_ask.specs.SessionEvents.{turns_in}
-use Rattle.agent_origin.proofs.Turning.{turns_lead}
-use Rattle.agent_session.proofs.laws.a_session_at_a_door_extends_a_run.Goals as goal
-
-pub returns : goal.returns
-returns g c = λ door rules before after end served.
-    c.turns_extend_a_run.ensures before.desk after.desk (turns_in served.events) (turns_lead served.leads)
