@@ -9,6 +9,9 @@ mod NewTrustFiles
 mod WorkedExamples
 mod WorkedExchanges
 mod AtDoor
+pub mod Between
+mod Naming
+mod OuterPrompts
 pub mod EachCache
 pub mod EachLine
 pub mod EachTrust

@@ -24,6 +24,7 @@ ghost use Rattle.agent_origin.specs.TrustExchanges.{TrustExchange};
 ghost use Rattle.agent_origin.specs.TrustNames.{trust_command_named};
 ghost use Rattle.agent_origin.specs.NewTrustFiles.{replaced, HasConsents, HasConsentsIn};
 ghost use Rattle.agent_origin.specs.FurtherStates.{FurtherWorld};
+ghost use Rattle.agent_origin.specs.OuterPrompts.{no_words, PromptsName};
 ghost use Rattle.agent_origin.specs.OuterRuns.{LeavesDesk};
 ghost use Rattle.agent_origin.specs.OuterTurns.{LeavesCache, GiveNothing};
 ghost use Rattle.agent_origin.specs.TrustRequests.{trust_request_of};
@@ -72,6 +73,19 @@ pub fn an_outer_session_leaves_the_run<D: Desk, P: Prompter>()
     ensures { (rules : Rules) (before after : Surroundings (FurtherWorld D.turned P.prompted))
         (end : Ends) → (served : ServesDoor D.turned P.prompted Outer rules before end after)
         → LeavesDesk (D.at before.desk) (turns_in served.events) (D.at after.desk) }
+{}
+
+/// A law: at the outer door a prompt names no terminal and no language. Those that a client sets there
+/// are another machine's, where a file or a terminal of that name is somebody else's.
+pub fn a_prompt_at_the_outer_door_names_no_terminal<D: Desk, P: Prompter>()
+    ensures exchange { (rules : Rules) (before after : Kept) (line : List ℕ) (events : List Event)
+        (went : Goes) → before.options.env ≡ no_words
+        → DoorExchange Outer rules before line events after went
+        → PromptsName no_words events × (after.options.env ≡ no_words) }
+    ensures session { (rules : Rules)
+        (before after : Surroundings (FurtherWorld D.turned P.prompted)) (end : Ends)
+        → (served : ServesDoor D.turned P.prompted Outer rules before end after)
+        → PromptsName no_words served.events }
 {}
 
 /// A law: each command that is known has its rule at the outer door, whichever of the agent's

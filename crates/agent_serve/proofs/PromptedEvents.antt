@@ -11,6 +11,7 @@ use Rattle.assuan_server.specs.Clients.{session_lines}
 use Rattle.key_commands.specs.Events.{Event, IsUncalled}
 use Rattle.key_commands.proofs.EachEvent.{still_uncalled}
 use Rattle.key_commands.proofs.EachRequest.{Carries}
+use Rattle.session_options.specs.OptionValues.{EnvWords}
 use Rattle.pinentry_client.specs.Children.{ArePrompts, none, next}
 use Rattle.pinentry_client.specs.Whole.{IsOnePrompt}
 
@@ -73,12 +74,12 @@ shown_prompted {prompt} {shown} is in_session =
 
 -- ---- requests
 
-pub prompted_carries : Carries IsUncalled Prompted
+pub prompted_carries : {env : EnvWords} → Carries env IsUncalled Prompted
 prompted_carries = record {
   still = still_uncalled;
   turns = λ step turn. tt;
   behind = prompted_append;
   each = uncalled;
-  pins = λ prompt. shown_prompted (pin_is_one prompt.asks) prompt.in_session;
-  consents = λ prompt. shown_prompted (consent_is_one prompt.asks) prompt.in_session;
+  pins = λ named prompt. shown_prompted (pin_is_one prompt.asks) prompt.in_session;
+  consents = λ named prompt. shown_prompted (consent_is_one prompt.asks) prompt.in_session;
 }

@@ -8,7 +8,7 @@ use Rattle.agent_commands.specs.Answers.{comments}
 use Rattle.agent_commands.specs.Names.{command_names}
 use Rattle.agent_commands.specs.Requests.{request_of}
 use Rattle.agent_commands.specs.declared.went.Went.{Went}
-use Rattle.assuan_server.specs.Written.{failed as failed_line}
+use Rattle.assuan_server.specs.Written.{failed as failed_line, ok}
 use Rattle.session_client.specs.declared.code.Code.{Code}
 use Rattle.session_client.specs.declared.code.Code.TheVariants as code
 use Rattle.assuan_server.specs.declared.errors.Origin.{Origin}
@@ -19,13 +19,16 @@ use Rattle.key_commands.proofs.EachRequest.{IsBesideTrust}
 use Rattle.session_options.specs.declared.rules.Rules.{Rules}
 use Rattle.agent_origin.specs.DoorSessions.{door_help, AllowedExchange, DoorExchange}
 use Rattle.agent_origin.specs.DoorSessions as doors
-use Rattle.agent_origin.specs.Doors.{allowed}
+use Rattle.agent_origin.specs.Doors.{sets_terminal, allowed}
 use Rattle.agent_origin.specs.TrustNames.{commands_on_trust, trust_command_named}
-use Rattle.agent_origin.specs.DoorSessions.{door_command_named}
+use Rattle.agent_origin.specs.DoorSessions.{door_command_named, door_command}
 use Rattle.agent_origin.specs.TrustExchanges.{TrustExchange}
 use Rattle.agent_origin.specs.TrustRequests.{trust_request_of}
 use Rattle.agent_origin.specs.SessionExchanges.{SessionExchange}
 use Rattle.agent_origin.specs.declared.door.Door.{Door}
+use Rattle.agent_origin.specs.declared.door.Door.TheVariants.{Home, Outer}
+use Rattle.agent_origin.specs.declared.door_session.DoorCommand.{DoorCommand}
+use Rattle.agent_origin.specs.declared.door_session.DoorCommand.TheVariants as own
 use Rattle.agent_origin.specs.declared.kept.Kept.{Kept}
 use Rattle.agent_origin.specs.declared.trust.names.TrustCommandName.{TrustCommandName}
 use Rattle.agent_origin.specs.declared.trust.names.TrustCommandName.TheVariants as name
@@ -39,7 +42,7 @@ use Rattle.agent_session.proofs.Asides.{asides_append, comments_aside}
 use Rattle.agent_session.proofs.Completing.{IsPossible, IsSteady, never_absent}
 use Rattle.agent_session.proofs.Explained.{Explained, replied, failed, silent, is_answered, is_caused}
 use Rattle.agent_session.proofs.KeyExplained.{exchange_caused}
-use Rattle.agent_session.proofs.Replying.{IsReply, begins}
+use Rattle.agent_session.proofs.Replying.{IsReply, begins, reply_ok}
 use Rattle.agent_session.proofs.Standing.{stand_all}
 use Rattle.agent_session.proofs.TrustDenied.{none_called, denial_is_said}
 use Rattle.agent_session.proofs.TrustExplained.{trust_explained, trust_line_form}
@@ -60,6 +63,23 @@ none_by help trust true second third is = absurd (cc is)
 none_by help trust false true third is = absurd (cc is)
 none_by help trust false false true is = absurd (cc is)
 none_by help trust false false false is = refl
+
+-- a line that the door answers by a named command, and one that it doesn't answer
+named_by : {X : Type 0} {terminal x : X} → ¬ (terminal ≡ x) → (sets : Bool) (rest : Option X) → cond sets (Some terminal) rest ≡ Some x → rest ≡ Some x
+named_by {terminal} {x} other true rest is = absurd (other (let same : terminal ≡ x = cc is in same))
+named_by other false rest is = is
+
+pub own_command : (door : Door) (line : List ℕ) {command : DoorCommand} → ¬ (own.Terminal ≡ command) → door_command door line ≡ Some command → door_command_named (command_of line) ≡ Some command
+own_command Home line other is = is
+own_command Outer line other is = named_by other (sets_terminal (request_of line)) _ is
+
+unnamed_by : {X : Type 0} (terminal : X) (sets : Bool) (rest : Option X) → cond sets (Some terminal) rest ≡ None → rest ≡ None
+unnamed_by terminal true rest is = cc is
+unnamed_by terminal false rest is = is
+
+pub not_own : (door : Door) (line : List ℕ) → door_command door line ≡ None → door_command_named (command_of line) ≡ None
+not_own Home line is = is
+not_own Outer line is = unnamed_by _ (sets_terminal (request_of line)) _ is
 
 abbrev pub is_word : List ℕ → List ℕ → Bool
 is_word row word = bytes_eq (str_to_ascii_lowercase row) (str_to_ascii_lowercase word)
@@ -126,15 +146,17 @@ module _ (door : Door) (rules : Rules) (before : Kept) (line : List ℕ) where
     caused = λ why origin has. is_allowed allows (subst (λ n. IsCausedBy rules before line events n why origin) (sym named) (caused.caused why origin has));
   }
 
-  allowed_judged : {command : _} → door_command_named (command_of line) ≡ command → allowed door line ≡ true → {events : List Event} {after : Kept} {went : Went}
+  allowed_judged : {command : _} → door_command door line ≡ command → allowed door line ≡ true → {events : List Event} {after : Kept} {went : Went}
       → AllowedExchange rules before line command events after went → AllByRecursion IsPossible events → JudgedBy events went
   unfolding door_command_named trust_command_named
+  allowed_judged is allows doors.unset possible = judged door rules before line (Sent ok ∷ []) (replied [] ok tt reply_ok tt)
   allowed_judged is allows doors.helped possible = judged door rules before line (Sent door_help ∷ []) (replied [] door_help tt reply_help tt)
   allowed_judged is allows (doors.trusts exchanged) possible =
-      let found = trust_by (λ e. absurd (cc e)) (is_word (codes "HELP") (command_of line)) (is_word (codes "ISTRUSTED") (command_of line)) (is_word (codes "MARKTRUSTED") (command_of line)) is in
+      let found = trust_by (λ e. absurd (cc e)) (is_word (codes "HELP") (command_of line)) (is_word (codes "ISTRUSTED") (command_of line)) (is_word (codes "MARKTRUSTED") (command_of line))
+      (own_command door line (λ e. absurd (cc e)) is) in
       trust_judged found.0 found.1 allows exchanged
   allowed_judged is allows (doors.any exchanged) possible =
-      session_judged (no_command (command_of line) is) allows (exchange_caused rules before line (never_absent possible) exchanged)
+      session_judged (no_command (command_of line) (not_own door line is)) allows (exchange_caused rules before line (never_absent possible) exchanged)
 
   door_judged : {events : List Event} {after : Kept} {went : Went} → DoorExchange door rules before line events after went → AllByRecursion IsPossible events → JudgedBy events went
   door_judged (doors.forbidden refuses) possible =
@@ -150,6 +172,7 @@ module _ (door : Door) (rules : Rules) (before : Kept) (line : List ℕ) where
   allowed_denied : {command : _} {events : List Event} {after : Kept} {went : Went} → AllowedExchange rules before line command events after went → IsNotTrusted events (trust_request_of line)
       → HasError code.NotTrusted Agent events
   allowed_denied doors.helped cause = absurd (none_read_of (Sent door_help ∷ []) (tt, tt) (read_first cause))
+  allowed_denied doors.unset cause = absurd (none_read_of (Sent ok ∷ []) (tt, tt) (read_first cause))
   allowed_denied (doors.trusts exchanged) cause = denial_is_said rules before.options exchanged cause
   allowed_denied (doors.any {events} exchanged) cause = absurd (none_read_of events (each_request IsBesideTrust (λ event is. is) (request_of line) exchanged) (read_first cause))
 
@@ -226,11 +249,12 @@ module _ {rules : Rules} {before : Kept} {line : List ℕ} where
   allowed_is_session : {command : _} {events : List Event} {after : Kept} {went : Went} → AllowedExchange rules before line command events after went → command ≡ None
       → SessionExchange rules before line events after went
   allowed_is_session doors.helped is = absurd (cc is)
+  allowed_is_session doors.unset is = absurd (cc is)
   allowed_is_session (doors.trusts exchanged) is = absurd (cc is)
   allowed_is_session (doors.any exchanged) is = exchanged
 
   -- a line that is allowed, and whose command isn't the door's own
-  pub door_is_session : {door : Door} {events : List Event} {after : Kept} {went : Went} → DoorExchange door rules before line events after went → allowed door line ≡ true → door_command_named (command_of line) ≡ None
+  pub door_is_session : {door : Door} {events : List Event} {after : Kept} {went : Went} → DoorExchange door rules before line events after went → allowed door line ≡ true → door_command door line ≡ None
       → SessionExchange rules before line events after went
   door_is_session (doors.forbidden refuses) allows is = absurd (cc (refuses, allows))
   door_is_session (doors.is_allowed allows exchanged) allowing is = allowed_is_session exchanged is

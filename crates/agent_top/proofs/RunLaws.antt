@@ -17,7 +17,7 @@ use Rattle.agent_core.specs.Cores.{WantsMemory}
 use Rattle.agent_origin.specs.DoorSessions.{DoorExchange}
 use Rattle.agent_origin.specs.Doors.{allowed}
 use Rattle.agent_origin.specs.FurtherStates.{FurtherWorld}
-use Rattle.agent_origin.specs.DoorSessions.{door_command_named}
+use Rattle.agent_origin.specs.DoorSessions.{door_command}
 use Rattle.agent_origin.specs.SessionExchanges.{SessionExchange}
 use Rattle.agent_origin.specs.declared.door.Door.{Door}
 use Rattle.agent_origin.specs.declared.kept.Kept.{Kept}
@@ -141,7 +141,7 @@ module _ (promise : (before : AtPinentry) (call : Call) (after : AtPinentry) →
 
 -- a request on the cache alone that is allowed wants no memory
 pub daemon_alone : {door : Door} {rules : Rules} {kept now : Kept} {line : List ℕ} {events : List Event} {went : Went} {supply : Supply} {before after : Outside (FurtherWorld (CountedTurn (λ (readings : Readings). readings)) PinentryDoes)}
-    → DoorExchange door rules kept line events now went → allowed door line ≡ true → door_command_named (command_of line) ≡ None
+    → DoorExchange door rules kept line events now went → allowed door line ≡ true → door_command door line ≡ None
     → Leads (Does (FurtherWorld (CountedTurn (λ (readings : Readings). readings)) PinentryDoes) supply) before events after → AllByRecursion (λ event. ¬ IsStopped event) events → AnswersAlone (request_of line) events
 daemon_alone {rules = rules} {line = line} exchange allows is leads still =
     alone rules (request_of line) (door_is_session exchange allows is)

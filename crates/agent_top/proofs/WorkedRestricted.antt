@@ -22,7 +22,7 @@ use Rattle.agent_origin.proofs.Turning.{turns_lead}
 use Rattle.agent_origin.specs.DoorSessions.{DoorExchange, AllowedExchange, any, is_allowed, forbidden}
 use Rattle.agent_origin.specs.Doors.{allowed, rule_named}
 use Rattle.agent_origin.specs.FurtherStates.{FurtherWorld}
-use Rattle.agent_origin.specs.DoorSessions.{door_command_named}
+use Rattle.agent_origin.specs.DoorSessions.{door_command_named, door_command}
 use Rattle.agent_origin.specs.OuterRuns.{LeavesDesk}
 use Rattle.agent_origin.specs.OuterTurns.{LeavesCache}
 use Rattle.agent_origin.specs.SessionExchanges.{SessionExchange}
@@ -101,7 +101,7 @@ legal_2 = legal_run_with_mark limits (run_of_log (seated ∷ [])) _ given_back l
 
 -- ---- lines at the outer door
 
-own_way : (line : List ℕ) → allowed Outer line ≡ true → door_command_named (command_of line) ≡ None → {events : List Event} {went : Went} → SessionExchange rules (kept rules) line events (kept rules) went
+own_way : (line : List ℕ) → allowed Outer line ≡ true → door_command Outer line ≡ None → {events : List Event} {went : Went} → SessionExchange rules (kept rules) line events (kept rules) went
     → DoorExchange Outer rules (kept rules) line events (kept rules) went
 own_way line allows named_none {events} {went} exchange = is_allowed allows (subst (λ c. AllowedExchange rules (kept rules) line c events (kept rules) went) (sym named_none) (any exchange))
 

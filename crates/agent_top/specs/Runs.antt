@@ -6,7 +6,7 @@ use Rattle.agent_core.specs.Solos.{AtSolo, TurnsSolo}
 use Rattle.agent_origin.specs.DoorSessions.{DoorExchange}
 use Rattle.agent_origin.specs.Doors.{allowed}
 use Rattle.agent_origin.specs.FurtherStates.{FurtherWorld}
-use Rattle.agent_origin.specs.DoorSessions.{door_command_named}
+use Rattle.agent_origin.specs.DoorSessions.{door_command}
 use Rattle.agent_origin.specs.SessionExchanges.{SessionExchange, kept_at_start}
 use Rattle.agent_origin.specs.Sessions.{Surroundings, supply_of}
 use Rattle.agent_origin.specs.declared.door.Door.{Door}
@@ -40,9 +40,9 @@ first_state kept around = record { kept = kept; desk = around.desk; ends = aroun
 abbrev pub IsWithinHistory : AtSolo → Type 0
 IsWithinHistory desk = IfSome (last_history desk.run) (λ last. length last.marks + 1 < MAX_MARKS)
 
--- the line's exchange at a door is one of every session: the line is allowed there, and its command isn't the door's own
+-- the line's exchange at a door is one of every session: the line is allowed there, and isn't the door's own to answer
 abbrev pub IsOfEverySession : Door → List ℕ → Type 0
-IsOfEverySession door line = (allowed door line ≡ true) × (door_command_named (command_of line) ≡ None)
+IsOfEverySession door line = (allowed door line ≡ true) × (door_command door line ≡ None)
 
 -- What the laws say holds of each exchange of a run.
 abbrev pub IsLawfulRun : {rules : Rules} {before : Machine} {number : ℕ} {after : Machine} → RunsServer rules before number after → Type 0
