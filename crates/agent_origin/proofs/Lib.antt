@@ -10,6 +10,7 @@ mod WorkedExamples
 mod WorkedExchanges
 mod AtDoor
 pub mod Between
+pub mod OwnCommands
 mod Naming
 mod OuterPrompts
 pub mod EachCache

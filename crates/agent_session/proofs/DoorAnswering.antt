@@ -19,21 +19,19 @@ use Rattle.key_commands.proofs.EachRequest.{IsBesideTrust}
 use Rattle.session_options.specs.declared.rules.Rules.{Rules}
 use Rattle.agent_origin.specs.DoorSessions.{door_help, AllowedExchange, DoorExchange}
 use Rattle.agent_origin.specs.DoorSessions as doors
-use Rattle.agent_origin.specs.Doors.{sets_terminal, allowed}
+use Rattle.agent_origin.specs.Doors.{allowed}
 use Rattle.agent_origin.specs.TrustNames.{commands_on_trust, trust_command_named}
 use Rattle.agent_origin.specs.DoorSessions.{door_command_named, door_command}
 use Rattle.agent_origin.specs.TrustExchanges.{TrustExchange}
 use Rattle.agent_origin.specs.TrustRequests.{trust_request_of}
 use Rattle.agent_origin.specs.SessionExchanges.{SessionExchange}
 use Rattle.agent_origin.specs.declared.door.Door.{Door}
-use Rattle.agent_origin.specs.declared.door.Door.TheVariants.{Home, Outer}
-use Rattle.agent_origin.specs.declared.door_session.DoorCommand.{DoorCommand}
-use Rattle.agent_origin.specs.declared.door_session.DoorCommand.TheVariants as own
 use Rattle.agent_origin.specs.declared.kept.Kept.{Kept}
 use Rattle.agent_origin.specs.declared.trust.names.TrustCommandName.{TrustCommandName}
 use Rattle.agent_origin.specs.declared.trust.names.TrustCommandName.TheVariants as name
 use Rattle.agent_origin.specs.declared.trust.request.TrustRequest.TheVariants.{Bad}
 use Rattle.agent_origin.proofs.EachLine.{each_request}
+use Rattle.agent_origin.proofs.OwnCommands.{own_command, not_own}
 use Rattle.agent_session.specs.Causes.{HasOne, HasCall, WantsMemory, is_broken}
 use Rattle.agent_session.specs.Completeness.{IsAnsweredBy, HasError, CausedInSession, CausedAtDoor, WantsNoPrompt, any, on_trust}
 use Rattle.agent_session.specs.DoorCauses.{IsTrustCaused, IsCausedBy, IsCausedAtDoor, IsReadTrust, read_trust, IsNotTrusted, unsaid, denied, denied_mark, forbidden, is_allowed}
@@ -63,23 +61,6 @@ none_by help trust true second third is = absurd (cc is)
 none_by help trust false true third is = absurd (cc is)
 none_by help trust false false true is = absurd (cc is)
 none_by help trust false false false is = refl
-
--- a line that the door answers by a named command, and one that it doesn't answer
-named_by : {X : Type 0} {terminal x : X} → ¬ (terminal ≡ x) → (sets : Bool) (rest : Option X) → cond sets (Some terminal) rest ≡ Some x → rest ≡ Some x
-named_by {terminal} {x} other true rest is = absurd (other (let same : terminal ≡ x = cc is in same))
-named_by other false rest is = is
-
-pub own_command : (door : Door) (line : List ℕ) {command : DoorCommand} → ¬ (own.Terminal ≡ command) → door_command door line ≡ Some command → door_command_named (command_of line) ≡ Some command
-own_command Home line other is = is
-own_command Outer line other is = named_by other (sets_terminal (request_of line)) _ is
-
-unnamed_by : {X : Type 0} (terminal : X) (sets : Bool) (rest : Option X) → cond sets (Some terminal) rest ≡ None → rest ≡ None
-unnamed_by terminal true rest is = cc is
-unnamed_by terminal false rest is = is
-
-pub not_own : (door : Door) (line : List ℕ) → door_command door line ≡ None → door_command_named (command_of line) ≡ None
-not_own Home line is = is
-not_own Outer line is = unnamed_by _ (sets_terminal (request_of line)) _ is
 
 abbrev pub is_word : List ℕ → List ℕ → Bool
 is_word row word = bytes_eq (str_to_ascii_lowercase row) (str_to_ascii_lowercase word)

@@ -66,15 +66,14 @@ use Rattle.assuan_server.specs.Written.{refusal_line}
 use Rattle.agent_origin.specs.TrustRequests.{trust_request_of}
 use Rattle.agent_origin.specs.Doors.{sets_terminal}
 use Rattle.agent_origin.specs.declared.door.Door.{Door}
-use Rattle.agent_origin.specs.declared.door.Door.TheVariants.{Home, Outer}
-use Rattle.agent_origin.specs.declared.door_session.DoorCommand.TheVariants as own
 use Rattle.agent_origin.specs.declared.trust.names.TrustCommandName.{TrustCommandName}
 use Rattle.agent_origin.specs.declared.trust.names.TrustCommandName.TheVariants as name
 use Rattle.agent_origin.specs.declared.trust.request.TrustPurpose.{TrustPurpose}
 use Rattle.agent_origin.specs.declared.trust.request.TrustRequest.{TrustRequest}
 use Rattle.agent_origin.specs.declared.trust.request.TrustRequest.TheVariants.{MarkTrusted}
+use Rattle.agent_origin.proofs.OwnCommands.{own_command, not_own, terminal_set}
 use Rattle.agent_session.specs.DoorCauses.{read_trust}
-use Rattle.agent_session.proofs.DoorAnswering.{is_word, own_command, not_own, no_command, door_is_session}
+use Rattle.agent_session.proofs.DoorAnswering.{is_word, no_command, door_is_session}
 use Rattle.agent_session.proofs.ExactTrust.{ByLong, marked_long, due_trust, trust_answered}
 use Rattle.agent_session.proofs.Standing.{each_left}
 use Rattle.agent_session.proofs.TrustDenied.{denial_is_said}
@@ -293,21 +292,6 @@ not_on_trust : (line : List ℕ) {found : TrustCommandName} → trust_command_na
 unfolding request_of
 not_on_trust line is =
     subst (λ (c : Option CommandName). sets_terminal (request_by c line) ≡ false) (sym (no_cache_command (command_of line) is)) (unset_by (is_key_command (command_of line)) line)
-
-terminal_by : (sets : Bool) (word : List ℕ) → cond sets (Some own.Terminal) (door_command_named word) ≡ Some own.Terminal → sets ≡ true
-unfolding door_command_named
-terminal_by true word is = refl
-terminal_by false word is = absurd (never (is_word (codes "HELP") word) (is_word (codes "ISTRUSTED") word) (is_word (codes "MARKTRUSTED") word) is)
-  where
-    never : (first second third : Bool) → cond first (Some own.Help) (cond second (Some own.Trust) (cond third (Some own.Trust) None)) ≡ Some own.Terminal → ⊥
-    never true second third is = cc is
-    never false true third is = cc is
-    never false false true is = cc is
-    never false false false is = cc is
-
-terminal_set : (door : Door) (line : List ℕ) → door_command door line ≡ Some own.Terminal → sets_terminal (request_of line) ≡ true
-terminal_set Outer line is = terminal_by (sets_terminal (request_of line)) (command_of line) is
-terminal_set Home line is = let none : true ≡ false = sym (terminal_by false (command_of line) is) in absurd (cc none)
 
 help_by : (small : List ℕ) → bytes_eq (str_to_ascii_lowercase (codes "HELP")) small ≡ true → str_to_ascii_lowercase (codes "HELP") ≡ small
 help_by small is = (bytes_eq-Decides (str_to_ascii_lowercase (codes "HELP")) small).0 is
