@@ -23,7 +23,8 @@ request_prompted = request_whole prompted_carries (λ text. tt) refl
 
 trust_prompted : (rules : Rules) (options : OptionValues) (request : TrustRequest) {events : List Event} {went : Went} → TrustExchange rules options request events went → Prompted events
 trust_prompted rules options request =
-    whole prompted_carries (λ text. tt) (then prompted_carries (carried_so (carried_laws {options = options} prompted_carries (λ call. tt)) rules request) (λ done. so prompted_carries (each_returned IsUncalled _)))
+    let carries = prompted_carries {env = options.env} in
+    whole carries (λ text. tt) (then carries (carried_so (carried_laws {options = options} carries (λ call. tt)) rules request) (λ done. so carries (each_returned IsUncalled _)))
 
 -- ---- at a door
 
