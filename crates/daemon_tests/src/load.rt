@@ -3,21 +3,18 @@
 ghost use Rattle.std.specs.Prelude.{◌≤◌};
 ghost use Rattle.cache_policy.specs.declared.bounds.TheConstants.{MAX_MOMENT};
 
-use crate::sessions::with_words;
-use cache_policy::{CacheId, Life, Limits, ListBook, Mode, Secret};
+use crate::serving::{LIMITS, parts};
+use agent_ports::{MemHost, MemLink, MemSink, MemSource};
+use agent_top::run_agent;
+use cache_policy::{CacheId, Life, ListBook, Mode, Secret};
 use rand_core::SeedableRng;
 use rand_core::utils::NextWord;
 use rand_pcg::Lcg64Xsh32;
 use std::alloc::{AllocError, Global};
+use std::rt;
+use std::sync::Wait;
 use std::test::Fail;
-
-/// The manual's lifetimes.
-const LIMITS: Limits = Limits {
-    ttl: 600,
-    max: 7200,
-    ttl_ssh: 1800,
-    max_ssh: 7200,
-};
+use std::thread::Threads;
 
 /// The words of 64 sessions of 200 requests.
 const WORDS: u32 = 64 * 200;
@@ -145,29 +142,61 @@ fn line_of(alloc: Global, outcomes: &[Outcome]) -> Result<String, AllocError> {
     )
 }
 
-/// The words of a load, its number, and its line by a program in another language.
-const LOADS: [(&[&str], u64, &str); 2] = [
-    (
-        &["--load", "1"],
-        1,
-        "sessions 64 requests 12864 marks 11164 given 2753 empty 3619 opened 0 stored 3179 cleared 1613 flushed 0\n",
-    ),
-    (
-        &["--load=2"],
-        2,
-        "sessions 64 requests 12864 marks 11134 given 2881 empty 3466 opened 0 stored 3224 cleared 1563 flushed 0\n",
-    ),
+/// What came of a run of the agent: its status, the folder at which the host was settled, and what
+/// was written. Nothing is launched.
+fn served<W: Threads + Wait + rt::Clock + Sync>(
+    rt: &W,
+    alloc: Global,
+    words: &[&'static str],
+    sent: &'static str,
+) -> Result<String, AllocError> {
+    let mut given = Vec::new(alloc);
+    for word in words.iter() {
+        given.push(String::from_str(alloc, word)?)?;
+    }
+    let source = MemSource::new(
+        Vec::from_slice(alloc, sent.as_bytes())?,
+        64,
+        Vec::new(alloc),
+    );
+    let mut stdio = MemLink::new(source, MemSink::new(alloc, 0, Vec::new(alloc)));
+    let mut host = MemHost::new(rt, alloc, 17, parts(alloc)?);
+    let status = run_agent(rt, alloc, &given, &mut stdio, &mut host);
+    let folder = String::from_utf8_lossy(alloc, host.homedir())?;
+    let written = String::from_utf8_lossy(alloc, stdio.written())?;
+    let launched = host
+        .into_parts()
+        .is_none_or(|parts| parts.launcher.launched(0).is_some());
+    format!(in alloc; "{status} in {folder}, launched {launched}: {written}")
+}
+
+/// What a client sends that isn't read.
+const PRESETS: &str =
+    "GETINFO pid\nPRESET_PASSPHRASE id1 -1 736563726574\nGET_PASSPHRASE --no-ask --data id1\nBYE\nNOP\n";
+
+/// The lines of two loads by a program in another language.
+const OF_1: &str =
+    "sessions 64 requests 12864 marks 11164 given 2753 empty 3619 opened 0 stored 3179 cleared 1613 flushed 0\n";
+
+const OF_2: &str =
+    "sessions 64 requests 12864 marks 11134 given 2881 empty 3466 opened 0 stored 3224 cleared 1563 flushed 0\n";
+
+/// The words of a load, what is sent, its number, the folder of the words, and its line.
+const LOADS: [(&[&str], &str, u64, &str, &str); 4] = [
+    (&["--load", "1", "--homedir=/h"], "BYE\n", 1, "/h", OF_1),
+    (&["--load=1"], PRESETS, 1, ".", OF_1),
+    (&["--load=2"], "", 2, ".", OF_2),
+    (&["--load", "2"], "", 2, ".", OF_2),
 ];
 
 #[test]
 fn a_load_comes_to_what_a_plain_fold_does(rt: HostRuntime) -> Result<(), Fail> {
-    for (words, number, line) in LOADS {
-        let folded = line_of(rt.alloc(), &outcomes_of(rt.alloc(), number)?)?;
+    let alloc = rt.alloc();
+    for (words, sent, number, folder, line) in LOADS {
+        let folded = line_of(alloc, &outcomes_of(alloc, number)?)?;
         assert_eq!(rt; folded.as_str(), line);
-        for run in 0..2 {
-            let (status, written) = with_words(&rt, rt.alloc(), words, "")?;
-            assert_eq!(rt; (status, written.as_str()), (0, line), "run {run}");
-        }
+        let wanted = format!(in alloc; "0 in {folder}, launched false: {line}")?;
+        assert_eq!(rt; served(&rt, alloc, words, sent)?, wanted);
     }
     Ok(())
 }

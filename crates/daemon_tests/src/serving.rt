@@ -21,7 +21,7 @@ use std::thread::Threads;
 use std::time::Clock;
 
 /// The manual's lifetimes.
-const LIMITS: Limits = Limits {
+pub(crate) const LIMITS: Limits = Limits {
     ttl: 600,
     max: 7200,
     ttl_ssh: 1800,

@@ -1,5 +1,5 @@
 use Rattle.std.proofs.Common.{◌≤◌, ◌*◌}
-use Rattle.agent_tests.proofs.load.outcomes_of.Given as goal
+use Rattle.daemon_tests.proofs.load.outcomes_of.Given as goal
 
 -- the next moment is behind that of the last put
 abbrev pub invariant-loop-place : goal.invariant-loop-place
