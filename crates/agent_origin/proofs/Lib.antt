@@ -12,7 +12,7 @@ mod AtDoor
 pub mod Between
 pub mod OwnCommands
 mod Naming
-mod OuterPrompts
+pub mod OuterPrompts
 pub mod EachCache
 pub mod EachLine
 pub mod EachTrust

@@ -16,7 +16,8 @@ use Rattle.agent_origin.specs.SessionExchanges.{RequestExchange}
 use Rattle.agent_origin.specs.declared.door.Door.{Door}
 use Rattle.agent_origin.specs.declared.kept.Kept.{Kept}
 use Rattle.agent_origin.specs.declared.trust.request.TrustRequest.{TrustRequest}
-use Rattle.agent_serve.proofs.PromptedEvents.{Prompted, prompted_carries, uncalled}
+use Rattle.agent_serve.specs.Prompts.{Prompted}
+use Rattle.agent_serve.proofs.PromptedEvents.{prompted_carries, uncalled}
 
 pub request_prompted : {rules : Rules} {kept now : Kept} (request : Request) {events : List Event} {went : Went} → RequestExchange rules kept request events now went → Prompted events
 request_prompted = request_whole prompted_carries (λ text. tt) refl

@@ -8,6 +8,7 @@ use Rattle.agent_commands.specs.Answers.{comments}
 use Rattle.agent_commands.specs.Names.{command_names}
 use Rattle.agent_commands.specs.Requests.{request_of}
 use Rattle.agent_commands.specs.declared.went.Went.{Went}
+use Rattle.agent_commands.specs.declared.went.Went.TheVariants.{On}
 use Rattle.assuan_server.specs.Written.{failed as failed_line, ok}
 use Rattle.session_client.specs.declared.code.Code.{Code}
 use Rattle.session_client.specs.declared.code.Code.TheVariants as code
@@ -38,8 +39,8 @@ use Rattle.agent_session.specs.DoorCauses.{IsTrustCaused, IsCausedBy, IsCausedAt
 use Rattle.agent_session.proofs.Answering.{Judging, none_failed, no_trust_failed}
 use Rattle.agent_session.proofs.Asides.{asides_append, comments_aside}
 use Rattle.agent_session.proofs.Completing.{IsPossible, IsSteady, never_absent}
-use Rattle.agent_session.proofs.Explained.{Explained, replied, failed, silent, is_answered, is_caused}
-use Rattle.agent_session.proofs.KeyExplained.{exchange_caused}
+use Rattle.agent_session.proofs.Explained.{Explained, replied, failed, silent, is_answered, is_caused, went_on, goes_on as explained_on}
+use Rattle.agent_session.proofs.KeyExplained.{exchange_caused, exchange_goes_on}
 use Rattle.agent_session.proofs.Replying.{IsReply, begins, reply_ok}
 use Rattle.agent_session.proofs.Standing.{stand_all}
 use Rattle.agent_session.proofs.TrustDenied.{none_called, denial_is_said}
@@ -94,9 +95,14 @@ module _ (door : Door) (rules : Rules) (before : Kept) (line : List ℕ) (events
   record Judged (went : Went) : Type 0 where
     answered : IsAnsweredBy went events
     caused : (why : Code) (origin : Origin) → HasError why origin events → Caused why origin
+    goes_on : (why : Code) (origin : Origin) → HasError why origin events → (why ≡ code.LineTooLong → ⊥) → went ≡ On
 
   judged : {went : Went} → Explained events Caused events went → Judged went
-  judged explained = record { answered = is_answered events Caused explained refl; caused = is_caused events Caused explained }
+  judged {went} explained = record {
+    answered = is_answered events Caused explained refl;
+    caused = is_caused events Caused explained;
+    goes_on = λ why origin has. went_on went why (explained_on events Caused explained why origin has);
+  }
 
   explained_as : {Of : Code → Origin → Type 0} {some : List Event} {went : Went} → ((why : Code) (origin : Origin) → Of why origin → Caused why origin)
       → Explained events Of some went → Explained events Caused some went
@@ -121,11 +127,14 @@ module _ (door : Door) (rules : Rules) (before : Kept) (line : List ℕ) where
 
   -- one of any session
   session_judged : trust_command_named (command_of line) ≡ None → allowed door line ≡ true → {events : List Event} {after : Kept} {went : Went}
-      → CausedInSession rules before line events after went → JudgedBy events went
-  session_judged named allows {events} {went} caused = record {
-    answered = caused.answered;
-    caused = λ why origin has. is_allowed allows (subst (λ n. IsCausedBy rules before line events n why origin) (sym named) (caused.caused why origin has));
-  }
+      → SessionExchange rules before line events after went → AllByRecursion IsPossible events → JudgedBy events went
+  session_judged named allows {events} {went} exchanged possible =
+      let caused = exchange_caused rules before line (never_absent possible) exchanged in
+      record {
+        answered = caused.answered;
+        goes_on = exchange_goes_on rules before line (never_absent possible) exchanged;
+        caused = λ why origin has. is_allowed allows (subst (λ n. IsCausedBy rules before line events n why origin) (sym named) (caused.caused why origin has));
+      }
 
   allowed_judged : {command : _} → door_command door line ≡ command → allowed door line ≡ true → {events : List Event} {after : Kept} {went : Went}
       → AllowedExchange rules before line command events after went → AllByRecursion IsPossible events → JudgedBy events went
@@ -137,7 +146,7 @@ module _ (door : Door) (rules : Rules) (before : Kept) (line : List ℕ) where
       (own_command door line (λ e. absurd (cc e)) is) in
       trust_judged found.0 found.1 allows exchanged
   allowed_judged is allows (doors.any exchanged) possible =
-      session_judged (no_command (command_of line) (not_own door line is)) allows (exchange_caused rules before line (never_absent possible) exchanged)
+      session_judged (no_command (command_of line) (not_own door line is)) allows exchanged possible
 
   door_judged : {events : List Event} {after : Kept} {went : Went} → DoorExchange door rules before line events after went → AllByRecursion IsPossible events → JudgedBy events went
   door_judged (doors.forbidden refuses) possible =
@@ -216,6 +225,7 @@ pub at_door : (door : Door) (rules : Rules) → Judging (DoorExchange door rules
 at_door door rules = record {
   judged = λ before line events after went possible exchanged. door_caused door rules before line possible exchanged;
   has_cause = λ before line events after went caused. caused.by_cause.caused;
+  goes_on = λ before line events after went possible exchanged. (door_judged door rules before line exchanged possible).goes_on;
   for_memory = λ before line events cause.
       wanted_by rules before line events (trust_command_named (command_of line)) (because rules before line events door code.NoMemory (λ e. absurd (cc e)) cause);
   by_failure = λ before line events cause.
