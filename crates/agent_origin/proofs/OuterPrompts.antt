@@ -16,6 +16,8 @@ use Rattle.agent_commands.specs.declared.request.Request.{Request}
 use Rattle.agent_commands.specs.declared.request.Request.TheVariants.{Cache, Key, Bad}
 use Rattle.agent_commands.specs.declared.went.SessionEnd.{SessionEnd}
 use Rattle.agent_commands.specs.declared.went.Went.{Went}
+use Rattle.agent_commands.specs.declared.went.Went.TheVariants.{On}
+use Rattle.assuan_server.specs.Written.{ok}
 use Rattle.assuan_text.specs.Rows.{found}
 use Rattle.assuan_text.specs.Words.{command_of}
 use Rattle.key_commands.specs.Events.{Event}
@@ -31,11 +33,12 @@ use Rattle.session_options.specs.declared.options.PinMode.TheVariants as mode
 use Rattle.session_options.specs.declared.rules.Rules.{Rules}
 use Rattle.agent_origin.specs.DoorSessions.{door_command_named, door_command, AllowedExchange, DoorExchange}
 use Rattle.agent_origin.specs.DoorSessions as door
-use Rattle.agent_origin.specs.Doors.{is_of_terminal, sets_terminal}
+use Rattle.agent_origin.specs.Doors.{is_of_terminal, sets_terminal, allowed}
 use Rattle.agent_origin.specs.OuterPrompts.{no_words, PromptNames, PromptsName}
 use Rattle.agent_origin.specs.SessionExchanges.{RequestExchange, cache, keys}
 use Rattle.agent_origin.specs.declared.door.Door.TheVariants.{Outer}
 use Rattle.agent_origin.specs.declared.door_session.DoorCommand.{DoorCommand}
+use Rattle.agent_origin.specs.declared.door_session.DoorCommand.TheVariants.{Terminal}
 use Rattle.agent_origin.specs.declared.kept.Kept.{Kept}
 use Rattle.agent_origin.proofs.Naming.{exchange_names}
 use Rattle.std.proofs.lemmas.Slice.Eq.{bytes_eq-Decides}
@@ -179,6 +182,20 @@ door_unset line unset (door.is_allowed allows exchange) = allowed_unset line ref
 pub line_unnamed : {rules : Rules} {before after : Kept} (line : List ℕ) {events : List Event} {went : Went} → Unset before.options → DoorExchange Outer rules before line events after went
     → PromptsName no_words events × Unset after.options
 line_unnamed line {events} unset exchange = (subst (λ env. PromptsName env events) unset (exchange_names exchange), door_unset line unset exchange)
+
+-- ---- an option of the terminal
+
+by_terminal : {rules : Rules} {before after : Kept} {line : List ℕ} {command : Option DoorCommand} {events : List Event} {went : Went} → AllowedExchange rules before line command events after went → command ≡ Some Terminal
+    → (events ≡ Sent ok ∷ []) × (after ≡ before) × (went ≡ On)
+by_terminal door.helped is = cc is
+by_terminal door.unset is = (refl, refl, refl)
+by_terminal (door.trusts exchange) is = cc is
+by_terminal (door.any exchange) is = cc is
+
+pub option_unset_there : {rules : Rules} {before after : Kept} (line : List ℕ) {events : List Event} {went : Went} → allowed Outer line ≡ true → sets_terminal (request_of line) ≡ true
+    → DoorExchange Outer rules before line events after went → (events ≡ Sent ok ∷ []) × (after ≡ before) × (went ≡ On)
+option_unset_there line allows sets (door.forbidden refuses) = absurd (cc (allows, refuses))
+option_unset_there line allows sets (door.is_allowed may exchange) = by_terminal exchange (ap (λ b. cond b (Some Terminal) (door_command_named (command_of line))) sets)
 
 -- ---- sessions
 

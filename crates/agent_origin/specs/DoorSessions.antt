@@ -55,7 +55,7 @@ door_help = help_with (map (λ row. row.0) commands_on_trust)
 -- what is done for a line that is allowed, by the command that the door has a way of its own for, if it is one
 pub data AllowedExchange (rules : Rules) (before : Kept) (line : List ℕ) : Option DoorCommand → List Event → Kept → Went → Type 0 where
   helped : AllowedExchange rules before line (Some Help) (Sent door_help ∷ []) before On
-  -- as NOP is
+  -- an option of the terminal is answered as NOP is
   unset : AllowedExchange rules before line (Some Terminal) (Sent ok ∷ []) before On
   trusts : {events : List Event} {went : Went} → TrustExchange rules before.options (trust_request_of line) events went
       → AllowedExchange rules before line (Some Trust) events before went

@@ -74,7 +74,7 @@ passes Uncached line = leaves_cache (get_fields (request_of line))
 passes OneKey line = not (has_option (codes "--list") (options_of (words (rest_of line))))
 passes Never line = false
 
--- The option's name says in which terminal prompts are drawn, of which kind that is, or in which language (GnuPG manual, "agent options").
+-- The option's name says in which terminal prompts are drawn, of which kind that is, or in which language (GnuPG manual, "Agent OPTION").
 abbrev pub is_of_terminal : List ℕ → Bool
 is_of_terminal name =
     bytes_eq name (codes "ttyname") || bytes_eq name (codes "ttytype") || bytes_eq name (codes "lc-ctype") || bytes_eq name (codes "lc-messages")

@@ -1,5 +1,5 @@
--- Where the prompts of a session are drawn that came in by the outer door: the terminal and the language that its client has are another machine's, so
--- they name none. This is this project's own.
+-- What prompts name in a session that came in by the outer door. The terminal and the language of its client are another machine's, so its prompts name
+-- none. This is this project's own.
 use Rattle.std.specs.Prelude.{◌≡◌, List, [], ⊤}
 use Rattle.std.specs.List.{AllByRecursion}
 use Rattle.agent_ask.specs.Events.{Start, Called, PromptEvent}

@@ -32,12 +32,12 @@ enum DoorCommand {
     Help,
     /// One on the trust list.
     Trust,
-    /// OPTION of the terminal, at the outer door. The terminal that another machine names is its
-    /// own, so that has no effect here.
+    /// OPTION of the terminal or of the language, at the outer door. What another machine names is
+    /// its own, so it has no effect here.
     Terminal,
 }
 
-/// Those that have a name of their own.
+/// Those that the command's name alone decides.
 const DOOR_COMMANDS: [(&[u8], DoorCommand); 3] = [
     (b"HELP", DoorCommand::Help),
     (b"ISTRUSTED", DoorCommand::Trust),
@@ -45,6 +45,8 @@ const DOOR_COMMANDS: [(&[u8], DoorCommand); 3] = [
 ];
 
 /// What a session at this door does for itself with a line.
+// Apart from the session's loop, where a place for the request would be filled anew for each line.
+#[inline(never)]
 fn door_command(door: Door, line: &CutLine<'_>) -> Option<DoorCommand>
     ensures { result ≡ door_command door line.now }
 {

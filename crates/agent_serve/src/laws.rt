@@ -60,8 +60,8 @@ pub fn a_restricted_session_names_no_terminal<H: Host>()
         → PromptsName no_words serves.served.events }
 {}
 
-/// The prompter's calls in a session are those of prompts, one after another, each from its start to
-/// its end. The same of a session that came in by a door.
+/// The prompter's calls in a session are those of prompts, one after another, each from its start
+/// to its end. The same of a session that came in by a door.
 pub fn the_calls_of_a_session_are_prompts<D: Desk, P: Prompter>()
     ensures session { (rules : Rules)
         (before after : Surroundings (FurtherWorld D.turned P.prompted)) (end : Ends)

@@ -90,13 +90,13 @@ pub record LawfulExchange {D P : Type 0} (turned : D → MarkStep → Turn → D
   -- a failure in it raised its count, and at most as many failed on an end as its count rose by
   pub raised : FailuresRise at events before.ends after.ends
   pub counted : CountsFailures at events before.ends after.ends
-  -- after an error line the session goes on, but after one
+  -- after an error line the session goes on, unless that is Line too long
   pub goes_on : (why : Code) (origin : Origin) → HasError why origin events → why ≢ LineTooLong → went ≡ On
   -- without a cause for an error it is answered by OK
   pub uncaused : IsUncaused cause before.kept line events → IsAnsweredOk went events
 
--- What they say of a session as a whole, of whose exchanges this is so: a line that is too long ends it, a failure in it raised its count, and at most as many failed on an end as its count
--- rose by, from before the session to behind it.
+-- What they say of a session as a whole, beside what its exchanges are: where a line was too long it ends by that, unless a write failed, and its client is told so exactly where it ends by
+-- that; a failure in it raised its count, and at most as many failed on an end as its count rose by, from before the session to behind it.
 pub record LawfulSession {P : Type 0} (at : P → AtPrompter) (Exchanges : Type 0) (events : List SessionEvent) (end : SessionEnd) (before after : FurtherEnds P) : Type 0 where
   pub exchanges : Exchanges
   pub too_long : EndsTooLong events end

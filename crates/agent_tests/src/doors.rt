@@ -175,7 +175,7 @@ const LISTS: [Row; 14] = [
     // Its prompt isn't told the terminal and the language of the other machine.
     Row {
         door: Door::Outer,
-        sent: "OPTION ttyname=/home/a/.bashrc\noption --ttytype = dumb\nOPTION lc-ctype=C\nOPTION lc-messages\nOPTION ttyname={a*256}\nGET_CONFIRMATION Really+send\n",
+        sent: "OPTION ttyname=/home/a/.bashrc\noption --ttytype = dumb\nOPTION lc-ctype=C\nOPTION lc-messages=C\nOPTION ttyname={a*256}\nGET_CONFIRMATION Really+send\n",
         answered: "{OK\n*6}",
         children: &[OTHER],
         launched: 1,
