@@ -1,9 +1,11 @@
-ghost use Rattle.std.specs.Prelude.{◌≡◌, None, IfOk, refl};
+ghost use Rattle.std.specs.Prelude.{◌≡◌, None, IfOk};
 ghost use Rattle.agent_ports.specs.Launches.{IsFresh};
 
+use crate::child::PipedChild;
 use crate::faults::count;
+use crate::terminal::Terminal;
 use crate::told::{LastError, Printable};
-use agent_ports::{Got, Launcher, Link, Sent, Sink, Source};
+use agent_ports::{Launcher, Sink, Source};
 use std::alloc::Global;
 use std::io::ErrorKind;
 use std::process::{Child, Command, OpenProcess, Processes, Stdio};
@@ -40,53 +42,13 @@ impl<'a, R: rt::Clock + Processes + Eprint> PipeLauncher<'a, R> {
     }
 }
 
-/// A program that was started: what it writes is read, and what is written it reads. It is handed
-/// to `finish`, which sees to its end.
-pub struct PipedChild<P: OpenProcess> {
-    process: Child<P>,
-    pipes: StdLink<P::Stdout, P::Stdin>,
-    last_error: LastError,
-}
-
-impl<P: OpenProcess> Source for PipedChild<P> {
-    ghost input = { λ c. ⟦<StdLink<P::Stdout, P::Stdin> as Source>⟧.input c.pipes };
-
-    ghost beside_input = { λ c. ⟦<StdLink<P::Stdout, P::Stdin> as Sink>⟧.output c.pipes };
-
-    fn read(&mut self, buf: &mut [u8]) -> Got {
-        let got = self.pipes.read(buf);
-        match got {
-            Got::Bytes(count) => self.last_error.read(&buf[..count]),
-            Got::End => self.last_error.read_end(),
-            Got::Failed => {}
-        }
-        got
-    }
-}
-
-impl<P: OpenProcess> Sink for PipedChild<P> {
-    ghost output = { λ c. ⟦<StdLink<P::Stdout, P::Stdin> as Sink>⟧.output c.pipes };
-
-    ghost beside_output = { λ c. ⟦<StdLink<P::Stdout, P::Stdin> as Source>⟧.input c.pipes };
-
-    fn put(&mut self, bytes: &[u8]) -> Sent {
-        self.pipes.put(bytes)
-    }
-}
-
-impl<P: OpenProcess> Link for PipedChild<P> {
-    ghost output_beside = { λ _. refl };
-
-    ghost input_beside = { λ _. refl };
-}
-
-impl<R: rt::Clock + Processes + Eprint> Launcher for PipeLauncher<'_, R> {
-    type Child = PipedChild<R::Started>;
+impl<'a, R: rt::Clock + Processes + Eprint> Launcher for PipeLauncher<'a, R> {
+    type Child = PipedChild<'a, R, R::Started>;
 
     ghost launches = { λ l.
         record { coming = None; launched = None; finished = None; faults = l.faults } };
 
-    fn launch(&mut self, program: &[u8]) -> Option<PipedChild<R::Started>> {
+    fn launch(&mut self, program: &[u8]) -> Option<PipedChild<'a, R, R::Started>> {
         let child = start(self.rt, self.alloc, program);
         count(&mut self.faults, child.is_err());
         if let Err(error) = &child {
@@ -96,14 +58,16 @@ impl<R: rt::Clock + Processes + Eprint> Launcher for PipeLauncher<'_, R> {
         child.ok()
     }
 
-    fn finish(&mut self, child: PipedChild<R::Started>) {
+    fn finish(&mut self, child: PipedChild<'a, R, R::Started>) {
         let PipedChild {
+            rt: _,
             mut process,
             pipes,
+            terminal,
             last_error,
         } = child;
         if let Some(failure) = last_error.failure() {
-            let _ = eprintln!(self.rt; "agent: the pinentry {failure}");
+            let _ = eprintln!(self.rt; "agent: the pinentry {failure}{terminal}");
         }
         let (reads, writes) = pipes.faults();
         self.faults = self.faults.saturating_add(reads).saturating_add(writes);
@@ -114,13 +78,14 @@ impl<R: rt::Clock + Processes + Eprint> Launcher for PipeLauncher<'_, R> {
 }
 
 /// Starts the program, with pipes.
-fn start<R: rt::Clock + Processes>(
-    rt: &R,
+fn start<'a, R: rt::Clock + Processes + Eprint>(
+    rt: &'a R,
     alloc: Global,
     program: &[u8],
-) -> io::Result<PipedChild<R::Started>>
-    ensures { IfOk result (λ child. IsFresh (⟦<PipedChild<R::Started> as Source>⟧.input child)
-        (⟦<PipedChild<R::Started> as Sink>⟧.output child)) }
+) -> io::Result<PipedChild<'a, R, R::Started>>
+    ensures { IfOk result
+        (λ child. IsFresh (⟦<PipedChild<'a, R, R::Started> as Source>⟧.input child)
+        (⟦<PipedChild<'a, R, R::Started> as Sink>⟧.output child)) }
 {
     let path = str::from_utf8(program).map_err(|_| ErrorKind::InvalidFilename)?;
     let mut command = Command::new(alloc, path)?;
@@ -129,8 +94,10 @@ fn start<R: rt::Clock + Processes>(
     let mut process = command.spawn(rt)?;
     match (process.stdin.take(), process.stdout.take()) {
         (Some(input), Some(output)) => Ok(PipedChild {
+            rt,
             process,
             pipes: StdLink::new(output, input),
+            terminal: Terminal::Untold,
             last_error: LastError::new(),
         }),
         // A child without pipes is of no use.
@@ -159,6 +126,7 @@ fn end<P: OpenProcess>(rt: &impl rt::Clock, process: &mut Child<P>) -> io::Resul
 mod tests {
     use super::*;
     use crate::told::said;
+    use agent_ports::{Got, Sent};
     use std::fs::OpenOptions;
     use std::io::Write;
     use std::os::unix::fs::OpenOptionsExt;

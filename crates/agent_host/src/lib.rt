@@ -7,6 +7,7 @@
 //! `agent_ports` (`specs/HostParts`, `Launches`, `Counts`).
 #![tactic(auto)]
 
+mod child;
 mod clock;
 mod dice;
 mod faults;
@@ -14,12 +15,14 @@ mod host;
 mod keys;
 mod launcher;
 mod no_folder;
+mod terminal;
 mod told;
 mod trust;
 
+pub use child::PipedChild;
 pub use clock::SystemClock;
 pub use dice::SystemDice;
 pub use host::{SystemHost, SystemParts};
 pub use keys::SystemKeys;
-pub use launcher::{PipeLauncher, PipedChild};
+pub use launcher::PipeLauncher;
 pub use trust::SystemTrust;
