@@ -38,7 +38,7 @@ pub struct SystemHost<'a, R> {
     gate: NoGate,
 }
 
-impl<'a, R: rt::Clock + Processes + Files<File = File> + Net + Eprint> SystemHost<'a, R> {
+impl<'a, R: rt::Clock + rt::Env + Processes + Files<File = File> + Net + Eprint> SystemHost<'a, R> {
     /// The machine, with its server's parts and no folder yet. `pid` is the number of the process,
     /// as `GETINFO pid` tells it.
     pub fn new(rt: &'a R, alloc: Global, pid: u32) -> Self
@@ -79,7 +79,7 @@ impl<'a, R: Files + Net> SystemHost<'a, R> {
 }
 
 /// Parts of the system in which nothing was done, with the key files of this folder.
-fn new_parts<'a, R: rt::Clock + Processes + Files<File = File> + Eprint>(
+fn new_parts<'a, R: rt::Clock + rt::Env + Processes + Files<File = File> + Eprint>(
     rt: &'a R,
     alloc: Global,
     homedir: &Homedir,
@@ -99,7 +99,8 @@ fn new_parts<'a, R: rt::Clock + Processes + Files<File = File> + Eprint>(
     }
 }
 
-impl<'a, R: rt::Clock + Processes + Files<File = File> + Net + Eprint> Host for SystemHost<'a, R> {
+impl<'a, R: rt::Clock + rt::Env + Processes + Files<File = File> + Net + Eprint> Host
+    for SystemHost<'a, R> {
     type Link = SocketLink;
 
     type Ear = SocketEar;

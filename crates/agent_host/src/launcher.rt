@@ -2,6 +2,7 @@ ghost use Rattle.std.specs.Prelude.{◌≡◌, None, IfOk};
 ghost use Rattle.agent_ports.specs.Launches.{IsFresh};
 
 use crate::child::PipedChild;
+use crate::environment::hand_on;
 use crate::faults::count;
 use crate::terminal::Terminal;
 use crate::told::{LastError, Printable};
@@ -18,8 +19,8 @@ use std_link::StdLink;
 /// is seen after at most twice the time that it took.
 const LOOKS: u32 = 20;
 
-/// Starts programs without arguments, whose standard input and output are pipes. It doesn't show
-/// what they give and are written. A child that is finished has a second to end by itself. Why a
+/// Starts programs without arguments, whose standard input and output are pipes, and which inherit
+/// a few variables of the environment alone. It doesn't show what they give and are written. A child that is finished has a second to end by itself. Why a
 /// program couldn't be started, and what a child failed by, is said on the error stream, in one
 /// line.
 #[derive(Drop)]
@@ -29,7 +30,7 @@ pub struct PipeLauncher<'a, R> {
     faults: u64,
 }
 
-impl<'a, R: rt::Clock + Processes + Eprint> PipeLauncher<'a, R> {
+impl<'a, R: rt::Clock + rt::Env + Processes + Eprint> PipeLauncher<'a, R> {
     /// A launcher that has started nothing yet. A launch takes memory for the program's path.
     pub fn new(rt: &'a R, alloc: Global) -> Self
         ensures { (⟦<PipeLauncher<'a, R> as Launcher>⟧.launches result).faults ≡ 0 }
@@ -42,7 +43,7 @@ impl<'a, R: rt::Clock + Processes + Eprint> PipeLauncher<'a, R> {
     }
 }
 
-impl<'a, R: rt::Clock + Processes + Eprint> Launcher for PipeLauncher<'a, R> {
+impl<'a, R: rt::Clock + rt::Env + Processes + Eprint> Launcher for PipeLauncher<'a, R> {
     type Child = PipedChild<'a, R, R::Started>;
 
     ghost launches = { λ l.
@@ -78,7 +79,7 @@ impl<'a, R: rt::Clock + Processes + Eprint> Launcher for PipeLauncher<'a, R> {
 }
 
 /// Starts the program, with pipes.
-fn start<'a, R: rt::Clock + Processes + Eprint>(
+fn start<'a, R: rt::Clock + rt::Env + Processes + Eprint>(
     rt: &'a R,
     alloc: Global,
     program: &[u8],
@@ -89,6 +90,7 @@ fn start<'a, R: rt::Clock + Processes + Eprint>(
 {
     let path = str::from_utf8(program).map_err(|_| ErrorKind::InvalidFilename)?;
     let mut command = Command::new(alloc, path)?;
+    hand_on(rt, alloc, &mut command)?;
     command.stdin(Stdio::piped());
     command.stdout(Stdio::piped());
     let mut process = command.spawn(rt)?;

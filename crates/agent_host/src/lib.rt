@@ -10,6 +10,7 @@
 mod child;
 mod clock;
 mod dice;
+mod environment;
 mod faults;
 mod host;
 mod keys;
