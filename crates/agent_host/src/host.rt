@@ -82,7 +82,7 @@ impl<'a, R: Files + Net> SystemHost<'a, R> {
 }
 
 /// Parts of the system in which nothing was done, with the key files of this folder.
-fn new_parts<'a, R: rt::Clock + rt::Env + Processes + Files<File = File> + Eprint>(
+fn new_parts<'a, R: rt::Clock + rt::Env + Processes + Files<File = File> + Net + Eprint>(
     rt: &'a R,
     alloc: Global,
     start: Start,

@@ -12,10 +12,14 @@ mod clock;
 mod dice;
 mod environment;
 mod faults;
+mod guard;
 mod host;
 mod keys;
 mod launcher;
 mod no_folder;
+mod patience;
+#[cfg(test)]
+mod scripts;
 mod terminal;
 mod told;
 mod trust;

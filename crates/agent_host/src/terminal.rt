@@ -65,6 +65,7 @@ pub(crate) fn is_terminal(name: &[u8]) -> bool {
 #[cfg(test)]
 mod tests {
     use super::*;
+    use std::test::Fail;
 
     #[test]
     fn a_name_that_only_terminals_have(rt: HostRuntime) {
@@ -102,5 +103,23 @@ mod tests {
         for (name, wanted) in rows {
             assert_eq!(rt; (name, is_terminal(name)), (name, wanted));
         }
+    }
+
+    #[test]
+    fn what_is_said_of_a_child_names_its_terminal(rt: HostRuntime) -> Result<(), Fail> {
+        let rows = [
+            (Terminal::Untold, ""),
+            (Terminal::Kept, ""),
+            (
+                Terminal::told(b"/dev/pts/3"),
+                " (at the terminal /dev/pts/3)",
+            ),
+        ];
+        for (terminal, wanted) in rows {
+            assert_eq!(rt; format!(in rt.alloc(); "{terminal}")?.as_str(), wanted);
+        }
+        let long = format!(in rt.alloc(); "{}", Terminal::told(&[b'x'; 900]))?;
+        assert_eq!(rt; long.len(), 200 + " (at the terminal )".len());
+        Ok(())
     }
 }
