@@ -2,7 +2,7 @@ ghost use Rattle.std.specs.Prelude.{◌≡◌, ◌≤◌, Some, IsSome, IsNone, 
 ghost use Rattle.agent_ports.specs.Counts.{Rose};
 ghost use Rattle.unix_socket.specs.declared.path.SocketName.{SocketName as Named};
 
-use crate::clock::SystemClock;
+use crate::clock::{Start, SystemClock};
 use crate::dice::SystemDice;
 use crate::faults::count;
 use crate::keys::SystemKeys;
@@ -33,23 +33,26 @@ pub struct SystemHost<'a, R> {
     rt: &'a R,
     alloc: Global,
     pid: u32,
+    start: Start,
     parts: Option<SystemParts<'a, R>>,
     homedir: Homedir,
     listens: u64,
     gate: NoGate,
 }
 
-impl<'a, R: rt::Clock + Processes + Files<File = File> + Net + Eprint> SystemHost<'a, R> {
-    /// The machine, with its server's parts and no folder yet. `pid` is the number of the process,
-    /// as `GETINFO pid` tells it.
+impl<'a, R: rt::Clock + rt::Env + Processes + Files<File = File> + Net + Eprint> SystemHost<'a, R> {
+    /// The machine, with its server's parts and no folder yet, whose clocks begin now. `pid` is the
+    /// number of the process, as `GETINFO pid` tells it.
     pub fn new(rt: &'a R, alloc: Global, pid: u32) -> Self
         ensures { IsSome (⟦<SystemHost<'a, R> as Host>⟧.server result) }
     {
+        let start = Start::now(rt);
         SystemHost {
             rt,
             alloc,
             pid,
-            parts: Some(new_parts(rt, alloc, &Homedir::new())),
+            start,
+            parts: Some(new_parts(rt, alloc, start, &Homedir::new())),
             homedir: Homedir::new(),
             listens: 0,
             gate: NoGate,
@@ -98,9 +101,10 @@ impl<'a, R: Files + Net + Eprint> SystemHost<'a, R> {
 }
 
 /// Parts of the system in which nothing was done, with the key files of this folder.
-fn new_parts<'a, R: rt::Clock + Processes + Files<File = File> + Eprint>(
+fn new_parts<'a, R: rt::Clock + rt::Env + Processes + Files<File = File> + Net + Eprint>(
     rt: &'a R,
     alloc: Global,
+    start: Start,
     homedir: &Homedir,
 ) -> SystemParts<'a, R>
     ensures launcher { (⟦<PipeLauncher<'a, R> as Launcher>⟧.launches result.launcher).faults ≡ 0 }
@@ -112,13 +116,14 @@ fn new_parts<'a, R: rt::Clock + Processes + Files<File = File> + Eprint>(
     keys.settle(homedir);
     Parts {
         launcher: PipeLauncher::new(rt, alloc),
-        clock: SystemClock::new(rt),
+        clock: SystemClock::new(rt, start),
         dice: SystemDice::new(rt),
         keys,
     }
 }
 
-impl<'a, R: rt::Clock + Processes + Files<File = File> + Net + Eprint> Host for SystemHost<'a, R> {
+impl<'a, R: rt::Clock + rt::Env + Processes + Files<File = File> + Net + Eprint> Host
+    for SystemHost<'a, R> {
     type Link = SocketLink;
 
     type Ear = SocketEar;
@@ -180,7 +185,7 @@ impl<'a, R: rt::Clock + Processes + Files<File = File> + Net + Eprint> Host for 
     }
 
     fn session_parts(&self) -> SystemParts<'a, R> {
-        new_parts(self.rt, self.alloc, &self.homedir)
+        new_parts(self.rt, self.alloc, self.start, &self.homedir)
     }
 
     fn trust(&self) -> SystemTrust<'a, R> {
