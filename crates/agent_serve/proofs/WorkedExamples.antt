@@ -17,6 +17,8 @@ module _ {Li La C R K T : Type 0} (input output : Li → Side) (parts : Views La
     gives = λ listener link. listener ≡ 1;
     answers = λ listener ear answer back. (listener ≡ 0) × (answer ≡ Stopped) × (back ≡ ear);
     is_told = λ listener. listener ≡ 0;
+    tells = λ listener ear back. (listener ≡ 0) × (back ≡ ear);
+    hears = λ listener ear. listener ≡ 0;
     faults = λ ear. ear;
     is_home = λ listener. listener ≡ 0;
     is_extra = λ listener. listener ≡ 1;
@@ -29,7 +31,7 @@ module _ {Li La C R K T : Type 0} (input output : Li → Side) (parts : Views La
 
   -- a worker that is stopped before a link came, and whose ear had heard three faults before
   stopped_at_once : (pass : AtPass) → Works stopped_host rules (post_at Home 0 None) pass 3 pass 3
-  stopped_at_once pass = record { last = 3; serves = none; ends = stopped (refl, refl, refl) refl; unfallen = omega arith }
+  stopped_at_once pass = record { last = 3; serves = none; ends = stopped (refl, refl, refl) refl; unfallen = omega arith; own_ear = λ own. own }
 
   -- so its listener was told to stop
   was_told : (pass : AtPass) → pass.sessions < 2 ^ 64 - 1 → stopped_host.is_told 0

@@ -16,12 +16,12 @@ module _ {Ls E Li La C R K T : Type 0} (host : HostViews Ls E Li La C R K T) (ru
   WorkAt other last = PairedTo (λ pass ear back. Works host rules other pass ear back.0 back.1) (λ pass ear back. Works host rules last pass ear back.0 back.1)
 
   -- a session leaves the pass at its table
-  pub next_stays : (post : Post Ls) (pass : AtPass) (link : Li) (now : AtPass) → ServesNext host rules post pass link now → now.table ≡ pass.table
-  next_stays post pass link now next = ap (λ (p : AtPass). p.table) next.serves.now_is
+  pub next_stays : {post : Post Ls} {pass : AtPass} {link : Li} {ear : E} {now : AtPass} {then : E} → ServesNext host rules post pass link ear now then → now.table ≡ pass.table
+  next_stays next = ap (λ (p : AtPass). p.table) next.serves.now_is
 
   stays : (post : Post Ls) (first : AtPass) (early : E) (now : AtPass) (later : E) → ServesLinks host rules post first early now later → now.table ≡ first.table
   stays post first early _ _ none = refl
-  stays post first early now later (one_more {pass = pass} {ear = ear} {link = link} before answers next) = next_stays post pass link now next ∙ stays post first early pass ear before
+  stays post first early now later (one_more {pass = pass} {ear = ear} before answers next) = next_stays next ∙ stays post first early pass ear before
 
   work_stays : (post : Post Ls) (pass : AtPass) (ear : E) (now : AtPass) (back : E) → Works host rules post pass ear now back → now.table ≡ pass.table
   work_stays post pass ear now back works = stays post pass ear now works.last works.serves

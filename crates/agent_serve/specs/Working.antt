@@ -1,5 +1,5 @@
 -- What a worker does with its pass. This is the project's own.
-use Rattle.std.specs.Prelude.{◌≡◌, ◌≤◌, ◌-◌, ◌^◌, ℕ, List, true, Option, Some, None, IfSome}
+use Rattle.std.specs.Prelude.{◌≡◌, ◌≤◌, ◌⊎◌, ◌-◌, ◌^◌, ℕ, List, true, Option, Some, None, IfSome}
 use Rattle.agent_commands.specs.declared.went.SessionEnd.{SessionEnd}
 use Rattle.agent_commands.specs.declared.went.SessionEnd.TheVariants.{Killed}
 use Rattle.agent_ports.specs.Counts.{Rose}
@@ -30,6 +30,10 @@ pub record HostViews (Ls E Li La C R K T : Type 0) : Type 1 where
   pub answers : Ls → E → Next Li → E → Type 0
   -- whether a listener was told to stop
   pub is_told : Ls → Type 0
+  -- what a listener that is told to stop leaves of the ear that it is told with
+  pub tells : Ls → E → E → Type 0
+  -- whether an ear is one of a listener's
+  pub hears : Ls → E → Type 0
   -- how many calls with an ear failed
   pub faults : E → ℕ
   -- whether a listener is the daemon's own, and whether it is the one for restricted sessions
@@ -58,32 +62,48 @@ abbrev pub last_post : {Ls : Type 0} → Ls → Option Ls → Post Ls
 last_post listener None = home_post listener None
 last_post listener (Some extra) = post_at Outer extra (Some listener)
 
--- both listeners were told to stop
-pub record ToldToStop {Ls E Li La C R K T : Type 0} (host : HostViews Ls E Li La C R K T) (post : Post Ls) : Type 0 where
+-- the other listener, where there is one, is told with this ear
+abbrev pub TellsOther : {Ls E Li La C R K T : Type 0} → HostViews Ls E Li La C R K T → Option Ls → E → E → Type 0
+TellsOther host None ear next = next ≡ ear
+TellsOther host (Some other) ear next = host.tells other ear next
+
+-- both listeners are told to stop, with this ear
+pub record TellsToStop {Ls E Li La C R K T : Type 0} (host : HostViews Ls E Li La C R K T) (post : Post Ls) (ear next : E) : Type 0 where
   pub own : host.is_told post.listener
   pub further : IfSome post.other host.is_told
+  pub between : E
+  pub tells : host.tells post.listener ear between
+  pub tells_further : TellsOther host post.other between next
+
+-- a session that ended so has stopped the agent, or its pass, which is left so, has seen that one did
+abbrev pub IsToStop : SessionEnd → AtPass → Type 0
+IsToStop end now = (end ≡ Killed) ⊎ (is_stopped now.seen ≡ true)
+
+-- Both listeners are told to stop where the agent is to be; else none is, and nothing is done with the ear.
+pub record StopsAfter {Ls E Li La C R K T : Type 0} (host : HostViews Ls E Li La C R K T) (post : Post Ls) (end : SessionEnd) (now : AtPass) (ear next : E) : Type 0 where
+  pub stops : IsToStop end now → TellsToStop host post ear next
+  pub goes_on : ¬ IsToStop end now → next ≡ ear
 
 module _ {Ls E Li La C R K T : Type 0} (host : HostViews Ls E Li La C R K T) (rules : Rules) (post : Post Ls) where
   abbrev pub sides : Li → LinkSides
   sides link = link_of (host.input link) (host.output link)
 
-  -- The pass's next session was served by the door, on this link, which came in at the listener, and of which no read and no write had failed. Where
-  -- it stopped the agent, or the pass has seen that one did, both listeners were told to stop.
-  pub record ServesNext (pass : AtPass) (link : Li) (now : AtPass) : Type 0 where
+  -- The pass's next session was served by the door, on this link, which came in at the listener, and of which no read and no write had failed. Exactly
+  -- where it stopped the agent, or the pass has seen that one did, both listeners are told to stop then.
+  pub record ServesNext (pass : AtPass) (link : Li) (ear : E) (now : AtPass) (next : E) : Type 0 where
     pub came : host.gives post.listener link
     pub fresh : NothingFailed (host.input link) (host.output link)
     pub end : SessionEnd
     pub after : Li
     pub serves : ServesOne host.parts host.trust host.folder rules post.door (next_session pass) (sides link) pass end (sides after) now
-    pub killed : end ≡ Killed → ToldToStop host post
-    pub stopped : is_stopped now.seen ≡ true → ToldToStop host post
+    pub stops : StopsAfter host post end now ear next
 
   -- A worker asks its listener with its ear, again and again: each link that it is answered is served before it asks again, and found the pass as the session before had
   -- left it. Nothing else is done to the pass or the ear, so no link is passed over.
   pub data ServesLinks : AtPass → E → AtPass → E → Type 0 where
     none : {pass : AtPass} {ear : E} → ServesLinks pass ear pass ear
-    one_more : {first pass now : AtPass} {early ear later : E} {link : Li} → ServesLinks first early pass ear → host.answers post.listener ear (Link link) later
-        → ServesNext pass link now → ServesLinks first early now later
+    one_more : {first pass now : AtPass} {early ear later next : E} {link : Li} → ServesLinks first early pass ear → host.answers post.listener ear (Link link) later
+        → ServesNext pass link later now next → ServesLinks first early now next
 
   -- Why a worker asks no more: its listener failed, and its ear's count rose meanwhile; or answered that it is stopped, as it was told to be; or the pass has no number for a further session.
   pub data EndsWork (early last : E) (now : AtPass) : E → Type 0 where
@@ -97,6 +117,8 @@ module _ {Ls E Li La C R K T : Type 0} (host : HostViews Ls E Li La C R K T) (ru
     pub serves : ServesLinks pass ear now last
     pub ends : EndsWork ear last now back
     pub unfallen : host.faults ear ≤ host.faults back
+    -- an ear of the listener's comes back as one
+    pub own_ear : host.hears post.listener ear → host.hears post.listener back
 
 -- the workers of a daemon, each with its pass and its ear, at these listeners
 abbrev pub WorkEach : {Ls E Li La C R K T : Type 0} → HostViews Ls E Li La C R K T → Rules → Ls → Option Ls → List AtPass → List E → List AtPass → List E → Type 0

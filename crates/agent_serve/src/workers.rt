@@ -1,10 +1,8 @@
-ghost use Rattle.std.specs.Prelude.{◌≡◌, ◌<◌, ◌-◌, ◌^◌, true, vec_len};
+ghost use Rattle.std.specs.Prelude.{◌≡◌, ◌<◌, ◌-◌, ◌^◌, vec_len};
 ghost use Rattle.std.specs.Option.{option_copied};
-ghost use Rattle.agent_commands.specs.declared.went.SessionEnd.{SessionEnd};
 ghost use Rattle.agent_ports.specs.Listening.{NothingFailed};
-ghost use Rattle.counted_lock.specs.Logs.{is_stopped};
 ghost use Rattle.counted_lock.specs.Passes.{AreOf};
-ghost use Rattle.agent_serve.specs.Working.{ServesNext, ToldToStop, Works};
+ghost use Rattle.agent_serve.specs.Working.{ServesNext, StopsAfter, TellsToStop, Works};
 ghost use Rattle.agent_serve.specs.Working.{WorkEach, post_at};
 
 use crate::each::{Task, run_each};
@@ -58,7 +56,7 @@ where
                 return (pass, ear);
             }
             match H::next_link(self.listener, &mut ear) {
-                Next::Link(link) => pass = self.serve(pass, link),
+                Next::Link(link) => pass = self.serve(pass, link, &mut ear),
                 Next::Failed | Next::Stopped => return (pass, ear),
             }
         }
@@ -67,14 +65,16 @@ where
 
     /// Serves the session of one link. One that stopped the agent also stops the listeners, whether
     /// or not its client stayed for the answer.
-    fn serve(&self, pass: CountedPass, link: H::Link) -> CountedPass
+    fn serve(&self, pass: CountedPass, link: H::Link, ear: &mut H::Ear) -> CountedPass
         requires own { pass.table ≡ self.now.counted.now.table }
         requires numbered { pass.sessions < 2 ^ 64 - 1 }
         requires came { H.Listener.gives self.now.listener.now link }
         requires fresh { NothingFailed (H.Link.input link) (H.Link.output link) }
-        ensures { ServesNext (⟦<H as ViewedHost>⟧.views (H.homedir self.now.host.now))
+        ensures serves { ServesNext (⟦<H as ViewedHost>⟧.views (H.homedir self.now.host.now))
             self.now.rules.now (post_at self.now.door self.now.listener.now
-            (option_copied self.now.other)) pass link result }
+            (option_copied self.now.other)) pass link ear.old result ear.new }
+        ensures own { (whose : H.Listener) → H.hears whose ear.old → H.hears whose ear.new }
+        ensures faults { H.Ear.faults ear.new ≡ H.Ear.faults ear.old }
     {
         let mut link = link;
         let session = SessionId {
@@ -93,36 +93,35 @@ where
             self.door,
         );
         self.listener.done(link);
-        self.stop_after(end, &pass);
+        self.stop_after(end, &pass, ear);
         pass
     }
 
     /// Stops the listeners behind a session that ended so, where it stopped the agent, or its pass
     /// has seen that one did.
-    fn stop_after(&self, end: SessionEnd, pass: &CountedPass)
-        ensures killed { end ≡ SessionEnd.Killed → ToldToStop
-            (⟦<H as ViewedHost>⟧.views (H.homedir self.now.host.now))
+    fn stop_after(&self, end: SessionEnd, pass: &CountedPass, ear: &mut H::Ear)
+        ensures stops { StopsAfter (⟦<H as ViewedHost>⟧.views (H.homedir self.now.host.now))
             (post_at self.now.door self.now.listener.now
-            (option_copied self.now.other)) }
-        ensures stopped { is_stopped pass.now.seen ≡ true → ToldToStop
-            (⟦<H as ViewedHost>⟧.views (H.homedir self.now.host.now))
-            (post_at self.now.door self.now.listener.now
-            (option_copied self.now.other)) }
+            (option_copied self.now.other)) end pass.now ear.old ear.new }
+        ensures own { (whose : H.Listener) → H.hears whose ear.old → H.hears whose ear.new }
+        ensures faults { H.Ear.faults ear.new ≡ H.Ear.faults ear.old }
     {
         if end == SessionEnd::Killed || pass.stopped() {
-            self.stop();
+            self.stop(ear);
         }
     }
 
     /// From now on no link is taken at either listener.
-    fn stop(&self)
-        ensures { ToldToStop (⟦<H as ViewedHost>⟧.views (H.homedir self.now.host.now))
+    fn stop(&self, ear: &mut H::Ear)
+        ensures told { TellsToStop (⟦<H as ViewedHost>⟧.views (H.homedir self.now.host.now))
             (post_at self.now.door self.now.listener.now
-            (option_copied self.now.other)) }
+            (option_copied self.now.other)) ear.old ear.new }
+        ensures own { (whose : H.Listener) → H.hears whose ear.old → H.hears whose ear.new }
+        ensures faults { H.Ear.faults ear.new ≡ H.Ear.faults ear.old }
     {
-        H::stop_listener(self.listener);
+        H::stop_listener(self.listener, ear);
         if let Some(other) = self.other {
-            H::stop_listener(other);
+            H::stop_listener(other, ear);
         }
     }
 }

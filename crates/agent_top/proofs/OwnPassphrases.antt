@@ -35,8 +35,9 @@ use Rattle.key_commands.specs.Events.{Event}
 use Rattle.pinentry_client.specs.Dialogues.{PinentryDoes}
 use Rattle.session_options.specs.declared.rules.Rules.{Rules}
 use Rattle.std.proofs.lemmas.Bool.Decides.{nat_tests}
-use Rattle.agent_top.specs.Daemon.{PassRuns, EachRuns, SumsUp}
-use Rattle.agent_top.specs.Daemon as daemon
+use Rattle.agent_top.specs.Daemon.{SumsUp}
+use Rattle.agent_top.proofs.Rounds.{PassRuns, EachRuns, each_runs}
+use Rattle.agent_top.proofs.Rounds as rounds
 use Rattle.agent_top.specs.OwnPassphrases.{IsOwnTurn, IsOfSession}
 
 -- ---- elements of lists
@@ -162,16 +163,18 @@ module _ {Ls E Li La C R K T : Type 0} (host : HostViews Ls E Li La C R K T) (ru
 
   by_links : (post : Post Ls) {first now : AtPass} {early back : E} → ServesLinks host rules post first early now back → Has mark (mine now) → Has mark (mine first) ⊎ Here
   by_links post working.none has = inl has
-  by_links post (working.one_more {pass} {now} {link} earlier answered next) has =
-      let one = next.serves in
+  by_links post (working.one_more {pass} {now} {later = ear} {next} {link} earlier answered serves) has =
+      let one = serves.serves in
       elim (has_split (mine pass) one.own (subst (λ marks. Has mark marks) one.adds.mine_is has)) [
         | inl before ↦ by_links post earlier before
         | inr made ↦ inr (record {
           post = post;
           pass = pass;
           link = link;
+          ear = ear;
           now = now;
-          serves = next;
+          next = next;
+          serves = serves;
           made = made;
           names = each_has (λ m. m.session ≡ working.next_session pass) one.own one.adds.by made;
           turn = own_turn one mark made hands;
@@ -182,10 +185,10 @@ module _ {Ls E Li La C R K T : Type 0} (host : HostViews Ls E Li La C R K T) (ru
   by_works post first early now back works has = by_links post works.serves has
 
   by_runs : {Work : AtPass → E → AtPass → E → Type 0} → Made Work → Made (PassRuns Work)
-  by_runs work_so first early now back (daemon.worked does) has = work_so first early now back does has
-  by_runs work_so first early now back (daemon.worked_again {pass} {ear} earlier does) has =
+  by_runs work_so first early now back (rounds.worked does) has = work_so first early now back does has
+  by_runs work_so first early now back (rounds.worked_again {pass} {ear} earlier does) has =
       elim (work_so pass ear now back does has) [ inl before ↦ by_runs work_so first early pass ear earlier before | inr of_session ↦ inr of_session ]
-  by_runs work_so first early now back (daemon.looked {pass} earlier looks) has = by_runs work_so first early pass back earlier (subst (λ marks. Has mark marks) looks.mine_is has)
+  by_runs work_so first early now back (rounds.looked {pass} earlier looks) has = by_runs work_so first early pass back earlier (subst (λ marks. Has mark marks) looks.mine_is has)
 
   module _ (Other Last : AtPass → E → AtPass → E → Type 0) (other_so : Made Other) (last_so : Made Last) where
     by_place : (first : AtPass) (early : E) (now : AtPass) (back : E) (others : List AtPass) → ByPlace (PassRuns Other first early now back) (PassRuns Last first early now back) others → Has mark (mine now)
@@ -223,4 +226,5 @@ module _ {Ls E Li La C R K T : Type 0} (host : HostViews Ls E Li La C R K T) (ru
       let own : Has mark (mine found.one) =
       subst (λ marks. Has mark marks) stands.own (kept (λ m. nat_eq m.session.pass found.one.number) sums.closed.run has (same_number found.one.number mark.session.pass found.passes)) in
       all_run host rules mark hands (Works host rules (home_post sums.listener sums.extra)) (Works host rules (last_post sums.listener sums.extra)) (by_works host rules mark hands (home_post sums.listener sums.extra))
-      (by_works host rules mark hands (last_post sums.listener sums.extra)) sums.counted 0 sums.began sums.early sums.passes sums.ears sums.new sums.ran found.has own
+      (by_works host rules mark hands (last_post sums.listener sums.extra)) sums.counted 0 sums.began sums.early sums.passes sums.ears sums.new
+      (each_runs (Works host rules (home_post sums.listener sums.extra)) (Works host rules (last_post sums.listener sums.extra)) host.faults sums.rounds) found.has own

@@ -1,10 +1,20 @@
 -- What the daemon does with its passes and ears, round after round.
-use Rattle.std.proofs.Common.{◌≡◌, ◌⊎◌, inl, inr, List, [], ◌∷◌, Option, subst, sym}
+use Rattle.std.proofs.Common.{◌≡◌, ◌⊎◌, inl, inr, ℕ, List, [], ◌∷◌, Option, subst, sym}
 use Rattle.counted_lock.specs.Passes.{AtPass, HasLooked}
 use Rattle.agent_serve.specs.Pairs.{ByPlace, PairedTo}
-use Rattle.agent_serve.specs.Working.{HostViews}
+use Rattle.agent_serve.specs.Working.{HostViews, WorkEach}
 use Rattle.session_options.specs.declared.rules.Rules.{Rules}
-use Rattle.agent_top.specs.Daemon.{PassRuns, EachRuns, AllRun, FirstLooks, worked, worked_again, looked}
+use Rattle.agent_top.specs.Daemon.{FirstLooks, DaemonGoesOn, Rounds, AreEarsOf, one_round, one_more_round}
+
+-- what the daemon does with one pass and its ear: its worker works, once or again, and the daemon looks how far the run is
+pub data PassRuns {E : Type 0} (Work : AtPass → E → AtPass → E → Type 0) : AtPass → E → AtPass → E → Type 0 where
+  worked : {first now : AtPass} {early later : E} → Work first early now later → PassRuns Work first early now later
+  worked_again : {first pass now : AtPass} {early ear later : E} → PassRuns Work first early pass ear → Work pass ear now later → PassRuns Work first early now later
+  looked : {first pass now : AtPass} {early later : E} → PassRuns Work first early pass later → HasLooked pass now → PassRuns Work first early now later
+
+-- the same of each pass and its ear, where the last one's worker works in a way of its own
+abbrev pub EachRuns : {E : Type 0} → (Other Last : AtPass → E → AtPass → E → Type 0) → List AtPass → List E → List AtPass → List E → Type 0
+EachRuns Other Last = PairedTo (λ pass ear back. PassRuns Other pass ear back.0 back.1) (λ pass ear back. PassRuns Last pass ear back.0 back.1)
 
 module _ {E : Type 0} (Other Last : AtPass → E → AtPass → E → Type 0) where
   -- what the workers do in one round
@@ -75,18 +85,48 @@ module _ {E : Type 0} (Other Last : AtPass → E → AtPass → E → Type 0) wh
   first_looked (a ∷ began) (e ∷ es) (j ∷ js) [] fs ran looks = absurd ran
   first_looked (a ∷ began) (e ∷ es) (j ∷ js) (k ∷ ks) [] ran looks = absurd looks
 
-  -- these passes and ears are new to the workers, or they worked with them
-  abbrev pub NewOrRan : List AtPass → List E → List AtPass → List E → Type 0
-  NewOrRan began es js ks = ((js ≡ began) × (ks ≡ es)) ⊎ EachRuns Other Last began es js ks
+  -- so each pass ran
+  pub each_runs : (faults : E → ℕ) {began : List AtPass} {es : List E} {now : List AtPass} {bs : List E} → Rounds faults EachWorks began es now bs → EachRuns Other Last began es now bs
+  each_runs faults {began} {es} {now} {bs} (one_round {worked = fs} each looks) = first_looked began es fs bs now (all_worked began es fs bs each) looks
+  each_runs faults {began} {es} {now} {bs} (one_more_round {passes = js} {worked = fs} {ears = ks} before on each looks) =
+      first_looked began es fs bs now (all_worked_again began es js ks fs bs (each_runs faults before) each) looks
+
+module _ {E : Type 0} (faults : E → ℕ) (Work : List AtPass → List E → List AtPass → List E → Type 0) where
+  -- these passes and ears are new to the workers; or they worked with them, and the daemon goes on
+  abbrev pub NewOrGoOn : List AtPass → List E → List AtPass → List E → Type 0
+  NewOrGoOn began es js ks = ((js ≡ began) × (ks ≡ es)) ⊎ (Rounds faults Work began es js ks × DaemonGoesOn faults js ks)
 
   -- a round, which ends with a look
-  pub one_more_round : (began : List AtPass) (es : List E) (js : List AtPass) (ks : List E) (fs : List AtPass) (bs : List E) (now : List AtPass) → NewOrRan began es js ks → EachWorks js ks fs bs → FirstLooks fs now
-      → EachRuns Other Last began es now bs
-  one_more_round began es js ks fs bs now (inl new) each looks =
-      first_looked began es fs bs now (all_worked began es fs bs (subst (λ j. EachWorks j es fs bs) new.0 (subst (λ k. EachWorks js k fs bs) new.1 each))) looks
-  one_more_round began es js ks fs bs now (inr ran) each looks = first_looked began es fs bs now (all_worked_again began es js ks fs bs ran each) looks
+  pub further_round : (began : List AtPass) (es : List E) (js : List AtPass) (ks : List E) (fs : List AtPass) (bs : List E) (now : List AtPass) → NewOrGoOn began es js ks → Work js ks fs bs → FirstLooks fs now
+      → Rounds faults Work began es now bs
+  further_round began es js ks fs bs now (inl new) each looks = one_round (subst (λ j. Work j es fs bs) new.0 (subst (λ k. Work js k fs bs) new.1 each)) looks
+  further_round began es js ks fs bs now (inr before) each looks = one_more_round before.0 before.1 each looks
 
--- the workers stood at the same listeners
-pub by_extra : {Ls E Li La C R K T : Type 0} (host : HostViews Ls E Li La C R K T) (rules : Rules) (listener : Ls) (extra given : Option Ls) (began : List AtPass) (es : List E) (passes : List AtPass) (ears : List E) → extra ≡ given
-    → AllRun host rules listener extra began es passes ears → AllRun host rules listener given began es passes ears
-by_extra host rules listener extra given began es passes ears alike ran = subst (λ e. AllRun host rules listener e began es passes ears) alike ran
+module _ {Ls E Li La C R K T : Type 0} (host : HostViews Ls E Li La C R K T) (rules : Rules) (listener : Ls) (extra : Option Ls) where
+  -- the ears of the workers stay their listeners'
+  ears_stay : (js : List AtPass) (ks : List E) (fs : List AtPass) (bs : List E) → WorkEach host rules listener extra js ks fs bs → AreEarsOf host.hears listener extra ks → AreEarsOf host.hears listener extra bs
+  ears_stay [] [] [] [] each own = tt
+  ears_stay (j ∷ []) (k ∷ []) (f ∷ []) (b ∷ []) each own = (each.0.own_ear own.0, tt)
+  ears_stay (j ∷ i ∷ js) (k ∷ h ∷ ks) (f ∷ e ∷ fs) (b ∷ a ∷ bs) each own = (each.0.own_ear own.0, ears_stay (i ∷ js) (h ∷ ks) (e ∷ fs) (a ∷ bs) each.1 own.1)
+  ears_stay [] [] [] (b ∷ bs) each own = absurd each
+  ears_stay [] [] (f ∷ fs) bs each own = absurd each
+  ears_stay [] (k ∷ ks) fs bs each own = absurd each
+  ears_stay (j ∷ js) [] fs bs each own = absurd each
+  ears_stay (j ∷ js) (k ∷ ks) [] bs each own = absurd each
+  ears_stay (j ∷ js) (k ∷ ks) (f ∷ fs) [] each own = absurd each
+  ears_stay (j ∷ []) (k ∷ []) (f ∷ []) (b ∷ a ∷ bs) each own = absurd each.1
+  ears_stay (j ∷ []) (k ∷ []) (f ∷ e ∷ fs) (b ∷ bs) each own = absurd each.1
+  ears_stay (j ∷ []) (k ∷ h ∷ ks) (f ∷ fs) (b ∷ bs) each own = absurd each.1
+  ears_stay (j ∷ i ∷ js) (k ∷ []) (f ∷ fs) (b ∷ bs) each own = absurd each.1
+  ears_stay (j ∷ i ∷ js) (k ∷ h ∷ ks) (f ∷ []) (b ∷ bs) each own = absurd each.1
+  ears_stay (j ∷ i ∷ js) (k ∷ h ∷ ks) (f ∷ e ∷ fs) (b ∷ []) each own = absurd each.1
+
+  pub ears_stay_own : (began : List AtPass) (es : List E) (now : List AtPass) (bs : List E) → Rounds host.faults (WorkEach host rules listener extra) began es now bs → AreEarsOf host.hears listener extra es
+      → AreEarsOf host.hears listener extra bs
+  ears_stay_own began es now bs (one_round {worked = fs} each looks) own = ears_stay began es fs bs each own
+  ears_stay_own began es now bs (one_more_round {passes = js} {worked = fs} {ears = ks} before on each looks) own = ears_stay js ks fs bs each (ears_stay_own began es js ks before own)
+
+  -- the workers stood at the same listeners
+  pub by_extra : (given : Option Ls) (began : List AtPass) (es : List E) (passes : List AtPass) (ears : List E) → extra ≡ given
+      → Rounds host.faults (WorkEach host rules listener extra) began es passes ears → Rounds host.faults (WorkEach host rules listener given) began es passes ears
+  by_extra given began es passes ears alike rounds = subst (λ e. Rounds host.faults (WorkEach host rules listener e) began es passes ears) alike rounds

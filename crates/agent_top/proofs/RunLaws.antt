@@ -45,7 +45,7 @@ use Rattle.cache_policy.specs.declared.entry.Entry.{Entry}
 use Rattle.cache_policy.specs.Histories.{History}
 use Rattle.cache_policy.specs.Policy.{Reply, ask_ruling}
 use Rattle.cache_policy.specs.Runs.{last_history, next_history}
-use Rattle.cache_policy.specs.Turns.{Turn, Refused, MayWantMemory}
+use Rattle.cache_policy.specs.Turns.{Turn, Refused, MayWantMemory, with_since}
 use Rattle.cache_policy.specs.declared.bounds.TheConstants.{MAX_MARKS}
 use Rattle.cache_policy.specs.declared.history.Held.{Held}
 use Rattle.cache_policy.specs.declared.life.Limits.{Limits}
@@ -97,6 +97,23 @@ refused_step_may_want_some {limits} {session} {moment} {asked} within (known.ref
 refused_turn_may_want_some : (before : AtSolo) (asked : MarkStep) (after : AtSolo) → IsAlone before → IsWithinHistory before → TurnsSolo before asked Refused after → MayWantMemory asked
 refused_turn_may_want_some before asked after alone within turns = refused_step_may_want_some within (alone_turn asked before Refused after alone turns).takes.takes
 
+-- nor does one at the counted lock
+wants_as_asked : (since : Option ℕ) (asked : MarkStep) → MayWantMemory (with_since since asked) → MayWantMemory asked
+wants_as_asked since (Put id mode life secret) wanted = tt
+wants_as_asked since (Ask id mode Prompt first) wanted = tt
+wants_as_asked since (Ask id mode Quiet first) wanted = wanted
+wants_as_asked since (Seat under first) wanted = wanted
+wants_as_asked since (Peek id mode) wanted = wanted
+wants_as_asked since (Close ticket keep) wanted = wanted
+wants_as_asked since (Clear id mode) wanted = wanted
+wants_as_asked since Flush wanted = wanted
+wants_as_asked since Stop wanted = wanted
+
+refused_at_the_lock_may_want_some : {before after : AtCountedDesk Readings} {asked : MarkStep} → CountedTurn (λ (readings : Readings). readings) before asked Refused after → MayWantMemory asked
+refused_at_the_lock_may_want_some {before} {asked = asked} does =
+    let wanted = does.turns.refused refl in
+    wants_as_asked does.turns.handed asked (what_wants_memory_may_want_some before.pass.limits (next_history wanted.last) (with_since does.turns.handed asked) _ wanted.wants)
+
 turn_leaves_alone : (before : AtSolo) (asked : MarkStep) (turn : Turn) (after : AtSolo) → TurnsSolo before asked turn after → IsAlone before → IsAlone after
 turn_leaves_alone before asked turn after turns alone =
     let step = alone_turn asked before turn after alone turns in
@@ -140,7 +157,7 @@ module _ (promise : (before : AtPinentry) (call : Call) (after : AtPinentry) →
         (LawfulExchange (CountedTurn (λ (readings : Readings). readings)) PinentryDoes at_prompter rules (IsCausedAtDoor door rules) (IsOfEverySession door) (λ (desk : AtCountedDesk Readings). ⊤))
         (λ (desk : AtCountedDesk Readings). ⊤) (λ b event a does so. tt)
         (lawful (CountedTurn (λ (readings : Readings). readings)) PinentryDoes (λ (desk : AtCountedDesk Readings). at_counted desk.pass desk.session desk.out) at_prompter
-        (λ b asked turn a does. does.is) promise rules (λ (desk : AtCountedDesk Readings). ⊤) (λ (desk : AtCountedDesk Readings). ⊤) (λ b asked a so spares does. does.turns.memory refl)
+        (λ b asked turn a does. does.is) promise rules (λ (desk : AtCountedDesk Readings). ⊤) (λ (desk : AtCountedDesk Readings). ⊤) (λ b asked a so spares does. refused_at_the_lock_may_want_some does)
         (at_door door rules) (λ b line events a went caused. caused.by_cause.answered) (IsOfEverySession door) (λ b line events a went exchange is. door_is_session exchange is.0 is.1))
         _ _ tt one.served.session one.served.leads)
         (long_session (door_long door rules) (daemon_caused promise one)) one.served.leads
@@ -152,4 +169,4 @@ pub daemon_alone : {door : Door} {rules : Rules} {kept now : Kept} {line : List 
 daemon_alone {rules = rules} {line = line} exchange allows is leads still =
     alone rules (request_of line) (door_is_session exchange allows is)
     (all_fit (CountedTurn (λ (readings : Readings). readings)) PinentryDoes (λ (desk : AtCountedDesk Readings). at_counted desk.pass desk.session desk.out) (λ before asked turn after does. does.is) leads)
-    (all_fair (CountedTurn (λ (readings : Readings). readings)) PinentryDoes (λ before after asked does. does.turns.memory refl) leads) still
+    (all_fair (CountedTurn (λ (readings : Readings). readings)) PinentryDoes (λ before after asked does. refused_at_the_lock_may_want_some does) leads) still

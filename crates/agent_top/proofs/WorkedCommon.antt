@@ -44,7 +44,7 @@ use Rattle.assuan_server.specs.Written.{failed, greeting, ok_text}
 use Rattle.assuan_text.specs.Forms.{is_ignored}
 use Rattle.assuan_text.specs.LineEnds.{line_of}
 use Rattle.cache_policy.specs.Histories.{History}
-use Rattle.cache_policy.specs.Turns.{Turn, Given, Empty, Done, Refused, FitsStep, out_after, since_of}
+use Rattle.cache_policy.specs.Turns.{Turn, Given, Empty, Done, Refused, FitsStep, out_after, since_of, with_since}
 use Rattle.cache_policy.specs.declared.grant.Grant.{Grant}
 use Rattle.cache_policy.specs.declared.life.Life.TheVariants.{Endless}
 use Rattle.cache_policy.specs.declared.life.Limits.{Limits}
@@ -55,6 +55,7 @@ use Rattle.cache_policy.specs.declared.mode.Mode.TheVariants.{User}
 use Rattle.agent_ports.specs.Readings as readings
 use Rattle.agent_ports.specs.declared.session.SessionId.{SessionId}
 use Rattle.cache_policy.specs.Desks.{MakesMarks, is_of}
+use Rattle.cache_policy.specs.Desks as desks
 use Rattle.cache_policy.specs.Legal.{IsLegalRun}
 use Rattle.cache_policy.specs.Runs.{joined, moment_before, moment_of}
 use Rattle.cache_policy.specs.declared.bounds.TheConstants.{MAX_MOMENT}
@@ -126,6 +127,13 @@ turns_alone {asked} {turn} before after no_script untried settled step = turns_b
 
 -- ---- a turn at the lock
 
+-- a turn that is tried once makes its mark as it was asked
+pub as_asked : {limits : Limits} {session : SessionId} {called : ℕ} {asked : MarkStep} {run : List History} {turn : Turn} {own : List Mark} → MakesMarks limits session called asked run turn own
+    → AllByRecursion (λ mark. since_of mark.step ≡ None) own → AllByRecursion (λ mark. mark.step ≡ with_since None asked) own
+as_asked {asked} (desks.marked mark is) untried = (is.asked_is ∙ ap (λ (since : Option ℕ). with_since since asked) untried.0, tt)
+as_asked desks.refused untried = tt
+as_asked (desks.spent all) untried = tt
+
 -- the desk of a session with this ticket
 abbrev pub desk_with : Option ℕ → AtPass → SessionId → Readings → AtCountedDesk Readings
 desk_with out pass session clock = record { pass = pass; session = session; out = out; clock = clock }
@@ -164,7 +172,6 @@ module _ (session : SessionId) (count : ℕ) (out out_now : Option ℕ) (before 
       mine_is = is.mine_is;
       makes = is.makes (moment_before before.seen);
       spent = λ is_empty. absurd (none_less is_empty);
-      memory = λ refused. absurd (is.unrefused refused);
       first_reading = 60 * count;
       later_readings = [];
       given = readings.one (is_read count) readings.none;
@@ -172,6 +179,10 @@ module _ (session : SessionId) (count : ℕ) (out out_now : Option ℕ) (before 
       never_falls = omega arith;
       moment = (is.moment ∙ ap (λ (n : ℕ). moment_of (moment_before (before.seen ++ others)) n) (omega arith), tt);
       since = (subst (λ (since : Option ℕ). IfSome since (λ first. min (60 * count) MAX_MOMENT ≤ first)) (sym is.untried) tt, tt);
+      handed = None;
+      hands_in = refl;
+      steps = as_asked (is.makes 0) (is.untried, tt);
+      refused = λ refused. absurd (is.unrefused refused);
     };
     is = record {
       fits = is.fits;

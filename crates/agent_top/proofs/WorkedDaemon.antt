@@ -3,7 +3,7 @@
 use Rattle.std.specs.Fmt.{digits}
 use Rattle.std.specs.List.{AllByRecursion}
 use Rattle.std.specs.Prelude.{◌≡◌, ◌≤◌, ◌<◌, ℕ, zero, suc, nat_eq, List, [], ◌∷◌, ◌++◌, length, codes, true, false, Some, None, refl, ⊤}
-use Rattle.std.proofs.Common.{inl, lit<, lit≤, sym, subst, arith}
+use Rattle.std.proofs.Common.{inl, inr, lit<, lit≤, sym, subst, arith}
 use Rattle.std.proofs.lemmas.Bool.Decides.{nat_tests}
 use Rattle.agent_ask.specs.Answering.{whole}
 use Rattle.agent_ask.specs.SessionEvents.{Received, Sent, cache_turn}
@@ -41,7 +41,7 @@ use Rattle.agent_serve.proofs.Works.{told_where_nothing_failed}
 use Rattle.agent_serve.specs.Prompts.{HavePrompts}
 use Rattle.agent_serve.specs.Serves.{LinkSides, ServesOne, link_of, at_pass, desk_at}
 use Rattle.agent_serve.specs.Serves as serves
-use Rattle.agent_serve.specs.Working.{HostViews, Works, ServesNext, home_post, last_post}
+use Rattle.agent_serve.specs.Working.{HostViews, Works, IsToStop, home_post, last_post}
 use Rattle.agent_serve.specs.Working as working
 use Rattle.agent_session.specs.Causes.{here}
 use Rattle.agent_session.specs.Completeness.{AnswersAll, AnswersFromCache, Remembers, CausedAtDoor, FaultlessAtDoor}
@@ -84,7 +84,7 @@ use Rattle.agent_top.proofs.WorkedCommon.{is_prompter, unread, unwritten, uncut,
 use Rattle.agent_top.proofs.WorkedCommon.{clear, bye, kill, reads, takes_all, id, pass, told, kept, is_empty, is_given, is_cleared, is_left, is_stopped, allowing, is_stored}
 use Rattle.agent_top.specs.Cache.{limits_of}
 use Rattle.agent_top.specs.Completeness.{NoFaultOfOne, DaemonEndsWell}
-use Rattle.agent_top.specs.Daemon.{SumsUp, summed, summary_line, worked, looked}
+use Rattle.agent_top.specs.Daemon.{SumsUp, summed, summary_line, one_round}
 use Rattle.agent_top.specs.OwnPassphrases.{IsOwnTurn, IsOfSession}
 use Rattle.agent_top.specs.Runs.{IsLawfulSession}
 
@@ -174,6 +174,8 @@ host = record {
   gives = λ listener link. listener ≡ 0;
   answers = λ listener ear answer back. (listener ≡ 0) × (back ≡ ear);
   is_told = λ listener. listener ≡ 0;
+  tells = λ listener ear back. (listener ≡ 0) × (back ≡ ear);
+  hears = λ listener ear. listener ≡ 0;
   faults = λ ear. ear;
   is_home = λ listener. listener ≡ 0;
   is_extra = λ listener. listener ≡ 1;
@@ -418,6 +420,11 @@ module _ (some : AtCounted) where
 
   -- ---- the daemon
 
+  -- the first session ended by BYE, and its pass has seen no stop
+  goes_on : ¬ IsToStop Bye (pass_at 0 1 (stored ∷ got ∷ cleared ∷ []))
+  goes_on (inl is) = bye_kills_nothing is
+  goes_on (inr is) = true_is_not_false (sym is)
+
   -- each worker serves one link, and is told then that the listener was stopped
   abbrev first_works : Works host rules (home_post 0 None) (pass_at 0 0 []) 0 (pass_at 0 1 (stored ∷ got ∷ cleared ∷ [])) 0
   first_works = record {
@@ -428,11 +435,11 @@ module _ (some : AtCounted) where
       end = Bye;
       after = first_link_now;
       serves = first_served;
-      killed = λ is. absurd (bye_kills_nothing is);
-      stopped = λ is. absurd (true_is_not_false (sym is));
+      stops = record { stops = λ is. absurd (goes_on is); goes_on = λ never. refl };
     });
     ends = working.stopped (refl, refl) refl;
     unfallen = lit≤ tt;
+    own_ear = λ own. own;
   }
 
   abbrev second_works : Works host rules (last_post 0 None) (pass_at 1 0 []) 0 (pass_at 1 1 log) 0
@@ -444,11 +451,14 @@ module _ (some : AtCounted) where
       end = Killed;
       after = second_link_now;
       serves = second_served;
-      killed = λ is. record { own = refl; further = tt };
-      stopped = λ is. record { own = refl; further = tt };
+      stops = record {
+        stops = λ is. record { own = refl; further = tt; between = 0; tells = (refl, refl); tells_further = refl };
+        goes_on = λ never. absurd (never (inl refl));
+      };
     });
     ends = working.stopped (refl, refl) refl;
     unfallen = lit≤ tt;
+    own_ear = λ own. own;
   }
 
   abbrev counted : AtCounted
@@ -501,7 +511,12 @@ module _ (some : AtCounted) where
     extra_as = refl;
     early = 0 ∷ 0 ∷ [];
     ears = 0 ∷ 0 ∷ [];
-    ran = (looked (worked first_works) (record { others = missed ∷ ended ∷ []; foreign = refl; now = refl; mine_is = refl; legal = legal_5 }), (worked second_works, tt));
+    new_ears = (refl, (refl, tt));
+    rounds = one_round {worked = pass_at 0 1 (stored ∷ got ∷ cleared ∷ []) ∷ pass_at 1 1 log ∷ []} (first_works, (second_works, tt))
+        (record { others = missed ∷ ended ∷ []; foreign = refl; now = refl; mine_is = refl; legal = legal_5 }, refl);
+    over = inl refl;
+    own_ears = (refl, (refl, tt));
+    heard = lit≤ tt;
     tally = tally;
     closed = closed;
     sent = sent.All;

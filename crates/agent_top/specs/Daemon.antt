@@ -1,6 +1,7 @@
 -- What a run of the daemon leaves, and its status. This is the project's own.
-use Rattle.std.specs.Prelude.{◌≡◌, ◌≤◌, ◌+◌, ℕ, Bool, true, false, List, [], ◌∷◌, ◌++◌, length, codes, decimal, is_some, IfSome, Option}
-use Rattle.agent_ports.specs.Counts.{Rose}
+use Rattle.std.specs.Prelude.{◌≡◌, ◌≤◌, ◌<◌, ◌⊎◌, ◌+◌, ℕ, Bool, true, false, List, [], ◌∷◌, ◌++◌, length, sum_by, Any, codes, decimal, is_some, IfSome, Option, ⊤}
+use Rattle.std.specs.List.{AllByRecursion}
+use Rattle.agent_ports.specs.Counts.{Rose, RoseBy}
 use Rattle.agent_ports.specs.Sides.{Side, with_bytes, sent_part, IsCut}
 use Rattle.agent_ports.specs.declared.link.Sent.{Sent}
 use Rattle.agent_ports.specs.declared.link.Sent.TheVariants.{All, Failed}
@@ -9,8 +10,8 @@ use Rattle.cache_policy.specs.declared.tally.Tally.{Tally}
 use Rattle.counted_lock.specs.Logs.{is_stopped}
 use Rattle.counted_lock.specs.Passes.{AtCounted, AtPass, AreNewPasses, IsClosed, HasLooked}
 use Rattle.session_options.specs.declared.rules.Rules.{Rules}
-use Rattle.agent_serve.specs.Pairs.{PairedTo}
-use Rattle.agent_serve.specs.Working.{HostViews, Works, home_post, last_post}
+use Rattle.agent_serve.specs.Pairs.{ByPlace}
+use Rattle.agent_serve.specs.Working.{HostViews, WorkEach, last_post}
 use Rattle.agent_top.specs.Cache.{limits_of}
 use Rattle.agent_top.specs.Top.{exit_number}
 use Rattle.agent_top.specs.declared.status.Status.{Status}
@@ -37,24 +38,35 @@ abbrev pub IsFirstStopped : List AtPass → Type 0
 IsFirstStopped [] = ⊥
 IsFirstStopped (pass ∷ later) = is_stopped pass.seen ≡ true
 
--- What the daemon does with a pass and its ear: its worker works, once or again, and the daemon looks how far the run is.
-pub data PassRuns {E : Type 0} (Work : AtPass → E → AtPass → E → Type 0) : AtPass → E → AtPass → E → Type 0 where
-  worked : {first now : AtPass} {early later : E} → Work first early now later → PassRuns Work first early now later
-  worked_again : {first pass now : AtPass} {early ear later : E} → PassRuns Work first early pass ear → Work pass ear now later → PassRuns Work first early now later
-  looked : {first pass now : AtPass} {early later : E} → PassRuns Work first early pass later → HasLooked pass now → PassRuns Work first early now later
+-- a call with one of these ears failed
+abbrev pub AnyFailed : {E : Type 0} → (E → ℕ) → List E → Type 0
+AnyFailed faults ears = Any (λ ear. 0 < faults ear) ears
 
--- the same of each pass and its ear, where the last one's worker works in a way of its own
-abbrev pub EachRuns : {E : Type 0} → (Other Last : AtPass → E → AtPass → E → Type 0) → List AtPass → List E → List AtPass → List E → Type 0
-EachRuns Other Last = PairedTo (λ pass ear back. PassRuns Other pass ear back.0 back.1) (λ pass ear back. PassRuns Last pass ear back.0 back.1)
+-- no call with any of them failed so far
+abbrev pub NoneFailed : {E : Type 0} → (E → ℕ) → List E → Type 0
+NoneFailed faults ears = AllByRecursion (λ ear. faults ear ≡ 0) ears
 
--- the same of the workers at these listeners
-abbrev pub AllRun : {Ls E Li La C R K T : Type 0} → HostViews Ls E Li La C R K T → Rules → Ls → Option Ls → List AtPass → List E → List AtPass → List E → Type 0
-AllRun host rules listener extra = EachRuns (Works host rules (home_post listener extra)) (Works host rules (last_post listener extra))
+-- each of these ears is one of its worker's listener
+abbrev pub AreEarsOf : {Ls E : Type 0} → (Ls → E → Type 0) → Ls → Option Ls → List E → Type 0
+AreEarsOf hears listener extra [] = ⊤
+AreEarsOf hears listener extra (ear ∷ later) = ByPlace (hears listener ear) (hears (last_post listener extra).listener ear) later × AreEarsOf hears listener extra later
 
 -- the first pass looked, and the others are as they were
 abbrev pub FirstLooks : List AtPass → List AtPass → Type 0
 FirstLooks (first ∷ others) (now ∷ later) = HasLooked first now × (later ≡ others)
 FirstLooks _ _ = ⊥
+
+-- the daemon goes on: its first pass has seen no stop, and no ear has failed
+pub record DaemonGoesOn {E : Type 0} (faults : E → ℕ) (passes : List AtPass) (ears : List E) : Type 0 where
+  pub unstopped : ¬ IsFirstStopped passes
+  pub unfailed : ¬ AnyFailed faults ears
+
+-- What the daemon does with its passes and their ears, round after round: each worker works with its own, until all have ended, and then the first pass looks. There is
+-- a further round only where the daemon goes on.
+pub data Rounds {E : Type 0} (faults : E → ℕ) (Work : List AtPass → List E → List AtPass → List E → Type 0) : List AtPass → List E → List AtPass → List E → Type 0 where
+  one_round : {began worked now : List AtPass} {early ears : List E} → Work began early worked ears → FirstLooks worked now → Rounds faults Work began early now ears
+  one_more_round : {began passes worked now : List AtPass} {early ears later : List E} → Rounds faults Work began early passes ears → DaemonGoesOn faults passes ears → Work passes ears worked later
+      → FirstLooks worked now → Rounds faults Work began early now later
 
 -- how many workers there are, each with a pass: one more where there is an extra listener
 abbrev pub workers_with : Bool → ℕ → ℕ
@@ -64,7 +76,8 @@ workers_with false workers = workers
 -- The daemon came to its end: all its passes were given back to the lock, whose run has their marks and no others, and the summary of that run
 -- was sent, whole or in part. Each pass was new, and then its worker served links with it, all that it was given, with no turn between them, until it ended for one of its causes: at home, on
 -- links that came in at the daemon's own listener. Where the rules ask for an extra listener, those of the last pass were served by the outer door, on links
--- that came in at that one. Where the agent isn't stopped a call for a link has failed. No count fell.
+-- that came in at that one. Each ear that was new heard of no failure, and all were given back: the host counts each call with one that failed. That was the end because the first pass had seen a stop or an ear
+-- had failed; so where the agent isn't stopped a call for a link has failed. No count fell.
 pub record SumsUp {Ls E Li La C R K T : Type 0} (host : HostViews Ls E Li La C R K T) (rules : Rules) (listens : ℕ) (before : Side) (number listens_now : ℕ) (after : Side) : Type 0 where
   pub counted : AtCounted
   pub limits : counted.limits ≡ limits_of rules
@@ -80,7 +93,11 @@ pub record SumsUp {Ls E Li La C R K T : Type 0} (host : HostViews Ls E Li La C R
   pub extra_as : is_some extra ≡ rules.extra
   pub early : List E
   pub ears : List E
-  pub ran : AllRun host rules listener extra began early passes ears
+  pub new_ears : NoneFailed host.faults early
+  pub rounds : Rounds host.faults (WorkEach host rules listener extra) began early passes ears
+  pub over : IsFirstStopped passes ⊎ AnyFailed host.faults ears
+  pub own_ears : AreEarsOf host.hears listener extra ears
+  pub heard : RoseBy (sum_by host.faults ears) listens listens_now
   pub tally : Tally
   pub closed : IsClosed counted passes tally
   pub sent : Sent

@@ -24,8 +24,10 @@ pub record IsOfSession {Ls E Li La C R K T : Type 0} (host : HostViews Ls E Li L
   pub post : Post Ls
   pub pass : AtPass
   pub link : Li
+  pub ear : E
   pub now : AtPass
-  pub serves : ServesNext host rules post pass link now
+  pub next : E
+  pub serves : ServesNext host rules post pass link ear now next
   pub made : Has mark serves.serves.own
   pub names : mark.session ≡ next_session pass
   pub turn : IsOwnTurn serves.serves.served.events mark

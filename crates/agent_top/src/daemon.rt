@@ -1,16 +1,18 @@
-ghost use Rattle.std.specs.Prelude.{◌≡◌, ◌≤◌, ◌<◌, ◌+◌, ◌⊎◌, ◌++◌, Any, IfSome, IsNone, decimal};
-ghost use Rattle.std.specs.Prelude.{is_some, length, vec_len, vec_capacity, true};
+ghost use Rattle.std.specs.Prelude.{◌≡◌, ◌≤◌, ◌<◌, ◌+◌, ◌⊎◌, ◌++◌, IfSome, IsNone, decimal};
+ghost use Rattle.std.specs.Prelude.{is_some, length, sum_by, vec_len, vec_capacity, true, false};
 ghost use Rattle.std.specs.Option.{option_copied};
-ghost use Rattle.agent_ports.specs.Counts.{Rose};
+ghost use Rattle.agent_ports.specs.Counts.{Rose, RoseBy};
 ghost use Rattle.agent_ports.specs.Sides.{with_bytes, sent_part, IsCut};
 ghost use Rattle.arrayvec.specs.ArrayVec.{array_vec_len};
 ghost use Rattle.counted_lock.specs.Passes.{AreOf};
-ghost use Rattle.agent_top.specs.Daemon.{RunsDaemon, AllRun, FirstLooks, summary_line};
+ghost use Rattle.agent_serve.specs.Working.{WorkEach};
+ghost use Rattle.agent_top.specs.Daemon.{AnyFailed, NoneFailed, AreEarsOf, FirstLooks, Rounds};
+ghost use Rattle.agent_top.specs.Daemon.{RunsDaemon, summary_line};
 ghost use Rattle.agent_top.specs.Daemon.{status_after, IsFirstStopped, workers_with};
 
 use crate::Status;
 use crate::top::limits_of;
-use agent_ports::{Ear, Host, Launcher, Link, Listener, Sent, Sink};
+use agent_ports::{Ear, Host, Launcher, Link, Sent, Sink};
 use agent_serve::{ListeningHost, ViewedHost, run_workers};
 use arrayvec::ArrayVec;
 use cache_policy::Tally;
@@ -70,7 +72,7 @@ where
         return Status::ListenFault.number();
     };
     let further = extra.as_ref();
-    let ears = with_ears(&listener, further, room, rules.workers as usize);
+    let ears = with_ears::<H>(&listener, further, room, rules.workers as usize);
     let (passes, ears) = serve_rounds(
         rt, alloc, rules, host, &listener, further, &counted, passes, ears,
     );
@@ -116,21 +118,23 @@ where
 }
 
 /// An ear for each of so many workers, and then one of the extra listener for its worker.
-fn with_ears<L: Listener>(
-    listener: &L,
-    extra: Option<&L>,
-    mut room: Vec<L::Ear>,
+fn with_ears<H: ListeningHost>(
+    listener: &H::Listener,
+    extra: Option<&H::Listener>,
+    mut room: Vec<H::Ear>,
     workers: usize,
-) -> Vec<L::Ear>
+) -> Vec<H::Ear>
     requires empty { vec_len room ≡ 0 }
     requires fits { workers_with (is_some extra) workers ≤ vec_capacity room }
-    ensures { vec_len result ≡ workers_with (is_some extra.entry) workers }
+    ensures all { vec_len result ≡ workers_with (is_some extra.entry) workers }
+    ensures own { AreEarsOf H.hears listener.now (option_copied extra.entry) result.items }
+    ensures new { NoneFailed H.Ear.faults result.items }
 {
     for _ in 0..workers {
-        room.push_reserved(listener.ear());
+        room.push_reserved(H::new_ear(listener));
     }
     if let Some(extra) = extra {
-        room.push_reserved(extra.ear());
+        room.push_reserved(H::new_ear(extra));
     }
     room
 }
@@ -164,9 +168,10 @@ where
     requires some { 0 < vec_len passes }
     ensures own { AreOf counted.now.table result.0.items }
     ensures all { (vec_len result.0 ≡ vec_len passes) × (vec_len result.1 ≡ vec_len ears) }
-    ensures ran { AllRun (⟦<H as ViewedHost>⟧.views (H.homedir host.now)) rules.now listener.now
-        (option_copied extra.entry) passes.items ears.items result.0.items result.1.items }
-    ensures end { IsFirstStopped result.0.items ⊎ Any (λ ear. 0 < H.Ear.faults ear) result.1.items }
+    ensures rounds { Rounds H.Ear.faults (WorkEach (⟦<H as ViewedHost>⟧.views (H.homedir host.now))
+        rules.now listener.now (option_copied extra.entry)) passes.items ears.items result.0.items
+        result.1.items }
+    ensures end { IsFirstStopped result.0.items ⊎ AnyFailed H.Ear.faults result.1.items }
 {
     for _ in rt.forever() {
         (passes, ears) = run_workers(
@@ -194,6 +199,7 @@ fn sees_a_stop<W: Wait + rt::Clock>(
     ensures all { vec_len passes.new ≡ vec_len passes.old }
     ensures looks { FirstLooks passes.old.items passes.new.items }
     ensures stopped { result ≡ true → IsFirstStopped passes.new.items }
+    ensures unstopped { result ≡ false → ¬ IsFirstStopped passes.new.items }
 {
     let first = &mut passes[0];
     counted.look(rt, first);
@@ -201,7 +207,8 @@ fn sees_a_stop<W: Wait + rt::Clock>(
 }
 
 fn any_failed<E: Ear>(ears: &[E]) -> bool
-    ensures { result ≡ true → Any (λ ear. 0 < E.faults ear) ears.now }
+    ensures failed { result ≡ true → AnyFailed E.faults ears.now }
+    ensures unfailed { result ≡ false → ¬ AnyFailed E.faults ears.now }
 {
     ears.iter().any(|ear| ear.failed())
 }
@@ -210,7 +217,9 @@ fn any_failed<E: Ear>(ears: &[E]) -> bool
 fn give_ears_back<H: Host>(host: &mut H, mut ears: Vec<H::Ear>)
 where
     H::Ear: Drop,
-    ensures rose { Any (λ ear. 0 < H.Ear.faults ear) ears.items
+    ensures heard { RoseBy (sum_by H.Ear.faults ears.items) (H.listens host.old)
+        (H.listens host.new) }
+    ensures rose { AnyFailed H.Ear.faults ears.items
         → Rose (H.listens host.old) (H.listens host.new) }
     ensures listens { H.listens host.old ≤ H.listens host.new }
     ensures server { H.server host.new ≡ H.server host.old }

@@ -1,7 +1,8 @@
 -- A turn at the counted lock is one at a desk.
-use Rattle.std.proofs.Common.{◌≡◌, ◌≤◌, ℕ, min, List, [], ◌∷◌, ◌++◌, nat_eq, Bool, true, false, Option, Some, None, IfSome, Result, Ok, Err, OnErr, IsErr, fold, sym, refl, ap, ◌∙◌, subst, arith}
+use Rattle.std.proofs.Common.{◌≡◌, ◌≤◌, ℕ, min, List, [], ◌∷◌, ◌++◌, nat_eq, Bool, true, false, Option, Some, None, IfSome, Result, Ok, Err, IsErr, fold, sym, refl, ap, ◌∙◌, subst, arith}
 use Rattle.std.proofs.lemmas.List.{append-nil, append_assoc}
 use Rattle.std.specs.List.{AllByRecursion}
+use mathlib.Core.List.{IsPrefix}
 use Rattle.agent_ports.specs.Readings.{Readings, HasGiven, none as none_given}
 use Rattle.agent_ports.specs.declared.session.SessionId.{SessionId}
 use Rattle.agent_ports.proofs.Given.{given_one, given_then}
@@ -18,7 +19,7 @@ use Rattle.cache_policy.specs.Desks as desk
 use Rattle.cache_policy.specs.Histories.{History}
 use Rattle.cache_policy.specs.Legal.{NeverFall, IsLegalRun}
 use Rattle.cache_policy.specs.Runs.{last_history, next_history, moment_before, moment_of}
-use Rattle.cache_policy.specs.Turns.{Turn, Given, Empty, Open, Stand, Done, Held, Stopping, Late, Refused, FitsReply, FitsStep, MayWantMemory, asked_step, mark_step, wait_of, turn_of, opens, out_after, since_of, since_when, wait_after, with_since}
+use Rattle.cache_policy.specs.Turns.{Turn, Given, Empty, Open, Stand, Done, Held, Stopping, Late, Refused, FitsReply, FitsStep, asked_step, mark_step, wait_of, turn_of, opens, out_after, since_of, since_when, wait_after, with_since}
 use Rattle.cache_policy.proofs.GrowingRuns.{last_run_with_mark}
 use Rattle.cache_policy.specs.declared.step.Step.{Step}
 use Rattle.agent_core.specs.declared.opening.Opening.{Opening}
@@ -28,15 +29,14 @@ use Rattle.agent_core.specs.Known.{TakesStep, marked, stood, refused, spent}
 use Rattle.agent_core.specs.Openings.{opening_step}
 use Rattle.agent_core.specs.Solos.{NoneTriedBefore}
 use Rattle.agent_core.specs.Stepped.{IsSettled}
-use Rattle.agent_core.proofs.Knowing.{not_refused}
 use Rattle.agent_core.proofs.Seating.{stand_opens}
 use Rattle.agent_core.proofs.Promise.{tried_first}
 use Rattle.agent_core.proofs.Taken.{with_again, since_with, first_taken, asked_first, opening_taken}
 use Rattle.counted_lock.specs.Logs.{run_of_log, IsLegalLog}
 use Rattle.counted_lock.specs.Logs.{marks_by}
 use Rattle.counted_lock.specs.Passes.{AtPass, mine}
-use Rattle.counted_lock.specs.Trying.{Tries, TriesAt, IsSinceFirst, IsTriedAt, Waited}
-use Rattle.counted_lock.specs.Turns.{AtCountedDesk, TurnsPass, CountedTurn}
+use Rattle.counted_lock.specs.Trying.{Tries, TriesAt, IsTriedAt, HandsOn, Waited}
+use Rattle.counted_lock.specs.Turns.{AtCountedDesk, WantsMemoryAt, IsFirstTry, HandsIn, TurnsPass, CountedTurn}
 use Rattle.counted_lock.proofs.LogLemmas.{joined_log, start_log, spent_has_all_marks}
 use Rattle.counted_lock.proofs.Passing.{own_marks, added_none, added_one, marks_both}
 
@@ -111,10 +111,10 @@ fits_step asked Stopping settled fits = fits
 fits_step asked Late settled fits = fits
 fits_step asked Refused settled fits = fits
 
-if_both : (since : Option ℕ) (taken : List ℕ) (seen : List Mark) (asked : MarkStep) → IfSome since (IsTriedAt taken seen asked)
-    → IfSome since (λ moment. (opens asked ≡ true) × (moment_before seen ≤ moment))
-if_both None taken seen asked tried = tt
-if_both (Some moment) taken seen asked tried = (tried.opens, tried.called)
+if_both : (since : Option ℕ) (taken : List ℕ) (seen found : List Mark) (asked : MarkStep) → HandsOn taken seen found asked since → IfSome since (λ moment. (opens asked ≡ true) × (moment_before seen ≤ moment))
+if_both None taken seen found asked tried = tt
+if_both (Some moment) [] seen found asked tried = absurd tried.first
+if_both (Some moment) (reading ∷ later) seen found asked tried = (tried.first.wants, tried.called)
 
 -- the readings of all tries, with that of the last
 abbrev first_of_tries : List ℕ → ℕ → ℕ
@@ -129,21 +129,30 @@ all_tries : (taken : List ℕ) (last : ℕ) → taken ++ last ∷ [] ≡ first_o
 all_tries [] last = refl
 all_tries (reading ∷ later) last = refl
 
-since_first : (taken : List ℕ) (last moment : ℕ) → IsSinceFirst taken moment → min (first_of_tries taken last) MAX_MOMENT ≤ moment
-since_first [] last moment is = absurd is
-since_first (reading ∷ later) last moment is = is
-
-if_first : (since : Option ℕ) (taken : List ℕ) (last : ℕ) (seen : List Mark) (asked : MarkStep) → IfSome since (IsTriedAt taken seen asked)
+if_first : (since : Option ℕ) (taken : List ℕ) (last : ℕ) (seen found : List Mark) (asked : MarkStep) → HandsOn taken seen found asked since
     → IfSome since (λ moment. min (first_of_tries taken last) MAX_MOMENT ≤ moment)
-if_first None taken last seen asked tried = tt
-if_first (Some moment) taken last seen asked tried = since_first taken last moment tried.first
+if_first None taken last seen found asked tried = tt
+if_first (Some moment) [] last seen found asked tried = absurd tried.first
+if_first (Some moment) (reading ∷ later) last seen found asked tried = omega (arith, tried.first.moment_is)
 
-first_stays : (taken : List ℕ) (last moment : ℕ) → IsSinceFirst taken moment → IsSinceFirst (taken ++ last ∷ []) moment
-first_stays [] last moment is = absurd is
-first_stays (reading ∷ later) last moment is = is
+-- the first try found a beginning of each run that is found later
+longer : (a b c : List Mark) → IsPrefix a b → IsPrefix b c → IsPrefix a c
+longer a b c front back = (front.0 ++ back.0, sym (append_assoc a front.0 back.0) ∙ (ap (λ (l : List Mark). l ++ back.0) front.1 ∙ back.1))
 
-tried_more : (taken : List ℕ) (last : ℕ) (seen : List Mark) (asked : MarkStep) (moment : ℕ) → IsTriedAt taken seen asked moment → IsTriedAt (taken ++ last ∷ []) seen asked moment
-tried_more taken last seen asked moment tried = record { opens = tried.opens; called = tried.called; first = first_stays taken last moment tried.first }
+first_longer : (asked : MarkStep) (seen found then : List Mark) (reading moment : ℕ) → IsFirstTry asked seen found reading moment → IsPrefix found then → IsFirstTry asked seen then reading moment
+first_longer asked seen found then reading moment first on = record { wants = first.wants; early = first.early; from = first.from; to = longer first.early found then first.to on; moment_is = first.moment_is }
+
+-- what the last try hands in
+hands_in : (asked : MarkStep) (seen found then : List Mark) (since : Option ℕ) (taken : List ℕ) (last : ℕ) → HandsOn taken seen found asked since → IsPrefix found then
+    → HandsIn asked seen then (first_of_tries taken last) (later_tries taken last) since
+hands_in asked seen found then None taken last none on = subst (λ (l : List ℕ). HandsIn asked seen then (first_of_tries l last) (later_tries l last) None) (sym none) refl
+hands_in asked seen found then (Some moment) [] last tried on = absurd tried.first
+hands_in asked seen found then (Some moment) (reading ∷ []) last tried on = first_longer asked seen found then reading moment tried.first on
+hands_in asked seen found then (Some moment) (reading ∷ next ∷ later) last tried on = first_longer asked seen found then reading moment tried.first on
+
+tried_more : (asked : MarkStep) (seen found then : List Mark) (taken : List ℕ) (last moment : ℕ) → IsTriedAt taken seen found asked moment → IsPrefix found then → IsTriedAt (taken ++ last ∷ []) seen then asked moment
+tried_more asked seen found then [] last moment tried on = absurd tried.first
+tried_more asked seen found then (reading ∷ later) last moment tried on = record { called = tried.called; first = first_longer asked seen found then reading moment tried.first on }
 
 module _ {C : Type 0} (readings : C → Readings) (start : AtCountedDesk C) (asked : MarkStep) where
   -- nothing was tried yet
@@ -158,7 +167,7 @@ module _ {C : Type 0} (readings : C → Readings) (start : AtCountedDesk C) (ask
     taken = [];
     given = none_given;
     never_falls = omega arith;
-    tried = tt;
+    tried = refl;
   }
 
   -- the pass after tries that had to stand, and one try more
@@ -196,7 +205,7 @@ module _ {C : Type 0} (readings : C → Readings) (start : AtCountedDesk C) (ask
     makes settled =
         subst (λ (l : List Mark). MakesMarks start.pass.limits start.session (moment_before start.pass.seen) asked (run_of_log l) turn t.tries.own) (sym after_is)
         (makes_marks start.pass.limits t.tries.found t.tries.own start.session _ (with_since since asked) turn (moment_before start.pass.seen) asked since settled refl
-        (if_both since w.taken start.pass.seen asked w.tried) takes)
+        (if_both since w.taken start.pass.seen (start.pass.seen ++ w.others) asked w.tried) takes)
 
     turns : IsSettled turn → TurnsPass start.session (readings start.clock) (readings after.clock) asked start.pass turn after.pass
     turns settled =
@@ -212,7 +221,6 @@ module _ {C : Type 0} (readings : C → Readings) (start : AtCountedDesk C) (ask
           mine_is = t.tries.mine_is ∙ ap (λ (l : List Mark). l ++ t.tries.own) w.mine_is;
           makes = makes settled;
           spent = λ none stops. spent_has_all_marks after.pass.seen (is_spent_run start.pass.limits start.session (moment_before start.pass.seen) asked (run_of_log after.pass.seen) turn t.tries.own (makes settled) none stops);
-          memory = t.memory;
           first_reading = first_of_tries w.taken t.tries.reading;
           later_readings = later_tries w.taken t.tries.reading;
           given = subst (λ (l : List ℕ). HasGiven (readings start.clock) l (readings after.clock)) (all_tries w.taken t.tries.reading) (given_then w.given (given_one read));
@@ -220,7 +228,14 @@ module _ {C : Type 0} (readings : C → Readings) (start : AtCountedDesk C) (ask
           never_falls = let a = w.never_falls in let b = read.never_falls in omega (arith, a, b);
           moment = subst (λ (r : ℕ). AllByRecursion (λ mark. mark.moment ≡ moment_of (moment_before t.tries.found) r) t.tries.own) (sym read.last) own.moments;
           since = none_before (first_of_tries w.taken t.tries.reading) (with_since since asked) t.tries.own
-              (since_with since asked (λ moment. min (first_of_tries w.taken t.tries.reading) MAX_MOMENT ≤ moment) (if_first since w.taken t.tries.reading start.pass.seen asked w.tried)) own.steps;
+              (since_with since asked (λ moment. min (first_of_tries w.taken t.tries.reading) MAX_MOMENT ≤ moment)
+              (if_first since w.taken t.tries.reading start.pass.seen (start.pass.seen ++ w.others) asked w.tried)) own.steps;
+          handed = since;
+          hands_in = hands_in asked start.pass.seen (start.pass.seen ++ w.others) t.tries.found since w.taken t.tries.reading w.tried
+              (t.tries.others, append_assoc start.pass.seen w.others t.tries.others ∙ sym found_is);
+          steps = own.steps;
+          refused = λ is. subst (λ (z : Limits × ℕ). WantsMemoryAt z.0 t.tries.found (with_since since asked) (moment_of (moment_before t.tries.found) z.1)) (λ i. (limits_is i, sym read.last i))
+              (t.tries.refused is);
         }
 
     -- the turn
@@ -290,7 +305,7 @@ later_since since Stop moment wants = absurd (cc wants)
 module _ {C : Type 0} (readings : C → Readings) (start : AtCountedDesk C) (asked : MarkStep) where
   -- it waits on, since the same moment
   waits_on : (since now_since : Option ℕ) (mid after : AtCountedDesk C) (wait : Wait) (w : Waited readings start asked since mid) (t : TriesAt readings mid asked (with_since since asked) (Stand wait) after)
-      → IfSome now_since (IsTriedAt (w.taken ++ t.tries.reading ∷ []) start.pass.seen asked) → Waited readings start asked now_since after
+      → HandsOn (w.taken ++ t.tries.reading ∷ []) start.pass.seen (start.pass.seen ++ (w.others ++ t.tries.others)) asked now_since → Waited readings start asked now_since after
   waits_on since now_since mid after wait w t tried =
       let none = (stands_without_mark mid.pass.limits t.tries.found t.tries.own mid.session _ (with_since since asked) wait t.tries.takes).none in
       let seen_is = ap (λ (p : AtPass). p.seen) w.pass in
@@ -323,9 +338,14 @@ module _ {C : Type 0} (readings : C → Readings) (start : AtCountedDesk C) (ask
       let found_is = ap moment_before t.tries.found_is in (
         ap (λ (v : Wait). v.session) so.wait_is,
         waits_on None (Some wait.since) start after wait (waited_none readings start asked) t (record {
-          opens = stand_opens asked wait t.fits;
           called = omega (arith, since_is, found, found_is);
-          first = omega (arith, since_is);
+          first = record {
+            wants = stand_opens asked wait t.fits;
+            early = t.tries.found;
+            from = (t.tries.others, sym t.tries.found_is);
+            to = ([], append-nil t.tries.found ∙ t.tries.found_is);
+            moment_is = since_is;
+          };
         }),
       )
 
@@ -338,19 +358,15 @@ module _ {C : Type 0} (readings : C → Readings) (start : AtCountedDesk C) (ask
       let since_is : wait.since ≡ first.since = ap (λ (v : Wait). v.since) so.wait_is ∙ later_since first.since asked _ (stand_opens asked wait t.fits) in (
         ap (λ (v : Wait). v.session) so.wait_is ∙ w.session,
         subst (λ (n : ℕ). Waited readings start asked (Some n) after) (sym since_is) (waits_on (Some first.since) (Some first.since) mid after wait w t
-            (tried_more w.taken t.tries.reading start.pass.seen asked first.since w.tried)),
+            (tried_more asked start.pass.seen (start.pass.seen ++ w.others) (start.pass.seen ++ (w.others ++ t.tries.others)) w.taken t.tries.reading first.since w.tried
+            (t.tries.others, append_assoc start.pass.seen w.others t.tries.others))),
       )
 
 -- a try, at the desk
-on_refusal : (answer : Result Reply HandedBack) (P : Type 0) → OnErr answer P → turn_of answer ≡ Refused → P
-on_refusal (Ok reply) P on is = absurd (not_refused reply is)
-on_refusal (Err back) P on is = on
-
 pub tried_at : {C : Type 0} (readings : C → Readings) (before : AtCountedDesk C) (pass : AtPass) (out : Option ℕ) (clock : C) (asked tried : MarkStep) (answer : Result Reply HandedBack)
-    → Tries before.session (readings before.clock) (readings clock) tried before.pass (turn_of answer) pass → FitsReply asked (turn_of answer) → OnErr answer (MayWantMemory asked)
+    → Tries before.session (readings before.clock) (readings clock) tried before.pass (turn_of answer) pass → FitsReply asked (turn_of answer)
     → out ≡ out_after before.out asked (turn_of answer) → TriesAt readings before asked tried (turn_of answer) (record { pass = pass; session = before.session; out = out; clock = clock })
-tried_at readings before pass out clock asked tried answer tries fits memory out_is =
-    record { tries = tries; fits = fits; memory = on_refusal answer (MayWantMemory asked) memory; session = refl; out = out_is }
+tried_at readings before pass out clock asked tried answer tries fits out_is = record { tries = tries; fits = fits; session = refl; out = out_is }
 
 -- the first try hands no wait in
 first_try : {C : Type 0} (readings : C → Readings) (before : AtCountedDesk C) (asked_of : Step) (turn : Turn) (after : AtCountedDesk C) → wait_of asked_of ≡ None

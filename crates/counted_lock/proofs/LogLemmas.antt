@@ -1,5 +1,5 @@
 -- A run that begins at base 0 is known by its marks alone.
-use Rattle.std.proofs.Common.{◌≡◌, ◌<◌, ℕ, ◌+◌, List, [], ◌∷◌, ◌++◌, length, false, Option, Some, sym, refl, ap, ◌∙◌, subst, arith, length-append, inr}
+use Rattle.std.proofs.Common.{◌≡◌, ◌<◌, ℕ, ◌+◌, List, [], ◌∷◌, ◌++◌, length, false, Option, Some, sym, refl, ap, ◌∙◌, subst, arith, inr}
 use Rattle.std.proofs.lemmas.List.{append_assoc, append-nil}
 use Rattle.cache_policy.specs.declared.bounds.TheConstants.{MAX_MARKS}
 use Rattle.cache_policy.specs.declared.life.Limits.{Limits}
@@ -7,7 +7,7 @@ use Rattle.cache_policy.specs.declared.mark.Mark.{Mark}
 use Rattle.cache_policy.specs.Histories.{History}
 use Rattle.std.specs.Option.{option_map_or}
 use Rattle.cache_policy.specs.Replay.{first_history}
-use Rattle.cache_policy.specs.Runs.{last_base, IsRun, run_with_mark, last_history, joined, start_of_run, moment_before, moment_of}
+use Rattle.cache_policy.specs.Runs.{last_base, IsRun, run_with_mark, joined, start_of_run, moment_before, moment_of}
 use Rattle.cache_policy.specs.Seat.{stopped}
 use Rattle.cache_policy.specs.Desks.{IsSpentRun}
 use Rattle.cache_policy.proofs.GrowingRuns.{is_run_run_with_mark, joined_run_with_mark, last_is_legal, start_run_with_mark}

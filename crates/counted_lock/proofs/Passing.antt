@@ -168,6 +168,7 @@ tries table session first last asked tried number sessions front calls stopped m
       mine_is = ap (marks_by number) seen ∙ mine_more number (own m).seen t.others t.found t.marks foreign t.found_is (by_pass number session t.marks by ours.by);
       takes = t.takes;
       legal = t.legal;
+      refused = t.refused;
     }
 
 -- a look

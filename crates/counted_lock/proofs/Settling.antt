@@ -9,12 +9,13 @@ use Rattle.cache_policy.specs.declared.mark.Mark.{Mark}
 use Rattle.cache_policy.specs.declared.mark.MarkStep.{MarkStep}
 use Rattle.cache_policy.specs.declared.tally.Tally.{Tally}
 use Rattle.cache_policy.specs.declared.wait.Wait.{Wait}
+use Rattle.cache_policy.specs.Desks.{Shows}
 use Rattle.cache_policy.specs.Entries.{stored}
 use Rattle.cache_policy.specs.Histories.{History}
 use Rattle.cache_policy.specs.Runs.{last_base, turn_over, next_history, is_spent, run_with_mark, joined, moment_before}
 use Rattle.cache_policy.specs.Tallies.{one_if}
 use Rattle.cache_policy.specs.Turns.{Turn, Stand, Refused, Stopping}
-use Rattle.agent_core.specs.Cores.{AtCore, mark_of, IsStep, marked, stood, refused, spent}
+use Rattle.agent_core.specs.Cores.{AtCore, mark_of, WantsMemory, IsStep, marked, stood, refused, spent}
 use Rattle.agent_core.specs.Known.{TakesStep}
 use Rattle.agent_core.specs.Known as known
 use Rattle.agent_core.specs.Recording.{KeepsRun, reply_of}
@@ -32,6 +33,7 @@ use Rattle.counted_lock.specs.Plays.{Hand, number, Works, Counts}
 use Rattle.counted_lock.specs.Claims.{Sat, own}
 use Rattle.counted_lock.specs.Settling.{tally_with, moment_on, Stepped, Settles}
 use Rattle.counted_lock.specs.Standing.{Stands}
+use Rattle.counted_lock.specs.Turns.{WantsMemoryAt}
 use Rattle.counted_lock.proofs.LogLemmas.{joined_log, with_one, keeps_legal}
 
 -- a history that isn't spent stays below the last base
@@ -42,10 +44,20 @@ below_next history below whole more =
       | false ↦ λ e. below
     ] more
 
+-- a step that found no memory wants some for itself
+wanted : (before after : AtCore) (last : History) (session : SessionId) (moment : ℕ) (asked : MarkStep) (turn : Turn) → IsStep before last session moment asked turn after → turn ≡ Refused
+    → WantsMemory before.limits (next_history last) asked moment
+wanted before after last session moment asked turn (marked more is) refuses =
+    absurd (subst (λ (t : Turn). Shows before.limits (next_history last) (mark_of session asked is.reply_is moment) t) refuses is.shows)
+wanted before after last session moment asked _ (stood more rules wait_is same) refuses = absurd (cc refuses)
+wanted before after last session moment asked _ (refused more why same) refuses = why
+wanted before after last session moment asked _ (spent is same) refuses = absurd (cc refuses)
+
 -- a step leaves the run with these marks, and this tally
 pub record Adds (limits : Limits) (log : List Mark) (asked : MarkStep) (turn : Turn) (trial : Trial) (core : AtCore) (marks : List Mark) (tally : Tally) : Type 0 where
   pub takes : TakesStep limits (run_of_log log) trial.session (moment_on log trial) asked turn (run_of_log (log ++ marks))
   pub stands : Stands (record { core = core; tally = tally }) (log ++ marks)
+  pub refused : turn ≡ Refused → WantsMemoryAt limits log asked (moment_on log trial)
 
 module _ (limits : Limits) (log : List Mark) (asked : MarkStep) (turn : Turn) (trial : Trial) (core : AtCore) (s : Stepped limits log asked turn trial core) where
   -- no mark is made where the agent is spent
@@ -73,6 +85,14 @@ module _ (limits : Limits) (log : List Mark) (asked : MarkStep) (turn : Turn) (t
       → TakesStep limits (run_of_log log) trial.session (moment_on log trial) asked turn after
   takes_at after takes = subst (λ (l : Limits). TakesStep l (run_of_log log) trial.session (moment_on log trial) asked turn after) s.before_is takes
 
+  wants_at : turn ≡ Refused → WantsMemoryAt limits log asked (moment_on log trial)
+  wants_at refuses = record {
+    last = s.keeps.last;
+    last_is = s.keeps.last_is;
+    wants = subst (λ (l : Limits). WantsMemory l (next_history s.keeps.last) asked (moment_on log trial)) s.before_is
+        (wanted s.before core s.keeps.last trial.session (moment_on log trial) asked turn s.step refuses);
+  }
+
   adds_none : TakesStep s.before.limits (run_of_log log) trial.session (moment_on log trial) asked turn (run_of_log log) → KeepsRun core (run_of_log log)
       → Adds limits log asked turn trial core [] trial.tally
   adds_none takes keeps =
@@ -82,6 +102,7 @@ module _ (limits : Limits) (log : List Mark) (asked : MarkStep) (turn : Turn) (t
           keeps = keeps;
           tally_is = tally_stays s.before.limits core.limits (run_of_log log) (run_of_log log) trial.tally (s.limits_is ∙ sym s.before_is) refl s.tally_is;
         });
+        refused = wants_at;
       }
 
   -- a step that made its mark
@@ -118,6 +139,7 @@ module _ (limits : Limits) (log : List Mark) (asked : MarkStep) (turn : Turn) (t
               (tally_stays s.before.limits core.limits (run_with_mark run own_mark) (run_with_mark run own_mark) (counted trial.tally own_mark trial.stores)
               (s.limits_is ∙ sym s.before_is) refl tallied));
         };
+        refused = wants_at;
       }
 
   -- so the run with the mark is legal
@@ -171,6 +193,7 @@ settles_none asked turn trial core m works adds = record {
   marks = [];
   many = refl;
   takes = adds.takes;
+  refused = adds.refused;
   seen = λ i. record (own m) { seen = sym (append-nil (own m).seen) i };
   works = works;
   stands = subst (Stands (record { core = core; tally = trial.tally })) (append-nil (own m).seen) adds.stands;
@@ -182,6 +205,7 @@ settles_made asked turn trial core mark tally m m' adds counts works = record {
   marks = mark ∷ [];
   many = refl;
   takes = adds.takes;
+  refused = adds.refused;
   seen = counts.seen;
   works = counts.works ∙ ap (λ (l : Hand). (doing (Working (number m')) (own m' ∷ []), l)) (ap (λ (z : Sat). z.1) works);
   stands = subst (Stands (record { core = core; tally = tally })) (sym (ap (λ (z : Claim). z.seen) counts.seen)) adds.stands;

@@ -25,6 +25,7 @@ use Rattle.counted_lock.specs.Plays.{Enters, Gives}
 use Rattle.counted_lock.specs.Claims.{Sat, own}
 use Rattle.counted_lock.specs.Settling.{IsTrial, moment_on, Stepped, Settles}
 use Rattle.counted_lock.specs.Taking.{TakesTurn}
+use Rattle.counted_lock.specs.Turns.{WantsMemoryAt}
 use Rattle.counted_lock.proofs.LogLemmas.{joined_log, keeps_legal, stopped_log, moment_log}
 
 -- the core's contract, at the run that the seat has seen
@@ -69,6 +70,7 @@ takes_turn m m1 m2 m3 cored after trial asked made tried e limits s g is front s
       marks = s.marks;
       many = s.many ∙ ap one_if (sym is);
       takes = subst (λ (l : Limits). TakesStep l (run_of_log found) trial.session (moment_on found trial) asked (turn_of tried.answer) (run_of_log (found ++ s.marks))) limits_found s.takes;
+      refused = λ is. subst (λ (l : Limits). WantsMemoryAt l found asked (moment_on found trial)) limits_found (s.refused is);
       seen = g.same ∙ (s.seen ∙ (λ i. record (own m) { limits = limits_found i; number = (ap (λ (c : Claim). c.number) e.seen) i; seen = found ++ s.marks }));
       idle = g.idle;
       legal = subst (λ (l : Limits). IsLegalLog l (found ++ s.marks)) (limits ∙ e.limits_is) (keeps_legal after (found ++ s.marks) kept);

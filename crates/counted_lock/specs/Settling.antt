@@ -11,7 +11,7 @@ use Rattle.cache_policy.specs.Histories.{History}
 use Rattle.cache_policy.specs.Runs.{last_base, moment_before, moment_of}
 use Rattle.cache_policy.specs.Seat.{is_open, seat}
 use Rattle.cache_policy.specs.Tallies.{is_given, is_empty, is_clear, is_flush, one_if}
-use Rattle.cache_policy.specs.Turns.{Turn}
+use Rattle.cache_policy.specs.Turns.{Turn, Refused}
 use Rattle.agent_core.specs.Cores.{AtCore, IsStep}
 use Rattle.agent_core.specs.Known.{TakesStep}
 use Rattle.agent_core.specs.Recording.{KeepsRun}
@@ -21,6 +21,7 @@ use Rattle.counted_lock.specs.Logs.{run_of_log}
 use Rattle.counted_lock.specs.Plays.{saw, Works}
 use Rattle.counted_lock.specs.Claims.{Sat, own}
 use Rattle.counted_lock.specs.Standing.{Stands}
+use Rattle.counted_lock.specs.Turns.{WantsMemoryAt}
 
 -- what was noted of a step before the core took it is so
 pub record IsTrial (before : AtCore) (asked : MarkStep) (trial : Trial) : Type 0 where
@@ -61,6 +62,7 @@ pub record Settles (trial : Trial) (asked : MarkStep) (turn : Turn) (core : AtCo
   pub marks : List Mark
   pub many : length marks ≡ one_if (is_some made)
   pub takes : TakesStep (own m).limits (run_of_log (own m).seen) trial.session (moment_on (own m).seen trial) asked turn (run_of_log ((own m).seen ++ marks))
+  pub refused : turn ≡ Refused → WantsMemoryAt (own m).limits (own m).seen asked (moment_on (own m).seen trial)
   pub seen : own m' ≡ saw (own m) marks
   pub works : Works m' ((0, None) ∷ [])
   pub stands : Stands (record { core = core; tally = unwrap_or made trial.tally }) (own m').seen

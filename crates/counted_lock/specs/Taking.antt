@@ -5,13 +5,14 @@ use Rattle.cache_policy.specs.declared.mark.Mark.{Mark}
 use Rattle.cache_policy.specs.declared.mark.MarkStep.{MarkStep}
 use Rattle.cache_policy.specs.Runs.{moment_before, moment_of}
 use Rattle.cache_policy.specs.Tallies.{one_if}
-use Rattle.cache_policy.specs.Turns.{turn_of}
+use Rattle.cache_policy.specs.Turns.{Refused, turn_of}
 use Rattle.agent_core.specs.Known.{TakesStep}
 use Rattle.counted_lock.specs.declared.turn.Tried.{Tried}
 use Rattle.counted_lock.specs.Logs.{run_of_log, IsLegalLog, is_stopped}
 use Rattle.counted_lock.specs.Logs.{marks_by}
 use Rattle.counted_lock.specs.Plays.{IsIdle}
 use Rattle.counted_lock.specs.Claims.{Sat, own}
+use Rattle.counted_lock.specs.Turns.{WantsMemoryAt}
 
 -- The seat saw the marks of others behind those that it had seen, and then its own.
 pub record TakesTurn (session : SessionId) (reading : ℕ) (asked : MarkStep) (m : Sat) (tried : Tried) (m' : Sat) : Type 0 where
@@ -22,6 +23,7 @@ pub record TakesTurn (session : SessionId) (reading : ℕ) (asked : MarkStep) (m
   pub marks : List Mark
   pub many : length marks ≡ one_if tried.made
   pub takes : TakesStep (own m).limits (run_of_log found) session (moment_of (moment_before found) reading) asked (turn_of tried.answer) (run_of_log (found ++ marks))
+  pub refused : turn_of tried.answer ≡ Refused → WantsMemoryAt (own m).limits found asked (moment_of (moment_before found) reading)
   pub seen : own m' ≡ record (own m) { seen = found ++ marks }
   pub idle : IsIdle m'
   pub legal : IsLegalLog (own m).limits (found ++ marks)

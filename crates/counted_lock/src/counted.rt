@@ -1,9 +1,8 @@
-ghost use Rattle.std.specs.Prelude.{◌≡◌, ◌+◌, ◌<◌, ◌≤◌, ◌^◌, ℕ, List, length, IfOk, IfErr, OnErr};
+ghost use Rattle.std.specs.Prelude.{◌≡◌, ◌+◌, ◌<◌, ◌≤◌, ◌^◌, ℕ, List, length, IfOk, IfErr};
 ghost use Rattle.std.specs.Prelude.{vec_len};
 ghost use Rattle.cache_policy.specs.declared.mark.Mark.{Mark as AnyMark};
 ghost use Rattle.cache_policy.specs.Tallies.{one_if};
 ghost use Rattle.cache_policy.specs.Turns.{asked_step, mark_step, turn_of, FitsReply};
-ghost use Rattle.cache_policy.specs.Turns.{MayWantMemory};
 ghost use Rattle.counted_lock.specs.declared.board.About.{About as AboutOf};
 ghost use Rattle.counted_lock.specs.Plays.{IsPlace};
 ghost use Rattle.counted_lock.specs.Rule.{AllFit, times};
@@ -107,7 +106,6 @@ impl Counted {
         ensures tries { Tries session (C.readings clock.old) (C.readings clock.new)
             (mark_step session step) pass.old (turn_of result) pass.new }
         ensures fits { FitsReply (asked_step step) (turn_of result) }
-        ensures memory { OnErr result (MayWantMemory (asked_step step)) }
         ensures back { IfErr result (λ refused. refused.step ≡ step) }
     {
         let Tried {

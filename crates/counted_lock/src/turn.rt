@@ -1,7 +1,6 @@
-ghost use Rattle.std.specs.Prelude.{◌≡◌, OnErr, IfErr};
+ghost use Rattle.std.specs.Prelude.{◌≡◌, IfErr};
 ghost use Rattle.agent_ports.specs.Readings.{IsRead};
 ghost use Rattle.cache_policy.specs.Turns.{asked_step, mark_step, turn_of, FitsReply};
-ghost use Rattle.cache_policy.specs.Turns.{MayWantMemory};
 ghost use Rattle.counted_lock.specs.Plays.{IsIdle, IsSeatOf};
 ghost use Rattle.counted_lock.specs.Claims.{own};
 ghost use Rattle.counted_lock.specs.Taking.{TakesTurn};
@@ -42,7 +41,6 @@ pub(crate) fn take_turn<W: Wait, C: Clock>(
     ensures takes { TakesTurn session (C.readings clock.new).last
         (mark_step session step) seat.old.me result seat.new.me }
     ensures fits { FitsReply (asked_step step) (turn_of result.answer) }
-    ensures memory { OnErr result.answer (MayWantMemory (asked_step step)) }
     ensures back { IfErr result.answer (λ refused. refused.step ≡ step) }
 {
     let mut cored = enter(rt, board, seat);

@@ -1,7 +1,7 @@
-use Rattle.std.proofs.Common.{refl, ap, ◌∙◌, arith}
-use Rattle.agent_top.proofs.Rounds.{by_extra}
+use Rattle.std.proofs.Common.{refl, ap, subst, ◌∙◌, arith}
+use Rattle.agent_top.proofs.Rounds.{by_extra, ears_stay_own}
 use Rattle.agent_top.proofs.Running.{listens_rose}
-use Rattle.agent_top.specs.Daemon.{summed, no_listener, no_memory}
+use Rattle.agent_top.specs.Daemon.{AreEarsOf, summed, no_listener, no_memory}
 use Rattle.agent_top.specs.Top.{exit_number}
 use Rattle.agent_top.proofs.daemon.run_daemon.Goals as goal
 
@@ -17,6 +17,8 @@ returns-in_default-listeners-clause-runs g c = rw c.number-in_default-listeners.
 pub returns-clause-runs : goal.returns-clause-runs
 returns-clause-runs g c =
     let r = c.serve_rounds-passes.result in
+    let rounds = by_extra _ c.args.rules.now c.in-Some.listener _ c.in-Some.extra c.in-Ok.passes.items c.with_ears-ears.result.items r.0.items r.1.items c.as_ref-further.ensures.value
+    (rw c.in-Some.ensures.homedir at c.serve_rounds-passes.ensures.rounds) in
     summed (record {
       counted = c.in-Ok.counted;
       limits = c.in-Ok.ensures.about.0 ∙ c.limits_of.ensures;
@@ -32,8 +34,12 @@ returns-clause-runs g c =
       extra_as = c.in-Some.ensures.extra.1;
       early = c.with_ears-ears.result.items;
       ears = r.1.items;
-      ran = by_extra _ c.args.rules.now c.in-Some.listener _ _ c.in-Ok.passes.items c.with_ears-ears.result.items r.0.items r.1.items c.as_ref-further.ensures.value
-          (rw c.in-Some.ensures.homedir at c.serve_rounds-passes.ensures.ran);
+      new_ears = c.with_ears-ears.ensures.new;
+      rounds = rounds;
+      over = c.serve_rounds-passes.ensures.end;
+      own_ears = ears_stay_own _ c.args.rules.now c.in-Some.listener c.in-Some.extra c.in-Ok.passes.items c.with_ears-ears.result.items r.0.items r.1.items rounds
+          (subst (λ e. AreEarsOf g.H.ListeningHost.hears c.in-Some.listener e c.with_ears-ears.result.items) c.as_ref-further.ensures.value c.with_ears-ears.ensures.own);
+      heard = omega (arith, c.in-Some.ensures.listens, c.give_ears_back.ensures.heard);
       tally = c.close-tally.result;
       closed = c.close-tally.ensures;
       sent = c.write_summary-sent.result;

@@ -9,6 +9,8 @@ invariant-loop g l = record {
     gives = g.H.Listener.Listener.gives;
     answers = g.H.ListeningHost.answers;
     is_told = g.H.ListeningHost.is_told;
+    tells = g.H.ListeningHost.tells;
+    hears = g.H.ListeningHost.hears;
     faults = g.H.Ear.Ear.faults;
     is_home = g.H.Host.is_home;
     is_extra = g.H.Host.is_extra;
@@ -20,4 +22,5 @@ invariant-loop g l = record {
   }) l.self.rules.now (post_at l.self.door l.self.listener.now (option_copied l.self.other)) l.fn.pass l.fn.ear l.pass l.ear;
   own : l.pass.table ≡ l.fn.pass.table;
   faults : g.H.Ear.Ear.faults l.fn.ear ≤ g.H.Ear.Ear.faults l.ear;
+  own_ear : g.H.ListeningHost.hears l.self.listener.now l.fn.ear → g.H.ListeningHost.hears l.self.listener.now l.ear;
 }
