@@ -2,11 +2,12 @@ ghost use Rattle.std.specs.Prelude.{◌≡◌, ◌≤◌, Some, IsSome, IsNone, 
 ghost use Rattle.agent_ports.specs.Counts.{Rose};
 ghost use Rattle.unix_socket.specs.declared.path.SocketName.{SocketName as Named};
 
-use crate::clock::SystemClock;
+use crate::clock::{Start, SystemClock};
 use crate::dice::SystemDice;
 use crate::faults::count;
 use crate::keys::SystemKeys;
 use crate::launcher::PipeLauncher;
+use crate::told::Printable;
 use crate::trust::SystemTrust;
 use agent_ports::{Dice, Homedir, Host, Keys, Launcher, NoGate, Parts, TrustFile};
 use std::alloc::Global;
@@ -14,7 +15,7 @@ use std::fs::{File, Files};
 use std::net::Net;
 use std::process::Processes;
 use std::rt;
-use unix_socket::{SocketEar, SocketLink, SocketListener, SocketName};
+use unix_socket::{BindFault, SocketEar, SocketLink, SocketListener, SocketName};
 
 /// What a session needs of this machine.
 pub type SystemParts<'a, R> = Parts<
@@ -32,23 +33,26 @@ pub struct SystemHost<'a, R> {
     rt: &'a R,
     alloc: Global,
     pid: u32,
+    start: Start,
     parts: Option<SystemParts<'a, R>>,
     homedir: Homedir,
     listens: u64,
     gate: NoGate,
 }
 
-impl<'a, R: rt::Clock + Processes + Files<File = File> + Net + Eprint> SystemHost<'a, R> {
-    /// The machine, with its server's parts and no folder yet. `pid` is the number of the process,
-    /// as `GETINFO pid` tells it.
+impl<'a, R: rt::Clock + rt::Env + Processes + Files<File = File> + Net + Eprint> SystemHost<'a, R> {
+    /// The machine, with its server's parts and no folder yet, whose clocks begin now. `pid` is the
+    /// number of the process, as `GETINFO pid` tells it.
     pub fn new(rt: &'a R, alloc: Global, pid: u32) -> Self
         ensures { IsSome (⟦<SystemHost<'a, R> as Host>⟧.server result) }
     {
+        let start = Start::now(rt);
         SystemHost {
             rt,
             alloc,
             pid,
-            parts: Some(new_parts(rt, alloc, &Homedir::new())),
+            start,
+            parts: Some(new_parts(rt, alloc, start, &Homedir::new())),
             homedir: Homedir::new(),
             listens: 0,
             gate: NoGate,
@@ -56,7 +60,7 @@ impl<'a, R: rt::Clock + Processes + Files<File = File> + Net + Eprint> SystemHos
     }
 }
 
-impl<'a, R: Files + Net> SystemHost<'a, R> {
+impl<'a, R: Files + Net + Eprint> SystemHost<'a, R> {
     /// A socket of the folder that was settled. One that can't be had counts.
     fn listen_at(&mut self, name: SocketName) -> Option<SocketListener<'a, R>>
         ensures name { IfSome result (λ listener. listener.name ≡ name) }
@@ -71,17 +75,36 @@ impl<'a, R: Files + Net> SystemHost<'a, R> {
         listener
     }
 
+    /// The same. Why it can't be had is said on the error stream, in one line.
     fn socket(&self, name: SocketName) -> Option<SocketListener<'a, R>>
         ensures { IfSome result (λ listener. listener.name ≡ name) }
     {
-        SocketListener::bind(self.rt, self.alloc, self.homedir.path()?, name).ok()
+        match SocketListener::bind(self.rt, self.alloc, self.homedir.path()?, name) {
+            Ok(listener) => Some(listener),
+            Err(fault) => {
+                self.say_why(&fault);
+                None
+            }
+        }
+    }
+
+    fn say_why(&self, fault: &BindFault) {
+        let folder = Printable(self.homedir.bytes());
+        // Where that can't be written nobody is to be told.
+        let _ = match fault {
+            BindFault::OthersWrite => {
+                eprintln!(self.rt; "agent: no socket, since {fault}: chmod go-w {folder}")
+            }
+            _ => eprintln!(self.rt; "agent: no socket in {folder}: {fault}"),
+        };
     }
 }
 
 /// Parts of the system in which nothing was done, with the key files of this folder.
-fn new_parts<'a, R: rt::Clock + Processes + Files<File = File> + Eprint>(
+fn new_parts<'a, R: rt::Clock + rt::Env + Processes + Files<File = File> + Net + Eprint>(
     rt: &'a R,
     alloc: Global,
+    start: Start,
     homedir: &Homedir,
 ) -> SystemParts<'a, R>
     ensures launcher { (⟦<PipeLauncher<'a, R> as Launcher>⟧.launches result.launcher).faults ≡ 0 }
@@ -93,13 +116,14 @@ fn new_parts<'a, R: rt::Clock + Processes + Files<File = File> + Eprint>(
     keys.settle(homedir);
     Parts {
         launcher: PipeLauncher::new(rt, alloc),
-        clock: SystemClock::new(rt),
+        clock: SystemClock::new(rt, start),
         dice: SystemDice::new(rt),
         keys,
     }
 }
 
-impl<'a, R: rt::Clock + Processes + Files<File = File> + Net + Eprint> Host for SystemHost<'a, R> {
+impl<'a, R: rt::Clock + rt::Env + Processes + Files<File = File> + Net + Eprint> Host
+    for SystemHost<'a, R> {
     type Link = SocketLink;
 
     type Ear = SocketEar;
@@ -161,7 +185,7 @@ impl<'a, R: rt::Clock + Processes + Files<File = File> + Net + Eprint> Host for 
     }
 
     fn session_parts(&self) -> SystemParts<'a, R> {
-        new_parts(self.rt, self.alloc, &self.homedir)
+        new_parts(self.rt, self.alloc, self.start, &self.homedir)
     }
 
     fn trust(&self) -> SystemTrust<'a, R> {

@@ -1,11 +1,20 @@
-ghost use Rattle.std.specs.Prelude.{◌≡◌, None, IfOk, refl};
+ghost use Rattle.std.specs.Prelude.{◌≡◌, None, IfOk};
 ghost use Rattle.agent_ports.specs.Launches.{IsFresh};
 
+use crate::child::PipedChild;
+use crate::environment::hand_on;
 use crate::faults::count;
+use crate::guard::{can_guard, can_start, guarded};
+use crate::patience::Patience;
+use crate::terminal::Terminal;
 use crate::told::{LastError, Printable};
-use agent_ports::{Got, Launcher, Link, Sent, Sink, Source};
+use agent_ports::{Launcher, Sink, Source};
 use std::alloc::Global;
+use std::fs::{File, Files};
 use std::io::ErrorKind;
+use std::net::Net;
+use std::os::fd::OwnedFd;
+use std::os::unix::net::UnixStream;
 use std::process::{Child, Command, OpenProcess, Processes, Stdio};
 use std::time::Duration;
 use std::{io, rt, str, thread};
@@ -16,18 +25,22 @@ use std_link::StdLink;
 /// is seen after at most twice the time that it took.
 const LOOKS: u32 = 20;
 
-/// Starts programs without arguments, whose standard input and output are pipes. It doesn't show
-/// what they give and are written. A child that is finished has a second to end by itself. Why a
+/// Starts programs without arguments, whose standard input and output are pipes, and which inherit
+/// a few variables of the environment alone. It doesn't show what they give and are written. A child that is finished has a second to end by itself. Why a
 /// program couldn't be started, and what a child failed by, is said on the error stream, in one
 /// line.
 #[derive(Drop)]
 pub struct PipeLauncher<'a, R> {
     rt: &'a R,
     alloc: Global,
+    can_guard: bool,
     faults: u64,
 }
 
-impl<'a, R: rt::Clock + Processes + Eprint> PipeLauncher<'a, R> {
+impl<'a, R: rt::Clock + rt::Env + Processes + Files<File = File> + Net + Eprint> PipeLauncher<
+    'a,
+    R,
+> {
     /// A launcher that has started nothing yet. A launch takes memory for the program's path.
     pub fn new(rt: &'a R, alloc: Global) -> Self
         ensures { (⟦<PipeLauncher<'a, R> as Launcher>⟧.launches result).faults ≡ 0 }
@@ -35,59 +48,22 @@ impl<'a, R: rt::Clock + Processes + Eprint> PipeLauncher<'a, R> {
         PipeLauncher {
             rt,
             alloc,
+            can_guard: false,
             faults: 0,
         }
     }
 }
 
-/// A program that was started: what it writes is read, and what is written it reads. It is handed
-/// to `finish`, which sees to its end.
-pub struct PipedChild<P: OpenProcess> {
-    process: Child<P>,
-    pipes: StdLink<P::Stdout, P::Stdin>,
-    last_error: LastError,
-}
-
-impl<P: OpenProcess> Source for PipedChild<P> {
-    ghost input = { λ c. ⟦<StdLink<P::Stdout, P::Stdin> as Source>⟧.input c.pipes };
-
-    ghost beside_input = { λ c. ⟦<StdLink<P::Stdout, P::Stdin> as Sink>⟧.output c.pipes };
-
-    fn read(&mut self, buf: &mut [u8]) -> Got {
-        let got = self.pipes.read(buf);
-        match got {
-            Got::Bytes(count) => self.last_error.read(&buf[..count]),
-            Got::End => self.last_error.read_end(),
-            Got::Failed => {}
-        }
-        got
-    }
-}
-
-impl<P: OpenProcess> Sink for PipedChild<P> {
-    ghost output = { λ c. ⟦<StdLink<P::Stdout, P::Stdin> as Sink>⟧.output c.pipes };
-
-    ghost beside_output = { λ c. ⟦<StdLink<P::Stdout, P::Stdin> as Source>⟧.input c.pipes };
-
-    fn put(&mut self, bytes: &[u8]) -> Sent {
-        self.pipes.put(bytes)
-    }
-}
-
-impl<P: OpenProcess> Link for PipedChild<P> {
-    ghost output_beside = { λ _. refl };
-
-    ghost input_beside = { λ _. refl };
-}
-
-impl<R: rt::Clock + Processes + Eprint> Launcher for PipeLauncher<'_, R> {
-    type Child = PipedChild<R::Started>;
+impl<'a, R: rt::Clock + rt::Env + Processes + Files<File = File> + Net + Eprint> Launcher
+    for PipeLauncher<'a, R> {
+    type Child = PipedChild<'a, R, R::Started>;
 
     ghost launches = { λ l.
         record { coming = None; launched = None; finished = None; faults = l.faults } };
 
-    fn launch(&mut self, program: &[u8]) -> Option<PipedChild<R::Started>> {
-        let child = start(self.rt, self.alloc, program);
+    fn launch(&mut self, program: &[u8]) -> Option<PipedChild<'a, R, R::Started>> {
+        self.can_guard = self.can_guard || can_guard(self.rt, self.alloc);
+        let child = start(self.rt, self.alloc, self.can_guard, program);
         count(&mut self.faults, child.is_err());
         if let Err(error) = &child {
             // Where that can't be written nobody is to be told.
@@ -96,45 +72,64 @@ impl<R: rt::Clock + Processes + Eprint> Launcher for PipeLauncher<'_, R> {
         child.ok()
     }
 
-    fn finish(&mut self, child: PipedChild<R::Started>) {
+    fn finish(&mut self, child: PipedChild<'a, R, R::Started>) {
         let PipedChild {
+            rt: _,
             mut process,
             pipes,
+            socket,
+            patience: _,
+            terminal,
             last_error,
         } = child;
         if let Some(failure) = last_error.failure() {
-            let _ = eprintln!(self.rt; "agent: the pinentry {failure}");
+            let _ = eprintln!(self.rt; "agent: the pinentry {failure}{terminal}");
         }
         let (reads, writes) = pipes.faults();
         self.faults = self.faults.saturating_add(reads).saturating_add(writes);
         // A child that still reads, or writes, comes to the end of its pipes.
         drop(pipes);
+        drop(socket);
         count(&mut self.faults, end(self.rt, &mut process).is_err());
     }
 }
 
-/// Starts the program, with pipes.
-fn start<R: rt::Clock + Processes>(
-    rt: &R,
+/// Starts the program, with a pipe to it and a pair of sockets from it: a read of a socket ends in
+/// time.
+fn start<'a, R: rt::Clock + rt::Env + Processes + Files<File = File> + Net + Eprint>(
+    rt: &'a R,
     alloc: Global,
+    can_guard: bool,
     program: &[u8],
-) -> io::Result<PipedChild<R::Started>>
-    ensures { IfOk result (λ child. IsFresh (⟦<PipedChild<R::Started> as Source>⟧.input child)
-        (⟦<PipedChild<R::Started> as Sink>⟧.output child)) }
+) -> io::Result<PipedChild<'a, R, R::Started>>
+    ensures { IfOk result
+        (λ child. IsFresh (⟦<PipedChild<'a, R, R::Started> as Source>⟧.input child)
+        (⟦<PipedChild<'a, R, R::Started> as Sink>⟧.output child)) }
 {
     let path = str::from_utf8(program).map_err(|_| ErrorKind::InvalidFilename)?;
-    let mut command = Command::new(alloc, path)?;
+    let (output, theirs) = UnixStream::pair(rt)?;
+    let socket = output.try_clone()?;
+    let mut command = if can_guard && can_start(rt, path) {
+        guarded(alloc, path)?
+    } else {
+        Command::new(alloc, path)?
+    };
+    hand_on(rt, alloc, &mut command)?;
     command.stdin(Stdio::piped());
-    command.stdout(Stdio::piped());
+    command.stdout(OwnedFd::from(theirs));
     let mut process = command.spawn(rt)?;
-    match (process.stdin.take(), process.stdout.take()) {
-        (Some(input), Some(output)) => Ok(PipedChild {
+    match process.stdin.take() {
+        Some(input) => Ok(PipedChild {
+            rt,
             process,
             pipes: StdLink::new(output, input),
+            socket,
+            patience: Patience::new(rt),
+            terminal: Terminal::Untold,
             last_error: LastError::new(),
         }),
         // A child without pipes is of no use.
-        _ => {
+        None => {
             let _ = end(rt, &mut process);
             Err(ErrorKind::BrokenPipe.into())
         }
@@ -158,13 +153,12 @@ fn end<P: OpenProcess>(rt: &impl rt::Clock, process: &mut Child<P>) -> io::Resul
 #[cfg(test)]
 mod tests {
     use super::*;
+    use crate::scripts::script;
     use crate::told::said;
-    use std::fs::OpenOptions;
-    use std::io::Write;
-    use std::os::unix::fs::OpenOptionsExt;
+    use agent_ports::{Got, Sent};
+    use std::fs;
     use std::test::Fail;
     use std::time::Instant;
-    use std::{env, fs, process};
 
     #[test]
     fn a_child_gives_what_it_was_written_up_to_its_end(rt: HostRuntime) -> Result<(), Fail> {
@@ -211,25 +205,6 @@ mod tests {
             assert!(rt; failed);
             assert_eq!(rt; launcher.faults, faults);
         }
-    }
-
-    /// A program of this test's own, which is a script of the shell. It is closed, so that it may
-    /// be started.
-    fn script(rt: &HostRuntime, name: &str, lines: &str) -> Result<String, Fail> {
-        let temporary = env::temp_dir(rt)?;
-        let Some(temporary) = temporary.as_path().to_str() else {
-            return Err(Fail::new("no text"));
-        };
-        let number = process::id(rt.process());
-        let path = format!(in rt.alloc(); "{temporary}/{name}{number}")?;
-        let mut file = OpenOptions::new()
-            .write(true)
-            .create_new(true)
-            .mode(0o700)
-            .open(rt, &path)?;
-        file.write_all(b"#!/bin/sh\n")?;
-        file.write_all(lines.as_bytes())?;
-        Ok(path)
     }
 
     #[test]
@@ -289,6 +264,23 @@ mod tests {
         fs::remove_file(&rt, &path)?;
         assert_eq!(rt; launcher.faults, 0);
         assert!(rt; !fs::exists(&rt, &done)?);
+        Ok(())
+    }
+
+    #[test]
+    fn a_child_gains_no_privileges_where_setpriv_is_there(rt: HostRuntime) -> Result<(), Fail> {
+        let path = script(&rt, "guarded", "exec grep NoNewPrivs /proc/self/status\n")?;
+        let mut launcher = PipeLauncher::new(&rt, rt.alloc());
+        let Some(mut child) = launcher.launch(path.as_bytes()) else {
+            return Err(Fail::new("not started"));
+        };
+        let mut buf = [0u8; 64];
+        let got = child.read(&mut buf);
+        launcher.finish(child);
+        fs::remove_file(&rt, &path)?;
+        let guarded = can_guard(&rt, rt.alloc());
+        assert_eq!(rt; got, Got::Bytes(b"NoNewPrivs:\t1\n".len()));
+        assert_eq!(rt; buf.starts_with(b"NoNewPrivs:\t1"), guarded);
         Ok(())
     }
 }

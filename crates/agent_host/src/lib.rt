@@ -7,19 +7,27 @@
 //! `agent_ports` (`specs/HostParts`, `Launches`, `Counts`).
 #![tactic(auto)]
 
+mod child;
 mod clock;
 mod dice;
+mod environment;
 mod faults;
+mod guard;
 mod host;
 mod keys;
 mod launcher;
 mod no_folder;
+mod patience;
+#[cfg(test)]
+mod scripts;
+mod terminal;
 mod told;
 mod trust;
 
+pub use child::PipedChild;
 pub use clock::SystemClock;
 pub use dice::SystemDice;
 pub use host::{SystemHost, SystemParts};
 pub use keys::SystemKeys;
-pub use launcher::{PipeLauncher, PipedChild};
+pub use launcher::PipeLauncher;
 pub use trust::SystemTrust;

@@ -27,6 +27,8 @@ enum Place {
     Other,
     /// Behind its end.
     End,
+    /// Where it was awaited too long.
+    Late,
 }
 
 /// What is kept of a child's output: its last response where that is an error (Assuan manual,
@@ -44,6 +46,8 @@ pub(crate) enum Failure<'a> {
     Error(&'a [u8]),
     /// It had ended where an answer was awaited.
     Ended,
+    /// Its answer was awaited too long.
+    Late,
 }
 
 impl LastError {
@@ -64,6 +68,11 @@ impl LastError {
     /// The child's output was read behind its last byte.
     pub(crate) fn read_end(&mut self) {
         self.place = Place::End;
+    }
+
+    /// The child's output was awaited too long.
+    pub(crate) fn read_late(&mut self) {
+        self.place = Place::Late;
     }
 
     /// What is kept is of lines that begin as an error's.
@@ -100,8 +109,10 @@ impl LastError {
 
     /// What the child failed by, if it did.
     pub(crate) fn failure(&self) -> Option<Failure<'_>> {
-        if matches!(self.place, Place::End) {
-            return Some(Failure::Ended);
+        match self.place {
+            Place::End => return Some(Failure::Ended),
+            Place::Late => return Some(Failure::Late),
+            Place::Start | Place::Error | Place::Other => {}
         }
         let error = self.line.as_slice().strip_prefix(b"ERR ")?;
         if is_users(error) {
@@ -128,6 +139,7 @@ impl Display for Failure<'_> {
         match self {
             Failure::Error(error) => write!(f, "answered ERR {}", Printable(error)),
             Failure::Ended => f.write_str("ended before it answered"),
+            Failure::Late => f.write_str("didn't answer in time, and is ended"),
         }
     }
 }
@@ -208,6 +220,11 @@ mod tests {
         assert_eq!(rt;
             said(rt.alloc(), &last_error)?.as_str(),
             "ended before it answered"
+        );
+        last_error.read_late();
+        assert_eq!(rt;
+            said(rt.alloc(), &last_error)?.as_str(),
+            "didn't answer in time, and is ended"
         );
         Ok(())
     }
