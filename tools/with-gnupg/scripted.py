@@ -63,14 +63,14 @@ def as_bytes(environment):
 
 
 class ScriptedHome:
-    """`passphrase`, the stand-in, `dogwoodcatch-setup` and the agent side by side, as they are installed, and a home folder that is set up for them."""
+    """`passphrase`, the stand-in and the agent side by side, as they are installed, and a home folder that is set up for them."""
 
     def __init__(self, agent, place, conf=()):
         self.place, self.failed, self.installed, self.home = place, False, place / "installed", place / "home"
         self.files, self.asked = place / "files", place / "pinentry"
         for folder in (self.installed, self.home, self.files, self.asked):
             folder.mkdir(mode=0o700)
-        for name in ("gpg-agent", "passphrase", "dogwoodcatch-setup"):
+        for name in ("gpg-agent", "passphrase"):
             shutil.copy(SCRIPTS / name, self.installed / name)
         (self.installed / "agent_program").symlink_to(agent)
         pinentry = self.asked / "program"
