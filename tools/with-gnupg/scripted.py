@@ -63,7 +63,7 @@ def as_bytes(environment):
 
 
 class ScriptedHome:
-    """`passphrase`, the stand-in and the agent side by side, as they are installed, and a home folder whose agent they start."""
+    """`passphrase`, the stand-in and the agent side by side, as they are installed, and a home folder that is set up for them."""
 
     def __init__(self, agent, place, conf=()):
         self.place, self.failed, self.installed, self.home = place, False, place / "installed", place / "home"
@@ -76,6 +76,7 @@ class ScriptedHome:
         pinentry = self.asked / "program"
         pinentry.write_text(PINENTRY)
         pinentry.chmod(0o755)
+        (self.home / "gpg.conf").write_text(f"agent-program {self.installed / 'gpg-agent'}\n")
         (self.home / "gpg-agent.conf").write_text("".join(line + "\n" for line in (f"pinentry-program {pinentry}", *conf)))
         # What a job of cron has.
         self.environment = {"HOME": str(place), "PATH": f"{self.installed}:/usr/bin:/bin", "GNUPGHOME": str(self.home), "LC_ALL": "C.UTF-8"}
@@ -118,11 +119,12 @@ class ScriptedHome:
         self.failed |= not is_so
         return is_so
 
-    def end(self):
-        """Ends the daemon, and waits until it is gone."""
-        self.run("gpgconf", "--kill", "gpg-agent")
+    def end(self, home=None):
+        """Ends the daemon of this folder, or of another one, and waits until it is gone."""
+        home = home or self.home
+        self.run("gpgconf", "--homedir", home, "--kill", "gpg-agent")
         end = time.monotonic() + LIMIT
-        while (self.home / "S.gpg-agent").exists() and time.monotonic() < end:
+        while (home / "S.gpg-agent").exists() and time.monotonic() < end:
             time.sleep(0.05)
-        self.run("gpgconf", "--remove-socketdir")
-        return not os.path.exists(self.home / "S.gpg-agent")
+        self.run("gpgconf", "--homedir", home, "--remove-socketdir")
+        return not os.path.exists(home / "S.gpg-agent")
