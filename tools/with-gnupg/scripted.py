@@ -70,7 +70,7 @@ class ScriptedHome:
         self.files, self.asked = place / "files", place / "pinentry"
         for folder in (self.installed, self.home, self.files, self.asked):
             folder.mkdir(mode=0o700)
-        for name in ("gpg-agent", "passphrase"):
+        for name in ("gpg-agent", "gpg-agent-options", "passphrase"):
             shutil.copy(SCRIPTS / name, self.installed / name)
         (self.installed / "agent_program").symlink_to(agent)
         pinentry = self.asked / "program"
