@@ -7,6 +7,7 @@ use crate::dice::SystemDice;
 use crate::faults::count;
 use crate::keys::SystemKeys;
 use crate::launcher::PipeLauncher;
+use crate::told::Printable;
 use crate::trust::SystemTrust;
 use agent_ports::{Dice, Homedir, Host, Keys, Launcher, NoGate, Parts, TrustFile};
 use std::alloc::Global;
@@ -14,7 +15,7 @@ use std::fs::{File, Files};
 use std::net::Net;
 use std::process::Processes;
 use std::rt;
-use unix_socket::{SocketEar, SocketLink, SocketListener, SocketName};
+use unix_socket::{BindFault, SocketEar, SocketLink, SocketListener, SocketName};
 
 /// What a session needs of this machine.
 pub type SystemParts<'a, R> = Parts<
@@ -59,7 +60,7 @@ impl<'a, R: rt::Clock + rt::Env + Processes + Files<File = File> + Net + Eprint>
     }
 }
 
-impl<'a, R: Files + Net> SystemHost<'a, R> {
+impl<'a, R: Files + Net + Eprint> SystemHost<'a, R> {
     /// A socket of the folder that was settled. One that can't be had counts.
     fn listen_at(&mut self, name: SocketName) -> Option<SocketListener<'a, R>>
         ensures name { IfSome result (λ listener. listener.name ≡ name) }
@@ -74,10 +75,28 @@ impl<'a, R: Files + Net> SystemHost<'a, R> {
         listener
     }
 
+    /// The same. Why it can't be had is said on the error stream, in one line.
     fn socket(&self, name: SocketName) -> Option<SocketListener<'a, R>>
         ensures { IfSome result (λ listener. listener.name ≡ name) }
     {
-        SocketListener::bind(self.rt, self.alloc, self.homedir.path()?, name).ok()
+        match SocketListener::bind(self.rt, self.alloc, self.homedir.path()?, name) {
+            Ok(listener) => Some(listener),
+            Err(fault) => {
+                self.say_why(&fault);
+                None
+            }
+        }
+    }
+
+    fn say_why(&self, fault: &BindFault) {
+        let folder = Printable(self.homedir.bytes());
+        // Where that can't be written nobody is to be told.
+        let _ = match fault {
+            BindFault::OthersWrite => {
+                eprintln!(self.rt; "agent: no socket, since {fault}: chmod go-w {folder}")
+            }
+            _ => eprintln!(self.rt; "agent: no socket in {folder}: {fault}"),
+        };
     }
 }
 

@@ -3,18 +3,19 @@ ghost use Rattle.std.specs.Prelude.{◌≡◌, None, IfOk};
 use crate::faults::count;
 use crate::no_folder::NoFolder;
 use agent_ports::{Homedir, TrustDone, TrustFile, TrustRead};
-use key_store::FolderTrust;
+use key_store::{FolderTrust, TrustFound};
 use std::alloc::Global;
 use std::fs::{File, Files};
 use std::rt;
 
 /// The trust list of the folder that was settled. As with the keys, what reads and writes it is
-/// made for each call.
+/// made for each call; which list a read found is kept for the change that follows it.
 #[derive(Drop)]
 pub struct SystemTrust<'a, R> {
     rt: &'a R,
     /// The folder.
     pub homedir: Homedir,
+    found: TrustFound,
     faults: u64,
 }
 
@@ -28,6 +29,7 @@ impl<'a, R: rt::Clock + Files<File = File>> SystemTrust<'a, R> {
         SystemTrust {
             rt,
             homedir: homedir.copy(),
+            found: TrustFound::unread(),
             faults: 0,
         }
     }
@@ -37,7 +39,7 @@ impl<'a, R: rt::Clock + Files<File = File>> SystemTrust<'a, R> {
             ≡ record { file = None; faults = 0 }) }
     {
         let path = self.homedir.path().ok_or(NoFolder::Failed)?;
-        FolderTrust::new(self.rt, alloc, path).map_err(|_| NoFolder::NoMemory)
+        FolderTrust::found_before(self.rt, alloc, path, self.found).map_err(|_| NoFolder::NoMemory)
     }
 }
 
@@ -46,7 +48,11 @@ impl<R: rt::Clock + Files<File = File>> TrustFile for SystemTrust<'_, R> {
 
     fn read(&mut self, alloc: Global) -> TrustRead {
         let answer = match self.folder(alloc) {
-            Ok(mut folder) => folder.read(alloc),
+            Ok(mut folder) => {
+                let answer = folder.read(alloc);
+                self.found = folder.found();
+                answer
+            }
             Err(NoFolder::NoMemory) => TrustRead::NoMemory,
             Err(NoFolder::Failed) => TrustRead::Failed,
         };
@@ -56,7 +62,11 @@ impl<R: rt::Clock + Files<File = File>> TrustFile for SystemTrust<'_, R> {
 
     fn replace(&mut self, alloc: Global, file: &[u8]) -> TrustDone {
         let answer = match self.folder(alloc) {
-            Ok(mut folder) => folder.replace(alloc, file),
+            Ok(mut folder) => {
+                let answer = folder.replace(alloc, file);
+                self.found = folder.found();
+                answer
+            }
             Err(NoFolder::NoMemory) => TrustDone::NoMemory,
             Err(NoFolder::Failed) => TrustDone::Failed,
         };

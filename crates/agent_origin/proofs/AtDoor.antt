@@ -6,13 +6,12 @@ use Rattle.agent_commands.specs.Endings.{went_after}
 use Rattle.agent_commands.specs.States.{AnswersRequest}
 use Rattle.agent_commands.specs.declared.went.Went.{Went}
 use Rattle.assuan_server.specs.Connections.{Connection}
-use Rattle.assuan_server.specs.Written.{failed, refusal_line}
+use Rattle.assuan_server.specs.Written.{failed, ok, refusal_line}
 use Rattle.session_client.specs.declared.code.Code.TheVariants.{Forbidden}
-use Rattle.assuan_text.specs.Words.{command_of}
 use Rattle.cache_policy.specs.declared.mark.MarkStep.{MarkStep}
 use Rattle.cache_policy.specs.Turns.{Turn}
 use Rattle.session_options.specs.declared.rules.Rules.{Rules}
-use Rattle.agent_origin.specs.DoorSessions.{door_command_named, door_help, helped, trusts, any, DoorExchange, forbidden, is_allowed}
+use Rattle.agent_origin.specs.DoorSessions.{door_command, door_help, helped, unset, trusts, any, DoorExchange, forbidden, is_allowed}
 use Rattle.agent_origin.specs.Doors.{allowed}
 use Rattle.agent_origin.specs.TrustExchanges.{TrustReplies}
 use Rattle.agent_origin.specs.FurtherStates.{FurtherWorld, FurtherState}
@@ -21,7 +20,7 @@ use Rattle.agent_origin.specs.SessionExchanges.{SessionExchange}
 use Rattle.agent_origin.specs.Serving.{SaysText}
 use Rattle.agent_origin.specs.declared.door.Door.{Door}
 use Rattle.agent_origin.specs.declared.kept.Kept.{Kept}
-use Rattle.agent_origin.specs.declared.door_session.DoorCommand.TheVariants.{Help, Trust}
+use Rattle.agent_origin.specs.declared.door_session.DoorCommand.TheVariants.{Help, Trust, Terminal}
 use Rattle.agent_ask.proofs.Answered.{answered_as}
 use Rattle.agent_origin.proofs.Serving.{text_answers}
 
@@ -36,17 +35,22 @@ module _ {D P : Type 0} (turned : D → MarkStep → Turn → D → Type 0) (pro
       text_answers {w = FurtherWorld turned prompted} (λ k. DoorExchange door rules k line) kept start now (forbidden not_allowed) going said
 
   module _ (may : allowed door line ≡ true) where
-    pub help_is_answered : (kept : Kept) (start : FurtherState turned prompted) (now : Connection) {went : Went} → door_command_named (command_of line) ≡ Some Help → start.conn.reader.ended ≡ None
+    pub help_is_answered : (kept : Kept) (start : FurtherState turned prompted) (now : Connection) {went : Went} → door_command door line ≡ Some Help → start.conn.reader.ended ≡ None
         → SaysText door_help start.conn went now → Answers kept start went kept (record start { conn = now })
     help_is_answered kept start now named going said =
         text_answers {w = FurtherWorld turned prompted} (λ k. DoorExchange door rules k line) kept start now (is_allowed may (rw named helped)) going said
 
-    pub trust_is_answered : (kept : Kept) {start now : FurtherState turned prompted} {went : Went} → door_command_named (command_of line) ≡ Some Trust
+    pub terminal_is_unset : (kept : Kept) (start : FurtherState turned prompted) (now : Connection) {went : Went} → door_command door line ≡ Some Terminal → start.conn.reader.ended ≡ None
+        → SaysText ok start.conn went now → Answers kept start went kept (record start { conn = now })
+    terminal_is_unset kept start now named going said =
+        text_answers {w = FurtherWorld turned prompted} (λ k. DoorExchange door rules k line) kept start now (is_allowed may (rw named unset)) going said
+
+    pub trust_is_answered : (kept : Kept) {start now : FurtherState turned prompted} {went : Went} → door_command door line ≡ Some Trust
         → AnswersRequest {w = FurtherWorld turned prompted} (λ options. AnyExchange refusal_line went_after (TrustReplies rules options (trust_request_of line)) options) kept.options start went kept.options now
         → Answers kept start went kept now
     trust_is_answered kept named answered = answered_as answered (λ events went exchanged. is_allowed may (rw named (trusts exchanged)))
 
     -- with the trust file beside
-    pub session_line_is_answered : {before after : Kept} {start now : FurtherState turned prompted} {went : Went} → door_command_named (command_of line) ≡ None
+    pub session_line_is_answered : {before after : Kept} {start now : FurtherState turned prompted} {went : Went} → door_command door line ≡ None
         → AnswersRequest {w = FurtherWorld turned prompted} (λ kept. SessionExchange rules kept line) before start went after now → Answers before start went after now
     session_line_is_answered named answered = answered_as answered (λ events went exchanged. is_allowed may (rw named (any exchanged)))

@@ -1,6 +1,6 @@
 -- What is so of all that is done for a line of a session. And so each event is so, where each but a read request and a call of the trust file is: no line of
 -- a session calls the trust file, but by the commands on it.
-use Rattle.std.proofs.Common.{ℕ, Bool, true, false, List, Option, Some, None, Result}
+use Rattle.std.proofs.Common.{◌≡◌, ◌∙◌, ℕ, Bool, true, false, List, Option, Some, None, Result, refl}
 use Rattle.agent_ask.specs.Events.{PromptEvent}
 use Rattle.agent_ask.specs.Parts.{◌>>=◌, Returns}
 use Rattle.agent_ask.specs.SessionEvents.{Sent}
@@ -23,7 +23,7 @@ use Rattle.cache_policy.specs.declared.mark.MarkStep.{MarkStep}
 use Rattle.session_client.specs.declared.code.Code.TheVariants as code
 use Rattle.session_client.specs.declared.refusal.Refusal.{Refusal}
 use Rattle.session_client.specs.declared.refusal.Refusal.TheVariants.{Agent}
-use Rattle.session_options.specs.OptionValues.{OptionValues}
+use Rattle.session_options.specs.OptionValues.{OptionValues, EnvWords}
 use Rattle.session_options.specs.declared.options.PinMode.{PinMode}
 use Rattle.session_options.specs.declared.options.PinMode.TheVariants as mode
 use Rattle.session_options.specs.declared.rules.Rules.{Rules}
@@ -35,15 +35,15 @@ use Rattle.agent_origin.proofs.EachCache.{wants_prompt, without_prompt, by_cache
 use Rattle.agent_origin.specs.SessionExchanges.{RequestExchange, cache, keys}
 use Rattle.agent_origin.specs.declared.kept.Kept.{Kept}
 
-module _ {Is : Event → Type 0} {So : List Event → Type 0} (law : Carries Is So) where
+module _ {env : EnvWords} {Is : Event → Type 0} {So : List Event → Type 0} (law : Carries env Is So) where
   abbrev Here : {A : Type 0} → Part A → Type 0
   Here part = Within part (Does So)
 
-  module _ (rules : Rules) (options : OptionValues) where
+  module _ (rules : Rules) (options : OptionValues) (same : options.env ≡ env) where
     prompts_any_of : (texts : Texts) (check quality : Bool) (repeat : ℕ) (before : Option ℕ) (events : List Event) (result : Result (List ℕ) Refusal) (after : Option ℕ)
         → PromptsAny rules options texts check quality repeat before events result after → So events
-    prompts_any_of texts check quality repeat before events result after (passphrase.given spec is prompt) = law.pins prompt
-    prompts_any_of texts check quality repeat before events result after (passphrase.refused spec is prompt enough refusal) = law.pins prompt
+    prompts_any_of texts check quality repeat before events result after (passphrase.given spec is prompt) = law.pins (is.env ∙ same) prompt
+    prompts_any_of texts check quality repeat before events result after (passphrase.refused spec is prompt enough refusal) = law.pins (is.env ∙ same) prompt
 
     module _ (fields : GetFields) where
       prompts : (texts : Texts) → Here (Prompts rules options texts fields.check fields.quality fields.repeat)
@@ -64,7 +64,7 @@ module _ {Is : Event → Type 0} {So : List Event → Type 0} (law : Carries Is 
       passphrase_so false (Some texts) = wanted_so options.mode texts
 
     confirms : (way : PinMode) (description : ArrayVec ℕ) → Here (confirms_by rules options way description)
-    confirms mode.Ask description = then law (so law (each_seats Is (law.turns _))) (λ seated. agrees law rules options description.items)
+    confirms mode.Ask description = then law (so law (each_seats Is (law.turns _))) (λ seated. agrees law rules options same description.items)
     confirms mode.Cancel description = so law (each_refused Is (Agent code.Cancelled))
     confirms mode.Error description = so law (each_refused Is (Agent code.NoPinentry))
     confirms mode.Loopback description = so law (each_refused Is (Agent code.NoPinentry))
@@ -90,18 +90,18 @@ module _ {Is : Event → Type 0} {So : List Event → Type 0} (law : Carries Is 
     replies on.KillAgent = changes _
 
   module _ (said : (text : List ℕ) → Is (Sent text)) where
-    cache_so : (rules : Rules) (before after : OptionValues) (request : Request) (events : List Event) (went : Went) → CacheExchange rules before request events after went → So events
-    cache_so rules before after (Cache command) events went does = whole law said (replies rules before command) does
-    cache_so rules before after (Bad why) events went does = whole law said (so law (each_refused Is (Agent why))) does
-    cache_so rules before after (Key line) events went does = absurd does
+    cache_so : (rules : Rules) (before after : OptionValues) → before.env ≡ env → (request : Request) (events : List Event) (went : Went) → CacheExchange rules before request events after went → So events
+    cache_so rules before after same (Cache command) events went does = whole law said (replies rules before same command) does
+    cache_so rules before after same (Bad why) events went does = whole law said (so law (each_refused Is (Agent why))) does
+    cache_so rules before after same (Key line) events went does = absurd does
 
-    pub request_whole : {rules : Rules} {kept now : Kept} (request : Request) {events : List Event} {went : Went} → RequestExchange rules kept request events now went → So events
-    request_whole {rules} {kept} request {events} {went} (cache {options} exchange) = cache_so rules kept.options options request events went exchange
-    request_whole {rules} {kept} request (keys exchange) = key_whole law said rules kept.options kept.wraps _ exchange
+    pub request_whole : {rules : Rules} {kept now : Kept} → kept.options.env ≡ env → (request : Request) {events : List Event} {went : Went} → RequestExchange rules kept request events now went → So events
+    request_whole {rules} {kept} same request {events} {went} (cache {options} exchange) = cache_so rules kept.options options same request events went exchange
+    request_whole {rules} {kept} same request (keys exchange) = key_whole law said rules kept.options same kept.wraps _ exchange
 
 module _ (Is : Event → Type 0) (every : (event : Event) → IsBesideTrust event → Is event) where
   pub shown_so : {prompt : List PromptEvent} {events : List Event} → AnyInSession session_lines prompt events → All Is events
   shown_so = each_shown Is (λ event still. every event (still_beside event still)) (λ event. every _ tt)
 
   pub each_request : {rules : Rules} {kept now : Kept} (request : Request) {events : List Event} {went : Went} → RequestExchange rules kept request events now went → All Is events
-  each_request = request_whole (each_carries Is (λ event work. every event (works_beside event work))) (λ text. every _ tt)
+  each_request = request_whole (each_carries Is (λ event work. every event (works_beside event work))) (λ text. every _ tt) refl

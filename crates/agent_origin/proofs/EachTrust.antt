@@ -1,5 +1,5 @@
 -- What is so of requests on the trust list, by what is so of their smallest parts; and those of these each of whose events is so.
-use Rattle.std.proofs.Common.{ℕ, Bool, true, false, List, Option, Some, None, Result}
+use Rattle.std.proofs.Common.{ℕ, Bool, true, false, List, Option, Some, None, Result, refl}
 use Rattle.agent_ask.proofs.Within.{Within, Joins, OfNothing, Does, does_join, bind, returned, refused}
 use Rattle.agent_ask.specs.ConsentParts.{AgreesTo}
 use Rattle.agent_ask.specs.Parts.{◌>>=◌, Refuses}
@@ -29,17 +29,17 @@ use Rattle.agent_origin.specs.declared.trust.request.TrustPurpose.{TrustPurpose}
 use Rattle.agent_origin.specs.declared.trust.request.TrustRequest.{TrustRequest}
 use Rattle.agent_origin.specs.declared.trust.request.TrustRequest.TheVariants.{IsTrusted, MarkTrusted, Bad}
 
--- A law of what is done for a request, and one of what others follow: where these join, and the smallest parts keep them, so do whole requests.
-pub record TrustLaws (First Law : (A : Type 0) → Part A) : Type 1 where
+-- A law of what is done for a request under these option values, and one of what others follow: where these join, and the smallest parts keep them, so do whole requests.
+pub record TrustLaws (options : OptionValues) (First Law : (A : Type 0) → Part A) : Type 1 where
   pub joins : {A B : Type 0} → Joins (First A) (λ value. Law B) (Law B)
   pub nothing : {A : Type 0} → OfNothing (Law A)
   pub seats : Within (Seats (Seat None None)) (First (Unit {0}))
-  pub agrees : (rules : Rules) (options : OptionValues) (question : List ℕ) → Within (AgreesTo session_lines rules options question) (First (Unit {0}))
+  pub agrees : (rules : Rules) (question : List ℕ) → Within (AgreesTo session_lines rules options question) (First (Unit {0}))
   pub reads : Within ReadsFile (First (List ℕ))
   pub adds : (file : List ℕ) (fingerprint : Grip) (purpose : TrustPurpose) → Within (AddsEntry file fingerprint (flag_of purpose)) (First (List ℕ))
   pub replaces : (file : List ℕ) → Within (Replaces file) (Law (Unit {0}))
 
-module _ {First Law : (A : Type 0) → Part A} (laws : TrustLaws First Law) where
+module _ {options : OptionValues} {First Law : (A : Type 0) → Part A} (laws : TrustLaws options First Law) where
   abbrev Here : Part (Unit {0}) → Type 0
   Here part = Within part (Law (Unit {0}))
 
@@ -69,10 +69,10 @@ module _ {First Law : (A : Type 0) → Part A} (laws : TrustLaws First Law) wher
       unfolding StoresUnsaid
       stores_unsaid = then laws.reads (λ file. says (trust file fingerprint.0) (stores file))
 
-      module _ (rules : Rules) (options : OptionValues) (name : List ℕ) where
+      module _ (rules : Rules) (name : List ℕ) where
         consented : Here (Consented rules options fingerprint purpose name)
         unfolding Consented
-        consented = then (laws.agrees rules options (trust_question name)) (λ trusted. then (laws.agrees rules options (fingerprint_question fingerprint name)) (λ right. stores_unsaid))
+        consented = then (laws.agrees rules (trust_question name)) (λ trusted. then (laws.agrees rules (fingerprint_question fingerprint name)) (λ right. stores_unsaid))
 
         asked : (way : PinMode) → Here (asked_in rules options fingerprint purpose name way)
         asked mode.Ask = then laws.seats (λ seated. consented)
@@ -84,10 +84,10 @@ module _ {First Law : (A : Type 0) → Part A} (laws : TrustLaws First Law) wher
         unfolding Marked
         marked = then laws.reads (λ file. says (trust file fingerprint.0) (asked options.mode))
 
-  pub carried_so : (rules : Rules) (options : OptionValues) (request : TrustRequest) → Here (Carried rules options request)
-  carried_so rules options (IsTrusted fingerprint) = trusted_now fingerprint
-  carried_so rules options (MarkTrusted fingerprint purpose name) = marked fingerprint purpose rules options name.items
-  carried_so rules options (Bad why) = refusal why
+  pub carried_so : (rules : Rules) (request : TrustRequest) → Here (Carried rules options request)
+  carried_so rules (IsTrusted fingerprint) = trusted_now fingerprint
+  carried_so rules (MarkTrusted fingerprint purpose name) = marked fingerprint purpose rules name.items
+  carried_so rules (Bad why) = refusal why
 
 -- ---- the smallest parts each of whose events is so
 
@@ -119,13 +119,13 @@ module _ (Is : Event → Type 0) (memory : Is out_of_memory) where
   each_adds file fingerprint flag = record { of = adds_of file fingerprint flag }
 
 -- what is so of lines of a session, where it is so of calls of the trust file too
-module _ {Is : Event → Type 0} {So : List Event → Type 0} (law : Carries Is So) (calls : (call : TrustCall) → Is (trust_called call)) where
-  pub carried_laws : TrustLaws (λ A. Does So) (λ A. Does So)
+module _ {options : OptionValues} {Is : Event → Type 0} {So : List Event → Type 0} (law : Carries options.env Is So) (calls : (call : TrustCall) → Is (trust_called call)) where
+  pub carried_laws : TrustLaws options (λ A. Does So) (λ A. Does So)
   carried_laws = record {
     joins = does_join law.behind (λ some one. one);
     nothing = all_so.nothing law;
     seats = all_so.so law (each_seats Is (law.turns _));
-    agrees = λ rules options question. all_so.agrees law rules options question;
+    agrees = λ rules question. all_so.agrees law rules options refl question;
     reads = all_so.so law (each_reads Is calls);
     adds = λ file fingerprint purpose. all_so.so law (each_adds Is (law.still out_of_memory tt) file fingerprint (flag_of purpose));
     replaces = λ file. all_so.so law (each_replaces Is calls file);

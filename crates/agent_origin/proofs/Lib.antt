@@ -9,6 +9,10 @@ mod NewTrustFiles
 mod WorkedExamples
 mod WorkedExchanges
 mod AtDoor
+pub mod Between
+pub mod OwnCommands
+mod Naming
+pub mod OuterPrompts
 pub mod EachCache
 pub mod EachLine
 pub mod EachTrust

@@ -38,7 +38,7 @@ use Rattle.session_options.specs.declared.options.PinMode.TheVariants as mode
 use Rattle.session_options.specs.declared.rules.Rules.{Rules}
 use Rattle.trust_list.specs.Trust.{trust, with_entry}
 use Rattle.trust_list.specs.declared.TheConstants.{MAX_TRUST_FILE_LEN}
-use Rattle.agent_origin.specs.DoorSessions.{AllowedExchange, helped, trusts as on_trust, any, DoorExchange, forbidden, is_allowed}
+use Rattle.agent_origin.specs.DoorSessions.{AllowedExchange, helped, unset, trusts as on_trust, any, DoorExchange, forbidden, is_allowed}
 use Rattle.agent_origin.specs.Doors.{allowed}
 use Rattle.agent_origin.specs.NewTrustFiles.{replaced, HasConsents, HasConsentsIn}
 use Rattle.agent_origin.specs.TrustExchanges.{flag_of, trust_question, fingerprint_question, unless_said, TrustedNow, Stores, StoresUnsaid, Consented, asked_in, Marked, Carried, TrustReplies}
@@ -397,6 +397,7 @@ exchange_consents door rules {prior} line (is_allowed may exchanged) before file
     allowed_by : {named : Option DoorCommand} {events : List Event} {then : Kept} {went : Went} → AllowedExchange rules prior line named events then went → events ≡ before ++ replaced file ∷ after
         → HasConsents rules prior.options (trust_request_of line) before file after × (door ≡ Home)
     allowed_by helped is = absurd (one_lacks _ (λ file same. cc same) before file after is)
+    allowed_by unset is = absurd (one_lacks _ (λ file same. cc same) before file after is)
     allowed_by (on_trust exchanged) is = let has = request_consents rules prior.options before file (trust_request_of line) exchanged after is in (has, at_home door line may has)
     allowed_by (any {events} exchanged) is = absurd (each_lacks events (each_request IsBesideTrust (λ event is. is) (request_of line) exchanged) before file after is)
 

@@ -13,7 +13,7 @@ use Rattle.key_commands.specs.Events.{Event}
 use Rattle.key_commands.specs.Exchanges.{KeyExchange}
 use Rattle.key_commands.specs.Requests.{key_request_of}
 use Rattle.session_options.specs.declared.rules.Rules.{Rules}
-use Rattle.agent_origin.specs.DoorSessions.{AllowedExchange, helped, trusts, any, DoorExchange, forbidden, is_allowed}
+use Rattle.agent_origin.specs.DoorSessions.{AllowedExchange, helped, unset, trusts, any, DoorExchange, forbidden, is_allowed}
 use Rattle.agent_origin.specs.Doors.{allowed}
 use Rattle.agent_origin.specs.OuterTurns.{AreOuterTurns, no_turns, LeavesCache}
 use Rattle.agent_origin.specs.SessionExchanges.{RequestExchange, cache, keys}
@@ -40,6 +40,7 @@ module _ (rules : Rules) where
   allowed_leaves : (line : List ℕ) {before after : Kept} → allowed Outer line ≡ true → {named : _} {events : List Event} {went : Went} → AllowedExchange rules before line named events after went
       → LeavesCache events
   allowed_leaves line allows helped = no_turns
+  allowed_leaves line allows unset = no_turns
   allowed_leaves line {before} allows (trusts exchanged) = trust_leaves rules before.options line allows exchanged
   allowed_leaves line allows (any exchanged) = request_leaves line (request_of line) refl allows exchanged
 

@@ -1,6 +1,6 @@
 -- The definitions on worked examples, each by computation.
 use Rattle.std.specs.Prelude.{◌≡◌, ◌++◌, replicate, codes, true, false, refl}
-use Rattle.std.proofs.Common.{ℕ, ◌≤◌, List, length, arith}
+use Rattle.std.proofs.Common.{ℕ, ◌≤◌, List, length, None, Some, arith}
 use Rattle.hex.proofs.OnLiterals.{hex_on_literals}
 use Rattle.percent_encoding.proofs.OnLiterals.{percent_encoding_on_literals}
 use Rattle.agent_commands.specs.Names.{command_named as cache_command_named}
@@ -8,6 +8,8 @@ use Rattle.agent_commands.specs.Requests.{request_of}
 use Rattle.agent_ports.specs.declared.grip.Grip.{Grip}
 use Rattle.session_client.specs.declared.code.Code.TheVariants.{UnknownCommand, Parameter}
 use Rattle.agent_origin.specs.Doors.{rule_named, allowed}
+use Rattle.agent_origin.specs.DoorSessions.{door_command_named, door_command}
+use Rattle.agent_origin.specs.declared.door_session.DoorCommand.TheVariants.{Terminal}
 use Rattle.agent_origin.specs.TrustNames.{trust_command_named}
 use Rattle.agent_origin.specs.TrustRequests.{trust_request_of}
 use Rattle.agent_origin.specs.declared.trust.request.TheConstants.{MAX_NAME_LEN}
@@ -62,6 +64,24 @@ mode = refl
 other_option : allowed Outer (codes "OPTION pinentry-mode2") ≡ true
 unfolding rule_named
 other_option = refl
+
+-- the terminal of another machine has no effect, whatever the value
+ttyname : door_command Outer (codes "OPTION ttyname=/dev/pts/1") ≡ Some Terminal
+unfolding request_of cache_command_named
+ttyname = refl
+
+language : door_command Outer (codes "option --lc-messages") ≡ Some Terminal
+unfolding request_of cache_command_named
+language = refl
+
+ttyname_at_home : door_command Home (codes "OPTION ttyname=/dev/pts/1") ≡ None
+unfolding door_command_named
+ttyname_at_home = refl
+
+-- a name is compared exactly
+other_case : door_command Outer (codes "OPTION TTYNAME=/dev/pts/1") ≡ None
+unfolding door_command_named request_of cache_command_named
+other_case = refl
 
 version : allowed Outer (codes "GETINFO version") ≡ true
 unfolding rule_named

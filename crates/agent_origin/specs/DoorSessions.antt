@@ -1,14 +1,14 @@
 -- Sessions by the door that they came in: what each has to do with, and what it does for each of its lines. At either door the commands on the trust
 -- list are served beside those of every session. A known command that isn't allowed there is answered by an error of its own, and nothing else is
--- done. This is the project's own.
-use Rattle.std.specs.Prelude.{◌≡◌, ℕ, true, false, List, [], ◌∷◌, codes, map, Option, Some, None}
+-- done. The terminal of another machine has no effect at the outer door. This is the project's own.
+use Rattle.std.specs.Prelude.{◌≡◌, ℕ, true, false, List, [], ◌∷◌, codes, map, Option, Some, None, if◌then◌else◌}
 use Rattle.agent_ask.specs.Events.{Call}
 use Rattle.agent_ask.specs.SessionEvents.{Sent}
 use Rattle.agent_commands.specs.Answers.{help_with}
 use Rattle.agent_commands.specs.declared.went.SessionEnd.{SessionEnd}
 use Rattle.agent_commands.specs.declared.went.Went.{Went}
 use Rattle.agent_commands.specs.declared.went.Went.TheVariants.{On}
-use Rattle.assuan_server.specs.Written.{failed}
+use Rattle.assuan_server.specs.Written.{failed, ok}
 use Rattle.session_client.specs.declared.code.Code.TheVariants.{Forbidden}
 use Rattle.assuan_text.specs.Rows.{found_in_any_case}
 use Rattle.assuan_text.specs.Words.{command_of}
@@ -16,7 +16,8 @@ use Rattle.cache_policy.specs.declared.mark.MarkStep.{MarkStep}
 use Rattle.cache_policy.specs.Turns.{Turn}
 use Rattle.key_commands.specs.Events.{Event}
 use Rattle.session_options.specs.declared.rules.Rules.{Rules}
-use Rattle.agent_origin.specs.Doors.{allowed}
+use Rattle.agent_commands.specs.Requests.{request_of}
+use Rattle.agent_origin.specs.Doors.{sets_terminal, allowed}
 use Rattle.agent_origin.specs.TrustExchanges.{TrustExchange}
 use Rattle.agent_origin.specs.FurtherStates.{FurtherWorld}
 use Rattle.agent_origin.specs.TrustNames.{commands_on_trust}
@@ -24,9 +25,10 @@ use Rattle.agent_origin.specs.TrustRequests.{trust_request_of}
 use Rattle.agent_origin.specs.SessionExchanges.{SessionExchange, kept_at_start}
 use Rattle.agent_origin.specs.Sessions.{Surroundings, ServesSession}
 use Rattle.agent_origin.specs.declared.door.Door.{Door}
+use Rattle.agent_origin.specs.declared.door.Door.TheVariants.{Home, Outer}
 use Rattle.agent_origin.specs.declared.kept.Kept.{Kept}
 use Rattle.agent_origin.specs.declared.door_session.DoorCommand.{DoorCommand}
-use Rattle.agent_origin.specs.declared.door_session.DoorCommand.TheVariants.{Help, Trust}
+use Rattle.agent_origin.specs.declared.door_session.DoorCommand.TheVariants.{Help, Trust, Terminal}
 
 -- the commands that a session at a door answers in a way of its own
 abbrev pub door_commands : List (List ℕ × DoorCommand)
@@ -40,6 +42,12 @@ door_commands =
 unfoldable pub door_command_named : List ℕ → Option DoorCommand
 door_command_named word = found_in_any_case word door_commands
 
+-- what the door does for itself with a line: at the outer door also with an option of the terminal
+abbrev pub door_command : Door → List ℕ → Option DoorCommand
+door_command Home line = door_command_named (command_of line)
+door_command Outer line =
+    if sets_terminal (request_of line) then Some Terminal else door_command_named (command_of line)
+
 -- HELP tells the commands on the trust list behind all others
 abbrev pub door_help : List ℕ
 door_help = help_with (map (λ row. row.0) commands_on_trust)
@@ -47,6 +55,8 @@ door_help = help_with (map (λ row. row.0) commands_on_trust)
 -- what is done for a line that is allowed, by the command that the door has a way of its own for, if it is one
 pub data AllowedExchange (rules : Rules) (before : Kept) (line : List ℕ) : Option DoorCommand → List Event → Kept → Went → Type 0 where
   helped : AllowedExchange rules before line (Some Help) (Sent door_help ∷ []) before On
+  -- an option of the terminal is answered as NOP is
+  unset : AllowedExchange rules before line (Some Terminal) (Sent ok ∷ []) before On
   trusts : {events : List Event} {went : Went} → TrustExchange rules before.options (trust_request_of line) events went
       → AllowedExchange rules before line (Some Trust) events before went
   any : {events : List Event} {after : Kept} {went : Went} → SessionExchange rules before line events after went
@@ -56,7 +66,7 @@ pub data AllowedExchange (rules : Rules) (before : Kept) (line : List ℕ) : Opt
 pub data DoorExchange (door : Door) (rules : Rules) (before : Kept) (line : List ℕ) : List Event → Kept → Went → Type 0 where
   forbidden : allowed door line ≡ false → DoorExchange door rules before line (Sent (failed Forbidden) ∷ []) before On
   is_allowed : {events : List Event} {after : Kept} {went : Went} → allowed door line ≡ true
-      → AllowedExchange rules before line (door_command_named (command_of line)) events after went → DoorExchange door rules before line events after went
+      → AllowedExchange rules before line (door_command door line) events after went → DoorExchange door rules before line events after went
 
 module _ {D P : Type 0} (turned : D → MarkStep → Turn → D → Type 0) (prompted : P → Call → P → Type 0) where
   -- a session that came in by this door, before whose first line nothing was kept

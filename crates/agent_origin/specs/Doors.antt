@@ -4,6 +4,9 @@ use Rattle.std.specs.Prelude.{ℕ, ◌||◌, not, Bool, true, false, List, [], �
 use Rattle.std.specs.Option.{is_none}
 use Rattle.std.specs.Str.{bytes_eq}
 use Rattle.agent_commands.specs.Requests.{GetFields, get_fields, request_of}
+use Rattle.agent_commands.specs.declared.request.CacheCommand.TheVariants.{SetOption}
+use Rattle.agent_commands.specs.declared.request.Request.{Request}
+use Rattle.agent_commands.specs.declared.request.Request.TheVariants.{Cache}
 use Rattle.assuan_text.specs.Options.{options_of, arguments_of, has_option}
 use Rattle.assuan_text.specs.Rows.{found_in_any_case}
 use Rattle.assuan_text.specs.Words.{command_of, rest_of, words}
@@ -70,6 +73,16 @@ passes AboutTheAgent line = is_about_the_agent (arguments_of (words (rest_of lin
 passes Uncached line = leaves_cache (get_fields (request_of line))
 passes OneKey line = not (has_option (codes "--list") (options_of (words (rest_of line))))
 passes Never line = false
+
+-- The option's name says in which terminal prompts are drawn, of which kind that is, or in which language (GnuPG manual, "Agent OPTION").
+abbrev pub is_of_terminal : List ℕ → Bool
+is_of_terminal name =
+    bytes_eq name (codes "ttyname") || bytes_eq name (codes "ttytype") || bytes_eq name (codes "lc-ctype") || bytes_eq name (codes "lc-messages")
+
+-- a request to set such an option
+abbrev pub sets_terminal : Request → Bool
+sets_terminal (Cache (SetOption text)) = is_of_terminal (name_of text.items)
+sets_terminal _ = false
 
 -- A line that begins with no known command isn't forbidden: it is answered as an unknown one.
 abbrev pub passes_by : Option Rule → List ℕ → Bool

@@ -1,6 +1,7 @@
 pub mod Doors
 pub mod OuterTurns
 pub mod OuterRuns
+pub mod OuterPrompts
 pub mod TrustNames
 pub mod TrustRequests
 pub mod Sessions

@@ -2,7 +2,7 @@ ghost use Rattle.std.specs.Prelude.{◌≡◌, map};
 ghost use Rattle.assuan_text.specs.Words.{words};
 ghost use Rattle.agent_commands.specs.Requests.{get_fields, request_of};
 ghost use Rattle.agent_origin.specs.Doors.{rules, rule_named, is_about_the_agent, leaves_cache};
-ghost use Rattle.agent_origin.specs.Doors.{passes, allowed};
+ghost use Rattle.agent_origin.specs.Doors.{passes, allowed, is_of_terminal, sets_terminal};
 ghost use Rattle.agent_origin.specs.declared.door.TheConstants.{RULES};
 
 use agent_commands::{CacheCommand, CutLine, LineRequest, Request};
@@ -12,6 +12,16 @@ use session_options::name_and_value;
 
 /// The option that says how a session wants its prompts.
 const PINENTRY_MODE: &[u8] = b"pinentry-mode";
+
+// The options that say in which terminal prompts are drawn, of which kind it is, and in which
+// language.
+const TTYNAME: &[u8] = b"ttyname";
+
+const TTYTYPE: &[u8] = b"ttytype";
+
+const LC_CTYPE: &[u8] = b"lc-ctype";
+
+const LC_MESSAGES: &[u8] = b"lc-messages";
 
 /// What GETINFO may be asked for by anyone.
 const VERSION: &[u8] = b"version";
@@ -24,8 +34,8 @@ pub enum Door {
     /// The user's own.
     Home,
     /// The one that is handed to other machines. Their sessions see which keys are here, and may
-    /// prompt the user. They use no key, change nothing that the agent keeps, and are given no
-    /// passphrase of its cache.
+    /// prompt the user, in no terminal of their naming. They use no key, change nothing that the
+    /// agent keeps, and are given no passphrase of its cache.
     Outer,
 }
 
@@ -93,6 +103,23 @@ pub(crate) fn allows(door: Door, line: &CutLine<'_>) -> bool
         Some(rule) => passes(rule, line),
         None => true,
     }
+}
+
+/// Whether a request is an OPTION that says in which terminal prompts are drawn, of which kind that
+/// is, or in which language.
+pub(crate) fn sets_terminal(request: &Request) -> bool
+    ensures { result ≡ sets_terminal request.now }
+{
+    match request {
+        Request::Cache(CacheCommand::SetOption { text }) => is_of_terminal(name_and_value(text).0),
+        _ => false,
+    }
+}
+
+fn is_of_terminal(name: &[u8]) -> bool
+    ensures { result ≡ is_of_terminal name.now }
+{
+    name == TTYNAME || name == TTYTYPE || name == LC_CTYPE || name == LC_MESSAGES
 }
 
 /// A law: `RULES` has the commands and their rules as they are defined, in this order.

@@ -3,18 +3,20 @@
 ghost use Rattle.std.specs.Prelude.{◌≡◌, None};
 ghost use Rattle.agent_ask.specs.Prompters.{IsShut};
 ghost use Rattle.assuan_server.specs.Connections.{IsOpen};
-ghost use Rattle.agent_origin.specs.DoorSessions.{door_command_named, door_help, ServesDoor};
+ghost use Rattle.assuan_server.specs.Written.{ok};
+ghost use Rattle.agent_origin.specs.DoorSessions.{door_command_named, door_command, door_help};
+ghost use Rattle.agent_origin.specs.DoorSessions.{ServesDoor};
 ghost use Rattle.agent_origin.specs.TrustExchanges.{AnswersTrust};
 ghost use Rattle.agent_origin.specs.FurtherStates.{surroundings};
 ghost use Rattle.agent_origin.specs.TrustRequests.{trust_request_of};
 ghost use Rattle.agent_origin.specs.Serving.{SaysText};
 
 use crate::answering::{answer, refuse};
-use crate::door::{Door, allows};
+use crate::door::{Door, allows, sets_terminal};
 use crate::trust::read_trust_cut;
 use crate::{Answers, Kept, TRUST_COMMANDS, run_trust, serve};
 use agent_ask::{Prompter, unless_cut};
-use agent_commands::{CutLine, SessionEnd, Went, write_help};
+use agent_commands::{CutLine, LineRequest, SessionEnd, Went, write_help};
 use agent_ports::{Dice, Keys, Link, TrustFile};
 use assuan_server::{Code, Conn};
 use assuan_text::found_in_any_case;
@@ -30,14 +32,29 @@ enum DoorCommand {
     Help,
     /// One on the trust list.
     Trust,
+    /// OPTION of the terminal or of the language, at the outer door. What another machine names is
+    /// its own, so it has no effect here.
+    Terminal,
 }
 
-/// These commands by their names.
+/// Those that the command's name alone decides.
 const DOOR_COMMANDS: [(&[u8], DoorCommand); 3] = [
     (b"HELP", DoorCommand::Help),
     (b"ISTRUSTED", DoorCommand::Trust),
     (b"MARKTRUSTED", DoorCommand::Trust),
 ];
+
+/// What a session at this door does for itself with a line.
+// Apart from the session's loop, where a place for the request would be filled anew for each line.
+#[inline(never)]
+fn door_command(door: Door, line: &CutLine<'_>) -> Option<DoorCommand>
+    ensures { result ≡ door_command door line.now }
+{
+    if door == Door::Outer && sets_terminal(&LineRequest::of_cut(line).whole()) {
+        return Some(DoorCommand::Terminal);
+    }
+    door_command_named(line.word())
+}
 
 /// What a session at a door does for itself with the command of this name.
 #[tactic(auto, unfolding(crate::specs::DoorSessions::door_command_named))]
@@ -68,8 +85,9 @@ impl Answers for Door {
         if !allows(*self, line) {
             return refuse(Code::Forbidden, conn);
         }
-        match door_command_named(line.word()) {
+        match door_command(*self, line) {
             Some(DoorCommand::Help) => help(conn),
+            Some(DoorCommand::Terminal) => say_ok(conn),
             Some(DoorCommand::Trust) => answer_trust(
                 alloc,
                 line,
@@ -91,6 +109,14 @@ fn help<L: Link>(conn: &mut Conn<'_, L>) -> Went
 {
     let cut = Went::End(SessionEnd::WriteFault);
     unless_cut(Went::On, cut, write_help(conn, &TRUST_COMMANDS))
+}
+
+/// Says that all is well, as NOP does.
+fn say_ok<L: Link>(conn: &mut Conn<'_, L>) -> Went
+    ensures { SaysText ok conn.old result conn.new }
+{
+    let cut = Went::End(SessionEnd::WriteFault);
+    unless_cut(Went::On, cut, conn.ok(b"").whole())
 }
 
 /// Reads a request on the trust list, and answers it.
@@ -124,7 +150,8 @@ fn answer_trust<L: Link, D: Desk, P: Prompter, T: TrustFile>(
 /// wrapping keys are overwritten in the end.
 ///
 /// At the outer door a known command that isn't allowed there is answered `Forbidden`, and nothing
-/// else is done.
+/// else is done. An option of the terminal or of the language is answered OK there, and sets
+/// nothing.
 pub fn serve_door<L: Link, D: Desk, P: Prompter, K: Keys, R: Dice, T: TrustFile>(
     alloc: Global,
     door: Door,

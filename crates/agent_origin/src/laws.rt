@@ -8,7 +8,7 @@ ghost use Rattle.agent_commands.specs.declared.went.SessionEnd.{SessionEnd as En
 ghost use Rattle.agent_commands.specs.declared.went.Went.{Went as Goes};
 ghost use Rattle.agent_commands.specs.declared.went.Went.TheVariants.{On};
 ghost use Rattle.arrayvec.specs.ArrayVec.{ArrayVec};
-ghost use Rattle.assuan_server.specs.Written.{failed};
+ghost use Rattle.assuan_server.specs.Written.{failed, ok};
 ghost use Rattle.session_client.specs.declared.code.Code.TheVariants.{Forbidden};
 ghost use Rattle.key_commands.specs.Events.{Event};
 ghost use Rattle.key_commands.specs.Exchanges.{KeyExchange};
@@ -19,11 +19,12 @@ ghost use Rattle.key_commands.specs.declared.wrap_keys.WrapKeys.{WrapKeys};
 ghost use Rattle.session_options.specs.OptionValues.{OptionValues};
 ghost use Rattle.session_options.specs.declared.rules.Rules.{Rules};
 ghost use Rattle.agent_origin.specs.DoorSessions.{DoorExchange, ServesDoor};
-ghost use Rattle.agent_origin.specs.Doors.{rule_named, allowed};
+ghost use Rattle.agent_origin.specs.Doors.{rule_named, sets_terminal, allowed};
 ghost use Rattle.agent_origin.specs.TrustExchanges.{TrustExchange};
 ghost use Rattle.agent_origin.specs.TrustNames.{trust_command_named};
 ghost use Rattle.agent_origin.specs.NewTrustFiles.{replaced, HasConsents, HasConsentsIn};
 ghost use Rattle.agent_origin.specs.FurtherStates.{FurtherWorld};
+ghost use Rattle.agent_origin.specs.OuterPrompts.{no_words, PromptsName};
 ghost use Rattle.agent_origin.specs.OuterRuns.{LeavesDesk};
 ghost use Rattle.agent_origin.specs.OuterTurns.{LeavesCache, GiveNothing};
 ghost use Rattle.agent_origin.specs.TrustRequests.{trust_request_of};
@@ -72,6 +73,28 @@ pub fn an_outer_session_leaves_the_run<D: Desk, P: Prompter>()
     ensures { (rules : Rules) (before after : Surroundings (FurtherWorld D.turned P.prompted))
         (end : Ends) → (served : ServesDoor D.turned P.prompted Outer rules before end after)
         → LeavesDesk (D.at before.desk) (turns_in served.events) (D.at after.desk) }
+{}
+
+/// A law: at the outer door an option of the terminal or of the language is answered OK, nothing
+/// else is done or kept, and the session goes on.
+pub fn an_option_of_the_terminal_does_nothing_there()
+    ensures { (rules : Rules) (before after : Kept) (line : List ℕ) (events : List Event)
+        (went : Goes) → allowed Outer line ≡ true → sets_terminal (request_of line) ≡ true
+        → DoorExchange Outer rules before line events after went
+        → (events ≡ Sent ok ∷ []) × (after ≡ before) × (went ≡ On) }
+{}
+
+/// A law: at the outer door a prompt names no terminal and no language. Those that a client names
+/// are another machine's; here a terminal or a file of that name is a different one.
+pub fn a_prompt_at_the_outer_door_names_no_terminal<D: Desk, P: Prompter>()
+    ensures exchange { (rules : Rules) (before after : Kept) (line : List ℕ) (events : List Event)
+        (went : Goes) → before.options.env ≡ no_words
+        → DoorExchange Outer rules before line events after went
+        → PromptsName no_words events × (after.options.env ≡ no_words) }
+    ensures session { (rules : Rules)
+        (before after : Surroundings (FurtherWorld D.turned P.prompted)) (end : Ends)
+        → (served : ServesDoor D.turned P.prompted Outer rules before end after)
+        → PromptsName no_words served.events }
 {}
 
 /// A law: each command that is known has its rule at the outer door, whichever of the agent's

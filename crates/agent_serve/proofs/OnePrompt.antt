@@ -1,11 +1,10 @@
 -- What is asked of a prompter by one prompt are the calls of one prompt.
 use Rattle.std.specs.List.{AllByRecursion}
-use Rattle.std.proofs.Common.{◌≡◌, ℕ, Bool, List, [], ◌∷◌, ◌++◌, Result, zero, suc, refl, ap, sym, subst}
-use Rattle.std.specs.Prelude.{⊤}
+use Rattle.std.proofs.Common.{◌≡◌, ℕ, Bool, List, [], ◌∷◌, ◌++◌, refl, ap, sym, subst}
 use Rattle.agent_ask.specs.Consents.{AsksConsent, ConsentBefore}
 use Rattle.agent_ask.specs.Consents as consents
 use Rattle.agent_ask.specs.Events.{Call, Start, GetPin, Confirm, Shut, PromptEvent, Called, Notified, OutOfMemory}
-use Rattle.agent_ask.specs.Prompts.{AsksPin, AsksBefore, IsTry, Opens, Repeats, Tries, repeated}
+use Rattle.agent_ask.specs.Prompts.{AsksPin, AsksBefore, Opens}
 use Rattle.agent_ask.specs.Prompts as prompts
 use Rattle.agent_ask.specs.Tests.{PinTest}
 use Rattle.agent_ask.specs.SessionPrompts.{AnyInSession}
@@ -16,7 +15,7 @@ use Rattle.agent_ask.specs.declared.spec.AskPlan.{AskPlan}
 use Rattle.agent_ask.specs.declared.spec.PromptSpec.{PromptSpec}
 use Rattle.agent_serve.specs.Prompts.{calls_in}
 use Rattle.assuan_server.specs.Clients.{session_lines}
-use Rattle.key_commands.proofs.EachEvent.{each_append}
+use Rattle.agent_origin.proofs.Between.{IsBetween, tries_between}
 use Rattle.key_commands.specs.Events.{Event}
 use Rattle.pinentry_client.specs.Whole.{AreQuestions, IsOnePrompt}
 
@@ -26,12 +25,6 @@ calls_of [] = []
 calls_of (Called call ∷ more) = call ∷ calls_of more
 calls_of (Notified pid heard ∷ more) = calls_of more
 calls_of (OutOfMemory ∷ more) = calls_of more
-
--- what stands between a prompt's start and its end
-abbrev IsBetween : PromptEvent → Type 0
-IsBetween (Called (Start spec opened)) = ⊥
-IsBetween (Called Shut) = ⊥
-IsBetween _ = ⊤
 
 abbrev with_end : List PromptEvent → List Call
 with_end events = calls_of (events ++ Called Shut ∷ [])
@@ -59,32 +52,6 @@ opened_and_asked prompts.broken more each = IsOnePrompt.start (questions more ea
 opened_and_asked (prompts.quiet is) more each = IsOnePrompt.start (questions more each)
 opened_and_asked (prompts.told is) more each = IsOnePrompt.start (questions more each)
 opened_and_asked (prompts.unheard is other) more each = IsOnePrompt.start (questions more each)
-
--- ---- tries
-
-repeats_are_questions : (count : ℕ) (pin : List ℕ) → AllByRecursion IsBetween (repeated count pin)
-repeats_are_questions zero pin = tt
-repeats_are_questions (suc count) pin = (tt, repeats_are_questions count pin)
-
-repeats_between : {count : ℕ} {pin : List ℕ} {events : List PromptEvent} {end : Result (List ℕ) _} → Repeats count pin events end → AllByRecursion IsBetween events
-repeats_between {count} {pin} prompts.same = repeats_are_questions count pin
-repeats_between {pin} (prompts.differs {before} less other) = each_append IsBetween (repeated before pin) _ (repeats_are_questions before pin) (tt, tt)
-repeats_between {pin} (prompts.ended {before} outcome less is) = each_append IsBetween (repeated before pin) _ (repeats_are_questions before pin) (tt, tt)
-
-try_between : {plan : AskPlan} {Rule : List ℕ → Type 0} {error : List ℕ} {events : List PromptEvent} {tests : List PinTest} {end : Result (List ℕ) _} → IsTry plan Rule error events tests end
-    → AllByRecursion IsBetween events
-try_between (prompts.ended outcome is) = (tt, tt)
-try_between (prompts.weak fails) = (tt, tt)
-try_between (prompts.bad meets wrong) = (tt, tt)
-try_between (prompts.untested meets) = (tt, (tt, tt))
-try_between (prompts.accepted meets right repeats) = (tt, repeats_between repeats)
-
-tries_between : {plan : AskPlan} {Rule : List ℕ → Type 0} {number : ℕ} {before : _} {events : List PromptEvent} {tests : List PinTest} {end : Asked} → Tries plan Rule number before events tests end
-    → AllByRecursion IsBetween events
-tries_between (prompts.good within try) = try_between try
-tries_between (prompts.over within try) = try_between try
-tries_between (prompts.again {events} {more} within try later) = each_append IsBetween events more (try_between try) (tries_between later)
-tries_between (prompts.bad past) = tt
 
 -- ---- prompts
 

@@ -5,19 +5,15 @@ use Rattle.agent_ask.specs.Events.{Call, Called, Notified, OutOfMemory, PromptEv
 use Rattle.agent_ask.specs.Further.{Keys, Dice, NoMemory, Prompt, Trust}
 use Rattle.agent_ask.specs.SessionEvents.{Received, Sent, Cut, Inquiry, CacheTurn, Further}
 use Rattle.agent_ask.specs.SessionPrompts.{AnyInSession}
-use Rattle.agent_serve.specs.Prompts.{calls_in}
+use Rattle.agent_serve.specs.Prompts.{calls_in, Prompted}
 use Rattle.agent_serve.proofs.OnePrompt.{calls_of, pin_is_one, consent_is_one, shown_calls}
 use Rattle.assuan_server.specs.Clients.{session_lines}
 use Rattle.key_commands.specs.Events.{Event, IsUncalled}
 use Rattle.key_commands.proofs.EachEvent.{still_uncalled}
 use Rattle.key_commands.proofs.EachRequest.{Carries}
+use Rattle.session_options.specs.OptionValues.{EnvWords}
 use Rattle.pinentry_client.specs.Children.{ArePrompts, none, next}
 use Rattle.pinentry_client.specs.Whole.{IsOnePrompt}
-
--- the prompter's calls among these events are those of prompts
-pub record Prompted (events : List Event) : Type 0 where
-  pub prompts : List (List Call)
-  pub are : ArePrompts prompts (calls_in events)
 
 -- ---- lists
 
@@ -73,12 +69,12 @@ shown_prompted {prompt} {shown} is in_session =
 
 -- ---- requests
 
-pub prompted_carries : Carries IsUncalled Prompted
+pub prompted_carries : {env : EnvWords} → Carries env IsUncalled Prompted
 prompted_carries = record {
   still = still_uncalled;
   turns = λ step turn. tt;
   behind = prompted_append;
   each = uncalled;
-  pins = λ prompt. shown_prompted (pin_is_one prompt.asks) prompt.in_session;
-  consents = λ prompt. shown_prompted (consent_is_one prompt.asks) prompt.in_session;
+  pins = λ named prompt. shown_prompted (pin_is_one prompt.asks) prompt.in_session;
+  consents = λ named prompt. shown_prompted (consent_is_one prompt.asks) prompt.in_session;
 }

@@ -1,5 +1,5 @@
 -- Lines of a session, at either door, in whose exchanges the prompter's calls are those of prompts, one after another.
-use Rattle.std.proofs.Common.{ℕ, List, Option}
+use Rattle.std.proofs.Common.{ℕ, List, Option, refl}
 use Rattle.session_options.specs.OptionValues.{OptionValues}
 use Rattle.session_options.specs.declared.rules.Rules.{Rules}
 use Rattle.agent_commands.specs.declared.request.Request.{Request}
@@ -16,19 +16,22 @@ use Rattle.agent_origin.specs.SessionExchanges.{RequestExchange}
 use Rattle.agent_origin.specs.declared.door.Door.{Door}
 use Rattle.agent_origin.specs.declared.kept.Kept.{Kept}
 use Rattle.agent_origin.specs.declared.trust.request.TrustRequest.{TrustRequest}
-use Rattle.agent_serve.proofs.PromptedEvents.{Prompted, prompted_carries, uncalled}
+use Rattle.agent_serve.specs.Prompts.{Prompted}
+use Rattle.agent_serve.proofs.PromptedEvents.{prompted_carries, uncalled}
 
 pub request_prompted : {rules : Rules} {kept now : Kept} (request : Request) {events : List Event} {went : Went} → RequestExchange rules kept request events now went → Prompted events
-request_prompted = request_whole prompted_carries (λ text. tt)
+request_prompted = request_whole prompted_carries (λ text. tt) refl
 
 trust_prompted : (rules : Rules) (options : OptionValues) (request : TrustRequest) {events : List Event} {went : Went} → TrustExchange rules options request events went → Prompted events
 trust_prompted rules options request =
-    whole prompted_carries (λ text. tt) (then prompted_carries (carried_so (carried_laws prompted_carries (λ call. tt)) rules options request) (λ done. so prompted_carries (each_returned IsUncalled _)))
+    let carries = prompted_carries {env = options.env} in
+    whole carries (λ text. tt) (then carries (carried_so (carried_laws {options = options} carries (λ call. tt)) rules request) (λ done. so carries (each_returned IsUncalled _)))
 
 -- ---- at a door
 
 allowed_prompted : {rules : Rules} {before after : Kept} {line : List ℕ} {command : Option _} {events : List Event} {went : Went} → AllowedExchange rules before line command events after went → Prompted events
 allowed_prompted door.helped = uncalled _ (tt, tt)
+allowed_prompted door.unset = uncalled _ (tt, tt)
 allowed_prompted {rules} {before} (door.trusts exchange) = trust_prompted rules before.options _ exchange
 allowed_prompted (door.any exchange) = request_prompted _ exchange
 

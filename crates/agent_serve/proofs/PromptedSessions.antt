@@ -19,8 +19,8 @@ use Rattle.agent_origin.specs.FurtherStates.{FurtherWorld}
 use Rattle.agent_ports.specs.Counts.{RoseBy}
 use Rattle.agent_ports.specs.Launches.{Launches}
 use Rattle.agent_ports.specs.Leads.{Leads, none, one}
-use Rattle.agent_serve.specs.Prompts.{calls_in, HavePrompts}
-use Rattle.agent_serve.proofs.PromptedEvents.{Prompted, calls_append, prompted_append, uncalled}
+use Rattle.agent_serve.specs.Prompts.{calls_in, Prompted, HavePrompts}
+use Rattle.agent_serve.proofs.PromptedEvents.{calls_append, prompted_append, uncalled}
 use Rattle.assuan_server.specs.Reading.{Supply}
 use Rattle.cache_policy.specs.Turns.{Turn}
 use Rattle.cache_policy.specs.declared.mark.MarkStep.{MarkStep}

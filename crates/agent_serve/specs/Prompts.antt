@@ -16,6 +16,11 @@ calls_in [] = []
 calls_in (Further (Prompt (Called call)) ∷ later) = call ∷ calls_in later
 calls_in (event ∷ later) = calls_in later
 
+-- the prompter's calls among these events are those of prompts, one after another, each from its start to its end
+pub record Prompted (events : List Event) : Type 0 where
+  pub prompts : List (List Call)
+  pub are : ArePrompts prompts (calls_in events)
+
 -- The calls among these events are those of prompts, one after another, each from its start to its end. These have their children, which run this
 -- program; and of the calls at most as many failed as the launcher's count rose by, as long as that is below its last value.
 pub record HavePrompts (program : List ℕ) (events : List Event) (before after : Launches) : Type 0 where

@@ -1,8 +1,13 @@
 ghost use Rattle.std.specs.Prelude.{◌+◌, ◌-◌, ◌<◌, ◌^◌, ℕ, List, None};
 ghost use Rattle.agent_ask.specs.SessionEvents.{turns_in};
 ghost use Rattle.agent_commands.specs.declared.went.SessionEnd.{SessionEnd as Ends};
+ghost use Rattle.agent_origin.specs.DoorSessions.{ServesDoor};
+ghost use Rattle.agent_origin.specs.FurtherStates.{FurtherWorld};
+ghost use Rattle.agent_origin.specs.OuterPrompts.{no_words, PromptsName};
 ghost use Rattle.agent_origin.specs.OuterRuns.{LeavesDesk};
 ghost use Rattle.agent_origin.specs.OuterTurns.{LeavesCache};
+ghost use Rattle.agent_origin.specs.SessionExchanges.{SessionExchange, kept_at_start};
+ghost use Rattle.agent_origin.specs.Sessions.{ServesSession, Surroundings};
 ghost use Rattle.agent_origin.specs.declared.door.Door.{Door};
 ghost use Rattle.agent_origin.specs.declared.door.Door.TheVariants.{Outer};
 ghost use Rattle.agent_ports.specs.Counts.{Rose};
@@ -10,12 +15,14 @@ ghost use Rattle.agent_ports.specs.declared.session.SessionId.{SessionId};
 ghost use Rattle.counted_lock.specs.Passes.{AtPass};
 ghost use Rattle.counted_lock.specs.Turns.{at_counted};
 ghost use Rattle.session_options.specs.declared.rules.Rules.{Rules};
-ghost use Rattle.agent_serve.specs.Prompts.{HavePrompts};
+ghost use Rattle.agent_serve.specs.Prompts.{HavePrompts, Prompted};
 ghost use Rattle.agent_serve.specs.Serves.{LinkSides, ServesOne};
 ghost use Rattle.agent_serve.specs.Working.{Post, Works};
 
 use crate::listening::{ListeningHost, ViewedHost};
+use agent_ask::Prompter;
 use agent_ports::{Ear, Host};
+use cache_policy::Desk;
 use pinentry_client::a_pinentry_is_a_prompter;
 
 /// A restricted session of the daemon takes the seat for prompts of which nothing is kept, gives it
@@ -39,6 +46,31 @@ pub fn a_restricted_session_leaves_the_run<H: Host>()
         }) H.Trust.trust (H.of_folder path) rules Outer session before pass end after now)
         → LeavesDesk (at_counted (record pass { sessions = session.count + 1 }) session None)
         (turns_in serves.served.events) (at_counted now session None) }
+{}
+
+/// A prompt of a restricted session of the daemon names no terminal and no language.
+pub fn a_restricted_session_names_no_terminal<H: Host>()
+    ensures { (path : List ℕ) (rules : Rules) (session : SessionId) (before after : LinkSides)
+        (pass now : AtPass) (end : Ends) → (serves : ServesOne (record {
+          launches = H.Launcher.launches;
+          readings = H.Clock.readings;
+          draws = H.Dice.draws;
+          keys = H.Keys.keys;
+        }) H.Trust.trust (H.of_folder path) rules Outer session before pass end after now)
+        → PromptsName no_words serves.served.events }
+{}
+
+/// The prompter's calls in a session are those of prompts, one after another, each from its start
+/// to its end. The same of a session that came in by a door.
+pub fn the_calls_of_a_session_are_prompts<D: Desk, P: Prompter>()
+    ensures session { (rules : Rules)
+        (before after : Surroundings (FurtherWorld D.turned P.prompted)) (end : Ends)
+        → (served : ServesSession {w = FurtherWorld D.turned P.prompted} (SessionExchange rules)
+        (kept_at_start rules) before end after) → Prompted served.events }
+    ensures door { (door : Door) (rules : Rules)
+        (before after : Surroundings (FurtherWorld D.turned P.prompted)) (end : Ends)
+        → (served : ServesDoor D.turned P.prompted door rules before end after)
+        → Prompted served.events }
 {}
 
 /// The prompter's calls in a session of the daemon are those of prompts, one after another, each

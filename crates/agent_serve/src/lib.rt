@@ -16,8 +16,9 @@ mod workers;
 
 pub use gated::GatedPrompter;
 pub use laws::{
-    a_restricted_session_leaves_the_run, a_worker_ends_for_a_cause,
-    prompts_of_a_daemons_session_have_their_children,
+    a_restricted_session_leaves_the_run, a_restricted_session_names_no_terminal,
+    a_worker_ends_for_a_cause, prompts_of_a_daemons_session_have_their_children,
+    the_calls_of_a_session_are_prompts,
 };
 pub use listening::{ListeningHost, ViewedHost};
 pub use serving::serve_one;

@@ -17,6 +17,7 @@ use Rattle.agent_commands.specs.Talks.{Session}
 use Rattle.agent_commands.specs.declared.went.SessionEnd.{SessionEnd}
 use Rattle.agent_commands.specs.declared.went.SessionEnd.TheVariants.{Bye, Killed, Ended, TooLong, Spent, ReadFault, WriteFault}
 use Rattle.agent_commands.specs.declared.went.Went.{Went}
+use Rattle.agent_commands.specs.declared.went.Went.TheVariants.{On}
 use Rattle.agent_origin.specs.FurtherStates.{FurtherWorld}
 use Rattle.key_commands.specs.Events.{Event}
 use Rattle.key_commands.proofs.EachEvent.{each_append}
@@ -26,7 +27,7 @@ use Rattle.agent_origin.specs.SessionExchanges.{SessionExchange, kept_at_start}
 use Rattle.agent_origin.specs.Sessions.{Surroundings, ServesSession}
 use Rattle.agent_origin.specs.declared.kept.Kept.{Kept}
 use Rattle.agent_session.proofs.Completing.{IsPossible, IsSteady, never_absent, StandStill, all_steady, all_possible}
-use Rattle.agent_session.proofs.KeyExplained.{exchange_caused}
+use Rattle.agent_session.proofs.KeyExplained.{exchange_caused, exchange_goes_on}
 use Rattle.agent_session.proofs.Standing.{each_left, each_right, each_has}
 use Rattle.agent_session.proofs.Talking.{session_whole, session_moved}
 
@@ -59,6 +60,8 @@ pub record Judging (exchange caused : Exchanges) (cause : Causes) (unprompted : 
       → (why : Code) (origin : Origin) → HasError why origin events → cause before line events why origin
   pub for_memory : (before : Kept) (line : List ℕ) (events : List Event) → cause before line events code.NoMemory Agent → HasOne events WantsMemory
   pub by_failure : (before : Kept) (line : List ℕ) (events : List Event) → cause before line events code.General Agent → AllByRecursion IsSteady events → ⊥
+  pub goes_on : (before : Kept) (line : List ℕ) (events : List Event) (after : Kept) (went : Went) → AllByRecursion IsPossible events → exchange before line events after went
+      → (why : Code) (origin : Origin) → HasError why origin events → (why ≡ code.LineTooLong → ⊥) → went ≡ On
   pub unopened : (before : Kept) (line : List ℕ) (events : List Event) → cause before line events code.NoPinentry Agent
       → unprompted before line events ⊎ (HasCall events is_failed ⊎ HasCall events is_broken)
 
@@ -148,6 +151,7 @@ pub in_session : (rules : Rules) → Judging (SessionExchange rules) (CausedInSe
 in_session rules = record {
   judged = λ before line events after went possible exchanged. exchange_caused rules before line (never_absent possible) exchanged;
   has_cause = λ before line events after went caused. caused.caused;
+  goes_on = λ before line events after went possible exchanged. exchange_goes_on rules before line (never_absent possible) exchanged;
   for_memory = λ before line events cause. cause;
   by_failure = λ before line events cause steady. none_failed events cause steady;
   unopened = λ before line events cause. cause;

@@ -8,7 +8,8 @@ use Rattle.agent_commands.specs.Answers.{comments}
 use Rattle.agent_commands.specs.Names.{command_names}
 use Rattle.agent_commands.specs.Requests.{request_of}
 use Rattle.agent_commands.specs.declared.went.Went.{Went}
-use Rattle.assuan_server.specs.Written.{failed as failed_line}
+use Rattle.agent_commands.specs.declared.went.Went.TheVariants.{On}
+use Rattle.assuan_server.specs.Written.{failed as failed_line, ok}
 use Rattle.session_client.specs.declared.code.Code.{Code}
 use Rattle.session_client.specs.declared.code.Code.TheVariants as code
 use Rattle.assuan_server.specs.declared.errors.Origin.{Origin}
@@ -21,7 +22,7 @@ use Rattle.agent_origin.specs.DoorSessions.{door_help, AllowedExchange, DoorExch
 use Rattle.agent_origin.specs.DoorSessions as doors
 use Rattle.agent_origin.specs.Doors.{allowed}
 use Rattle.agent_origin.specs.TrustNames.{commands_on_trust, trust_command_named}
-use Rattle.agent_origin.specs.DoorSessions.{door_command_named}
+use Rattle.agent_origin.specs.DoorSessions.{door_command_named, door_command}
 use Rattle.agent_origin.specs.TrustExchanges.{TrustExchange}
 use Rattle.agent_origin.specs.TrustRequests.{trust_request_of}
 use Rattle.agent_origin.specs.SessionExchanges.{SessionExchange}
@@ -31,15 +32,16 @@ use Rattle.agent_origin.specs.declared.trust.names.TrustCommandName.{TrustComman
 use Rattle.agent_origin.specs.declared.trust.names.TrustCommandName.TheVariants as name
 use Rattle.agent_origin.specs.declared.trust.request.TrustRequest.TheVariants.{Bad}
 use Rattle.agent_origin.proofs.EachLine.{each_request}
+use Rattle.agent_origin.proofs.OwnCommands.{own_command, not_own}
 use Rattle.agent_session.specs.Causes.{HasOne, HasCall, WantsMemory, is_broken}
 use Rattle.agent_session.specs.Completeness.{IsAnsweredBy, HasError, CausedInSession, CausedAtDoor, WantsNoPrompt, any, on_trust}
 use Rattle.agent_session.specs.DoorCauses.{IsTrustCaused, IsCausedBy, IsCausedAtDoor, IsReadTrust, read_trust, IsNotTrusted, unsaid, denied, denied_mark, forbidden, is_allowed}
 use Rattle.agent_session.proofs.Answering.{Judging, none_failed, no_trust_failed}
 use Rattle.agent_session.proofs.Asides.{asides_append, comments_aside}
 use Rattle.agent_session.proofs.Completing.{IsPossible, IsSteady, never_absent}
-use Rattle.agent_session.proofs.Explained.{Explained, replied, failed, silent, is_answered, is_caused}
-use Rattle.agent_session.proofs.KeyExplained.{exchange_caused}
-use Rattle.agent_session.proofs.Replying.{IsReply, begins}
+use Rattle.agent_session.proofs.Explained.{Explained, replied, failed, silent, is_answered, is_caused, went_on, goes_on as explained_on}
+use Rattle.agent_session.proofs.KeyExplained.{exchange_caused, exchange_goes_on}
+use Rattle.agent_session.proofs.Replying.{IsReply, begins, reply_ok}
 use Rattle.agent_session.proofs.Standing.{stand_all}
 use Rattle.agent_session.proofs.TrustDenied.{none_called, denial_is_said}
 use Rattle.agent_session.proofs.TrustExplained.{trust_explained, trust_line_form}
@@ -93,9 +95,14 @@ module _ (door : Door) (rules : Rules) (before : Kept) (line : List ℕ) (events
   record Judged (went : Went) : Type 0 where
     answered : IsAnsweredBy went events
     caused : (why : Code) (origin : Origin) → HasError why origin events → Caused why origin
+    goes_on : (why : Code) (origin : Origin) → HasError why origin events → (why ≡ code.LineTooLong → ⊥) → went ≡ On
 
   judged : {went : Went} → Explained events Caused events went → Judged went
-  judged explained = record { answered = is_answered events Caused explained refl; caused = is_caused events Caused explained }
+  judged {went} explained = record {
+    answered = is_answered events Caused explained refl;
+    caused = is_caused events Caused explained;
+    goes_on = λ why origin has. went_on went why (explained_on events Caused explained why origin has);
+  }
 
   explained_as : {Of : Code → Origin → Type 0} {some : List Event} {went : Went} → ((why : Code) (origin : Origin) → Of why origin → Caused why origin)
       → Explained events Of some went → Explained events Caused some went
@@ -120,21 +127,26 @@ module _ (door : Door) (rules : Rules) (before : Kept) (line : List ℕ) where
 
   -- one of any session
   session_judged : trust_command_named (command_of line) ≡ None → allowed door line ≡ true → {events : List Event} {after : Kept} {went : Went}
-      → CausedInSession rules before line events after went → JudgedBy events went
-  session_judged named allows {events} {went} caused = record {
-    answered = caused.answered;
-    caused = λ why origin has. is_allowed allows (subst (λ n. IsCausedBy rules before line events n why origin) (sym named) (caused.caused why origin has));
-  }
+      → SessionExchange rules before line events after went → AllByRecursion IsPossible events → JudgedBy events went
+  session_judged named allows {events} {went} exchanged possible =
+      let caused = exchange_caused rules before line (never_absent possible) exchanged in
+      record {
+        answered = caused.answered;
+        goes_on = exchange_goes_on rules before line (never_absent possible) exchanged;
+        caused = λ why origin has. is_allowed allows (subst (λ n. IsCausedBy rules before line events n why origin) (sym named) (caused.caused why origin has));
+      }
 
-  allowed_judged : {command : _} → door_command_named (command_of line) ≡ command → allowed door line ≡ true → {events : List Event} {after : Kept} {went : Went}
+  allowed_judged : {command : _} → door_command door line ≡ command → allowed door line ≡ true → {events : List Event} {after : Kept} {went : Went}
       → AllowedExchange rules before line command events after went → AllByRecursion IsPossible events → JudgedBy events went
   unfolding door_command_named trust_command_named
+  allowed_judged is allows doors.unset possible = judged door rules before line (Sent ok ∷ []) (replied [] ok tt reply_ok tt)
   allowed_judged is allows doors.helped possible = judged door rules before line (Sent door_help ∷ []) (replied [] door_help tt reply_help tt)
   allowed_judged is allows (doors.trusts exchanged) possible =
-      let found = trust_by (λ e. absurd (cc e)) (is_word (codes "HELP") (command_of line)) (is_word (codes "ISTRUSTED") (command_of line)) (is_word (codes "MARKTRUSTED") (command_of line)) is in
+      let found = trust_by (λ e. absurd (cc e)) (is_word (codes "HELP") (command_of line)) (is_word (codes "ISTRUSTED") (command_of line)) (is_word (codes "MARKTRUSTED") (command_of line))
+      (own_command door line (λ e. absurd (cc e)) is) in
       trust_judged found.0 found.1 allows exchanged
   allowed_judged is allows (doors.any exchanged) possible =
-      session_judged (no_command (command_of line) is) allows (exchange_caused rules before line (never_absent possible) exchanged)
+      session_judged (no_command (command_of line) (not_own door line is)) allows exchanged possible
 
   door_judged : {events : List Event} {after : Kept} {went : Went} → DoorExchange door rules before line events after went → AllByRecursion IsPossible events → JudgedBy events went
   door_judged (doors.forbidden refuses) possible =
@@ -150,6 +162,7 @@ module _ (door : Door) (rules : Rules) (before : Kept) (line : List ℕ) where
   allowed_denied : {command : _} {events : List Event} {after : Kept} {went : Went} → AllowedExchange rules before line command events after went → IsNotTrusted events (trust_request_of line)
       → HasError code.NotTrusted Agent events
   allowed_denied doors.helped cause = absurd (none_read_of (Sent door_help ∷ []) (tt, tt) (read_first cause))
+  allowed_denied doors.unset cause = absurd (none_read_of (Sent ok ∷ []) (tt, tt) (read_first cause))
   allowed_denied (doors.trusts exchanged) cause = denial_is_said rules before.options exchanged cause
   allowed_denied (doors.any {events} exchanged) cause = absurd (none_read_of events (each_request IsBesideTrust (λ event is. is) (request_of line) exchanged) (read_first cause))
 
@@ -212,6 +225,7 @@ pub at_door : (door : Door) (rules : Rules) → Judging (DoorExchange door rules
 at_door door rules = record {
   judged = λ before line events after went possible exchanged. door_caused door rules before line possible exchanged;
   has_cause = λ before line events after went caused. caused.by_cause.caused;
+  goes_on = λ before line events after went possible exchanged. (door_judged door rules before line exchanged possible).goes_on;
   for_memory = λ before line events cause.
       wanted_by rules before line events (trust_command_named (command_of line)) (because rules before line events door code.NoMemory (λ e. absurd (cc e)) cause);
   by_failure = λ before line events cause.
@@ -226,11 +240,12 @@ module _ {rules : Rules} {before : Kept} {line : List ℕ} where
   allowed_is_session : {command : _} {events : List Event} {after : Kept} {went : Went} → AllowedExchange rules before line command events after went → command ≡ None
       → SessionExchange rules before line events after went
   allowed_is_session doors.helped is = absurd (cc is)
+  allowed_is_session doors.unset is = absurd (cc is)
   allowed_is_session (doors.trusts exchanged) is = absurd (cc is)
   allowed_is_session (doors.any exchanged) is = exchanged
 
   -- a line that is allowed, and whose command isn't the door's own
-  pub door_is_session : {door : Door} {events : List Event} {after : Kept} {went : Went} → DoorExchange door rules before line events after went → allowed door line ≡ true → door_command_named (command_of line) ≡ None
+  pub door_is_session : {door : Door} {events : List Event} {after : Kept} {went : Went} → DoorExchange door rules before line events after went → allowed door line ≡ true → door_command door line ≡ None
       → SessionExchange rules before line events after went
   door_is_session (doors.forbidden refuses) allows is = absurd (cc (refuses, allows))
   door_is_session (doors.is_allowed allows exchanged) allowing is = allowed_is_session exchanged is

@@ -47,9 +47,13 @@ use Rattle.agent_session.proofs.ExactKeys.{have_answered, by_said, NoFault, due_
 use Rattle.agent_session.proofs.ExactLong.{long_answered}
 use Rattle.agent_session.proofs.ExactParts.{Deciding, SaidDecides, IsDecided, NoneOwed, SaysTo, answer_free, decided_before, said_error}
 use Rattle.agent_session.proofs.ExactReads.{SentRefuses, IsUnlockable, FileRefuses, faulty, owes, read_refuses, by_file}
+use Rattle.std.specs.Option.{option_or}
 use Rattle.std.specs.Str.{str_to_ascii_lowercase}
 use Rattle.std.proofs.lemmas.Slice.Eq.{bytes_eq-Decides}
-use Rattle.agent_commands.specs.Requests.{request_of}
+use Rattle.agent_ask.specs.Plans.{text}
+use Rattle.agent_commands.specs.Names.{commands, prompt_commands, command_named as cache_command_named, is_key_command}
+use Rattle.agent_commands.specs.Requests.{request_of, request_by}
+use Rattle.agent_commands.specs.declared.names.CommandName.{CommandName}
 use Rattle.assuan_text.specs.Words.{command_of}
 use Rattle.trust_list.specs.Trust.{trust, with_entry}
 use Rattle.trust_list.specs.declared.TheConstants.{MAX_TRUST_FILE_LEN}
@@ -57,15 +61,17 @@ use Rattle.agent_origin.specs.DoorSessions.{AllowedExchange, DoorExchange}
 use Rattle.agent_origin.specs.DoorSessions as doors
 use Rattle.agent_origin.specs.TrustExchanges.{flag_of, Marked, TrustExchange}
 use Rattle.agent_origin.specs.TrustNames.{trust_command_named}
-use Rattle.agent_origin.specs.DoorSessions.{door_command_named}
+use Rattle.agent_origin.specs.DoorSessions.{door_command_named, door_command}
 use Rattle.assuan_server.specs.Written.{refusal_line}
 use Rattle.agent_origin.specs.TrustRequests.{trust_request_of}
+use Rattle.agent_origin.specs.Doors.{sets_terminal}
 use Rattle.agent_origin.specs.declared.door.Door.{Door}
 use Rattle.agent_origin.specs.declared.trust.names.TrustCommandName.{TrustCommandName}
 use Rattle.agent_origin.specs.declared.trust.names.TrustCommandName.TheVariants as name
 use Rattle.agent_origin.specs.declared.trust.request.TrustPurpose.{TrustPurpose}
 use Rattle.agent_origin.specs.declared.trust.request.TrustRequest.{TrustRequest}
 use Rattle.agent_origin.specs.declared.trust.request.TrustRequest.TheVariants.{MarkTrusted}
+use Rattle.agent_origin.proofs.OwnCommands.{own_command, not_own, terminal_set}
 use Rattle.agent_session.specs.DoorCauses.{read_trust}
 use Rattle.agent_session.proofs.DoorAnswering.{is_word, no_command, door_is_session}
 use Rattle.agent_session.proofs.ExactTrust.{ByLong, marked_long, due_trust, trust_answered}
@@ -260,6 +266,33 @@ help_only {help} {trust_it} other false true third so so_too is = absurd (other 
 help_only {help} {trust_it} other false false true so so_too is = absurd (other (let same : trust_it ≡ help = cc is in same))
 help_only other false false false so so_too is = absurd (cc is)
 
+-- nor is an option
+abbrev small_found : {X : Type 0} → List ℕ → List (List ℕ × X) → Option X
+small_found small [] = None
+small_found small (row ∷ rows) = cond (bytes_eq (str_to_ascii_lowercase row.0) small) (Some row.1) (small_found small rows)
+
+abbrev small_command : List ℕ → Option CommandName
+small_command small = option_or (small_found small commands) (small_found small prompt_commands)
+
+trusts_by : (small : List ℕ) (first second : Bool) → bytes_eq (str_to_ascii_lowercase (codes "ISTRUSTED")) small ≡ first → bytes_eq (str_to_ascii_lowercase (codes "MARKTRUSTED")) small ≡ second → {found : TrustCommandName}
+    → cond first (Some name.IsTrusted) (cond second (Some name.MarkTrusted) None) ≡ Some found → small_command small ≡ None
+trusts_by small true second is is_second same = subst (λ (s : List ℕ). small_command s ≡ None) ((bytes_eq-Decides (str_to_ascii_lowercase (codes "ISTRUSTED")) small).0 is) refl
+trusts_by small false true is is_second same = subst (λ (s : List ℕ). small_command s ≡ None) ((bytes_eq-Decides (str_to_ascii_lowercase (codes "MARKTRUSTED")) small).0 is_second) refl
+trusts_by small false false is is_second same = cc same
+
+no_cache_command : (word : List ℕ) {found : TrustCommandName} → trust_command_named word ≡ Some found → cache_command_named word ≡ None
+unfolding trust_command_named cache_command_named
+no_cache_command word is = trusts_by (str_to_ascii_lowercase word) (is_word (codes "ISTRUSTED") word) (is_word (codes "MARKTRUSTED") word) refl refl is
+
+unset_by : (keys : Bool) (line : List ℕ) → sets_terminal (cond keys (OnKeys (text line)) (Bad code.UnknownCommand)) ≡ false
+unset_by true line = refl
+unset_by false line = refl
+
+not_on_trust : (line : List ℕ) {found : TrustCommandName} → trust_command_named (command_of line) ≡ Some found → sets_terminal (request_of line) ≡ false
+unfolding request_of
+not_on_trust line is =
+    subst (λ (c : Option CommandName). sets_terminal (request_by c line) ≡ false) (sym (no_cache_command (command_of line) is)) (unset_by (is_key_command (command_of line)) line)
+
 help_by : (small : List ℕ) → bytes_eq (str_to_ascii_lowercase (codes "HELP")) small ≡ true → str_to_ascii_lowercase (codes "HELP") ≡ small
 help_by small is = (bytes_eq-Decides (str_to_ascii_lowercase (codes "HELP")) small).0 is
 
@@ -320,16 +353,19 @@ module _ (rules : Rules) (before : Kept) where
   trust_cause request exchanged remembers _ cause = absurd cause
 
   module _ (one_canon : (file : List ℕ) (a b : Option (List ℕ)) → Canon file a → Canon file b → a ≡ b) (line : List ℕ) where
-    trust_allowed : {command : _} {found : TrustCommandName} {events : List Event} {after : Kept} {went : Went} → AllowedExchange rules before line command events after went → door_command_named (command_of line) ≡ command
+    trust_allowed : (door : Door) {command : _} {found : TrustCommandName} {events : List Event} {after : Kept} {went : Went} → AllowedExchange rules before line command events after went → door_command door line ≡ command
         → trust_command_named (command_of line) ≡ Some found → TrustExchange rules before.options (trust_request_of line) events went
     unfolding door_command_named trust_command_named
-    trust_allowed {found} doors.helped is named =
+    trust_allowed door {found} doors.helped is named =
         let word = command_of line in
         let none : trust_command_named (command_of line) ≡ None = help_only (λ e. absurd (cc e)) (is_word (codes "HELP") word) (is_word (codes "ISTRUSTED") word) (is_word (codes "MARKTRUSTED") word) (λ help. other_trusted word help)
-        (λ help. other_marked word help) is in
+        (λ help. other_marked word help) (own_command door line (λ e. absurd (cc e)) is) in
         absurd (cc (none, named))
-    trust_allowed (doors.trusts exchanged) is named = exchanged
-    trust_allowed {found} (doors.any exchanged) is named = let none : trust_command_named (command_of line) ≡ None = no_command (command_of line) is in absurd (cc (none, named))
+    trust_allowed door doors.unset is named = absurd (cc (terminal_set door line is, not_on_trust line named))
+    trust_allowed door (doors.trusts exchanged) is named = exchanged
+    trust_allowed door {found} (doors.any exchanged) is named =
+        let none : trust_command_named (command_of line) ≡ None = no_command (command_of line) (not_own door line is) in
+        absurd (cc (none, named))
 
     pub door_cause : (door : Door) {events : List Event} {after : Kept} {went : Went} → DoorExchange door rules before line events after went → AllByRecursion Remembers events → (why : Code)
         → ExactCauseAtDoor door rules before line events why → HasError why Agent events
@@ -337,6 +373,6 @@ module _ (rules : Rules) (before : Kept) where
     door_cause door (doors.forbidden refuses) remembers why (on_trust allows named cause) = absurd (cc (refuses, allows))
     door_cause door (doors.forbidden refuses) remembers why (any allows named cause) = absurd (cc (refuses, allows))
     door_cause door (doors.is_allowed allows exchanged) remembers why (forbidden refuses) = absurd (cc (refuses, allows))
-    door_cause door (doors.is_allowed allows exchanged) remembers why (on_trust allows_too named cause) = trust_cause _ (trust_allowed exchanged refl named) remembers why cause
+    door_cause door (doors.is_allowed allows exchanged) remembers why (on_trust allows_too named cause) = trust_cause _ (trust_allowed door exchanged refl named) remembers why cause
     door_cause door (doors.is_allowed allows exchanged) remembers why (any allows_too named cause) =
         cause_answered one_canon rules before (request_of line) (door_is_session (doors.is_allowed allows exchanged) allows named) remembers why cause

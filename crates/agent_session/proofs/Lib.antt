@@ -30,7 +30,7 @@ mod KeyParts
 mod KeyRequests
 mod KeyWorks
 mod LineFaults
-mod LongLines
+pub mod LongLines
 mod Opens
 mod OwnCache
 mod OwnFacts

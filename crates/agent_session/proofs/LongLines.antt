@@ -232,6 +232,7 @@ request_gone {rules} {before} (Key line) (keys exchange) says = ap went_after_ke
 allowed_gone : {rules : Rules} {before after : Kept} {line : List ℕ} {command : _} {events : List Event} {went : Went} {how : Gone} → AllowedExchange rules before line command events after went
     → IsSaid events (unheard.Gone how) → went ≡ End (end_of how)
 allowed_gone doors.helped says = absurd (heard_so _ (refl, tt) says)
+allowed_gone doors.unset says = absurd (heard_so _ (refl, tt) says)
 allowed_gone (doors.trusts exchanged) says = trust_gone _ _ _ exchanged says
 allowed_gone {line} (doors.any exchanged) says = request_gone (request_of line) exchanged says
 
@@ -250,6 +251,7 @@ trust_told rules options request exchanged = line_told rules options request (to
 allowed_told : {rules : Rules} {before after : Kept} {line : List ℕ} {command : _} {events : List Event} {went : Went} → AllowedExchange rules before line command events after went → went ≡ End TooLong
     → Has long_line events
 allowed_told doors.helped is = absurd (cc is)
+allowed_told doors.unset is = absurd (cc is)
 allowed_told (doors.trusts exchanged) is = trust_told _ _ _ exchanged is
 allowed_told (doors.any exchanged) is = end_told exchanged is
 

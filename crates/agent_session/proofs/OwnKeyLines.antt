@@ -196,7 +196,7 @@ module _ (rules : Rules) (kept : Kept) where
     refusal_told first (Client why) each = code_told first (refusal_code why) each
 
     noted : (some : List Event) (result : Result KeyReply Refusal) (held : Option ℕ) → KeyReplies rules kept.options kept.wraps asked None some result held → AllByRecursion IsNoted some
-    noted some result held does = (key_replies (each_carries IsNoted work_noted) rules kept.options kept.wraps asked).of None some result held does
+    noted some result held does = (key_replies (each_carries IsNoted work_noted) rules kept.options refl kept.wraps asked).of None some result held does
 
     keys_told : (request : Request) → on_keys request ≡ Some asked → {some : List Event} {after : WrapKeys} {went : KeyWent} → KeyExchange rules kept.options kept.wraps asked some after went
         → TellsOfKeysAlone kept.wraps asked some

@@ -6,7 +6,7 @@ use Rattle.agent_ask.specs.Answering.{WholeOrCut, whole, cut}
 use Rattle.agent_ask.specs.Further.{FurtherEvent}
 use Rattle.agent_ask.specs.SessionEvents.{Received, Sent, Cut, Inquiry, CacheTurn, Further, cache_turn, CutAtLast}
 use Rattle.assuan_line.specs.declared.reader.Took.TheVariants as took
-use Rattle.assuan_server.specs.Written.{failed}
+use Rattle.assuan_server.specs.Written.{failed, ok}
 use Rattle.session_client.specs.declared.code.Code.TheVariants.{Forbidden, LineTooLong}
 use Rattle.cache_policy.specs.Turns.{Turn}
 use Rattle.cache_policy.specs.declared.mark.MarkStep.{MarkStep}
@@ -62,6 +62,7 @@ idle_own line events each =
 module _ {rules : Rules} {before : Kept} (line : List ℕ) where
   allowed_own : {command : _} {events : List (EventWith FurtherEvent)} {after : Kept} {went : Went} → AllowedExchange rules before line command events after went → Fit events → LineOwn line events
   allowed_own doors.helped fits = idle_own line (Sent door_help ∷ []) ((tt, tt), tt)
+  allowed_own doors.unset fits = idle_own line (Sent ok ∷ []) ((tt, tt), tt)
   allowed_own (doors.trusts {events} exchanged) fits = idle_own line events (trust_idle rules before.options (trust_request_of line) exchanged)
   allowed_own (doors.any exchanged) fits = exchange_own line exchanged fits
 

@@ -32,12 +32,12 @@ still_idle (Received took) still = absurd still
 abbrev Idle : List Event → Type 0
 Idle events = AllByRecursion IsIdle events
 
-idle_laws : TrustLaws (λ A. Does Idle) (λ A. Does Idle)
-idle_laws = record {
+idle_laws : (options : OptionValues) → TrustLaws options (λ A. Does Idle) (λ A. Does Idle)
+idle_laws options = record {
   joins = does_join (each_append IsIdle) (λ some each. each);
   nothing = record { of = λ held result. tt };
   seats = each_seats IsIdle (λ turn. ((λ hands. elim hands [ ]), tt));
-  agrees = agrees_to IsIdle still_idle (λ event. (tt, tt));
+  agrees = λ rules. agrees_to IsIdle still_idle (λ event. (tt, tt)) rules options;
   reads = each_reads IsIdle (λ call. (tt, tt));
   adds = λ file fingerprint purpose. each_adds IsIdle (tt, tt) file fingerprint _;
   replaces = each_replaces IsIdle (λ call. (tt, tt));
@@ -48,8 +48,8 @@ answer_idle = each_answer IsIdle (λ number turn. (kept_none number, tt)) (λ te
 
 module _ (rules : Rules) (options : OptionValues) where
   told_idle : (request : TrustRequest) {events : List Event} {went : Went} → Told rules options request events went → Idle events
-  told_idle request (answered events back does closes) = each_append IsIdle events _ ((carried_so idle_laws rules options request).of None events (Ok tt) _ does) (answer_idle (Some ok) closes)
-  told_idle request (refused events back why does closes) = each_append IsIdle events _ ((carried_so idle_laws rules options request).of None events (Err why) _ does) (answer_idle (refusal_line why) closes)
+  told_idle request (answered events back does closes) = each_append IsIdle events _ ((carried_so (idle_laws options) rules request).of None events (Ok tt) _ does) (answer_idle (Some ok) closes)
+  told_idle request (refused events back why does closes) = each_append IsIdle events _ ((carried_so (idle_laws options) rules request).of None events (Err why) _ does) (answer_idle (refusal_line why) closes)
 
   pub trust_idle : (request : TrustRequest) {events : List Event} {went : Went} → TrustExchange rules options request events went → Idle events
   trust_idle request exchanged = told_idle request (told rules options request exchanged)

@@ -28,16 +28,18 @@ use Rattle.cache_policy.specs.Turns.{Turn, Refused, MayWantMemory}
 use Rattle.cache_policy.specs.declared.mark.MarkStep.{MarkStep}
 use Rattle.key_commands.specs.Events.{Event as SessionEvent}
 use Rattle.session_options.specs.declared.rules.Rules.{Rules}
-use Rattle.agent_session.specs.Completeness.{Exchanges, Causes, IsAnsweredBy}
-use Rattle.agent_session.specs.RunExchanges.{Between, LinkBytes, with_link, Saying, ExchangeBetween, LawfulRequest, LawfulExchange}
+use Rattle.agent_session.specs.Completeness.{Exchanges as Relations, Causes, IsAnsweredBy}
+use Rattle.agent_session.specs.Exactly.{EndsTooLong}
+use Rattle.agent_session.specs.RunExchanges.{Between, LinkBytes, with_link, Saying, ExchangeBetween, LawfulRequest, LawfulExchange, LawfulSession}
 use Rattle.agent_session.proofs.Answering.{Judging}
 use Rattle.agent_session.proofs.AtOnce.{all_fit, at_once, each_calm}
 use Rattle.agent_session.proofs.Completing.{failures_rise, all_possible, never_absent}
 use Rattle.agent_session.proofs.Counting.{counts_failures}
 use Rattle.agent_session.proofs.Fair.{first_fair, alone_first}
 use Rattle.agent_session.proofs.KeyExplained.{exchange_caused}
-use Rattle.agent_session.proofs.OwnCache.{request_says_own}
+use Rattle.agent_session.proofs.OwnCache.{request_own, request_says_own}
 use Rattle.agent_session.proofs.OwnKeyLines.{request_told}
+use Rattle.agent_session.proofs.OwnParts.{own_at}
 use Rattle.agent_session.proofs.RefusedCourses.{caused_refuses, refused_course}
 use Rattle.agent_session.proofs.SessionCourses.{request_course}
 use Rattle.agent_session.proofs.Uncaused.{ok_by}
@@ -141,9 +143,10 @@ module _ {D P : Type 0} (turned : D → MarkStep → Turn → D → Type 0) (pro
             (caused_refuses fits rules kept (request_of line) own ((exchange_caused rules kept line (never_absent possible) exchange).caused why Agent has));
         own = request_says_own (request_of line) exchange;
         of_keys = λ asked is. request_told rules kept (request_of line) is exchange;
+        stores = λ front back asked turn is hands. own_at (request_of line) [] events front asked turn back (request_own (request_of line) exchange fits) is hands;
       }
 
-  module _ {relation caused : Exchanges} {cause : Causes} {unprompted : Kept → List ℕ → List SessionEvent → Type 0} (judging : Judging relation caused cause unprompted)
+  module _ {relation caused : Relations} {cause : Causes} {unprompted : Kept → List ℕ → List SessionEvent → Type 0} (judging : Judging relation caused cause unprompted)
       (answered : (before : Kept) (line : List ℕ) (events : List SessionEvent) (after : Kept) (went : Went) → caused before line events after went → IsAnsweredBy went events)
       (IsOfEvery : List ℕ → Type 0) (of_every : (before : Kept) (line : List ℕ) (events : List SessionEvent) (after : Kept) (went : Went) → relation before line events after went → IsOfEvery line
       → SessionExchange rules before line events after went) where
@@ -155,7 +158,21 @@ module _ {D P : Type 0} (turned : D → MarkStep → Turn → D → Type 0) (pro
         record {
           request = λ is. lawful_request line so (of_every before.kept line events after.kept went exchange is) leads;
           raised = failures_rise turned prompted at calls leads;
+          goes_on = judging.goes_on before.kept line events after.kept went (all_possible turned prompted at calls leads) exchange;
           counted = counts_failures turned prompted at calls (with_link link before) (with_link link_now after) events leads;
           uncaused = λ never. ok_by events (λ why origin has. never why origin (judging.has_cause before.kept line events after.kept went is_caused why origin has)) went
               (answered before.kept line events after.kept went is_caused);
         }
+
+-- ---- sessions as a whole
+
+module _ {D P : Type 0} (turned : D → MarkStep → Turn → D → Type 0) (prompted : P → Call → P → Type 0) (at : P → AtPrompter)
+    (calls : (before : P) (call : Call) (after : P) → prompted before call after → IsCall (at before) call (at after)) {supply : Supply} where
+  pub lawful_session : {Exchanges : Type 0} {before after : Outside (FurtherWorld turned prompted)} {events : List SessionEvent} {end : SessionEnd} → Exchanges → EndsTooLong events end
+      → Leads (Does (FurtherWorld turned prompted) supply) before events after → LawfulSession at Exchanges events end before.ends after.ends
+  lawful_session {before} {after} {events} exchanges too_long leads = record {
+    exchanges = exchanges;
+    too_long = too_long;
+    raised = failures_rise turned prompted at calls leads;
+    counted = counts_failures turned prompted at calls before after events leads;
+  }

@@ -149,19 +149,19 @@ module _ (Back : List Event → Type 0) (none_back : Back []) where
   replaces_of file _ _ _ _ parts.faulted = decided [] _ tt refl none_back refl
   replaces_of file _ _ _ _ parts.no_memory = decided [] _ tt refl none_back refl
 
-  end_laws : TrustLaws (λ A. StepLaw) (λ A. EndLaw)
-  end_laws = record {
+  end_laws : (options : OptionValues) → TrustLaws options (λ A. StepLaw) (λ A. EndLaw)
+  end_laws options = record {
     joins = record { then = λ some later stepped ends. prepend some stepped ends; alone = λ stepped. as_refused stepped };
     nothing = record { of = λ held result. goes tt };
     seats = steps (each_seats IsUndecided (λ turn. refl));
-    agrees = λ rules options question. steps (agrees_to IsUndecided still_undecided (λ event. refl) rules options question);
+    agrees = λ rules question. steps (agrees_to IsUndecided still_undecided (λ event. refl) rules options question);
     reads = record { of = reads_of };
     adds = λ file fingerprint purpose. steps (each_adds IsUndecided refl file fingerprint _);
     replaces = λ file. record { of = replaces_of file };
   }
 
 carried : (rules : Rules) (options : OptionValues) (request : TrustRequest) → Within (Carried rules options request) (EndLaw NoBack no_back)
-carried = carried_so (end_laws NoBack no_back)
+carried rules options = carried_so (end_laws NoBack no_back options) rules
 
 -- a ticket that is still held is given back
 with_back : {held : Option ℕ} {events back : List Event} {result : _} → Come NoBack {A = Unit {0}} events result → Closes None held back (Ok tt) None → Come IsBack {A = Unit {0}} (events ++ back) result
@@ -209,6 +209,7 @@ trust_ends rules options request exchanged = told_ends rules options request (to
 module _ {rules : Rules} {before : Kept} {line : List ℕ} where
   allowed_ends : {command : _} {events : List Event} {after : Kept} {went : Went} → AllowedExchange rules before line command events after went → EndsAtCalls events
   allowed_ends doors.helped = ((λ text is. absurd (cc is)), tt)
+  allowed_ends doors.unset = ((λ text is. absurd (cc is)), tt)
   allowed_ends (doors.trusts exchanged) = trust_ends _ _ _ exchanged
   allowed_ends (doors.any {events = own} exchanged) = none_ends own (beside_undecided own (each_request IsBesideTrust (λ event is. is) (request_of line) exchanged))
 

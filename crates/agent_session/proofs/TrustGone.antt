@@ -39,12 +39,12 @@ gone_joins = record {
   alone = λ first how says. let same : Err _ ≡ Err _ = first how says in ap (λ r. Err r) (cc same);
 }
 
-gone_laws : TrustLaws (λ A. GoneLaw) (λ A. GoneLaw)
-gone_laws = record {
+gone_laws : (options : OptionValues) → TrustLaws options (λ A. GoneLaw) (λ A. GoneLaw)
+gone_laws options = record {
   joins = gone_joins;
   nothing = record { of = λ held result how says. absurd (heard_so [] tt says) };
   seats = heard (each_seats IsHeard (λ turn. refl));
-  agrees = λ rules options question.
+  agrees = λ rules question.
       weaker (record { of = λ before events result after works how says. gone_only (works_said (λ event. Unit {0}) works says) }) (agrees_to (λ event. Unit {0}) (λ event. tt) (λ pid inquired. tt) rules options question);
   reads = heard (each_reads IsHeard (λ call. refl));
   adds = λ file fingerprint purpose. heard (each_adds IsHeard refl file fingerprint _);
@@ -53,9 +53,9 @@ gone_laws = record {
 
 told_gone : (rules : Rules) (options : OptionValues) (request : TrustRequest) {events : List Event} {went : Went} {how : Gone} → Told rules options request events went
     → IsSaid events (unheard.Gone how) → went ≡ End (end_of how)
-told_gone rules options request {how} (answered events back does closes) says = absurd (cc ((carried_so gone_laws rules options request).of None events (Ok tt) _ does how (said_before events _ (answer_heard (Some ok) closes) says)))
+told_gone rules options request {how} (answered events back does closes) says = absurd (cc ((carried_so (gone_laws options) rules request).of None events (Ok tt) _ does how (said_before events _ (answer_heard (Some ok) closes) says)))
 told_gone rules options request {how} (refused events back why does closes) says =
-    let same : Err why ≡ Err (Client (unheard.Gone how)) = (carried_so gone_laws rules options request).of None events (Err why) _ does how (said_before events _ (answer_heard (refusal_line why) closes) says) in
+    let same : Err why ≡ Err (Client (unheard.Gone how)) = (carried_so (gone_laws options) rules request).of None events (Err why) _ does how (said_before events _ (answer_heard (refusal_line why) closes) says) in
     let refusal : why ≡ Client (unheard.Gone how) = cc same in
     ap (λ w. went_after (gone_by w)) refusal
 

@@ -36,7 +36,7 @@ use Rattle.trust_list.specs.declared.TheConstants.{MAX_TRUST_FILE_LEN}
 use Rattle.agent_origin.specs.Doors.{allowed}
 use Rattle.agent_origin.specs.TrustExchanges.{flag_of}
 use Rattle.agent_origin.specs.TrustNames.{trust_command_named}
-use Rattle.agent_origin.specs.DoorSessions.{door_command_named}
+use Rattle.agent_origin.specs.DoorSessions.{door_command}
 use Rattle.agent_origin.specs.TrustRequests.{trust_request_of}
 use Rattle.agent_origin.specs.declared.door.Door.{Door}
 use Rattle.agent_origin.specs.declared.kept.Kept.{Kept}
@@ -122,12 +122,13 @@ module _ (events : List Event) (request : TrustRequest) where
   ExactTrustCause code.LineTooLong = IsSaid events (unheard.Gone gone.TooLong)
   ExactTrustCause _ = ⊥
 
--- the same causes of a line: it isn't allowed, it is a request on the trust list, or one of any session. HELP is answered by the door itself.
+-- the same causes of a line: it isn't allowed, it is a request on the trust list, or one of any session. HELP, and an option of the terminal at the outer
+-- door, are answered by the door itself.
 pub data ExactCauseAtDoor (door : Door) (rules : Rules) (before : Kept) (line : List ℕ) (events : List Event) : Code → Type 0 where
   forbidden : allowed door line ≡ false → ExactCauseAtDoor door rules before line events code.Forbidden
   on_trust : {name : TrustCommandName} {why : Code} → allowed door line ≡ true → trust_command_named (command_of line) ≡ Some name → ExactTrustCause events (trust_request_of line) why
       → ExactCauseAtDoor door rules before line events why
-  any : {why : Code} → allowed door line ≡ true → door_command_named (command_of line) ≡ None → ExactCause events rules before (request_of line) why
+  any : {why : Code} → allowed door line ≡ true → door_command door line ≡ None → ExactCause events rules before (request_of line) why
       → ExactCauseAtDoor door rules before line events why
 
 -- ---- a line that is too long

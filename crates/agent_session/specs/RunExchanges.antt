@@ -1,20 +1,25 @@
 -- Exchanges of a session between the states of its desk and of its further ends, and what the laws on single requests say of each. This is the project's
 -- own.
 use Rattle.std.specs.List.{AllByRecursion}
-use Rattle.std.specs.Prelude.{◌≡◌, ℕ, List, Option, Some, None}
+use Rattle.std.specs.Prelude.{◌≡◌, ◌≢◌, ℕ, List, Option, Some, None}
 use Rattle.agent_ask.specs.Events.{Call}
+use Rattle.agent_ask.specs.Further.{FurtherEnds}
 use Rattle.agent_ask.specs.Prompters.{AtPrompter}
 use Rattle.agent_ask.specs.Worlds.{Outside, Does}
 use Rattle.agent_commands.specs.Events.{EventWith}
 use Rattle.agent_commands.specs.Outside.{World}
 use Rattle.agent_commands.specs.Requests.{request_of}
+use Rattle.agent_commands.specs.declared.went.SessionEnd.{SessionEnd}
 use Rattle.agent_commands.specs.declared.went.Went.{Went}
+use Rattle.agent_commands.specs.declared.went.Went.TheVariants.{On}
 use Rattle.agent_origin.specs.FurtherStates.{FurtherWorld}
 use Rattle.agent_origin.specs.Sessions.{LineRelation}
 use Rattle.agent_origin.specs.declared.kept.Kept.{Kept}
 use Rattle.agent_ports.specs.Leads.{Leads}
 use Rattle.assuan_server.specs.Reading.{Supply}
 use Rattle.session_client.specs.declared.code.Code.{Code}
+use Rattle.session_client.specs.declared.code.Code.TheVariants.{LineTooLong}
+use Rattle.assuan_server.specs.declared.errors.Origin.{Origin}
 use Rattle.assuan_server.specs.declared.errors.Origin.TheVariants.{Agent}
 use Rattle.cache_policy.specs.Turns.{Turn}
 use Rattle.cache_policy.specs.declared.mark.MarkStep.{MarkStep}
@@ -24,7 +29,9 @@ use Rattle.key_commands.specs.declared.request.KeyRequest.{KeyRequest}
 use Rattle.agent_session.specs.Causes.{on_keys}
 use Rattle.agent_session.specs.Completeness.{Causes, Remembers, IsStopped, HasError, AnswersAtOnce, FailuresRise, IsUncaused, IsAnsweredOk}
 use Rattle.agent_session.specs.Counting.{CountsFailures}
+use Rattle.agent_session.specs.Exactly.{EndsTooLong}
 use Rattle.agent_session.specs.OwnAnswers.{SaysOwnAlone, TellsOfKeysAlone}
+use Rattle.agent_session.specs.OwnPassphrases.{StoresOwnAlone}
 use Rattle.agent_session.specs.Refusals.{AnswersAlone, IsOwnCode, RefusedCourse}
 
 -- ---- exchanges between two states
@@ -72,6 +79,8 @@ pub record LawfulRequest (rules : Rules) (kept : Kept) (Spares : Type 0) (line :
   -- a passphrase is written to the request that asked for it, and none to one on keys
   pub own : on_keys (request_of line) ≡ None → SaysOwnAlone rules (request_of line) events
   pub of_keys : (asked : KeyRequest) → on_keys (request_of line) ≡ Some asked → TellsOfKeysAlone kept.wraps asked events
+  -- what it hands to the cache is its own
+  pub stores : StoresOwnAlone (request_of line) events
 
 -- What they say of the exchange of a line, which may be one of every session.
 pub record LawfulExchange {D P : Type 0} (turned : D → MarkStep → Turn → D → Type 0) (prompted : P → Call → P → Type 0) (at : P → AtPrompter) (rules : Rules) (cause : Causes)
@@ -81,5 +90,15 @@ pub record LawfulExchange {D P : Type 0} (turned : D → MarkStep → Turn → D
   -- a failure in it raised its count, and at most as many failed on an end as its count rose by
   pub raised : FailuresRise at events before.ends after.ends
   pub counted : CountsFailures at events before.ends after.ends
+  -- after an error line the session goes on, unless that is Line too long
+  pub goes_on : (why : Code) (origin : Origin) → HasError why origin events → why ≢ LineTooLong → went ≡ On
   -- without a cause for an error it is answered by OK
   pub uncaused : IsUncaused cause before.kept line events → IsAnsweredOk went events
+
+-- What they say of a session as a whole, beside what its exchanges are: where a line was too long it ends by that, unless a write failed, and its client is told so exactly where it ends by
+-- that; a failure in it raised its count, and at most as many failed on an end as its count rose by, from before the session to behind it.
+pub record LawfulSession {P : Type 0} (at : P → AtPrompter) (Exchanges : Type 0) (events : List SessionEvent) (end : SessionEnd) (before after : FurtherEnds P) : Type 0 where
+  pub exchanges : Exchanges
+  pub too_long : EndsTooLong events end
+  pub raised : FailuresRise at events before after
+  pub counted : CountsFailures at events before after

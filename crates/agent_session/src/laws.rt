@@ -8,7 +8,7 @@ ghost use Rattle.assuan_text.specs.Words.{command_of};
 ghost use Rattle.key_commands.specs.Events.{Event};
 ghost use Rattle.key_commands.specs.Names.{commands_on_keys as read_commands};
 ghost use Rattle.session_options.specs.declared.rules.Rules.{Rules};
-ghost use Rattle.agent_origin.specs.DoorSessions.{DoorExchange, ServesDoor, door_command_named};
+ghost use Rattle.agent_origin.specs.DoorSessions.{DoorExchange, ServesDoor, door_command};
 ghost use Rattle.agent_origin.specs.Doors.{allowed};
 ghost use Rattle.agent_origin.specs.FurtherStates.{FurtherWorld};
 ghost use Rattle.agent_origin.specs.SessionExchanges.{SessionExchange};
@@ -36,13 +36,13 @@ pub fn a_session_extends_a_run<D: Desk, P: Prompter>()
     turns_extend_a_run::<D>();
 }
 
-/// What is done for a line that is allowed at its session's door, and whose command isn't the
-/// door's own, is what a session without doors does for it. So each law on such requests, as those
+/// What is done for a line that is allowed at its session's door, and that isn't the door's own to
+/// answer, is what a session without doors does for it. So each law on such requests, as those
 /// of what stands after a refusal, is one on this line.
 pub fn an_exchange_at_a_door_is_a_sessions()
     ensures { (door : Door) (rules : Rules) (kept now : Kept) (line : List ℕ)
         (events : List Event) (went : Went) → DoorExchange door rules kept line events now went
-        → allowed door line ≡ true → door_command_named (command_of line) ≡ None
+        → allowed door line ≡ true → door_command door line ≡ None
         → SessionExchange rules kept line events now went }
 {}
 

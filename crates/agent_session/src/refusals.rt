@@ -54,11 +54,17 @@ pub fn a_refused_request_does_nothing_more<D: Desk, P: Prompter>()
 {}
 
 /// After an error line the session goes on, so after `Cannot allocate memory` too. One alone ends
-/// it: that a line of the client's was too long.
+/// it: that a line of the client's was too long. The same of a line at a door.
 pub fn a_session_goes_on_after_an_error<D: Desk, P: Prompter>()
-    ensures { (rules : Rules) (kept now : Kept) (line : List ℕ) (events : List Event)
+    ensures session { (rules : Rules) (kept now : Kept) (line : List ℕ) (events : List Event)
         (went : Went) (supply : Supply) (before after : Outside (FurtherWorld D.turned P.prompted))
         (why : Code) (origin : Origin) → SessionExchange rules kept line events now went
+        → Leads (Does (FurtherWorld D.turned P.prompted) supply) before events after
+        → HasError why origin events → why ≢ LineTooLong → went ≡ On }
+    ensures door { (door : Door) (rules : Rules) (kept now : Kept) (line : List ℕ)
+        (events : List Event) (went : Went) (supply : Supply)
+        (before after : Outside (FurtherWorld D.turned P.prompted)) (why : Code) (origin : Origin)
+        → DoorExchange door rules kept line events now went
         → Leads (Does (FurtherWorld D.turned P.prompted) supply) before events after
         → HasError why origin events → why ≢ LineTooLong → went ≡ On }
 {}

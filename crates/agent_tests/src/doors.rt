@@ -78,7 +78,7 @@ const OTHER: Child = ("Really send", "OK\n", "CONFIRM\nBYE\n");
 const NOT_TRUSTED: &str = "ERR 67108962 Not trusted <GPG Agent>\n";
 
 /// Of requests on the list alone.
-const LISTS: [Row; 13] = [
+const LISTS: [Row; 14] = [
     // There is no list; digits are of either case, and further words are skipped.
     Row {
         sent: "ISTRUSTED {A*40}\n",
@@ -168,6 +168,15 @@ const LISTS: [Row; 13] = [
         door: Door::Outer,
         sent: "GET_CONFIRMATION Really+send\nGETINFO version\nRESET\nBYE\n",
         answered: "OK\nD 2.4.0\nOK\nOK\nOK closing connection\n",
+        children: &[OTHER],
+        launched: 1,
+        ..PLAIN
+    },
+    // Its prompt isn't told the terminal and the language of the other machine.
+    Row {
+        door: Door::Outer,
+        sent: "OPTION ttyname=/home/a/.bashrc\noption --ttytype = dumb\nOPTION lc-ctype=C\nOPTION lc-messages=C\nOPTION ttyname={a*256}\nGET_CONFIRMATION Really+send\n",
+        answered: "{OK\n*6}",
         children: &[OTHER],
         launched: 1,
         ..PLAIN

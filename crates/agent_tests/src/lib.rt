@@ -7,8 +7,6 @@
 #[cfg(test)]
 mod asking;
 #[cfg(test)]
-mod daemon;
-#[cfg(test)]
 mod dialogues;
 #[cfg(test)]
 mod doors;
@@ -31,8 +29,6 @@ mod keys;
 #[cfg(test)]
 mod large_keys;
 #[cfg(test)]
-mod load;
-#[cfg(test)]
 mod options;
 #[cfg(test)]
 mod pinentry;
@@ -44,8 +40,6 @@ mod requests;
 mod rows;
 #[cfg(test)]
 mod script;
-#[cfg(test)]
-mod serving;
 #[cfg(test)]
 mod sessions;
 #[cfg(test)]

@@ -348,7 +348,7 @@ const PRESETS: &str =
 
 /// The words, what the client sends, the status, and a part of what it is answered, with the
 /// programs that were launched.
-const WORDS: [(&[&str], &str, u8, &str); 12] = [
+const WORDS: [(&[&str], &str, u8, &str); 11] = [
     (
         &["--server", "--allow-preset-passphrase"],
         PRESETS,
@@ -364,12 +364,6 @@ const WORDS: [(&[&str], &str, u8, &str); 12] = [
     (&["--server"], PRESETS, 0, "Not supported"),
     (&["--server"], PRESETS, 0, "D 17\n"),
     (&["--server", "--server"], PRESETS, 2, ""),
-    (
-        &["--load=1"],
-        PRESETS,
-        0,
-        "sessions 64 requests 12864 marks ",
-    ),
     (&["--load=4294967296"], PRESETS, 2, ""),
     (&["--load", "4294967296"], PRESETS, 2, ""),
     (&["--server", "--homedir="], PRESETS, 2, ""),
@@ -393,12 +387,11 @@ const WORDS: [(&[&str], &str, u8, &str); 12] = [
     ),
 ];
 
-/// The words, and the folder at which they have the host settled.
-const FOLDERS: [(&[&str], &str); 5] = [
+/// The words, and the folder at which they have the host settled. (Of a load `daemon_tests`.)
+const FOLDERS: [(&[&str], &str); 4] = [
     (&["--server"], "."),
     (&["--server", "--homedir", "/h"], "/h"),
     (&["--homedir=a b", "--server"], "a b"),
-    (&["--load", "1", "--homedir=/h"], "/h"),
     (&["--server", "--homedir="], ""),
 ];
 
@@ -418,7 +411,7 @@ struct Run {
 }
 
 /// The status of the agent with these words, and what is written and launched.
-pub(crate) fn with_words<W: Threads + Wait + rt::Clock + Sync>(
+fn with_words<W: Threads + Wait + rt::Clock + Sync>(
     rt: &W,
     alloc: Global,
     words: &[&'static str],

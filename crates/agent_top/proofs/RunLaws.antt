@@ -17,7 +17,7 @@ use Rattle.agent_core.specs.Cores.{WantsMemory}
 use Rattle.agent_origin.specs.DoorSessions.{DoorExchange}
 use Rattle.agent_origin.specs.Doors.{allowed}
 use Rattle.agent_origin.specs.FurtherStates.{FurtherWorld}
-use Rattle.agent_origin.specs.DoorSessions.{door_command_named}
+use Rattle.agent_origin.specs.DoorSessions.{door_command}
 use Rattle.agent_origin.specs.SessionExchanges.{SessionExchange}
 use Rattle.agent_origin.specs.declared.door.Door.{Door}
 use Rattle.agent_origin.specs.declared.kept.Kept.{Kept}
@@ -33,7 +33,8 @@ use Rattle.agent_session.proofs.Answering.{in_session}
 use Rattle.agent_session.proofs.AtOnce.{all_fit}
 use Rattle.agent_session.proofs.DoorAnswering.{at_door, door_is_session}
 use Rattle.agent_session.proofs.Fair.{all_fair, alone}
-use Rattle.agent_session.proofs.RunExchanges.{session_between, lawful}
+use Rattle.agent_session.proofs.LongLines.{long_session, session_long, door_long}
+use Rattle.agent_session.proofs.RunExchanges.{session_between, lawful, lawful_session}
 use Rattle.agent_session.specs.Completeness.{IsStopped, SessionCauses}
 use Rattle.agent_session.specs.DoorCauses.{IsCausedAtDoor}
 use Rattle.agent_session.specs.Refusals.{AnswersAlone}
@@ -58,6 +59,7 @@ use Rattle.key_commands.specs.Events.{Event}
 use Rattle.pinentry_client.specs.Dialogues.{PinentryDoes}
 use Rattle.pinentry_client.specs.States.{AtPinentry, at_prompter}
 use Rattle.session_options.specs.declared.rules.Rules.{Rules}
+use Rattle.agent_top.proofs.Answered.{server_caused, daemon_caused}
 use Rattle.agent_top.specs.Runs.{IsWithinHistory, IsOfEverySession, IsLawfulRun, IsLawfulSession, RunHasPrompts}
 use Rattle.agent_top.specs.Top.{Machine, RunsServer, ran}
 use Rattle.agent_top.specs.Top as top
@@ -121,27 +123,31 @@ module _ (promise : (before : AtPinentry) (call : Call) (after : AtPinentry) →
 
   pub server_lawful : {rules : Rules} {before after : Machine} {number : ℕ} (runs : RunsServer rules before number after) → IsLawfulRun runs
   server_lawful {rules} {before} (ran run) =
-      session_between (SessionExchange rules) (LawfulExchange TurnsSolo PinentryDoes at_prompter rules (SessionCauses rules) (λ line. ⊤) IsWithinHistory) IsAlone event_leaves_alone
+      lawful_session TurnsSolo PinentryDoes at_prompter promise
+      (session_between (SessionExchange rules) (LawfulExchange TurnsSolo PinentryDoes at_prompter rules (SessionCauses rules) (λ line. ⊤) IsWithinHistory) IsAlone event_leaves_alone
       (lawful TurnsSolo PinentryDoes at_desk at_prompter (λ b asked turn a turns. turns.is) promise rules IsWithinHistory IsAlone (λ b asked a alone within refused. refused_turn_may_want_some b asked a alone within refused)
       (in_session rules) (λ b line events a went caused. caused.answered) (λ line. ⊤) (λ b line events a went exchange is. exchange))
-      _ _ (record { script = refl; nobody = refl }) run.served.session run.served.leads
+      _ _ (record { script = refl; nobody = refl }) run.served.session run.served.leads)
+      (long_session (session_long rules) (server_caused promise (ran run))) run.served.leads
   server_lawful top.no_memory = tt
 
   module _ {La C R K T : Type 0} {views : Views La C R K} {trusts : T → TrustState} {folder : InFolder K T} {rules : Rules} {door : Door} {session : SessionId} {before after : LinkSides} {pass now : AtPass} {end : SessionEnd}
       (one : ServesOne views trusts folder rules door session before pass end after now) where
     pub daemon_lawful : IsLawfulSession one
     daemon_lawful =
-        session_between (DoorExchange door rules)
+        lawful_session (CountedTurn (λ (readings : Readings). readings)) PinentryDoes at_prompter promise
+        (session_between (DoorExchange door rules)
         (LawfulExchange (CountedTurn (λ (readings : Readings). readings)) PinentryDoes at_prompter rules (IsCausedAtDoor door rules) (IsOfEverySession door) (λ (desk : AtCountedDesk Readings). ⊤))
         (λ (desk : AtCountedDesk Readings). ⊤) (λ b event a does so. tt)
         (lawful (CountedTurn (λ (readings : Readings). readings)) PinentryDoes (λ (desk : AtCountedDesk Readings). at_counted desk.pass desk.session desk.out) at_prompter
         (λ b asked turn a does. does.is) promise rules (λ (desk : AtCountedDesk Readings). ⊤) (λ (desk : AtCountedDesk Readings). ⊤) (λ b asked a so spares does. does.turns.memory refl)
         (at_door door rules) (λ b line events a went caused. caused.by_cause.answered) (IsOfEverySession door) (λ b line events a went exchange is. door_is_session exchange is.0 is.1))
-        _ _ tt one.served.session one.served.leads
+        _ _ tt one.served.session one.served.leads)
+        (long_session (door_long door rules) (daemon_caused promise one)) one.served.leads
 
 -- a request on the cache alone that is allowed wants no memory
 pub daemon_alone : {door : Door} {rules : Rules} {kept now : Kept} {line : List ℕ} {events : List Event} {went : Went} {supply : Supply} {before after : Outside (FurtherWorld (CountedTurn (λ (readings : Readings). readings)) PinentryDoes)}
-    → DoorExchange door rules kept line events now went → allowed door line ≡ true → door_command_named (command_of line) ≡ None
+    → DoorExchange door rules kept line events now went → allowed door line ≡ true → door_command door line ≡ None
     → Leads (Does (FurtherWorld (CountedTurn (λ (readings : Readings). readings)) PinentryDoes) supply) before events after → AllByRecursion (λ event. ¬ IsStopped event) events → AnswersAlone (request_of line) events
 daemon_alone {rules = rules} {line = line} exchange allows is leads still =
     alone rules (request_of line) (door_is_session exchange allows is)

@@ -22,7 +22,7 @@ use Rattle.agent_commands.specs.declared.went.Went.{Went}
 use Rattle.agent_core.specs.Cores.{mark_of}
 use Rattle.agent_origin.specs.DoorSessions.{DoorExchange, AllowedExchange, any, is_allowed}
 use Rattle.agent_origin.specs.FurtherStates.{FurtherWorld}
-use Rattle.agent_origin.specs.DoorSessions.{door_command_named}
+use Rattle.agent_origin.specs.DoorSessions.{door_command_named, door_command}
 use Rattle.agent_origin.specs.SessionExchanges.{SessionExchange}
 use Rattle.agent_origin.specs.Sessions.{ends_with, supply_of}
 use Rattle.agent_origin.specs.declared.door.Door.TheVariants.{Home}
@@ -156,7 +156,7 @@ world = FurtherWorld (CountedTurn (λ (clock : Readings). clock)) PinentryDoes
 
 -- ---- lines at the daemon's own door
 
-own_way : (line : List ℕ) → door_command_named (command_of line) ≡ None → {events : List Event} {went : Went} → SessionExchange rules (kept rules) line events (kept rules) went
+own_way : (line : List ℕ) → door_command Home line ≡ None → {events : List Event} {went : Went} → SessionExchange rules (kept rules) line events (kept rules) went
     → DoorExchange Home rules (kept rules) line events (kept rules) went
 own_way line named_none {events} {went} exchange = is_allowed refl (subst (λ c. AllowedExchange rules (kept rules) line c events (kept rules) went) (sym named_none) (any exchange))
 

@@ -1,6 +1,6 @@
 -- A worked restricted session of a daemon: it asks for a cached passphrase, which is Forbidden, and for the user's consent, for which the pinentry can't be started. What agent_serve says of
 -- such sessions, and the laws on a daemon's sessions, hold of it.
-use Rattle.std.specs.Prelude.{◌≡◌, ℕ, List, [], ◌∷◌, ◌++◌, true, false, Some, None, refl, ⊤}
+use Rattle.std.specs.Prelude.{◌≡◌, ℕ, List, [], ◌∷◌, ◌++◌, true, false, codes, Some, None, refl, ⊤}
 use Rattle.std.proofs.Common.{inl, lit<, lit≤, sym, subst}
 use Rattle.agent_ask.specs.Answering.{whole}
 use Rattle.agent_ask.specs.Doing.{called}
@@ -17,12 +17,14 @@ use Rattle.agent_commands.specs.declared.went.SessionEnd.TheVariants.{Bye}
 use Rattle.agent_commands.specs.declared.went.Went.{Went}
 use Rattle.agent_core.specs.Cores.{mark_of}
 use Rattle.agent_origin.proofs.OuterRuns.{leaves_desk}
+use Rattle.agent_origin.proofs.OuterPrompts.{session_unnamed}
 use Rattle.agent_origin.proofs.OuterSessions.{outer_leaves}
+use Rattle.agent_origin.specs.OuterPrompts.{no_words, PromptsName}
 use Rattle.agent_origin.proofs.Turning.{turns_lead}
-use Rattle.agent_origin.specs.DoorSessions.{DoorExchange, AllowedExchange, any, is_allowed, forbidden}
+use Rattle.agent_origin.specs.DoorSessions.{DoorExchange, AllowedExchange, any, unset, is_allowed, forbidden}
 use Rattle.agent_origin.specs.Doors.{allowed, rule_named}
 use Rattle.agent_origin.specs.FurtherStates.{FurtherWorld}
-use Rattle.agent_origin.specs.DoorSessions.{door_command_named}
+use Rattle.agent_origin.specs.DoorSessions.{door_command_named, door_command}
 use Rattle.agent_origin.specs.OuterRuns.{LeavesDesk}
 use Rattle.agent_origin.specs.OuterTurns.{LeavesCache}
 use Rattle.agent_origin.specs.SessionExchanges.{SessionExchange}
@@ -44,7 +46,7 @@ use Rattle.agent_serve.specs.Serves as serves
 use Rattle.agent_session.specs.Completeness.{CausedAtDoor}
 use Rattle.assuan_line.specs.Next.{next_of}
 use Rattle.assuan_line.specs.declared.reader.Took.TheVariants as took
-use Rattle.assuan_server.specs.Written.{failed, greeting}
+use Rattle.assuan_server.specs.Written.{failed, greeting, ok}
 use Rattle.assuan_text.specs.LineEnds.{line_of}
 use Rattle.assuan_text.specs.Words.{command_of}
 use Rattle.cache_policy.proofs.GrowingRuns.{legal_run_with_mark}
@@ -101,19 +103,23 @@ legal_2 = legal_run_with_mark limits (run_of_log (seated ∷ [])) _ given_back l
 
 -- ---- lines at the outer door
 
-own_way : (line : List ℕ) → allowed Outer line ≡ true → door_command_named (command_of line) ≡ None → {events : List Event} {went : Went} → SessionExchange rules (kept rules) line events (kept rules) went
+own_way : (line : List ℕ) → allowed Outer line ≡ true → door_command Outer line ≡ None → {events : List Event} {went : Went} → SessionExchange rules (kept rules) line events (kept rules) went
     → DoorExchange Outer rules (kept rules) line events (kept rules) went
 own_way line allows named_none {events} {went} exchange = is_allowed allows (subst (λ c. AllowedExchange rules (kept rules) line c events (kept rules) went) (sym named_none) (any exchange))
 
+-- the terminal of another machine
+abbrev terminal : List ℕ
+terminal = codes "OPTION ttyname=/dev/pts/3"
+
 abbrev events : List Event
 events =
-    Sent (line_of greeting) ∷ Received (took.Line get) ∷ Sent (failed code.Forbidden) ∷ Received (took.Line confirm) ∷ (unconfirmed ++ Received (took.Line bye) ∷ Sent closing ∷ [])
+    Sent (line_of greeting) ∷ Received (took.Line terminal) ∷ Sent ok ∷ Received (took.Line get) ∷ Sent (failed code.Forbidden) ∷ Received (took.Line confirm) ∷ (unconfirmed ++ Received (took.Line bye) ∷ Sent closing ∷ [])
 
 talk : Session (DoorExchange Outer rules) (kept rules) events Bye
 unfolding command_named door_command_named request_of rule_named
 talk =
-    talks.greeted (talks.goes_on get (whole (forbidden refl)) (talks.goes_on confirm (whole (own_way confirm refl refl is_unconfirmed))
-    (talks.over bye (whole (own_way bye refl refl (is_left rules))))))
+    talks.greeted (talks.goes_on terminal (whole (is_allowed refl unset)) (talks.goes_on get (whole (forbidden refl)) (talks.goes_on confirm (whole (own_way confirm refl refl is_unconfirmed))
+    (talks.over bye (whole (own_way bye refl refl (is_left rules)))))))
 
 -- ---- what it has to do with
 
@@ -127,10 +133,10 @@ abbrev trust_file : TrustState
 trust_file = record { file = None; faults = 0 }
 
 abbrev link : LinkSides
-link = link_of (side (lines (get ∷ confirm ∷ bye ∷ []))) (side [])
+link = link_of (side (lines (terminal ∷ get ∷ confirm ∷ bye ∷ []))) (side [])
 
 abbrev link_now : LinkSides
-link_now = link_of (side []) (side (line_of greeting ++ failed code.Forbidden ++ failed code.NoPinentry ++ closing))
+link_now = link_of (side []) (side (line_of greeting ++ ok ++ failed code.Forbidden ++ failed code.NoPinentry ++ closing))
 
 -- whichever table the lock is
 module _ (some : AtCounted) where
@@ -178,14 +184,16 @@ module _ (some : AtCounted) where
   unfolding next_of
   leads =
       one worlds.sent
-      (one (worlds.received {input = Some (lines (confirm ∷ bye ∷ []))} {source = Some []} (reads get refl refl) (takes_all (lines (get ∷ confirm ∷ bye ∷ [])) (lit≤ tt)))
+      (one (worlds.received {input = Some (lines (get ∷ confirm ∷ bye ∷ []))} {source = Some []} (reads terminal refl refl) (takes_all (lines (terminal ∷ get ∷ confirm ∷ bye ∷ [])) (lit≤ tt)))
+      (one worlds.sent
+      (one (worlds.received {input = Some (lines (confirm ∷ bye ∷ []))} {source = Some []} (reads get refl refl) (inl refl))
       (one worlds.sent
       (one (worlds.received {input = Some (lines (bye ∷ []))} {source = Some []} (reads confirm refl refl) (inl refl))
       (one (worlds.turned seats)
       (one (worlds.further (further.prompt (called (unlaunched {launches = launches_now} (record { coming = refl; launched = refl; finished = refl; rose = lit≤ tt; faults = lit≤ tt })))))
       (one (worlds.further (further.prompt (called shut_alone)))
       (one (worlds.turned gives_back) (one worlds.sent
-      (one (worlds.received {input = Some []} {source = Some []} (reads bye refl refl) (inl refl)) (one worlds.sent none))))))))))
+      (one (worlds.received {input = Some []} {source = Some []} (reads bye refl refl) (inl refl)) (one worlds.sent none))))))))))))
 
   abbrev served : ServesOne views (λ (file : TrustState). file) folder rules Outer session link (pass_at 0 []) Bye link_now (pass_at 1 (seated ∷ given_back ∷ []))
   served = record {
@@ -232,6 +240,10 @@ module _ (some : AtCounted) where
   leaves_the_run =
       leaves_desk (λ (desk : AtCountedDesk Readings). at_counted desk.pass desk.session desk.out) (CountedTurn (λ (clock : Readings). clock)) (λ before asked turn after does. does.is)
       (desk_at (pass_at 1 []) session (clock_at 0)) (desk_at (pass_at 1 (seated ∷ given_back ∷ [])) session (clock_at 2)) (turns_in events) leaves_the_cache (turns_lead leads)
+
+  -- the option had no effect, and the prompt names no terminal
+  names_no_terminal : PromptsName no_words events
+  names_no_terminal = session_unnamed rules {start = kept rules} refl talk
 
   -- there was one prompt, and no child
   prompts_have_their_children : HavePrompts rules.pinentry.items events launches launches_now

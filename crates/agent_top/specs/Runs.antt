@@ -6,7 +6,7 @@ use Rattle.agent_core.specs.Solos.{AtSolo, TurnsSolo}
 use Rattle.agent_origin.specs.DoorSessions.{DoorExchange}
 use Rattle.agent_origin.specs.Doors.{allowed}
 use Rattle.agent_origin.specs.FurtherStates.{FurtherWorld}
-use Rattle.agent_origin.specs.DoorSessions.{door_command_named}
+use Rattle.agent_origin.specs.DoorSessions.{door_command}
 use Rattle.agent_origin.specs.SessionExchanges.{SessionExchange, kept_at_start}
 use Rattle.agent_origin.specs.Sessions.{Surroundings, supply_of}
 use Rattle.agent_origin.specs.declared.door.Door.{Door}
@@ -18,7 +18,7 @@ use Rattle.agent_serve.specs.Prompts.{HavePrompts}
 use Rattle.agent_serve.specs.Serves.{LinkSides, ServesOne, at_pass}
 use Rattle.agent_session.specs.Completeness.{SessionCauses}
 use Rattle.agent_session.specs.DoorCauses.{IsCausedAtDoor}
-use Rattle.agent_session.specs.RunExchanges.{Between, ExchangeBetween, LawfulExchange}
+use Rattle.agent_session.specs.RunExchanges.{Between, ExchangeBetween, LawfulExchange, LawfulSession}
 use Rattle.agent_commands.specs.Outside.{World}
 use Rattle.assuan_text.specs.Words.{command_of}
 use Rattle.cache_policy.specs.Runs.{last_history}
@@ -40,16 +40,18 @@ first_state kept around = record { kept = kept; desk = around.desk; ends = aroun
 abbrev pub IsWithinHistory : AtSolo → Type 0
 IsWithinHistory desk = IfSome (last_history desk.run) (λ last. length last.marks + 1 < MAX_MARKS)
 
--- the line's exchange at a door is one of every session: the line is allowed there, and its command isn't the door's own
+-- the line's exchange at a door is one of every session: the line is allowed there, and isn't the door's own to answer
 abbrev pub IsOfEverySession : Door → List ℕ → Type 0
-IsOfEverySession door line = (allowed door line ≡ true) × (door_command_named (command_of line) ≡ None)
+IsOfEverySession door line = (allowed door line ≡ true) × (door_command door line ≡ None)
 
--- What the laws say holds of each exchange of a run.
+-- What the laws say holds of a run, and of each of its exchanges.
 abbrev pub IsLawfulRun : {rules : Rules} {before : Machine} {number : ℕ} {after : Machine} → RunsServer rules before number after → Type 0
-IsLawfulRun {rules} {before} (ran run) =
-    Session (ExchangeBetween {w = FurtherWorld TurnsSolo PinentryDoes} (supply_of before.input.bytes) (SessionExchange rules)
-    (LawfulExchange TurnsSolo PinentryDoes at_prompter rules (SessionCauses rules) (λ line. ⊤) IsWithinHistory))
-    (first_state (kept_at_start rules) (with_desk rules (fresh_desk (limits_of rules) before.clock) before)) run.served.events run.end
+IsLawfulRun {rules} {before} {after} (ran run) =
+    let start = with_desk rules (fresh_desk (limits_of rules) before.clock) before in
+    LawfulSession at_prompter
+    (Session (ExchangeBetween {w = FurtherWorld TurnsSolo PinentryDoes} (supply_of before.input.bytes) (SessionExchange rules)
+    (LawfulExchange TurnsSolo PinentryDoes at_prompter rules (SessionCauses rules) (λ line. ⊤) IsWithinHistory)) (first_state (kept_at_start rules) start) run.served.events run.end)
+    run.served.events run.end start.ends (with_desk rules run.desk after).ends
 IsLawfulRun top.no_memory = ⊤
 
 -- the prompts of a run have their children
@@ -57,11 +59,15 @@ abbrev pub RunHasPrompts : {rules : Rules} {before : Machine} {number : ℕ} {af
 RunHasPrompts {rules} {before} {after} (ran run) = HavePrompts rules.pinentry.items run.served.events before.launches after.launches
 RunHasPrompts top.no_memory = ⊤
 
--- What the laws say holds of each exchange of a session of a daemon.
+-- What the laws say holds of a session of a daemon, and of each of its exchanges.
 abbrev pub IsLawfulSession : {La C R K T : Type 0} {views : Views La C R K} {trusts : T → TrustState} {folder : InFolder K T} {rules : Rules} {door : Door} {session : SessionId} {before after : LinkSides}
     {pass now : AtPass} {end : SessionEnd} → ServesOne views trusts folder rules door session before pass end after now → Type 0
-IsLawfulSession {views} {trusts} {rules} {door} {session} {before} {pass} {end} one =
-    Session (ExchangeBetween {w = FurtherWorld (CountedTurn (λ readings. readings)) PinentryDoes} (supply_of before.input.bytes) (DoorExchange door rules)
+IsLawfulSession {views} {trusts} {rules} {door} {session} {before} {after} {pass} {now} {end} one =
+    let start =
+    at_pass rules session before (record pass { sessions = session.count + 1 }) (views.readings one.parts.clock) (views.launches one.parts.launcher) (views.keys one.parts.keys) (views.draws one.parts.dice)
+    (trusts one.trust_file) in
+    LawfulSession at_prompter
+    (Session (ExchangeBetween {w = FurtherWorld (CountedTurn (λ readings. readings)) PinentryDoes} (supply_of before.input.bytes) (DoorExchange door rules)
     (LawfulExchange (CountedTurn (λ (readings : Readings). readings)) PinentryDoes at_prompter rules (IsCausedAtDoor door rules) (IsOfEverySession door) (λ (desk : AtCountedDesk Readings). ⊤)))
-    (first_state (kept_at_start rules) (at_pass rules session before (record pass { sessions = session.count + 1 }) (views.readings one.parts.clock) (views.launches one.parts.launcher)
-    (views.keys one.parts.keys) (views.draws one.parts.dice) (trusts one.trust_file))) one.served.events end
+    (first_state (kept_at_start rules) start) one.served.events end)
+    one.served.events end start.ends (at_pass rules session after now one.clock_now one.launches_now one.keys_now one.dice_now one.trust_now).ends

@@ -7,7 +7,7 @@ ghost use Rattle.agent_commands.specs.declared.went.SessionEnd.{SessionEnd as En
 ghost use Rattle.agent_commands.specs.declared.went.Went.{Went};
 ghost use Rattle.agent_origin.specs.DoorSessions.{DoorExchange};
 ghost use Rattle.agent_origin.specs.Doors.{allowed};
-ghost use Rattle.agent_origin.specs.DoorSessions.{door_command_named};
+ghost use Rattle.agent_origin.specs.DoorSessions.{door_command};
 ghost use Rattle.agent_origin.specs.FurtherStates.{FurtherWorld};
 ghost use Rattle.agent_origin.specs.SessionExchanges.{kept_at_start};
 ghost use Rattle.agent_origin.specs.declared.door.Door.{Door};
@@ -114,7 +114,7 @@ pub fn a_daemon_wants_no_memory_for_the_cache_alone()
         (events : List Event) (went : Went) (supply : Supply)
         (before after : Outside (FurtherWorld (CountedTurn (λ readings. readings)) PinentryDoes))
         → DoorExchange door rules kept line events now went → allowed door line ≡ true
-        → door_command_named (command_of line) ≡ None
+        → door_command door line ≡ None
         → Leads (Does (FurtherWorld (CountedTurn (λ readings. readings)) PinentryDoes) supply)
         before events after → AllByRecursion (λ event. ¬ IsStopped event) events
         → AnswersAlone (request_of line) events }

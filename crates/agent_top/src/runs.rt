@@ -14,8 +14,11 @@ use pinentry_client::a_pinentry_is_a_prompter;
 /// The laws on single requests hold of each exchange of a run, between the states of its desk and
 /// its further ends before and behind it. A request that asks nobody is answered at once, and wants
 /// no memory within a history, where it is one on the cache alone; one that was refused did nothing
-/// more; a failure raised its count, and at most as many failed on an end as its count rose by; and
-/// without a cause for an error the answer is OK.
+/// more; what it hands to the cache is its own; a failure raised its count, and at most as many
+/// failed on an end as its count rose by; after an error line the session goes on, unless that is
+/// Line too long; and without a cause for an error the answer is OK. Of the whole run: where a line
+/// was too long it ends by that, unless a write failed, and failures and counts agree from its start
+/// to its end.
 pub fn each_request_of_a_server_is_lawful()
     ensures { (rules : Rules) (before after : Machine) (number : ℕ)
         (runs : RunsServer rules before number after) → IsLawfulRun runs }
@@ -23,8 +26,8 @@ pub fn each_request_of_a_server_is_lawful()
     a_pinentry_is_a_prompter();
 }
 
-/// The same laws hold of each exchange of a session of a daemon; those on a single request of the
-/// lines that are allowed at its door, and whose command isn't the door's own.
+/// The same laws hold of a session of a daemon and of each exchange of it; those on a single request
+/// of the lines that are allowed at its door and aren't the door's own to answer.
 pub fn each_request_of_a_daemon_is_lawful<H: Host>()
     ensures { (path : List ℕ) (rules : Rules) (door : Door) (session : SessionId)
         (before after : LinkSides) (pass now : AtPass) (end : Ends) (one : ServesOne (record {

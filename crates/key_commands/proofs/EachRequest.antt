@@ -1,5 +1,5 @@
 -- Requests on keys each of whose events is so, where each event but a read request and a call of the trust file is so.
-use Rattle.std.proofs.Common.{ℕ, Bool, true, false, List, [], ◌++◌, Option, Some, None, Result, Ok, Err}
+use Rattle.std.proofs.Common.{◌≡◌, ◌∙◌, ℕ, Bool, true, false, List, [], ◌++◌, Option, Some, None, Result, Ok, Err}
 use Rattle.std.specs.Prelude.{⊤}
 use Rattle.agent_ask.specs.Further.{Keys, Dice, NoMemory, Prompt, Trust}
 use Rattle.agent_ask.specs.SessionEvents.{Received, Sent, Cut, Inquiry, CacheTurn, Further, cache_turn}
@@ -23,7 +23,7 @@ use Rattle.session_client.specs.declared.unheard.Gone.{Gone}
 use Rattle.agent_ports.specs.declared.grip.Grip.{Grip}
 use Rattle.session_client.specs.declared.code.Code.TheVariants as code
 use Rattle.secret_file.specs.Opens.{LockedKey}
-use Rattle.session_options.specs.OptionValues.{OptionValues}
+use Rattle.session_options.specs.OptionValues.{OptionValues, EnvWords, words_of}
 use Rattle.session_options.specs.declared.options.PinMode.{PinMode}
 use Rattle.session_options.specs.declared.options.PinMode.TheVariants as mode
 use Rattle.session_options.specs.declared.rules.Rules.{Rules}
@@ -83,27 +83,29 @@ works_beside (Received took) work = work
 pub still_beside : (event : Event) → IsStill event → IsBesideTrust event
 still_beside event still = works_beside event (still_works event still)
 
--- What is so of a request's events, where it is so of one list behind another, of events each of which is so, and of those of a prompt.
-pub record Carries (Is : Event → Type 0) (So : List Event → Type 0) : Type 1 where
+-- What is so of a request's events, where it is so of one list behind another, of events each of which is so, and of those of a prompt that names this
+-- terminal and locale.
+pub record Carries (env : EnvWords) (Is : Event → Type 0) (So : List Event → Type 0) : Type 1 where
   pub still : (event : Event) → IsStill event → Is event
   pub turns : (step : MarkStep) (turn : Turn) → Is (cache_turn step turn)
   pub behind : (first more : List Event) → So first → So more → So (first ++ more)
   pub each : (events : List Event) → All Is events → So events
-  pub pins : {spec : PromptSpec} {plan : AskPlan} {Rule : List ℕ → Type 0} {shown : List Event} {answer : Asked} → PromptsPin session_lines spec plan Rule shown answer → So shown
-  pub consents : {spec : PromptSpec} {notify : Bool} {shown : List Event} {answer : Agreed} → PromptsConsent session_lines spec notify shown answer → So shown
+  pub pins : {spec : PromptSpec} {plan : AskPlan} {Rule : List ℕ → Type 0} {shown : List Event} {answer : Asked} → words_of spec.env ≡ env
+      → PromptsPin session_lines spec plan Rule shown answer → So shown
+  pub consents : {spec : PromptSpec} {notify : Bool} {shown : List Event} {answer : Agreed} → words_of spec.env ≡ env → PromptsConsent session_lines spec notify shown answer → So shown
 
 -- that each of them is so
-pub each_carries : (Is : Event → Type 0) → ((event : Event) → IsKeyWork event → Is event) → Carries Is (All Is)
+pub each_carries : {env : EnvWords} (Is : Event → Type 0) → ((event : Event) → IsKeyWork event → Is event) → Carries env Is (All Is)
 each_carries Is every = record {
   still = λ event still. every event (still_works event still);
   turns = λ step turn. every _ tt;
   behind = each_append Is;
   each = λ events each. each;
-  pins = λ prompt. each_shown Is (λ event still. every event (still_works event still)) (λ event. every _ tt) prompt.in_session;
-  consents = λ prompt. each_shown Is (λ event still. every event (still_works event still)) (λ event. every _ tt) prompt.in_session;
+  pins = λ named prompt. each_shown Is (λ event still. every event (still_works event still)) (λ event. every _ tt) prompt.in_session;
+  consents = λ named prompt. each_shown Is (λ event still. every event (still_works event still)) (λ event. every _ tt) prompt.in_session;
 }
 
-module _ {Is : Event → Type 0} {So : List Event → Type 0} (law : Carries Is So) where
+module _ {env : EnvWords} {Is : Event → Type 0} {So : List Event → Type 0} (law : Carries env Is So) where
   abbrev Here : {A : Type 0} → Part A → Type 0
   Here part = Within part (Does So)
 
@@ -118,27 +120,27 @@ module _ {Is : Event → Type 0} {So : List Event → Type 0} (law : Carries Is 
 
   -- ---- prompts
 
-  module _ (rules : Rules) (options : OptionValues) where
+  module _ (rules : Rules) (options : OptionValues) (same : options.env ≡ env) where
     prompts_old_of : (grip : Grip) (locked : LockedKey) (before : Option ℕ) (events : List Event) (result : Result _ Refusal) (after : Option ℕ) → PromptsOld rules options grip locked before events result after → So events
-    prompts_old_of grip locked before events result after (passphrases.opens_by spec is prompt to) = law.pins prompt
-    prompts_old_of grip locked before events result after (passphrases.refused spec is prompt refusal) = law.pins prompt
+    prompts_old_of grip locked before events result after (passphrases.opens_by spec is prompt to) = law.pins (is.env ∙ same) prompt
+    prompts_old_of grip locked before events result after (passphrases.refused spec is prompt refusal) = law.pins (is.env ∙ same) prompt
 
     prompts_new_of : (grip : Grip) (before : Option ℕ) (events : List Event) (result : Result (List ℕ) Refusal) (after : Option ℕ) → PromptsNew rules options grip before events result after → So events
-    prompts_new_of grip before events result after (passphrases.given spec is prompt) = law.pins prompt
-    prompts_new_of grip before events result after (passphrases.refused spec is prompt refusal) = law.pins prompt
+    prompts_new_of grip before events result after (passphrases.given spec is prompt) = law.pins (is.env ∙ same) prompt
+    prompts_new_of grip before events result after (passphrases.refused spec is prompt refusal) = law.pins (is.env ∙ same) prompt
 
     agrees_of : (question : List ℕ) (before : Option ℕ) (events : List Event) (result : Result (Unit {0}) Refusal) (after : Option ℕ) → AgreesTo session_lines rules options question before events result after → So events
-    agrees_of question before events result after (consent.consents spec is prompt) = law.consents prompt
-    agrees_of question before events result after (consent.refused spec is prompt refusal) = law.consents prompt
+    agrees_of question before events result after (consent.consents spec is prompt) = law.consents (is.env ∙ same) prompt
+    agrees_of question before events result after (consent.refused spec is prompt refusal) = law.consents (is.env ∙ same) prompt
 
     pub agrees : (question : List ℕ) → Here (AgreesTo session_lines rules options question)
     agrees question = record { of = agrees_of question }
 
   -- ---- passphrases
 
-  module _ (rules : Rules) (options : OptionValues) (grip : Grip) where
+  module _ (rules : Rules) (options : OptionValues) (same : options.env ≡ env) (grip : Grip) where
     uncached_so : (locked : LockedKey) (way : PinMode) → Here (UncachedOld rules options grip way locked)
-    uncached_so locked mode.Ask = then (so (takes_seat Is grip (law.turns _))) (λ seated. record { of = prompts_old_of rules options grip locked })
+    uncached_so locked mode.Ask = then (so (takes_seat Is grip (law.turns _))) (λ seated. record { of = prompts_old_of rules options same grip locked })
     uncached_so locked mode.Cancel = so (each_refused Is (Agent code.Cancelled))
     uncached_so locked mode.Error = so (each_refused Is (Agent code.NoPinentry))
     uncached_so locked mode.Loopback = so (client_old Is law.still (λ key pass. law.turns _) rules options grip locked)
@@ -158,13 +160,13 @@ module _ {Is : Event → Type 0} {So : List Event → Type 0} (law : Carries Is 
     verified_so key false = then (so (locks Is law.still key)) (λ locked. uncached_so locked options.mode)
 
     new_so : (way : PinMode) → Here (new_by rules options grip way)
-    new_so mode.Ask = then (so (takes_seat Is grip (law.turns _))) (λ seated. record { of = prompts_new_of rules options grip })
+    new_so mode.Ask = then (so (takes_seat Is grip (law.turns _))) (λ seated. record { of = prompts_new_of rules options same grip })
     new_so mode.Cancel = so (each_refused Is (Agent code.Cancelled))
     new_so mode.Error = so (each_refused Is (Agent code.NoPinentry))
     new_so mode.Loopback = so (client_new Is law.still)
 
     agreed_so : (way : PinMode) → Here (Consents rules (record options { mode = way }) false grip)
-    agreed_so mode.Ask = then (so (each_seats Is (law.turns _))) (λ seated. agrees rules (record options { mode = mode.Ask }) _)
+    agreed_so mode.Ask = then (so (each_seats Is (law.turns _))) (λ seated. agrees rules (record options { mode = mode.Ask }) same _)
     agreed_so mode.Cancel = so (each_refused Is (Agent code.Cancelled))
     agreed_so mode.Error = so (each_refused Is (Agent code.NoPinentry))
     agreed_so mode.Loopback = so (each_refused Is (Agent code.NoPinentry))
@@ -184,7 +186,7 @@ module _ {Is : Event → Type 0} {So : List Event → Type 0} (law : Carries Is 
         then (so (is_short Is law.still key)) (λ short. then (renewed_so id)
         (λ pass. so (rewrites_file Is law.still (λ key_grip secret. law.turns _) (λ ticket keep. law.turns _) rules options grip file key pass)))
 
-  module _ (rules : Rules) (options : OptionValues) (wraps : WrapKeys) where
+  module _ (rules : Rules) (options : OptionValues) (same : options.env ≡ env) (wraps : WrapKeys) where
     have_key : (grips : List Grip) → Here (HaveKeyReplies rules options wraps grips)
     unfolding HaveKeyReplies
     have_key grips = then (so (has_one Is law.still grips)) (λ one. so (each_returned Is _))
@@ -205,33 +207,33 @@ module _ {Is : Event → Type 0} {So : List Event → Type 0} (law : Carries Is 
     unfolding ImportKeyReplies
     import_key force id =
         then (so (each_needed Is code.Parameter wraps.import)) (λ wrap. then (so (receives_key Is law.still wrap)) (λ key. then (so (names_key Is law.still key))
-        (λ grip. then (so (is_free Is law.still force grip)) (λ free. then (found_so rules options grip id)
+        (λ grip. then (so (is_free Is law.still force grip)) (λ free. then (found_so rules options same grip id)
         (λ pass. then (so (stores_key Is law.still (λ key_grip secret. law.turns _) (λ ticket keep. law.turns _) (λ named secret. law.turns _) options.s2k_count key grip pass))
         (λ cache_nonce. so (each_returned Is _)))))))
 
     export_key : (grip : Grip) (id : Option (List ℕ)) → Here (ExportKeyReplies rules options wraps grip id)
     unfolding ExportKeyReplies
     export_key grip id =
-        then (so (each_needed Is code.Parameter wraps.export)) (λ wrap. then (so (reads_file Is law.still grip)) (λ file. then (old_so rules options grip id file.key file.key.is_clear)
+        then (so (each_needed Is code.Parameter wraps.export)) (λ wrap. then (so (reads_file Is law.still grip)) (λ file. then (old_so rules options same grip id file.key file.key.is_clear)
         (λ opened. then (so (each_closes Is opened.by (λ number. law.turns _))) (λ closed. then (so (wraps_key Is law.still wrap opened.key))
         (λ wrapped. then (so (told Is law.still wrapped)) (λ text. so (each_returned Is _)))))))
 
     passwd : (grip : Grip) (id new_id : Option (List ℕ)) → Here (PasswdReplies rules options wraps grip id new_id)
     unfolding PasswdReplies
     passwd grip id new_id =
-        then (so (reads_file Is law.still grip)) (λ file. then (old_so rules options grip id file.key file.key.is_clear)
-        (λ opened. then (opened_so rules options grip new_id file.bytes opened.key) (λ changed. so (each_returned Is _))))
+        then (so (reads_file Is law.still grip)) (λ file. then (old_so rules options same grip id file.key file.key.is_clear)
+        (λ opened. then (opened_so rules options same grip new_id file.bytes opened.key) (λ changed. so (each_returned Is _))))
 
     verify : (grip : Grip) → Here (VerifyReplies rules options wraps grip)
     unfolding VerifyReplies
     verify grip =
-        then (so (reads_file Is law.still grip)) (λ file. then (verified_so rules options grip file.key file.key.is_clear)
+        then (so (reads_file Is law.still grip)) (λ file. then (verified_so rules options same grip file.key file.key.is_clear)
         (λ opened. then (so (each_closes Is opened.by (λ number. law.turns _))) (λ closed. so (each_returned Is _))))
 
     delete_key : (force : Bool) (grip : Grip) → Here (DeleteKeyReplies rules options wraps force grip)
     unfolding DeleteKeyReplies
     delete_key force grip =
-        then (so (finds Is law.still grip)) (λ there. then (so (each_wanted Is code.NoSecKey there)) (λ some. then (consented_so rules options grip force)
+        then (so (finds Is law.still grip)) (λ there. then (so (each_wanted Is code.NoSecKey there)) (λ some. then (consented_so rules options same grip force)
         (λ agreed. then (so (removes Is law.still grip)) (λ removed. then (so (each_changes Is (law.turns _))) (λ cleared. so (each_returned Is _))))))
 
     -- all that is done for a request up to its reply
@@ -256,5 +258,5 @@ module _ {Is : Event → Type 0} {So : List Event → Type 0} (law : Carries Is 
     whole {refusal_text} parts (exchange.refused events held why does closes) =
         law.behind events _ (parts.of None events (Err why) held does) (law.each _ (each_answer Is (λ number. law.turns _) said (refusal_text why) closes))
 
-    pub key_whole : (rules : Rules) (options : OptionValues) (wraps : WrapKeys) (asked : KeyRequest) {events : List Event} {after : WrapKeys} {went : KeyWent} → KeyExchange rules options wraps asked events after went → So events
-    key_whole rules options wraps asked = whole (key_replies rules options wraps asked)
+    pub key_whole : (rules : Rules) (options : OptionValues) → options.env ≡ env → (wraps : WrapKeys) (asked : KeyRequest) {events : List Event} {after : WrapKeys} {went : KeyWent} → KeyExchange rules options wraps asked events after went → So events
+    key_whole rules options same wraps asked = whole (key_replies rules options same wraps asked)

@@ -5,9 +5,10 @@ ghost use Rattle.std.specs.Io.KnownBytes.{Consumes, IsAtEnd};
 
 use crate::fault::Fault;
 use std::alloc::Global;
-use std::fs::{File, OpenFile, OpenOptions, TryLockError};
+use std::fs::{File, Metadata, OpenFile, OpenOptions, TryLockError};
 use std::io::{ErrorKind, Read, Write};
-use std::os::unix::fs::OpenOptionsExt;
+use std::os::unix::fs::{MetadataExt, OpenOptionsExt};
+use std::path::Path;
 use std::rt::{Clock, Files};
 use std::time::Duration;
 use std::{fs, io, thread};
@@ -19,6 +20,46 @@ const LOCK_PAUSE_MILLIS: u64 = 10;
 
 const MAX_LOCK_PAUSES: u32 = 1_000;
 
+/// What is added to the name of the file at a link's end where it is replaced: that folder may be
+/// anybody's, and no file of his has such a name.
+const LINKED_ENDING: &str = ".dogwoodcatch-new";
+
+/// Which file a name led to, and in what state: one that was replaced or written meanwhile differs.
+#[derive(Clone, Copy, PartialEq, Eq)]
+pub(crate) struct FileStamp {
+    device: u64,
+    number: u64,
+    len: u64,
+    modified_secs: i64,
+    modified_nanos: i64,
+}
+
+impl FileStamp {
+    fn of(metadata: &Metadata) -> FileStamp {
+        FileStamp {
+            device: metadata.dev(),
+            number: metadata.ino(),
+            len: metadata.len(),
+            modified_secs: metadata.mtime(),
+            modified_nanos: metadata.mtime_nsec(),
+        }
+    }
+}
+
+/// What a name led to.
+#[derive(Clone, Copy, PartialEq, Eq)]
+pub(crate) enum Found {
+    Nothing,
+    File(FileStamp),
+}
+
+/// A file that was read whole.
+#[derive(Drop)]
+pub(crate) struct WholeFile {
+    pub(crate) bytes: Vec<u8>,
+    pub(crate) stamp: FileStamp,
+}
+
 /// Reads a regular file of at most so many bytes. Anything else that has this name is a fault. One
 /// that takes its name meanwhile is none: the file that was opened is read.
 pub(crate) fn read_file<R: Files<File = File>>(
@@ -26,11 +67,14 @@ pub(crate) fn read_file<R: Files<File = File>>(
     alloc: Global,
     path: &str,
     max_len: usize,
-) -> Result<Vec<u8>, Fault>
-    ensures { IfOk result (λ bytes. length bytes.items ≤ max_len) }
+) -> Result<WholeFile, Fault>
+    ensures { IfOk result (λ file. length file.bytes.items ≤ max_len) }
 {
     let mut file = open_file(rt, path)?;
-    read_open(&mut file, alloc, max_len)
+    // First, so that one that is written while it is read differs.
+    let stamp = FileStamp::of(&file.metadata()?);
+    let bytes = read_open(&mut file, alloc, max_len)?;
+    Ok(WholeFile { bytes, stamp })
 }
 
 // Opens what has this name. Another kind than a regular file isn't opened, since that may wait.
@@ -95,26 +139,83 @@ fn is_whole<R: Read>(reader: &mut R, buf: &mut [u8]) -> bool
     matches!(reader.read(&mut [0]), Ok(0))
 }
 
-/// Makes these bytes the file at the path, as a whole, under the folder's lock: they are written
+/// Where a file lies: its folder, its path, and the path of the file that is to become it, in the
+/// same folder.
+#[derive(Clone, Copy)]
+pub(crate) struct Place<'a> {
+    pub(crate) folder: &'a str,
+    pub(crate) path: &'a str,
+    pub(crate) new_path: &'a str,
+}
+
+/// Makes these bytes the file at the place, as a whole, under its folder's lock: they are written
 /// and synced under the other name in that folder, which is then renamed. Where it fails the file
-/// is as it was.
+/// is as it was. Where `expected` says what is to be replaced, anything else there is a fault.
+///
+/// A link stays, and the file at its end is replaced in its own folder.
 pub(crate) fn replace_file<R: Files<File = File> + Clock>(
     rt: &R,
-    folder: &str,
-    path: &str,
-    new_path: &str,
+    alloc: Global,
+    place: Place<'_>,
     bytes: &[u8],
-) -> io::Result<()> {
-    let folder = lock_folder(rt, folder)?;
-    // What a crash left.
-    remove_leftover(rt, new_path)?;
-    if let Err(error) = put_in_place(rt, path, new_path, bytes) {
-        let _ = fs::remove_file(rt, new_path);
-        return Err(error);
+    expected: Option<Found>,
+) -> Result<FileStamp, Fault> {
+    let Some(end) = link_end(rt, alloc, place.path)? else {
+        return replace_at(rt, place, bytes, expected);
+    };
+    let Some(folder) = Path::new(end.as_str()).parent() else {
+        return Err(Fault::Failed);
+    };
+    let mut new_path = end.clone()?;
+    new_path.push_str(LINKED_ENDING)?;
+    let linked = Place {
+        folder: folder.as_str(),
+        path: end.as_str(),
+        new_path: new_path.as_str(),
+    };
+    replace_at(rt, linked, bytes, expected)
+}
+
+// The regular file at the end of the link that has this name, or none where it is no link. One that
+// leads to nothing is a fault.
+fn link_end<R: Files<File = File>>(
+    rt: &R,
+    alloc: Global,
+    path: &str,
+) -> Result<Option<String>, Fault> {
+    match fs::symlink_metadata(rt, path) {
+        Ok(metadata) if metadata.is_symlink() => {}
+        Err(error) if error.kind() != ErrorKind::NotFound => return Err(error.into()),
+        _ => return Ok(None),
     }
-    // The file is in its place, whether or not the system can sync a folder.
-    let _ = folder.sync_all();
-    Ok(())
+    let end = rt.canonicalize(alloc, path)?.into_string();
+    if fs::symlink_metadata(rt, end.as_str())?.is_file() {
+        Ok(Some(end))
+    } else {
+        Err(Fault::Failed)
+    }
+}
+
+fn replace_at<R: Files<File = File> + Clock>(
+    rt: &R,
+    place: Place<'_>,
+    bytes: &[u8],
+    expected: Option<Found>,
+) -> Result<FileStamp, Fault> {
+    let folder = lock_folder(rt, place.folder)?;
+    // What a crash left.
+    remove_leftover(rt, place.new_path)?;
+    match put_in_place(rt, place, bytes, expected) {
+        Ok(stamp) => {
+            // The file is in its place, whether or not the system can sync a folder.
+            let _ = folder.sync_all();
+            Ok(stamp)
+        }
+        Err(fault) => {
+            let _ = fs::remove_file(rt, place.new_path);
+            Err(fault)
+        }
+    }
 }
 
 /// The folder, locked until it is dropped: changes in it come one after another, whichever program
@@ -136,23 +237,43 @@ pub(crate) fn lock_folder<R: Files<File = File> + Clock>(rt: &R, folder: &str) -
 
 fn put_in_place<R: Files<File = File>>(
     rt: &R,
-    path: &str,
-    new_path: &str,
+    place: Place<'_>,
     bytes: &[u8],
-) -> io::Result<()> {
-    write_new_file(rt, new_path, bytes)?;
-    fs::rename(rt, new_path, path)
+    expected: Option<Found>,
+) -> Result<FileStamp, Fault> {
+    let stamp = write_new_file(rt, place.new_path, bytes)?;
+    // As late as can be, since an editor knows nothing of the lock.
+    if let Some(expected) = expected {
+        if found_at(rt, place.path)? != expected {
+            return Err(Fault::Failed);
+        }
+    }
+    fs::rename(rt, place.new_path, place.path)?;
+    Ok(stamp)
 }
 
 // Writes a file that isn't there yet, which only its owner may read, and syncs it.
-fn write_new_file<R: Files<File = File>>(rt: &R, path: &str, bytes: &[u8]) -> io::Result<()> {
+fn write_new_file<R: Files<File = File>>(
+    rt: &R,
+    path: &str,
+    bytes: &[u8],
+) -> io::Result<FileStamp> {
     let mut file = OpenOptions::new()
         .write(true)
         .create_new(true)
         .mode(0o600)
         .open(rt, path)?;
     file.write_all(bytes)?;
-    file.sync_all()
+    file.sync_all()?;
+    Ok(FileStamp::of(&file.metadata()?))
+}
+
+fn found_at<R: Files<File = File>>(rt: &R, path: &str) -> io::Result<Found> {
+    match fs::symlink_metadata(rt, path) {
+        Ok(metadata) => Ok(Found::File(FileStamp::of(&metadata))),
+        Err(error) if error.kind() == ErrorKind::NotFound => Ok(Found::Nothing),
+        Err(error) => Err(error),
+    }
 }
 
 /// Removes a file where it is there.

@@ -4,7 +4,7 @@ ghost use Rattle.agent_ports.specs.KeyFiles.{grip_cmp};
 ghost use Rattle.agent_ports.specs.declared.keys.TheConstants.{MAX_KEY_FILE_LEN};
 
 use crate::fault::{Fault, count_fault};
-use crate::files::{lock_folder, read_file, remove_leftover, replace_file};
+use crate::files::{Place, WholeFile, lock_folder, read_file, remove_leftover, replace_file};
 use crate::names::{KEY_ENDING, NEW_KEY_ENDING, folder_path, grip_of_name, key_path};
 use agent_ports::{Grip, KeyDone, KeyNames, KeyRead, Keys, MAX_KEY_FILE_LEN};
 use std::alloc::{AllocError, Global};
@@ -16,7 +16,9 @@ use std::rt::{Clock, Files};
 use std::{fs, io};
 
 /// The keys of a home directory. Changes hold the lock of the keys' folder, and fail where another
-/// program holds it for ten seconds; a read needs none.
+/// program holds it for ten seconds; a read needs none. Where a key's file is a symbolic link the
+/// file at its end is read and replaced, under the lock of its own folder, and neither is removed:
+/// that is a fault.
 #[derive(Drop)]
 pub struct FolderKeys<'a, R> {
     rt: &'a R,
@@ -42,7 +44,9 @@ impl<'a, R: Files<File = File> + Clock> FolderKeys<'a, R> {
         ensures { IfOk result (λ bytes. length bytes.items ≤ MAX_KEY_FILE_LEN) }
     {
         let path = key_path(alloc, self.folder.as_str(), grip, KEY_ENDING)?;
-        read_file(self.rt, alloc, path.as_str(), MAX_KEY_FILE_LEN)
+        let file = read_file(self.rt, alloc, path.as_str(), MAX_KEY_FILE_LEN)?;
+        let WholeFile { bytes, stamp: _ } = file;
+        Ok(bytes)
     }
 
     fn list_grips(&self, alloc: Global) -> Result<Vec<Grip>, Fault>
@@ -68,8 +72,12 @@ impl<'a, R: Files<File = File> + Clock> FolderKeys<'a, R> {
         let path = key_path(alloc, self.folder.as_str(), grip, KEY_ENDING)?;
         let new_path = key_path(alloc, self.folder.as_str(), grip, NEW_KEY_ENDING)?;
         self.make_folder()?;
-        let folder = self.folder.as_str();
-        replace_file(self.rt, folder, path.as_str(), new_path.as_str(), file)?;
+        let place = Place {
+            folder: self.folder.as_str(),
+            path: path.as_str(),
+            new_path: new_path.as_str(),
+        };
+        replace_file(self.rt, alloc, place, file, None)?;
         Ok(())
     }
 
@@ -78,6 +86,10 @@ impl<'a, R: Files<File = File> + Clock> FolderKeys<'a, R> {
         let new_path = key_path(alloc, self.folder.as_str(), grip, NEW_KEY_ENDING)?;
         let folder = lock_folder(self.rt, self.folder.as_str())?;
         remove_leftover(self.rt, new_path.as_str())?;
+        // Without the link the key would stay at its end.
+        if fs::symlink_metadata(self.rt, path.as_str())?.is_symlink() {
+            return Err(Fault::Failed);
+        }
         fs::remove_file(self.rt, path.as_str())?;
         let _ = folder.sync_all();
         Ok(())

@@ -5,8 +5,9 @@
 //!
 //! Begin with [`FolderKeys::new`] and [`FolderTrust::new`]. Names, order, lengths and counted
 //! faults have clauses; no contract says what the files hold. A file is replaced as a whole: the
-//! new one is written beside it, synced, and renamed into its place. The definitions are those of
-//! `agent_ports` (`specs/KeyFiles`, `TrustFiles`).
+//! new one is written beside it, synced, and renamed into its place. That no other trust list is
+//! replaced than the one that was read, and that no link is, is shown by tests. The definitions are
+//! those of `agent_ports` (`specs/KeyFiles`, `TrustFiles`).
 #![tactic(auto)]
 
 mod fault;
@@ -16,4 +17,4 @@ mod names;
 mod trust;
 
 pub use folder::FolderKeys;
-pub use trust::FolderTrust;
+pub use trust::{FolderTrust, TrustFound};

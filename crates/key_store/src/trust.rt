@@ -2,7 +2,7 @@ ghost use Rattle.std.specs.Prelude.{◌≡◌, ◌≤◌, length, None, IfOk};
 ghost use Rattle.trust_list.specs.declared.TheConstants.{MAX_TRUST_FILE_LEN};
 
 use crate::fault::{Fault, count_fault};
-use crate::files::{read_file, replace_file};
+use crate::files::{Found, Place, WholeFile, read_file, replace_file};
 use crate::names::{NEW_TRUST_NAME, TRUST_NAME, path_in};
 use agent_ports::{TrustDone, TrustFile, TrustRead};
 use std::alloc::{AllocError, Global};
@@ -10,13 +10,30 @@ use std::fs::File;
 use std::rt::{Clock, Files};
 use trust_list::MAX_TRUST_FILE_LEN;
 
+/// Which list was found by the last read, or written since.
+#[derive(Clone, Copy)]
+pub struct TrustFound {
+    /// None where nothing was read yet.
+    found: Option<Found>,
+}
+
+impl TrustFound {
+    /// No list was read yet.
+    pub fn unread() -> TrustFound {
+        TrustFound { found: None }
+    }
+}
+
 /// The trust list of a home directory. A change holds the lock of the directory, and fails where
-/// another program holds it for ten seconds; a read needs none. A file of more than
-/// `MAX_TRUST_FILE_LEN` bytes is a fault, read or written.
+/// another program holds it for ten seconds; a read needs none. It fails too where the list was
+/// changed since it was read: a line that an editor added isn't lost. Where its file is a symbolic
+/// link the file at its end is read and replaced, under the lock of its own folder. A file of more
+/// than `MAX_TRUST_FILE_LEN` bytes is a fault, read or written.
 #[derive(Drop)]
 pub struct FolderTrust<'a, R> {
     rt: &'a R,
     homedir: String,
+    found: TrustFound,
     faults: u64,
 }
 
@@ -26,22 +43,54 @@ impl<'a, R: Files<File = File> + Clock> FolderTrust<'a, R> {
         ensures { IfOk result (λ trust. ⟦<FolderTrust<'a, R> as TrustFile>⟧.trust trust
             ≡ record { file = None; faults = 0 }) }
     {
+        FolderTrust::found_before(rt, alloc, homedir, TrustFound::unread())
+    }
+
+    /// The same, of which another value of this type found this.
+    pub fn found_before(
+        rt: &'a R,
+        alloc: Global,
+        homedir: &str,
+        found: TrustFound,
+    ) -> Result<Self, AllocError>
+        ensures { IfOk result (λ trust. ⟦<FolderTrust<'a, R> as TrustFile>⟧.trust trust
+            ≡ record { file = None; faults = 0 }) }
+    {
         Ok(FolderTrust {
             rt,
             homedir: String::from_str(alloc, homedir)?,
+            found,
             faults: 0,
         })
     }
 
-    fn read_list(&self, alloc: Global) -> Result<Vec<u8>, Fault>
-        ensures { IfOk result (λ bytes. length bytes.items ≤ MAX_TRUST_FILE_LEN) }
-    {
-        let path = path_in(alloc, self.homedir.as_str(), TRUST_NAME)?;
-        read_file(self.rt, alloc, path.as_str(), MAX_TRUST_FILE_LEN)
+    /// Which list was found by the last read, or written since: a change replaces no other.
+    pub fn found(&self) -> TrustFound {
+        self.found
     }
 
-    fn replace_list(&self, alloc: Global, file: &[u8]) -> Result<(), Fault>
-        ensures { IfOk result (λ done. length file.now ≤ MAX_TRUST_FILE_LEN) }
+    fn read_list(&mut self, alloc: Global) -> Result<Vec<u8>, Fault>
+        ensures small { IfOk result (λ bytes. length bytes.items ≤ MAX_TRUST_FILE_LEN) }
+        ensures faults { self.new.faults ≡ self.old.faults }
+    {
+        let path = path_in(alloc, self.homedir.as_str(), TRUST_NAME)?;
+        match read_file(self.rt, alloc, path.as_str(), MAX_TRUST_FILE_LEN) {
+            Ok(WholeFile { bytes, stamp }) => {
+                self.found.found = Some(Found::File(stamp));
+                Ok(bytes)
+            }
+            Err(fault) => {
+                if matches!(fault, Fault::Absent) {
+                    self.found.found = Some(Found::Nothing);
+                }
+                Err(fault)
+            }
+        }
+    }
+
+    fn replace_list(&mut self, alloc: Global, file: &[u8]) -> Result<(), Fault>
+        ensures within { IfOk result (λ done. length file.now ≤ MAX_TRUST_FILE_LEN) }
+        ensures faults { self.new.faults ≡ self.old.faults }
     {
         // It couldn't be read again.
         if file.len() > MAX_TRUST_FILE_LEN {
@@ -50,7 +99,13 @@ impl<'a, R: Files<File = File> + Clock> FolderTrust<'a, R> {
         let homedir = self.homedir.as_str();
         let path = path_in(alloc, homedir, TRUST_NAME)?;
         let new_path = path_in(alloc, homedir, NEW_TRUST_NAME)?;
-        replace_file(self.rt, homedir, path.as_str(), new_path.as_str(), file)?;
+        let place = Place {
+            folder: homedir,
+            path: path.as_str(),
+            new_path: new_path.as_str(),
+        };
+        let stamp = replace_file(self.rt, alloc, place, file, self.found.found)?;
+        self.found.found = Some(Found::File(stamp));
         Ok(())
     }
 }

@@ -158,3 +158,36 @@ fn what_else_lies_there(rt: HostRuntime) -> Result<(), Fail> {
     fs::remove_dir_all(&rt, "other")?;
     Ok(())
 }
+
+#[test]
+fn a_key_behind_a_link_is_replaced_where_it_lies(rt: HostRuntime) -> Result<(), Fail> {
+    let alloc = rt.alloc();
+    let _ = fs::remove_dir_all(&rt, "linked");
+    fs::create_dir_all(&rt, "linked/private-keys-v1.d")?;
+    fs::write(&rt, "linked/elsewhere", b"there")?;
+    for (byte, end) in [("01", "../elsewhere"), ("02", "nowhere"), ("03", "..")] {
+        let name = byte.repeat(alloc, 20)?;
+        let path = format!(in alloc; "linked/private-keys-v1.d/{name}.key")?;
+        symlink(&rt, end, path.as_str())?;
+    }
+    let mut keys = FolderKeys::new(&rt, alloc, "linked")?;
+    let rows = [
+        (Read(0x01), "there"),
+        (Replace(0x01, b"next"), "Done"),
+        (Read(0x01), "next"),
+        (Remove(0x01), "Failed"),
+        (Read(0x01), "next"),
+        (Replace(0x02, b"next"), "Failed"),
+        (Remove(0x02), "Failed"),
+        (Replace(0x03, b"next"), "Failed"),
+        (Remove(0x03), "Failed"),
+        (List, "01 02 03 "),
+    ];
+    assert_eq!(rt; first_wrong(alloc, &mut keys, &rows)?, None);
+    // The link is one still, and nothing lies beside the file at its end.
+    let elsewhere = fs::read(&rt, "linked/elsewhere")?;
+    assert_eq!(rt; elsewhere.as_slice(), b"next".as_slice());
+    assert!(rt; !fs::exists(&rt, "linked/elsewhere.dogwoodcatch-new")?);
+    fs::remove_dir_all(&rt, "linked")?;
+    Ok(())
+}

@@ -2,8 +2,11 @@ use agent_ports::{TrustDone, TrustFile, TrustRead};
 use key_store::FolderTrust;
 use std::alloc::{AllocError, Global};
 use std::fs;
+use std::fs::OpenOptions;
+use std::io::Write;
 use std::os::unix::fs::{MetadataExt, symlink};
 use std::test::Fail;
+use std::time::UNIX_EPOCH;
 
 #[derive(Clone, Copy)]
 enum Asked<'a> {
@@ -89,9 +92,11 @@ fn what_else_has_the_name_of_the_list(rt: HostRuntime) -> Result<(), Fail> {
     assert_eq!(rt; first_wrong(alloc, &mut trust, &folder)?, None);
     assert!(rt; !fs::exists(&rt, "distrusting/trustlist.txt.new")?);
     fs::remove_dir(&rt, "distrusting/trustlist.txt")?;
-    // A link is followed, and one that leads nowhere is a fault. A new list takes the link's place.
+    // A link is followed, and one that leads nowhere is a fault. A new list takes the place of the
+    // file at its end.
     symlink(&rt, "elsewhere", "distrusting/trustlist.txt")?;
-    assert_eq!(rt; first_wrong(alloc, &mut trust, &[(Read, "failed")])?, None);
+    let nowhere = [(Read, "failed"), (Replace(b"one\n"), "Failed")];
+    assert_eq!(rt; first_wrong(alloc, &mut trust, &nowhere)?, None);
     fs::write(&rt, "distrusting/elsewhere", b"there\n")?;
     let link = [
         (Read, "there\n"),
@@ -100,11 +105,98 @@ fn what_else_has_the_name_of_the_list(rt: HostRuntime) -> Result<(), Fail> {
     ];
     assert_eq!(rt; first_wrong(alloc, &mut trust, &link)?, None);
     let linked = fs::read(&rt, "distrusting/elsewhere")?;
-    assert_eq!(rt; linked.as_slice(), b"there\n".as_slice());
+    assert_eq!(rt; linked.as_slice(), b"here\n".as_slice());
+    let stays = fs::symlink_metadata(&rt, "distrusting/trustlist.txt")?.is_symlink();
+    assert!(rt; stays && !fs::exists(&rt, "distrusting/elsewhere.dogwoodcatch-new")?);
     // A longer file isn't cut.
     let longer = vec![in alloc; b'x'; 65_537]?;
     fs::write(&rt, "distrusting/trustlist.txt", &longer)?;
     assert_eq!(rt; first_wrong(alloc, &mut trust, &[(Read, "failed")])?, None);
     fs::remove_dir_all(&rt, "distrusting")?;
+    Ok(())
+}
+
+// What another program does to the list between a read and the change that follows it.
+#[derive(Clone, Copy, Debug)]
+enum Beside {
+    Nothing,
+    Appends,
+    Rewrites,
+    Replaces,
+    Removes,
+    Links,
+    Makes,
+}
+
+const LIST: &str = "watched/trustlist.txt";
+
+fn change_list(rt: &HostRuntime, beside: Beside) -> Result<(), Fail> {
+    match beside {
+        Beside::Nothing => {}
+        Beside::Appends => {
+            let mut file = OpenOptions::new().append(true).open(rt, LIST)?;
+            file.write_all(b" two")?;
+        }
+        // The file is the same one, and as long.
+        Beside::Rewrites => {
+            let mut file = OpenOptions::new().write(true).open(rt, LIST)?;
+            file.write_all(b"six")?;
+            file.set_modified(UNIX_EPOCH)?;
+        }
+        Beside::Replaces => {
+            fs::write(rt, "watched/other", b"one")?;
+            fs::rename(rt, "watched/other", LIST)?;
+        }
+        Beside::Removes => fs::remove_file(rt, LIST)?,
+        Beside::Links => {
+            fs::rename(rt, LIST, "watched/moved")?;
+            fs::write(rt, "watched/other", b"far")?;
+            symlink(rt, "other", LIST)?;
+        }
+        Beside::Makes => fs::write(rt, LIST, b"made")?,
+    }
+    Ok(())
+}
+
+// What a change comes to, what the list is then, and what the next change comes to. As in a daemon
+// each call is one of a new value, which is handed what the others found.
+fn changed_beside(rt: &HostRuntime, beside: Beside) -> Result<String, Fail> {
+    let alloc = rt.alloc();
+    let _ = fs::remove_dir_all(rt, "watched");
+    fs::create_dir(rt, "watched")?;
+    if !matches!(beside, Beside::Makes) {
+        fs::write(rt, LIST, b"one")?;
+    }
+    let mut text = String::new(alloc);
+    let mut trust = FolderTrust::new(rt, alloc, "watched")?;
+    let _ = answer(alloc, &mut trust, Read)?;
+    change_list(rt, beside)?;
+    for asked in [Replace(b"new"), Read, Replace(b"new")] {
+        trust = FolderTrust::found_before(rt, alloc, "watched", trust.found())?;
+        let next = answer(alloc, &mut trust, asked)?;
+        text.push_str(next.as_str())?;
+        text.push_str(" ")?;
+    }
+    if fs::exists(rt, "watched/trustlist.txt.new")? {
+        text.push_str("and a leftover")?;
+    }
+    fs::remove_dir_all(rt, "watched")?;
+    Ok(text)
+}
+
+#[test]
+fn a_list_that_changed_since_it_was_read_stays(rt: HostRuntime) -> Result<(), Fail> {
+    for (beside, want) in [
+        (Beside::Nothing, "Done new Done "),
+        (Beside::Appends, "Failed one two Done "),
+        (Beside::Rewrites, "Failed six Done "),
+        (Beside::Replaces, "Failed one Done "),
+        (Beside::Removes, "Failed absent Done "),
+        (Beside::Links, "Failed far Done "),
+        (Beside::Makes, "Failed made Done "),
+    ] {
+        let text = changed_beside(&rt, beside)?;
+        assert_eq!(rt; text.as_str(), want, "{beside:?}");
+    }
     Ok(())
 }

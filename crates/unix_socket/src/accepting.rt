@@ -1,3 +1,4 @@
+use crate::path::SocketName;
 use std::io::ErrorKind;
 use std::os::unix::net::{UnixListener, UnixStream};
 use std::rt::Clock;
@@ -8,6 +9,12 @@ use std::{io, thread};
 /// How many milliseconds a worker waits before it tries again, where descriptors or memory are
 /// wanting: until others have given some back.
 const PAUSE_MILLIS: u64 = 50;
+
+/// How many seconds a write waits for a client that doesn't read.
+const MAX_WRITE_SECONDS: u64 = 60;
+
+/// How many seconds a read waits for a client of another machine that sends nothing.
+const MAX_REMOTE_READ_SECONDS: u64 = 600;
 
 /// What came of waiting for a client.
 #[derive(Drop)]
@@ -76,4 +83,14 @@ pub(crate) fn accept_next(
         }
     }
     Accepted::Failed
+}
+
+/// Limits how long a worker waits for this client. One of this machine may be silent as long as it
+/// likes: an interactive program keeps its connection while its user thinks. Where the system can't
+/// limit a wait the client is served nevertheless.
+pub(crate) fn limit_waits(client: &UnixStream, name: SocketName) {
+    let _ = client.set_write_timeout(Some(Duration::from_secs(MAX_WRITE_SECONDS)));
+    if name == SocketName::Extra {
+        let _ = client.set_read_timeout(Some(Duration::from_secs(MAX_REMOTE_READ_SECONDS)));
+    }
 }

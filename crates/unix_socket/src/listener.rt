@@ -1,19 +1,22 @@
 ghost use Rattle.std.specs.Prelude.{◌≡◌, ⊤, IfOk};
 ghost use Rattle.agent_ports.specs.Listening.{NothingFailed};
 
-use crate::accepting::{Accepted, accept_next};
+use crate::accepting::{Accepted, accept_next, limit_waits};
+use crate::fault::BindFault;
 use crate::path::{Bound, FileId, SocketName, bind_at, socket_path};
 use agent_ports::{Ear, Link, Listener, Next, Sink, Source};
 use std::alloc::Global;
+use std::fs;
 use std::fs::Files;
 use std::net::{Net, Shutdown};
 use std::os::unix::net::UnixStream;
 use std::rt::Clock;
 use std::sync::atomic::{AtomicBool, Ordering};
-use std::{fs, io};
 use std_link::StreamLink;
 
-/// One client. Where it is gone while it is written to, the write fails; no signal is raised.
+/// One client. Where it is gone while it is written to, the write fails; no signal is raised. So
+/// does a write that it doesn't read within a minute, and at the extra socket a read for which it
+/// sends nothing within ten minutes.
 pub type SocketLink = StreamLink<UnixStream>;
 
 /// How often one worker found the listener broken.
@@ -54,9 +57,10 @@ pub struct SocketListener<'a, R: Files> {
 
 impl<'a, R: Files + Net> SocketListener<'a, R> {
     /// Listens at the socket of this name in this folder, which is made for its owner alone where
-    /// it isn't there. Whatever had the socket's name is removed. It fails where the path is too
-    /// long for a socket (108 bytes on Linux), and then nothing was made or removed.
-    pub fn bind(rt: &'a R, alloc: Global, folder: &str, name: SocketName) -> io::Result<Self>
+    /// it isn't there. Whatever had the socket's name, a folder excepted, gives way to it, and only
+    /// once it listens. It fails where the path is too long for a socket (108 bytes on Linux), and
+    /// then nothing was made, and where the folder is another user's, or others may write in it.
+    pub fn bind(rt: &'a R, alloc: Global, folder: &str, name: SocketName) -> Result<Self, BindFault>
         ensures { IfOk result (λ listener. listener.name ≡ name) }
     {
         let path = socket_path(alloc, folder, name)?;
@@ -100,7 +104,10 @@ impl<R: Files + Clock> Listener for SocketListener<'_, R> {
 
     fn next(&self, ear: &mut SocketEar) -> Next<SocketLink> {
         match accept_next(self.rt, &self.bound.listener, &self.stopped) {
-            Accepted::Client(client) => Next::Link(StreamLink::new(client)),
+            Accepted::Client(client) => {
+                limit_waits(&client, self.name);
+                Next::Link(StreamLink::new(client))
+            }
             Accepted::Stopped => Next::Stopped,
             Accepted::Failed => {
                 ear.faults = ear.faults.saturating_add(1);

@@ -1,3 +1,4 @@
+use crate::fault::BindFault;
 use std::alloc::Global;
 use std::fs::{DirBuilder, Files, Permissions};
 use std::io::ErrorKind;
@@ -36,6 +37,9 @@ const OWNER_FOLDER: u32 = 0o700;
 /// A socket to which only its owner may connect.
 const OWNER_SOCKET: u32 = 0o600;
 
+/// By these bits of its mode others than its owner may make, rename and remove what is in a folder.
+const OTHERS_WRITE: u32 = 0o022;
+
 /// Which file a path named when it was looked at.
 #[derive(Clone, Copy, Debug, PartialEq, Eq)]
 pub(crate) struct FileId {
@@ -71,23 +75,50 @@ pub(crate) struct Bound {
 }
 
 /// Listens at this path in this folder, which is made where it isn't there. What the path named
-/// before is removed.
+/// before gives way to the socket once that listens, and stays where this fails.
 ///
-/// Nobody but the owner reaches the socket at any moment: it is made in a fresh folder that only
-/// the owner may enter, closed to others, and then moved to its path.
+/// The folder is its user's alone: in another one somebody else could put a socket in this one's
+/// place. Nobody but the owner reaches the socket at any moment: it is made in a fresh folder that
+/// only the owner may enter, closed to others, and then moved to its path.
 pub(crate) fn bind_at<R: Files + Net>(
     rt: &R,
     alloc: Global,
     folder: &str,
     path: &str,
-) -> io::Result<Bound> {
+) -> Result<Bound, BindFault> {
     make_folder(rt, folder)?;
-    remove_if_there(rt, path)?;
+    let owner = only_writer(rt, folder)?;
     let fresh = make_fresh_folder(rt, alloc, folder)?;
-    let bound = bind_in(rt, alloc, &fresh, path);
+    let bound = bind_as_owner(rt, alloc, owner, &fresh, path);
     // It is empty now. Where it stays nevertheless the next start takes another name.
     let _ = fs::remove_dir(rt, &fresh);
     bound
+}
+
+/// The owner of the folder, where nobody else may write in it. A link is followed: what counts is
+/// the folder at its end.
+fn only_writer(rt: &impl Files, folder: &str) -> Result<u32, BindFault> {
+    let found = fs::metadata(rt, folder)?;
+    if found.mode() & OTHERS_WRITE == 0 {
+        Ok(found.uid())
+    } else {
+        Err(BindFault::OthersWrite)
+    }
+}
+
+/// Listens where the fresh folder, which this process has made, is the owner's too.
+fn bind_as_owner<R: Files + Net>(
+    rt: &R,
+    alloc: Global,
+    owner: u32,
+    fresh: &str,
+    path: &str,
+) -> Result<Bound, BindFault> {
+    let user = fs::symlink_metadata(rt, fresh)?.uid();
+    if user != owner {
+        return Err(BindFault::OtherOwner { owner, user });
+    }
+    Ok(bind_in(rt, alloc, fresh, path)?)
 }
 
 /// Makes the folder, closed to others, where nothing has its name.
@@ -119,8 +150,8 @@ fn make_fresh_folder(rt: &impl Files, alloc: Global, folder: &str) -> io::Result
     Err(ErrorKind::AlreadyExists.into())
 }
 
-/// Listens at a socket that is made in the fresh folder and then moved to the path. The folder is
-/// empty afterwards.
+/// Listens at a socket that is made in the fresh folder and then moved to the path, whatever that
+/// named. The folder is empty afterwards.
 fn bind_in<R: Files + Net>(rt: &R, alloc: Global, fresh: &str, path: &str) -> io::Result<Bound> {
     let made = format!(in alloc; "{fresh}/s")?;
     let bound = bind_and_move(rt, &made, path);

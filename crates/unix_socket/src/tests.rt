@@ -1,14 +1,15 @@
 use crate::SocketName::{Extra, Standard};
-use crate::accepting::AcceptFault;
-use crate::{SocketEar, SocketListener};
+use crate::accepting::{AcceptFault, limit_waits};
+use crate::{BindFault, SocketEar, SocketListener};
 use agent_ports::{Ear, Got, Listener, Next, Sent, Sink, Source};
-use std::fs::DirBuilder;
+use std::fs::{DirBuilder, Permissions};
 use std::io::{ErrorKind, Read, Write};
-use std::os::unix::fs::{DirBuilderExt, MetadataExt};
-use std::os::unix::net::UnixStream;
+use std::os::unix::fs::{DirBuilderExt, MetadataExt, PermissionsExt, chown, symlink};
+use std::os::unix::net::{UnixListener, UnixStream};
 use std::test::Fail;
 use std::time::Duration;
 use std::{env, fs, io, process, thread};
+use std_link::StreamLink;
 
 /// A path that is this test's own, below the folder for what is temporary.
 fn own_path(rt: &HostRuntime, name: &str) -> Result<String, Fail> {
@@ -222,5 +223,118 @@ fn the_longest_line_goes_whole_each_way(rt: HostRuntime) -> Result<(), Fail> {
     listener.done(link);
     drop(listener);
     fs::remove_dir(&rt, &folder)?;
+    Ok(())
+}
+
+/// Why a folder of this mode, and of this user if it is to be another one's, has no socket: none
+/// where it has one.
+fn fault_in(
+    rt: &HostRuntime,
+    folder: &str,
+    mode: u32,
+    owner: Option<u32>,
+) -> Result<Option<String>, Fail> {
+    fs::set_permissions(rt, folder, Permissions::from_mode(mode))?;
+    chown(rt, folder, owner, None)?;
+    match SocketListener::bind(rt, rt.alloc(), folder, Standard) {
+        Ok(listener) => {
+            drop(listener);
+            Ok(None)
+        }
+        Err(fault) => Ok(Some(format!(in rt.alloc(); "{fault}")?)),
+    }
+}
+
+#[test]
+fn a_folder_that_others_may_change_has_no_socket(rt: HostRuntime) -> Result<(), Fail> {
+    let folder = own_path(&rt, "us_eight")?;
+    DirBuilder::new().mode(0o700).create(&rt, &folder)?;
+    // Through a link it is the folder at its end that counts.
+    let linked = own_path(&rt, "us_nine")?;
+    symlink(&rt, &folder, &linked)?;
+    let others = Some("others may write in the folder");
+    for path in [&folder, &linked] {
+        for (mode, wanted) in [
+            (0o700, None),
+            (0o755, None),
+            (0o770, others),
+            (0o707, others),
+            (0o720, others),
+            (0o1777, others),
+            (0o2700, None),
+        ] {
+            let fault = fault_in(&rt, path, mode, None)?;
+            assert_eq!(rt; fault.as_ref().map(String::as_str), wanted, "mode {mode:o}");
+        }
+    }
+    // Only root may give a folder away.
+    if fs::metadata(&rt, &folder)?.uid() == 0 {
+        let fault = fault_in(&rt, &folder, 0o700, Some(65_534))?;
+        assert_eq!(rt;
+            fault.as_ref().map(String::as_str),
+            Some("the folder belongs to user 65534, and not to user 0")
+        );
+    }
+    // Nothing is left in it.
+    fs::remove_file(&rt, &linked)?;
+    fs::remove_dir(&rt, &folder)?;
+    Ok(())
+}
+
+#[test]
+fn a_start_that_fails_leaves_what_has_the_name(rt: HostRuntime) -> Result<(), Fail> {
+    let folder = own_path(&rt, "us_ten")?;
+    let socket = format!(in rt.alloc(); "{folder}/S.gpg-agent")?;
+    DirBuilder::new().mode(0o700).create(&rt, &folder)?;
+    let running = UnixListener::bind(&rt, &socket)?;
+    fs::set_permissions(&rt, &folder, Permissions::from_mode(0o777))?;
+    let fault = SocketListener::bind(&rt, rt.alloc(), &folder, Standard).err();
+    assert!(rt; matches!(fault, Some(BindFault::OthersWrite)));
+    fs::set_permissions(&rt, &folder, Permissions::from_mode(0o700))?;
+    // Each name of a fresh folder is taken.
+    for number in 0..1000u32 {
+        DirBuilder::new().create(&rt, &format!(in rt.alloc(); "{folder}/.new{number}")?)?;
+    }
+    let fault = SocketListener::bind(&rt, rt.alloc(), &folder, Standard).err();
+    assert!(rt; matches!(fault, Some(BindFault::System(_))));
+    drop(UnixStream::connect(&rt, &socket)?);
+    drop(running);
+    fs::remove_dir_all(&rt, &folder)?;
+    // A folder of the socket's name stays too.
+    fs::create_dir_all(&rt, &socket)?;
+    fs::set_permissions(&rt, &folder, Permissions::from_mode(0o700))?;
+    let fault = SocketListener::bind(&rt, rt.alloc(), &folder, Standard).err();
+    assert!(rt; matches!(fault, Some(BindFault::System(_))));
+    fs::remove_dir(&rt, &socket)?;
+    fs::remove_dir(&rt, &folder)?;
+    Ok(())
+}
+
+#[test]
+fn a_client_that_stays_has_its_limits(rt: HostRuntime) -> Result<(), Fail> {
+    for (name, read) in [(Standard, None), (Extra, Some(Duration::from_secs(600)))] {
+        let (client, other) = UnixStream::pair(&rt)?;
+        limit_waits(&client, name);
+        assert_eq!(rt; client.write_timeout()?, Some(Duration::from_secs(60)));
+        assert_eq!(rt; client.read_timeout()?, read);
+        drop(other);
+    }
+    Ok(())
+}
+
+#[test]
+fn a_wait_behind_its_limit_is_a_fault(rt: HostRuntime) -> Result<(), Fail> {
+    let (client, silent) = UnixStream::pair(&rt)?;
+    client.set_write_timeout(Some(Duration::from_millis(20)))?;
+    client.set_read_timeout(Some(Duration::from_millis(20)))?;
+    let mut link = StreamLink::new(client);
+    assert_eq!(rt; link.read(&mut [0u8; 8]), Got::Failed);
+    // More than the system keeps for one who reads nothing.
+    let much = vec![in rt.alloc(); b'x'; 10_000_000]?;
+    match link.put(&much) {
+        Sent::Failed { sent } => assert!(rt; sent < much.len()),
+        Sent::All => return Err(Fail::new("all was sent")),
+    }
+    drop(silent);
     Ok(())
 }
