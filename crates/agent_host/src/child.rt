@@ -14,8 +14,8 @@ use std_link::StdLink;
 /// A program that was started: what it writes is read, and what is written it reads, a line each
 /// time. It is handed to `finish`, which sees to its end.
 ///
-/// It is told no terminal whose name any other file can have, and its answers are awaited for a
-/// minute, beyond its timeout those that want its user. Then a read fails.
+/// It is told no terminal whose name any other file can have. Its answers are awaited for a minute,
+/// and those that want its user a minute beyond its timeout: then a read fails.
 pub struct PipedChild<'a, R, P: OpenProcess> {
     pub(crate) rt: &'a R,
     pub(crate) process: Child<P>,
@@ -53,7 +53,7 @@ impl<R: rt::Clock + Eprint, P: OpenProcess> Sink for PipedChild<'_, R, P> {
         self.patience.put(self.rt, bytes);
         match told_name(bytes) {
             Some(name) if !is_terminal(name) => {
-                self.keep_from(name);
+                self.refuse_terminal(name);
                 // A pinentry answers it OK, so that each answer is still that of its line. Of the
                 // line itself no byte is written.
                 match self.pipes.put(b"NOP\n") {
@@ -95,17 +95,17 @@ impl<R: rt::Clock, P: OpenProcess> PipedChild<'_, R, P> {
 
 impl<R: Eprint, P: OpenProcess> PipedChild<'_, R, P> {
     /// Says once that the child isn't told a name.
-    fn keep_from(&mut self, name: &[u8])
+    fn refuse_terminal(&mut self, name: &[u8])
         ensures { self.new.pipes ≡ self.old.pipes }
     {
-        if !matches!(self.terminal, Terminal::Kept) {
+        if !matches!(self.terminal, Terminal::Refused) {
             // Where that can't be written nobody is to be told.
             let _ = eprintln!(self.rt;
                 "agent: the pinentry isn't told \"{}\" as its terminal: no terminal has that name",
                 Printable(shown(name))
             );
         }
-        self.terminal = Terminal::Kept;
+        self.terminal = Terminal::Refused;
     }
 }
 

@@ -1,3 +1,5 @@
+ghost use Rattle.std.specs.Io.{WritesAtMost};
+
 use std::alloc::Global;
 use std::env::VarError;
 use std::io::ErrorKind;
@@ -72,7 +74,9 @@ mod tests {
     struct Entries<'a>(&'a [&'a str]);
 
     /// Puts a text at the front of the buffer.
-    fn fill(text: &str, buf: &mut [u8]) -> Result<usize, FillError> {
+    fn fill(text: &str, buf: &mut [u8]) -> Result<usize, FillError>
+        ensures { WritesAtMost result buf.new }
+    {
         match buf.get_mut(..text.len()) {
             Some(front) => {
                 front.copy_from_slice(text.as_bytes());

@@ -25,10 +25,11 @@ use std_link::StdLink;
 /// is seen after at most twice the time that it took.
 const LOOKS: u32 = 20;
 
-/// Starts programs without arguments, whose standard input and output are pipes, and which inherit
-/// a few variables of the environment alone. It doesn't show what they give and are written. A child that is finished has a second to end by itself. Why a
-/// program couldn't be started, and what a child failed by, is said on the error stream, in one
-/// line.
+/// Starts programs without arguments, which are written to by a pipe and read by a socket, inherit a
+/// few variables of the environment alone, and end with their agent where setpriv(1) is there. It
+/// doesn't show what they give and are written. A child that is finished has a second to end by
+/// itself. Why a program couldn't be started, and what a child failed by, is said on the error
+/// stream, in one line.
 #[derive(Drop)]
 pub struct PipeLauncher<'a, R> {
     rt: &'a R,
@@ -94,8 +95,8 @@ impl<'a, R: rt::Clock + rt::Env + Processes + Files<File = File> + Net + Eprint>
     }
 }
 
-/// Starts the program, with a pipe to it and a pair of sockets from it: a read of a socket ends in
-/// time.
+/// Starts the program, with a pipe to it and a pair of sockets from it, since a read of a socket can
+/// have a limit.
 fn start<'a, R: rt::Clock + rt::Env + Processes + Files<File = File> + Net + Eprint>(
     rt: &'a R,
     alloc: Global,

@@ -15,7 +15,7 @@ pub(crate) enum Terminal {
     /// It was told this terminal, of which the first bytes are kept.
     Told(ArrayVec<u8, MAX_SHOWN>),
     /// It wasn't told the name, which is no terminal's.
-    Kept,
+    Refused,
 }
 
 impl Terminal {
@@ -31,7 +31,7 @@ impl Display for Terminal {
     fn fmt<W: fmt::Write>(&self, f: &mut Formatter<W>) -> fmt::Result {
         match self {
             Terminal::Told(name) => write!(f, " (at the terminal {})", Printable(name.as_slice())),
-            Terminal::Untold | Terminal::Kept => Ok(()),
+            Terminal::Untold | Terminal::Refused => Ok(()),
         }
     }
 }
@@ -109,7 +109,7 @@ mod tests {
     fn what_is_said_of_a_child_names_its_terminal(rt: HostRuntime) -> Result<(), Fail> {
         let rows = [
             (Terminal::Untold, ""),
-            (Terminal::Kept, ""),
+            (Terminal::Refused, ""),
             (
                 Terminal::told(b"/dev/pts/3"),
                 " (at the terminal /dev/pts/3)",
