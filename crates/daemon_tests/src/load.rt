@@ -142,35 +142,16 @@ fn line_of(alloc: Global, outcomes: &[Outcome]) -> Result<String, AllocError> {
     )
 }
 
-/// What came of a run of the agent: its status, the folder at which the host was settled, and what
-/// was written. Nothing is launched.
-fn served<W: Threads + Wait + rt::Clock + Sync>(
-    rt: &W,
-    alloc: Global,
-    words: &[&'static str],
+/// A load: the words that ask for it, what is sent and not read, its number, the folder at which the
+/// words have the host settled, and its line.
+struct Load {
+    words: &'static [&'static str],
     sent: &'static str,
-) -> Result<String, AllocError> {
-    let mut given = Vec::new(alloc);
-    for word in words.iter() {
-        given.push(String::from_str(alloc, word)?)?;
-    }
-    let source = MemSource::new(
-        Vec::from_slice(alloc, sent.as_bytes())?,
-        64,
-        Vec::new(alloc),
-    );
-    let mut stdio = MemLink::new(source, MemSink::new(alloc, 0, Vec::new(alloc)));
-    let mut host = MemHost::new(rt, alloc, 17, parts(alloc)?);
-    let status = run_agent(rt, alloc, &given, &mut stdio, &mut host);
-    let folder = String::from_utf8_lossy(alloc, host.homedir())?;
-    let written = String::from_utf8_lossy(alloc, stdio.written())?;
-    let launched = host
-        .into_parts()
-        .is_none_or(|parts| parts.launcher.launched(0).is_some());
-    format!(in alloc; "{status} in {folder}, launched {launched}: {written}")
+    number: u64,
+    folder: &'static str,
+    line: &'static str,
 }
 
-/// What a client sends that isn't read.
 const PRESETS: &str =
     "GETINFO pid\nPRESET_PASSPHRASE id1 -1 736563726574\nGET_PASSPHRASE --no-ask --data id1\nBYE\nNOP\n";
 
@@ -181,22 +162,75 @@ const OF_1: &str =
 const OF_2: &str =
     "sessions 64 requests 12864 marks 11134 given 2881 empty 3466 opened 0 stored 3224 cleared 1563 flushed 0\n";
 
-/// The words of a load, what is sent, its number, the folder of the words, and its line.
-const LOADS: [(&[&str], &str, u64, &str, &str); 4] = [
-    (&["--load", "1", "--homedir=/h"], "BYE\n", 1, "/h", OF_1),
-    (&["--load=1"], PRESETS, 1, ".", OF_1),
-    (&["--load=2"], "", 2, ".", OF_2),
-    (&["--load", "2"], "", 2, ".", OF_2),
+const LOADS: [Load; 4] = [
+    Load {
+        words: &["--load", "1", "--homedir=/h"],
+        sent: "BYE\n",
+        number: 1,
+        folder: "/h",
+        line: OF_1,
+    },
+    Load {
+        words: &["--load=1"],
+        sent: PRESETS,
+        number: 1,
+        folder: ".",
+        line: OF_1,
+    },
+    Load {
+        words: &["--load=2"],
+        sent: "",
+        number: 2,
+        folder: ".",
+        line: OF_2,
+    },
+    Load {
+        words: &["--load", "2"],
+        sent: "",
+        number: 2,
+        folder: ".",
+        line: OF_2,
+    },
 ];
+
+/// What came of a run of the agent: its status, the folder at which the host was settled, whether a
+/// pinentry was launched, and what was written.
+fn served<W: Threads + Wait + rt::Clock + Sync>(
+    rt: &W,
+    alloc: Global,
+    load: &Load,
+) -> Result<String, AllocError> {
+    let mut words = Vec::new(alloc);
+    for word in load.words.iter() {
+        words.push(String::from_str(alloc, word)?)?;
+    }
+    let source = MemSource::new(
+        Vec::from_slice(alloc, load.sent.as_bytes())?,
+        64,
+        Vec::new(alloc),
+    );
+    let mut stdio = MemLink::new(source, MemSink::new(alloc, 0, Vec::new(alloc)));
+    let mut host = MemHost::new(rt, alloc, 17, parts(alloc)?);
+    let status = run_agent(rt, alloc, &words, &mut stdio, &mut host);
+    let folder = String::from_utf8_lossy(alloc, host.homedir())?;
+    let written = String::from_utf8_lossy(alloc, stdio.written())?;
+    let launched = host
+        .into_parts()
+        .is_none_or(|parts| parts.launcher.launched(0).is_some());
+    format!(in alloc; "{status} in {folder}, launched {launched}: {written}")
+}
+
+fn wanted(alloc: Global, load: &Load) -> Result<String, AllocError> {
+    format!(in alloc; "0 in {}, launched false: {}", load.folder, load.line)
+}
 
 #[test]
 fn a_load_comes_to_what_a_plain_fold_does(rt: HostRuntime) -> Result<(), Fail> {
     let alloc = rt.alloc();
-    for (words, sent, number, folder, line) in LOADS {
-        let folded = line_of(alloc, &outcomes_of(alloc, number)?)?;
-        assert_eq!(rt; folded.as_str(), line);
-        let wanted = format!(in alloc; "0 in {folder}, launched false: {line}")?;
-        assert_eq!(rt; served(&rt, alloc, words, sent)?, wanted);
+    for load in LOADS.iter() {
+        let folded = line_of(alloc, &outcomes_of(alloc, load.number)?)?;
+        assert_eq!(rt; folded.as_str(), load.line);
+        assert_eq!(rt; served(&rt, alloc, load)?, wanted(alloc, load)?);
     }
     Ok(())
 }
