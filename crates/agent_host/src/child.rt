@@ -1,3 +1,6 @@
+//! A pinentry that runs, as a child of the agent: its two pipes, its process, and what it was told.
+//! Begin with [`PipedChild`]. It writes to the child, the error stream and nothing else.
+
 ghost use Rattle.std.specs.Prelude.{◌≡◌, refl};
 
 use crate::patience::Patience;

@@ -1,3 +1,6 @@
+//! What a child is handed on of the agent's environment: the names of a list, as far as they are set.
+//! Begin with the list.
+
 ghost use Rattle.std.specs.Io.{WritesAtMost};
 
 use std::alloc::Global;

@@ -1,3 +1,6 @@
+//! How a child is started so that it ends with its agent, where the system has the program for it.
+//! Begin with `can_guard`, which tries that once.
+
 use std::alloc::Global;
 use std::fs::{File, Files};
 use std::io::Read;

@@ -1,3 +1,6 @@
+//! How long the answer of a child is awaited, by what it was asked.
+//! Begin with `Patience`.
+
 use std::rt::Clock;
 use std::str;
 use std::time::{Duration, Instant};

@@ -1,3 +1,5 @@
+//! Scripts that the tests start in a pinentry's place.
+
 use std::fs::OpenOptions;
 use std::io::Write;
 use std::os::unix::fs::OpenOptionsExt;

@@ -1,3 +1,6 @@
+//! Which names are a terminal's, and so may be told to a child that opens what it is told.
+//! Begin with `is_terminal`.
+
 use crate::told::Printable;
 use arrayvec::ArrayVec;
 use std::fmt;

@@ -1,3 +1,5 @@
+//! Why there is no socket in a folder, and how that is said on the error stream.
+
 use std::fmt::{Display, Formatter};
 use std::{fmt, io};
 
