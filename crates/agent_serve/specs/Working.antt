@@ -79,7 +79,7 @@ pub record TellsToStop {Ls E Li La C R K T : Type 0} (host : HostViews Ls E Li L
 abbrev pub IsToStop : SessionEnd → AtPass → Type 0
 IsToStop end now = (end ≡ Killed) ⊎ (is_stopped now.seen ≡ true)
 
--- Both listeners are told to stop, with this ear, where the agent is to be; else nothing is done with the ear, so neither is told with it.
+-- Both listeners are told to stop where the agent is to be; else none is, and nothing is done with the ear.
 pub record StopsAfter {Ls E Li La C R K T : Type 0} (host : HostViews Ls E Li La C R K T) (post : Post Ls) (end : SessionEnd) (now : AtPass) (ear next : E) : Type 0 where
   pub stops : IsToStop end now → TellsToStop host post ear next
   pub goes_on : ¬ IsToStop end now → next ≡ ear
@@ -89,7 +89,7 @@ module _ {Ls E Li La C R K T : Type 0} (host : HostViews Ls E Li La C R K T) (ru
   sides link = link_of (host.input link) (host.output link)
 
   -- The pass's next session was served by the door, on this link, which came in at the listener, and of which no read and no write had failed. Exactly
-  -- where it stopped the agent, or the pass has seen that one did, both listeners are told to stop then, with the worker's ear.
+  -- where it stopped the agent, or the pass has seen that one did, both listeners are told to stop then.
   pub record ServesNext (pass : AtPass) (link : Li) (ear : E) (now : AtPass) (next : E) : Type 0 where
     pub came : host.gives post.listener link
     pub fresh : NothingFailed (host.input link) (host.output link)
