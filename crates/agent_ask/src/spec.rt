@@ -10,7 +10,7 @@ pub struct PromptSpec {
     pub description: Text,
     /// What stands before the field of the passphrase.
     pub prompt: Text,
-    /// What stands on the button that accepts, and on the one that cancels.
+    /// What stands on the button that accepts.
     pub ok: Text,
     /// What stands on the button that cancels.
     pub cancel: Text,
