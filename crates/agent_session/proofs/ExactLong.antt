@@ -63,7 +63,7 @@ use Rattle.key_commands.specs.declared.went.KeyWent.{KeyWent}
 use Rattle.key_commands.specs.declared.wrap_keys.WrapKeys.{WrapKeys}
 use Rattle.key_commands.proofs.EachEvent.{each_append}
 use Rattle.agent_origin.specs.declared.kept.Kept.{Kept}
-use Rattle.agent_session.specs.Causes.{Has, here, IsRead, read, IsReadOf, read_of, IsDrawn, protected, OpensRead, on_keys, StandIn, changed, changes}
+use Rattle.agent_session.specs.Causes.{Has, here, IsRead, read, IsReadOf, read_of, IsDrawn, protected, OpensRead, of_change, on_keys, StandIn, changed, changes}
 use Rattle.agent_session.specs.Completeness.{HasError, Remembers}
 use Rattle.agent_session.specs.Exactly.{OpensIt, IsOpened, clear, by_nonce, cached, typed, given, HasLongList, HasLongFile, IsLong, long, long_file}
 use Rattle.agent_session.proofs.ImportCourses.{some_key}
@@ -334,7 +334,7 @@ module _ (rules : Rules) (kept : Kept) (grip : Grip) (new : Option (List ℕ)) (
   changed_long _ _ _ _ (stops (parts.long much)) many = refl
   changed_long _ _ _ _ (goes_on (parts.short few) does) many = let no : ⊥ = omega (arith, few, many) in absurd no
 
-  module _ (whole : List Event) (read_so : IsReadOf whole grip file) (opens : OpensRead whole grip key) (long : HasLongFile whole grip kept.options.s2k_count) where
+  module _ (whole : List Event) (request : Request) (read_so : IsReadOf whole grip file) (opens : OpensRead whole rules kept.options request grip key) (long : HasLongFile whole rules kept request grip) where
     rewrites_long : (pass : List ℕ) (before : Option ℕ) (events : List Event) (result : Result (Unit {0}) Refusal) (after : Option ℕ) → RewritesFile rules kept.options grip file key pass before events result after
         → StandIn events whole → AllByRecursion Remembers events → AllByRecursion IsUndrawn events ⊎ SaysTo NoneOwed result code.BadSecKey
     unfolding RewritesFile
@@ -399,14 +399,15 @@ module _ (one_canon : (file : List ℕ) (a b : Option (List ℕ)) → Canon file
     rest_stands = stand_right (Further (Keys (Read grip answer)) ∷ []) rest (stands_in is)
 
     opens_read : (before after : Option ℕ) (second third : List Event) (opened : _) → rest ≡ second ++ third → OldPassphrase rules kept.options grip old key before second (Ok opened) after
-        → OpensRead whole grip opened.key
+        → OpensRead whole rules kept.options request grip opened.key
     opens_read before after second third opened rest_is does =
-        let comes = (old_passphrase rules kept request whole grip (changes asked_so) key.is_clear key old is_read (λ locked is_locked by_id by_key. changed _ asked_so is_locked by_id by_key)).of before second (Ok opened) after does
+        let comes = (old_passphrase rules kept request whole grip (changes asked_so) key.is_clear key old
+        (λ nonce same. of_change (subst (λ n. on_keys request ≡ Some (on.Passwd grip n new false)) same asked_so)) is_read (λ locked is_locked by_id by_key. changed _ asked_so is_locked by_id by_key)).of before second (Ok opened) after does
         (stand_left second third (subst (λ r. StandIn r whole) rest_is rest_stands)) in
         comes.explained
 
   passwd_long : (events : List Event) (result : Result KeyReply Refusal) (held : Option ℕ) → PasswdReplies rules kept.options kept.wraps grip old new None events result held → whole ≡ events ++ more
-      → AllByRecursion Remembers events → IsOpened whole grip old → HasLongList whole grip → SaysTo NoneOwed result code.BadSecKey
+      → AllByRecursion Remembers events → IsOpened whole grip old → HasLongList whole rules kept request grip → SaysTo NoneOwed result code.BadSecKey
   unfolding PasswdReplies
   passwd_long _ _ _ (stops does) is remembers opened long_so =
       unread_long does is remembers (opened_clear (unopened_all is (record { vain = λ pass. ⊥; each = reads_vain (λ pass. ⊥) does; never = λ pass opens none. none })) opened)
@@ -424,14 +425,14 @@ module _ (one_canon : (file : List ℕ) (a b : Option (List ℕ)) → Canon file
   drawn_none events is each drawn = each_has IsUndrawn whole (subst (AllByRecursion IsUndrawn) (sym is) (each_append IsUndrawn events more each behind.undrawn)) drawn.has
 
   passwd_long_file : (events : List Event) (result : Result KeyReply Refusal) (held : Option ℕ) (drawn : List ℕ) → PasswdReplies rules kept.options kept.wraps grip old new None events result held
-      → whole ≡ events ++ more → AllByRecursion Remembers events → IsDrawn whole 20 drawn → HasLongFile whole grip kept.options.s2k_count → SaysTo NoneOwed result code.BadSecKey
+      → whole ≡ events ++ more → AllByRecursion Remembers events → IsDrawn whole 20 drawn → HasLongFile whole rules kept request grip → SaysTo NoneOwed result code.BadSecKey
   unfolding PasswdReplies
   passwd_long_file _ _ _ _ (stops does) is remembers drawn long_so = absurd (drawn_none _ is (each_fits IsUndrawn tt (work.reads_file IsUndrawn tt (λ answer. tt) _ _ _ _ does).0) drawn)
   passwd_long_file _ _ _ _ (goes_on (parts.is_key {answer} {key} found says) (stops {first = second} does)) is remembers drawn long_so =
       absurd (drawn_none (Further (Keys (Read grip answer)) ∷ second) is (tt, each_fits IsUndrawn tt ((old_here undrawn_keys rules kept.options grip (λ pass turn. tt) old key key.is_clear).of _ _ _ _ does)) drawn)
   passwd_long_file _ _ _ _ (goes_on (parts.is_key {answer} {file} {key} found says) (goes_on {first = second} {events = third} {value = opened_key} old_does (stops does))) is remembers drawn long_so =
       let opens = opens_read found says _ is _ _ _ _ _ refl old_does in
-      elim (changes_long rules kept grip new file opened_key.key whole (read_of found (has_read found says _ is)) opens long_so _ _ _ _ does
+      elim (changes_long rules kept grip new file opened_key.key whole request (read_of found (has_read found says _ is)) opens long_so _ _ _ _ does
       (stand_right second third (rest_stands found says _ is)) (each_right Remembers second third remembers.1)) [
         | inl undrawn ↦ absurd (drawn_none (Further (Keys (Read grip answer)) ∷ (second ++ third)) is
             (tt, each_append IsUndrawn second third (each_fits IsUndrawn tt ((old_here undrawn_keys rules kept.options grip (λ pass turn. tt) old key key.is_clear).of _ _ _ _ old_does)) undrawn) drawn)
@@ -439,7 +440,7 @@ module _ (one_canon : (file : List ℕ) (a b : Option (List ℕ)) → Canon file
       ]
   passwd_long_file _ _ _ _ (goes_on (parts.is_key {answer} {file} {key} found says) (goes_on {first = second} {value = opened_key} old_does (goes_on {first = third} does returns))) is remembers drawn long_so =
       let opens = opens_read found says _ is _ _ _ _ _ refl old_does in
-      elim (changes_long rules kept grip new file opened_key.key whole (read_of found (has_read found says _ is)) opens long_so _ _ _ _ does
+      elim (changes_long rules kept grip new file opened_key.key whole request (read_of found (has_read found says _ is)) opens long_so _ _ _ _ does
       (stand_left third [] (stand_right second (third ++ []) (rest_stands found says _ is))) (each_left Remembers third [] (each_right Remembers second (third ++ []) remembers.1))) [
         | inl undrawn ↦ absurd (drawn_none (Further (Keys (Read grip answer)) ∷ (second ++ (third ++ []))) is (
           tt,
@@ -459,7 +460,7 @@ module _ (one_canon : (file : List ℕ) (a b : Option (List ℕ)) → Canon file
       run (subst (λ a. KeyExchange rules kept.options kept.wraps a whole after went) asked_is exchanged) remembers opened long_list
     where
       run : {whole : List Event} {after : WrapKeys} {went : KeyWent} → KeyExchange rules kept.options kept.wraps (on.Passwd grip old new false) whole after went → AllByRecursion Remembers whole → IsOpened whole grip old
-          → HasLongList whole grip → HasError code.BadSecKey OfAgent whole
+          → HasLongList whole rules kept request grip → HasError code.BadSecKey OfAgent whole
       run (part_exchanges.answered some held reply {back} does closes) all opened_so list_so =
           absurd (passwd_long one_canon rules kept request grip old new is _ _ (behind_of (Some reply.text) closes) _ _ _ does refl (each_left Remembers some _ all) opened_so list_so)
       run (part_exchanges.refused some held why {back} does closes) all opened_so list_so =
@@ -469,7 +470,7 @@ module _ (one_canon : (file : List ℕ) (a b : Option (List ℕ)) → Canon file
       run (subst (λ a. KeyExchange rules kept.options kept.wraps a whole after went) asked_is exchanged) remembers drawn file_long
     where
       run : {whole : List Event} {after : WrapKeys} {went : KeyWent} {bytes : List ℕ} → KeyExchange rules kept.options kept.wraps (on.Passwd grip old new false) whole after went → AllByRecursion Remembers whole
-          → IsDrawn whole 20 bytes → HasLongFile whole grip kept.options.s2k_count → HasError code.BadSecKey OfAgent whole
+          → IsDrawn whole 20 bytes → HasLongFile whole rules kept request grip → HasError code.BadSecKey OfAgent whole
       run (part_exchanges.answered some held reply {back} does closes) all drawn_so file_so =
           absurd (passwd_long_file one_canon rules kept request grip old new is _ _ (behind_of (Some reply.text) closes) _ _ _ _ does refl (each_left Remembers some _ all) drawn_so file_so)
       run (part_exchanges.refused some held why {back} does closes) all drawn_so file_so =

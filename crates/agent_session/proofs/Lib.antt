@@ -59,5 +59,6 @@ mod WorkedExact
 mod WorkedExamples
 mod WorkedLink
 mod WorkedPassphrases
+mod WorkedRefusals
 mod WorkedRuns
 mod Works

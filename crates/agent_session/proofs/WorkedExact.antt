@@ -13,6 +13,7 @@ use Rattle.agent_commands.specs.Passphrases.{ask}
 use Rattle.agent_commands.specs.Requests.{GetFields, get_passphrase, request_of}
 use Rattle.agent_commands.specs.Talks as talks
 use Rattle.agent_commands.specs.declared.request.CacheCommand.TheVariants.{PresetPassphrase}
+use Rattle.agent_commands.specs.declared.request.Request.{Request}
 use Rattle.agent_commands.specs.declared.request.Request.TheVariants.{Cache, Key as OnKeys}
 use Rattle.agent_commands.specs.declared.went.SessionEnd.TheVariants as ends
 use Rattle.agent_commands.specs.declared.went.Went.{Went}
@@ -174,9 +175,9 @@ module _ (one_canon : (file : List ℕ) (a b : Option (List ℕ)) → Canon file
         let one : Ok other ≡ Ok key = one_says one_canon file (Ok other) (Ok key) (subst (λ b. FileSays b (Ok other)) (same_bytes _ found_too has) says_too) says in
         cc one
 
-    opens_alone : {other : Key} → OpensRead events grip other → other ≡ key
+    opens_alone : {request : Request} {other : Key} → OpensRead events rules kept.options request grip other → other ≡ key
     opens_alone (causes.is_clear is_read clear_too) = same_key is_read
-    opens_alone (opens {locked} is_locked to) =
+    opens_alone (opens {locked} is_locked comes to) =
         let shut = is_locked.protection.protected in
         let open_key : locked.key.is_clear ≡ true = ap (λ (k : Key). k.is_clear) (same_key is_locked.key) ∙ clear_one in
         absurd (cc (shut, open_key))
@@ -197,7 +198,7 @@ module _ (one_canon : (file : List ℕ) (a b : Option (List ℕ)) → Canon file
     same_answer : (other : KeyRead) → Has (read grip other) too_long_key → other ≡ answer
     same_answer other has = elim (one_of_two has) [ inl same ↦ cc same | inr same ↦ absurd (cc same) ]
 
-    all_long : HasLongList too_long_key grip
+    all_long : HasLongList too_long_key rules kept (OnKeys line) grip
     all_long other opened = subst (λ k. MAX_LIST_LEN < length (key_list_of k)) (sym (opens_alone grip answer file found key says clear_one too_long_key same_answer opened)) much
 
     bad_secret_key : HasError code.BadSecKey Agent too_long_key
@@ -234,7 +235,7 @@ module _ (one_canon : (file : List ℕ) (a b : Option (List ℕ)) → Canon file
     same_draw : {other : List ℕ} → Has (drew other) too_long_file → other ≡ bytes
     same_draw has = elim (one_of_four has) [ inl same ↦ absurd (cc same) | inr (inl same) ↦ absurd (cc same) | inr (inr (inl same)) ↦ cc same | inr (inr (inr same)) ↦ absurd (cc same) ]
 
-    all_long_files : HasLongFile too_long_file grip kept.options.s2k_count
+    all_long_files : HasLongFile too_long_file rules kept (OnKeys line) grip
     all_long_files other another pass list is_read opened (protected {drawn} is_drawn list_is) =
         let file_is = same_file grip answer file found key says clear_one too_long_file same_read is_read in
         let key_is = opens_alone grip answer file found key says clear_one too_long_file same_read opened in

@@ -140,12 +140,12 @@ module _ (rules : Rules) (kept : Kept) (id pin : List ℕ) (texts : Texts) (spec
   fits = (tt, (tt, (tt, (tt, (tt, (tt, tt))))))
 
   -- it enters the cache by the return of its own ticket
-  typed_is_own : StoresOwn request before_close (Close ticket (Some pin))
-  typed_is_own = own_at request [] events before_close (Close ticket (Some pin)) Done (Sent (line_of (ok_text (hex_text pin))) ∷ []) (request_own request exchange fits) refl keeps
+  typed_is_own : StoresOwn rules kept request before_close (Close ticket (Some pin))
+  typed_is_own = own_at (StoresOwn rules kept request) [] events before_close (Close ticket (Some pin)) Done (Sent (line_of (ok_text (hex_text pin))) ∷ []) (request_own request exchange fits) refl keeps
 
   -- and is answered to the request that asked for it
-  typed_is_answered : SaysOwn request (before_close ++ cache_turn (Close ticket (Some pin)) Done ∷ []) rules (line_of (ok_text (hex_text pin)))
-  typed_is_answered = (cache_own rules kept.options request events kept.options On asked_so).1 (before_close ++ cache_turn (Close ticket (Some pin)) Done ∷ []) [] (line_of (ok_text (hex_text pin))) refl
+  typed_is_answered : SaysOwn rules kept.options request (before_close ++ cache_turn (Close ticket (Some pin)) Done ∷ []) (line_of (ok_text (hex_text pin)))
+  typed_is_answered = (cache_own rules kept request events kept.options On asked_so).1 (before_close ++ cache_turn (Close ticket (Some pin)) Done ∷ []) [] (line_of (ok_text (hex_text pin))) refl
 
   -- and in a session by that of the line that was read last
   module _ (line : List ℕ) (says : request_of line ≡ request) where
@@ -158,9 +158,9 @@ module _ (rules : Rules) (kept : Kept) (id pin : List ℕ) (texts : Texts) (spec
     session : Session (SessionExchange rules) kept all Ended
     session = greeted (talks.Talk.goes_on line (whole line_exchange) talks.Talk.ended)
 
-    typed_is_its_lines : StoresOwnIn (Sent (line_of greeting) ∷ Received (took.Line line) ∷ before_close) (Close ticket (Some pin))
+    typed_is_its_lines : StoresOwnIn rules (SessionExchange rules) kept (Sent (line_of greeting) ∷ Received (took.Line line) ∷ before_close) (Close ticket (Some pin))
     typed_is_its_lines =
-        session_own (SessionExchange rules) (λ prior other events now went exchanged fits. exchange_own other exchanged fits) session (tt, (tt, (tt, (tt, (tt, (tt, (tt, (tt, (tt, tt)))))))))
+        session_own rules (SessionExchange rules) (λ prior other events now went exchanged fits. exchange_own other exchanged fits) session (tt, (tt, (tt, (tt, (tt, (tt, (tt, (tt, (tt, tt)))))))))
         (Sent (line_of greeting) ∷ Received (took.Line line) ∷ before_close) (Sent (line_of (ok_text (hex_text pin))) ∷ Received took.End ∷ []) (Close ticket (Some pin)) Done refl keeps
 
 -- ---- a preset finds no memory, and the session goes on
@@ -223,7 +223,7 @@ module _ (rules : Rules) (kept : Kept) (way : Direction) (line : ArrayVec ℕ) (
   wrap_exchange = part_exchange.answered (drew key ∷ []) None (key_reply wraps_now text) draws turning.unheld
 
   -- it is all that is written for the request
-  wrap_is_told : TellsOfKeys kept.wraps (drew key ∷ []) (on.KeyWrap way) text
+  wrap_is_told : TellsOfKeys rules kept (OnKeys line) (drew key ∷ []) text
   wrap_is_told =
       request_told rules kept (OnKeys line) (ap Some says) (keys (subst (λ asked. KeyExchange rules kept.options kept.wraps asked (drew key ∷ Sent text ∷ []) wraps_now key_went.On) (sym says) wrap_exchange))
       (drew key ∷ []) [] text refl
