@@ -26,7 +26,7 @@ pub fn a_session_of_a_daemon_stores_its_own<H: Host>()
           keys = H.Keys.keys;
         }) H.Trust.trust (H.of_folder path) rules door session before pass end after now)
         → (mark : Mark) → Has mark one.own → HandsIn mark.step
-        → IsOwnTurn one.served.events mark }
+        → IsOwnTurn door rules one.served.events mark }
 {}
 
 /// So in the one run of a daemon: each mark by which a passphrase is handed to the cache was made
