@@ -1,4 +1,4 @@
-ghost use Rattle.std.specs.Prelude.{◌≡◌, ◌≤◌, Some, IsSome, IsNone, IfSome};
+ghost use Rattle.std.specs.Prelude.{◌≡◌, ◌≤◌, Some, None, IsSome, IsNone, IfSome};
 ghost use Rattle.agent_ports.specs.Counts.{Rose};
 ghost use Rattle.unix_socket.specs.declared.path.SocketName.{SocketName as Named};
 
@@ -109,8 +109,8 @@ fn new_parts<'a, R: rt::Clock + rt::Env + Processes + Files<File = File> + Net +
 ) -> SystemParts<'a, R>
     ensures launcher { (⟦<PipeLauncher<'a, R> as Launcher>⟧.launches result.launcher).faults ≡ 0 }
     ensures dice { (⟦<SystemDice<'a, R> as Dice>⟧.draws result.dice).faults ≡ 0 }
-    ensures keys { (⟦<SystemKeys<'a, R> as Keys>⟧.keys result.keys).faults ≡ 0 }
-    ensures homedir { result.keys.homedir ≡ homedir.now }
+    ensures keys { ⟦<SystemKeys<'a, R> as Keys>⟧.keys result.keys
+        ≡ record { files = None; folder = Some homedir.now; faults = 0 } }
 {
     let mut keys = SystemKeys::new(rt);
     keys.settle(homedir);
@@ -147,9 +147,6 @@ impl<'a, R: rt::Clock + rt::Env + Processes + Files<File = File> + Net + Eprint>
     ghost process = { λ h. h.pid };
 
     ghost homedir = { λ h. h.homedir };
-
-    ghost of_folder = { λ path.
-        record { keys = λ keys. keys.homedir ≡ path; trust = λ trust. trust.homedir ≡ path } };
 
     ghost is_home = { λ l. l.name ≡ Named.Standard };
 

@@ -83,7 +83,7 @@ abbrev pub launches : Launches
 launches = record { coming = Some []; launched = Some []; finished = Some []; faults = 0 }
 
 abbrev pub keys : KeyFiles
-keys = record { files = None; faults = 0 }
+keys = record { files = None; folder = None; faults = 0 }
 
 abbrev pub dice : Side
 dice = record { bytes = None; faults = 0 }
