@@ -95,8 +95,16 @@ impl<R: Files + Clock> Listener for SocketListener<'_, R> {
 
     type Ear = SocketEar;
 
-    // What the system hands out isn't known.
+    // What the system hands out isn't known, nor what became of a shutdown.
     ghost gives = { λ _ _. ⊤ };
+
+    ghost answers = { λ _ _ _ _. ⊤ };
+
+    ghost is_told = { λ _. ⊤ };
+
+    ghost tells = { λ _ _ _. ⊤ };
+
+    ghost hears = { λ _ _. ⊤ };
 
     fn ear(&self) -> SocketEar {
         SocketEar { faults: 0 }
@@ -128,6 +136,10 @@ impl<R: Files + Clock> Listener for SocketListener<'_, R> {
             // No client is queued any more, and accept doesn't wait.
             drop(accept_next(self.rt, &self.bound.listener, &self.stopped));
         }
+    }
+
+    fn stop_by(&self, _ear: &mut SocketEar) {
+        self.stop();
     }
 }
 
