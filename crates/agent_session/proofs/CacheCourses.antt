@@ -72,7 +72,7 @@ module _ (request : Request) where
     kept_of : {pin : List ℕ} (before : Option ℕ) (events : List Event) (result : Result (List ℕ) Refusal) (after : Option ℕ) → (Closes (Some pin) >>= λ kept. Returns pin) before events result after
         → Ends request events result after
     kept_of _ _ _ _ (goes_on taken.unheld returns) = working_ends request (works Fits tt)
-    kept_of _ _ _ _ (goes_on (taken.closed turn) returns) = ends_with request (closed turn)
+    kept_of _ _ _ _ (goes_on (taken.closed turn can) returns) = ends_with request (closed turn)
     kept_of _ _ _ _ (stops never) = elim never [ ]
 
     module _ (fields : GetFields) (stores : (named : List ℕ) → fields.id ≡ Some named → MayStore request AnyNonce named User) where

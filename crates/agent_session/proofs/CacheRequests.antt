@@ -141,16 +141,16 @@ module _ (rules : Rules) (kept : Kept) (whole : List (EventWith FurtherEvent)) (
     HasNone = HasNoEntry whole request × (is_quiet fields.no_ask fields.texts ≡ true → Caused rules kept request whole code.NoData)
 
     looks_of : (id : List ℕ) → fields.id ≡ Some id → {before after : Option ℕ} {events : List (EventWith FurtherEvent)} {result : Result (Option (List ℕ)) Refusal} → taken.Asks (ask id) before events result after
-        → after ≡ before → StandIn events whole → Comes whole (IsCaused whole rules kept request) (Either rules kept request whole Anything HasNone) events result
-    looks_of id same taken.given keeps stands = record { silent = (tt, tt); explained = tt }
-    looks_of id same taken.empty keeps stands =
+        → StandIn events whole → Comes whole (IsCaused whole rules kept request) (Either rules kept request whole Anything HasNone) events result
+    looks_of id same (taken.given can) stands = record { silent = (tt, tt); explained = tt }
+    looks_of id same (taken.empty can) stands =
         record { silent = (tt, tt); explained = (passphrase fields id is_get same (none_given Empty tt (has_first stands)), λ quiet. empty fields id is_get quiet same (has_first stands)) }
-    looks_of id same taken.opened keeps stands = absurd (cc keeps)
-    looks_of id same (taken.interrupted why) keeps stands = record { silent = (tt, tt); explained = interrupts rules kept request whole (ask id) refl why stands }
+    looks_of id same (taken.opened fits) stands = absurd fits
+    looks_of id same (taken.interrupted can why) stands = record { silent = (tt, tt); explained = interrupts rules kept request whole (ask id) refl why stands }
 
     looks_for : (id : Option (List ℕ)) → fields.id ≡ id → ExplainsHere (LooksFor id) (Either rules kept request whole Anything HasNone)
     looks_for None same = returned _ None (without_id fields is_get same, λ quiet. no_id fields is_get quiet same)
-    looks_for (Some id) same = record { of = λ before events result after looked stands. looks_of id same looked.asks looked.keeps stands }
+    looks_for (Some id) same = record { of = λ before events result after looked stands. looks_of id same looked stands }
 
     by_cache : is_quiet fields.no_ask fields.texts ≡ true → ExplainsHere (ByCache fields.id) Anything
     by_cache quiet = bind _ Anything (looks_for fields.id refl) (λ cached so. if_needed rules kept request whole Anything HasNone code.NoData cached so (λ none. none.1 quiet))
@@ -208,7 +208,7 @@ module _ (rules : Rules) (kept : Kept) (whole : List (EventWith FurtherEvent)) (
 
   -- ---- what is written last
 
-  unheard_explained : (why : Unheard) → IsSaid whole why → Here (said_last (session_lines.refusal why)) (went_after (gone_of why))
+  unheard_explained : (why : Unheard) → IsSaid whole why → Here (said_last (refusal_line (Client why))) (went_after (gone_of why))
   unheard_explained unheard.Cancelled is = failed [] code.Cancelled origin.Agent tt (by_client is) tt
   unheard_explained unheard.TooMuch is = failed [] code.TooMuch origin.Agent tt is tt
   unheard_explained unheard.Unexpected is = failed [] code.Unexpected origin.Agent tt is tt

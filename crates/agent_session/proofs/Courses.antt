@@ -54,7 +54,7 @@ refusal_last (Client why) = coded_last (refusal_code why)
 
 held_back : {held : Option ℕ} {back : List Event} (last : List Event) → Closes None held back (Ok tt) None → GivesBack last (back ++ last)
 held_back last taken.unheld = no_ticket
-held_back last (taken.closed turn) = with_ticket turn
+held_back last (taken.closed turn can) = with_ticket turn
 
 -- ---- what the client said
 
@@ -243,7 +243,7 @@ module _ (request : Request) where
 
   last_end : {held : Option ℕ} {back last : List Event} → IsLast last → Closes None held back (Ok tt) None → IsEnd request AnyNonce (back ++ last)
   last_end is_last taken.unheld = course.answered is_last
-  last_end is_last (taken.closed turn) = course.given_back turn is_last
+  last_end is_last (taken.closed turn can) = course.given_back turn is_last
 
   ok_course_at : {A : Type 0} (work last back : List Event) {held : Option ℕ} {value : A} {text : List ℕ} → AllByRecursion Fine work → EndsInOk text → RequestEnd last (Ok value) held
       → Closes None held back (Ok tt) None → CourseBy request AnyNonce ((work ++ last) ++ (back ++ Sent text ∷ []))

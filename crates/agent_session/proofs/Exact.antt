@@ -314,7 +314,7 @@ again_said (Some text) (read_trust is (later has)) = elim has [ ]
 
 none_behind : {held : Option ℕ} {back : List Event} {file : List ℕ} (line : Option (List ℕ)) → Closes None held back (Ok tt) None → IsReadAgain file (back ++ said_last line) → ⊥
 none_behind line turning.unheld again = none_again line again
-none_behind line (turning.closed turn) (read_again is_read) = again_said line is_read
+none_behind line (turning.closed turn can) (read_again is_read) = again_said line is_read
 
 module _ (rules : Rules) (before : Kept) where
   -- MARKTRUSTED, whose file is too long with its new entry

@@ -102,8 +102,8 @@ module _ (Vain : List ℕ → Type 0) where
   back_vain : {held : Option ℕ} {back : List Event} (line : Option (List ℕ)) → Closes None held back (Ok tt) None → AllByRecursion IsVain (back ++ said_last line)
   back_vain None taken.unheld = tt
   back_vain (Some line) taken.unheld = (tt, tt)
-  back_vain None (taken.closed turn) = (tt, tt)
-  back_vain (Some line) (taken.closed turn) = (tt, (tt, tt))
+  back_vain None (taken.closed turn can) = (tt, tt)
+  back_vain (Some line) (taken.closed turn can) = (tt, (tt, tt))
 
 -- no memory was wanted in a prompt
 abbrev Recalls : PromptEvent → Type 0
@@ -184,8 +184,8 @@ module _ (rules : Rules) (options : OptionValues) (grip : Grip) (locked : Locked
   interrupted_put pass turns.late = (tt, tt)
 
   seat_vain : (before : Option ℕ) (events : List Event) (result : Result (Unit {0}) Refusal) (after : Option ℕ) → TakesSeat grip before events result after → Vain events
-  seat_vain None _ _ _ taken.opened = (tt, tt)
-  seat_vain None _ _ _ (taken.interrupted why) = (tt, tt)
+  seat_vain None _ _ _ (taken.opened can) = (tt, tt)
+  seat_vain None _ _ _ (taken.interrupted can why) = (tt, tt)
   seat_vain (Some ticket) _ _ _ returns = tt
 
   prompts_vain : (before : Option ℕ) (events : List Event) (why : Refusal) (after : Option ℕ) → PromptsOld rules options grip locked before events (Err why) after → AllByRecursion Remembers events → Vain events
@@ -200,8 +200,8 @@ module _ (rules : Rules) (options : OptionValues) (grip : Grip) (locked : Locked
   client_vain _ _ _ _ (goes_on (goes_on client_parts.written (client_parts.given is)) (goes_on (passphrases.stays closed) (stops chain.refuses))) = (tt, (tt, tt))
   client_vain _ _ _ _ (goes_on (goes_on client_parts.written (client_parts.given is)) (goes_on (passphrases.stays closed) (goes_on never more))) = elim never [ ]
   client_vain _ _ _ _ (goes_on (goes_on client_parts.written (client_parts.given is)) (goes_on (passphrases.opens to) (stops never))) = elim never [ ]
-  client_vain _ _ _ _ (goes_on (goes_on client_parts.written (client_parts.given is)) (goes_on (passphrases.opens to) (goes_on returns (stops (taken.interrupted why))))) = (tt, (tt, interrupted_put _ why))
-  client_vain _ _ _ _ (goes_on (goes_on client_parts.written (client_parts.given is)) (goes_on (passphrases.opens to) (goes_on returns (goes_on taken.done never)))) = elim never [ ]
+  client_vain _ _ _ _ (goes_on (goes_on client_parts.written (client_parts.given is)) (goes_on (passphrases.opens to) (goes_on returns (stops (taken.interrupted can why))))) = (tt, (tt, interrupted_put _ why))
+  client_vain _ _ _ _ (goes_on (goes_on client_parts.written (client_parts.given is)) (goes_on (passphrases.opens to) (goes_on returns (goes_on (taken.done can) never)))) = elim never [ ]
 
   uncached_vain : (way : PinMode) (before : Option ℕ) (events : List Event) (why : Refusal) (after : Option ℕ) → UncachedOld rules options grip way locked before events (Err why) after → AllByRecursion Remembers events
       → Vain events
@@ -213,14 +213,14 @@ module _ (rules : Rules) (options : OptionValues) (grip : Grip) (locked : Locked
   uncached_vain mode.Loopback _ _ _ _ does remembers = client_vain _ _ _ _ does
 
   cached_vain : (before : Option ℕ) (events : List Event) (why : Refusal) (after : Option ℕ) → CachedOld rules options grip locked before events (Err why) after → AllByRecursion Remembers events → Vain events
-  cached_vain _ _ _ _ (stops (taken.interrupted why)) remembers = interrupted_ask (grip_text grip) Normal (passphrases.way_of options.mode) None why
-  cached_vain _ _ _ _ (goes_on taken.given (stops passphrases.no_memory)) remembers = absurd (remembers.1.0 tt)
-  cached_vain _ _ _ _ (goes_on taken.given (goes_on (passphrases.opens to) never)) remembers = elim never [ ]
-  cached_vain _ _ _ _ (goes_on taken.given (goes_on (passphrases.stays closed) does)) remembers = (closed, uncached_vain options.mode _ _ _ _ does remembers.1)
-  cached_vain _ _ _ _ (goes_on taken.empty (goes_on returns does)) remembers = (tt, uncached_vain options.mode _ _ _ _ does remembers.1)
-  cached_vain _ _ _ _ (goes_on taken.empty (stops never)) remembers = elim never [ ]
-  cached_vain _ _ _ _ (goes_on taken.opened (goes_on returns does)) remembers = (tt, uncached_vain options.mode _ _ _ _ does remembers.1)
-  cached_vain _ _ _ _ (goes_on taken.opened (stops never)) remembers = elim never [ ]
+  cached_vain _ _ _ _ (stops (taken.interrupted can why)) remembers = interrupted_ask (grip_text grip) Normal (passphrases.way_of options.mode) None why
+  cached_vain _ _ _ _ (goes_on (taken.given can) (stops passphrases.no_memory)) remembers = absurd (remembers.1.0 tt)
+  cached_vain _ _ _ _ (goes_on (taken.given can) (goes_on (passphrases.opens to) never)) remembers = elim never [ ]
+  cached_vain _ _ _ _ (goes_on (taken.given can) (goes_on (passphrases.stays closed) does)) remembers = (closed, uncached_vain options.mode _ _ _ _ does remembers.1)
+  cached_vain _ _ _ _ (goes_on (taken.empty can) (goes_on returns does)) remembers = (tt, uncached_vain options.mode _ _ _ _ does remembers.1)
+  cached_vain _ _ _ _ (goes_on (taken.empty can) (stops never)) remembers = elim never [ ]
+  cached_vain _ _ _ _ (goes_on (taken.opened can) (goes_on returns does)) remembers = (tt, uncached_vain options.mode _ _ _ _ does remembers.1)
+  cached_vain _ _ _ _ (goes_on (taken.opened can) (stops never)) remembers = elim never [ ]
 
   locked_vain : (id : Option (List ℕ)) (before : Option ℕ) (events : List Event) (why : Refusal) (after : Option ℕ) → OpensLocked rules options grip id locked before events (Err why) after → AllByRecursion Remembers events
       → Vain events
@@ -228,14 +228,14 @@ module _ (rules : Rules) (options : OptionValues) (grip : Grip) (locked : Locked
   locked_vain None _ _ _ _ (goes_on returns (goes_on returns does)) remembers = cached_vain _ _ _ _ does remembers
   locked_vain None _ _ _ _ (goes_on returns (stops never)) remembers = elim never [ ]
   locked_vain None _ _ _ _ (stops never) remembers = elim never [ ]
-  locked_vain (Some id) _ _ _ _ (stops (taken.interrupted why)) remembers = interrupted_ask id Nonce Quiet None why
-  locked_vain (Some id) _ _ _ _ (goes_on taken.given (stops passphrases.no_memory)) remembers = absurd (remembers.1.0 tt)
-  locked_vain (Some id) _ _ _ _ (goes_on taken.given (goes_on (passphrases.opens to) never)) remembers = elim never [ ]
-  locked_vain (Some id) _ _ _ _ (goes_on taken.given (goes_on (passphrases.stays closed) does)) remembers = (closed, cached_vain _ _ _ _ does remembers.1)
-  locked_vain (Some id) _ _ _ _ (goes_on taken.empty (goes_on returns does)) remembers = (tt, cached_vain _ _ _ _ does remembers.1)
-  locked_vain (Some id) _ _ _ _ (goes_on taken.empty (stops never)) remembers = elim never [ ]
-  locked_vain (Some id) _ _ _ _ (goes_on taken.opened (goes_on returns does)) remembers = (tt, cached_vain _ _ _ _ does remembers.1)
-  locked_vain (Some id) _ _ _ _ (goes_on taken.opened (stops never)) remembers = elim never [ ]
+  locked_vain (Some id) _ _ _ _ (stops (taken.interrupted can why)) remembers = interrupted_ask id Nonce Quiet None why
+  locked_vain (Some id) _ _ _ _ (goes_on (taken.given can) (stops passphrases.no_memory)) remembers = absurd (remembers.1.0 tt)
+  locked_vain (Some id) _ _ _ _ (goes_on (taken.given can) (goes_on (passphrases.opens to) never)) remembers = elim never [ ]
+  locked_vain (Some id) _ _ _ _ (goes_on (taken.given can) (goes_on (passphrases.stays closed) does)) remembers = (closed, cached_vain _ _ _ _ does remembers.1)
+  locked_vain (Some id) _ _ _ _ (goes_on (taken.empty can) (goes_on returns does)) remembers = (tt, cached_vain _ _ _ _ does remembers.1)
+  locked_vain (Some id) _ _ _ _ (goes_on (taken.empty can) (stops never)) remembers = elim never [ ]
+  locked_vain (Some id) _ _ _ _ (goes_on (taken.opened can) (goes_on returns does)) remembers = (tt, cached_vain _ _ _ _ does remembers.1)
+  locked_vain (Some id) _ _ _ _ (goes_on (taken.opened can) (stops never)) remembers = elim never [ ]
 
 reads_vain : (Vain : List ℕ → Type 0) {grip : Grip} {before after : Option ℕ} {events : List Event} {result : _} → ReadsFile grip before events result after → AllByRecursion (IsVain Vain) events
 reads_vain Vain (parts.is_key is says) = (tt, tt)
@@ -302,8 +302,8 @@ undrawn_keys = record {
 undrawn_said : {held : Option ℕ} {back : List Event} (line : Option (List ℕ)) → Closes None held back (Ok tt) None → AllByRecursion IsUndrawn (back ++ said_last line)
 undrawn_said None taken.unheld = tt
 undrawn_said (Some line) taken.unheld = (tt, tt)
-undrawn_said None (taken.closed turn) = (tt, tt)
-undrawn_said (Some line) (taken.closed turn) = (tt, (tt, tt))
+undrawn_said None (taken.closed turn can) = (tt, tt)
+undrawn_said (Some line) (taken.closed turn can) = (tt, (tt, tt))
 
 -- ---- the request
 

@@ -143,16 +143,16 @@ stores_of : (count : ℕ) (key : Key) (grip : Grip) (pass : List ℕ) (before : 
     → ImportCourse events
 stores_of count key grip pass before events result after (stops small.faulted) = not_drawn (tt, tt)
 stores_of count key grip pass before events result after (goes_on (small.drawn long) (stops parts.no_memory)) = not_drawn (tt, (tt, tt))
-stores_of count key grip pass before events result after (goes_on (small.drawn long) (goes_on parts.made (stops (turning.interrupted why)))) = not_put [] [] _ _ tt long why tt
-stores_of count key grip pass before events result after (goes_on (small.drawn long) (goes_on parts.made (goes_on turning.done (stops (parts.not_done {answer} is))))) =
+stores_of count key grip pass before events result after (goes_on (small.drawn long) (goes_on parts.made (stops (turning.interrupted can why)))) = not_put [] [] _ _ tt long why tt
+stores_of count key grip pass before events result after (goes_on (small.drawn long) (goes_on parts.made (goes_on (turning.done can) (stops (parts.not_done {answer} is))))) =
     not_replaced [] [] _ _ _ _ _ tt long (undone answer is) tt
-stores_of count key grip pass None events result after (goes_on (small.drawn long) (goes_on parts.made (goes_on turning.done (goes_on parts.done (stops (turning.interrupted why)))))) =
+stores_of count key grip pass None events result after (goes_on (small.drawn long) (goes_on parts.made (goes_on (turning.done can) (goes_on parts.done (stops (turning.interrupted can_too why)))))) =
     replaced [] [] _ _ _ _ tt long put tt
-stores_of count key grip pass None events result after (goes_on (small.drawn long) (goes_on parts.made (goes_on turning.done (goes_on parts.done (goes_on turning.done chain.returns))))) =
+stores_of count key grip pass None events result after (goes_on (small.drawn long) (goes_on parts.made (goes_on (turning.done can) (goes_on parts.done (goes_on (turning.done can_too) chain.returns))))) =
     replaced [] [] _ _ _ _ tt long put tt
-stores_of count key grip pass (Some number) events result after (goes_on (small.drawn long) (goes_on parts.made (goes_on turning.done (goes_on parts.done (goes_on (turning.closed turn) chain.returns))))) =
+stores_of count key grip pass (Some number) events result after (goes_on (small.drawn long) (goes_on parts.made (goes_on (turning.done can) (goes_on parts.done (goes_on (turning.closed turn can_too) chain.returns))))) =
     replaced [] [] _ _ _ _ tt long given_back tt
-stores_of count key grip pass (Some number) events result after (goes_on (small.drawn long) (goes_on parts.made (goes_on turning.done (goes_on parts.done (stops never))))) = elim never [ ]
+stores_of count key grip pass (Some number) events result after (goes_on (small.drawn long) (goes_on parts.made (goes_on (turning.done can) (goes_on parts.done (stops never))))) = elim never [ ]
 
 -- ---- before
 

@@ -107,9 +107,9 @@ module _ (request : Request) where
 
     replaces_so_of : (before : Option ℕ) (events : List Event) (result : Result (Unit {0}) Refusal) (after : Option ℕ) → (Replaces grip file >>= λ replaced. KeepsNew grip pass) before events result after
         → Ends request events result after
-    replaces_so_of None _ _ _ (goes_on parts.done taken.done) = ends_with request put
-    replaces_so_of None _ _ _ (goes_on parts.done (taken.interrupted why)) = ends_with request (unput why)
-    replaces_so_of (Some number) _ _ _ (goes_on parts.done (taken.closed turn)) = ends_with request (kept turn)
+    replaces_so_of None _ _ _ (goes_on parts.done (taken.done can)) = ends_with request put
+    replaces_so_of None _ _ _ (goes_on parts.done (taken.interrupted can why)) = ends_with request (unput why)
+    replaces_so_of (Some number) _ _ _ (goes_on parts.done (taken.closed turn can)) = ends_with request (kept turn)
     replaces_so_of before _ _ _ (stops (parts.not_done {answer} is)) = working_ends request (not_done answer is)
 
     ends_replacing : EndsSo request (Replaces grip file >>= λ replaced. KeepsNew grip pass)
@@ -118,9 +118,9 @@ module _ (request : Request) where
     -- and then a value
     stores_so_of : {A : Type 0} {value : A} (before : Option ℕ) (events : List Event) (result : Result A Refusal) (after : Option ℕ)
         → (Replaces grip file >>= λ replaced. (KeepsNew grip pass >>= λ kept. Returns value)) before events result after → Ends request events result after
-    stores_so_of None _ _ _ (goes_on parts.done (goes_on taken.done returns)) = ends_with request put
-    stores_so_of None _ _ _ (goes_on parts.done (stops (taken.interrupted why))) = ends_with request (unput why)
-    stores_so_of (Some number) _ _ _ (goes_on parts.done (goes_on (taken.closed turn) returns)) = ends_with request (kept turn)
+    stores_so_of None _ _ _ (goes_on parts.done (goes_on (taken.done can) returns)) = ends_with request put
+    stores_so_of None _ _ _ (goes_on parts.done (stops (taken.interrupted can why))) = ends_with request (unput why)
+    stores_so_of (Some number) _ _ _ (goes_on parts.done (goes_on (taken.closed turn can) returns)) = ends_with request (kept turn)
     stores_so_of (Some number) _ _ _ (goes_on parts.done (stops never)) = elim never [ ]
     stores_so_of before _ _ _ (stops (parts.not_done {answer} is)) = working_ends request (not_done answer is)
 
@@ -129,8 +129,8 @@ module _ (request : Request) where
 
   removes_so_of : {A : Type 0} {grip : Grip} {value : A} (before : Option ℕ) (events : List Event) (result : Result A Refusal) (after : Option ℕ)
       → (Removes grip >>= λ removed. (Changes (Clear (grip_text grip) Normal) >>= λ cleared. Returns value)) before events result after → Ends request events result after
-  removes_so_of _ _ _ _ (goes_on parts.done (goes_on taken.done returns)) = ends_with request cleared
-  removes_so_of _ _ _ _ (goes_on parts.done (stops (taken.interrupted why))) = ends_with request (uncleared why)
+  removes_so_of _ _ _ _ (goes_on parts.done (goes_on (taken.done can) returns)) = ends_with request cleared
+  removes_so_of _ _ _ _ (goes_on parts.done (stops (taken.interrupted can why))) = ends_with request (uncleared why)
   removes_so_of {grip} _ _ _ _ (stops (parts.not_done {answer} is)) =
       working_ends request (work.unchanged Fits tt answer (λ given. Further (Keys (Removed grip given))) (λ given other. other) (λ given. refl) (λ given. refl) (λ given. refl) is)
 
@@ -138,17 +138,17 @@ module _ (request : Request) where
   gives_back_of : {A : Type 0} {keep : Option (List ℕ)} {value : A} (before : Option ℕ) (events : List Event) (result : Result A Refusal) (after : Option ℕ)
       → (Closes keep >>= λ closed. Returns value) before events result after → Ends request events result after
   gives_back_of _ _ _ _ (goes_on taken.unheld returns) = working_ends request (works Fits tt)
-  gives_back_of _ _ _ _ (goes_on (taken.closed turn) returns) = ends_with request (closed turn)
+  gives_back_of _ _ _ _ (goes_on (taken.closed turn can) returns) = ends_with request (closed turn)
   gives_back_of _ _ _ _ (stops never) = elim never [ ]
 
   wraps_last_of : {keep : Option (List ℕ)} {wrap : List ℕ} {key : Key} {wraps : WrapKeys} (before : Option ℕ) (events : List Event) (result : Result KeyReply Refusal) (after : Option ℕ)
       → (Closes keep >>= λ closed. (WrapsKey wrap key >>= λ wrapped. (Tells wrapped >>= λ text. Returns (exchange.key_reply wraps text)))) before events result after → Ends request events result after
   wraps_last_of _ _ _ _ (goes_on taken.unheld (goes_on parts.is_wrapped (goes_on (tells answers) returns))) = working_ends request (works Fits tt)
   wraps_last_of _ _ _ _ (goes_on taken.unheld (stops parts.no_memory)) = working_ends request (work.no_memory Fits tt)
-  wraps_last_of _ _ _ _ (goes_on (taken.closed turn) (goes_on parts.is_wrapped (goes_on (tells answers) returns))) = ends_with request (closed turn)
-  wraps_last_of _ _ _ _ (goes_on (taken.closed turn) (stops parts.no_memory)) = ends_with request (unwrapped turn)
+  wraps_last_of _ _ _ _ (goes_on (taken.closed turn can) (goes_on parts.is_wrapped (goes_on (tells answers) returns))) = ends_with request (closed turn)
+  wraps_last_of _ _ _ _ (goes_on (taken.closed turn can) (stops parts.no_memory)) = ends_with request (unwrapped turn)
   wraps_last_of _ _ _ _ (goes_on taken.unheld (goes_on parts.is_wrapped (stops never))) = elim never [ ]
-  wraps_last_of _ _ _ _ (goes_on (taken.closed turn) (goes_on parts.is_wrapped (stops never))) = elim never [ ]
+  wraps_last_of _ _ _ _ (goes_on (taken.closed turn can) (goes_on parts.is_wrapped (stops never))) = elim never [ ]
   wraps_last_of _ _ _ _ (stops never) = elim never [ ]
 
   -- ---- requests

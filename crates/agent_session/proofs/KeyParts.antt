@@ -277,7 +277,7 @@ module _ (rules : Rules) (kept : Kept) (request : Request) (whole : List (EventW
     prompts_new_of : (before : Option ℕ) (events : List (EventWith FurtherEvent)) (result : Result (List ℕ) Refusal) (after : Option ℕ) → PromptsNew rules kept.options grip before events result after
         → StandIn events whole → ComesHere Anything events result
     prompts_new_of before events result after (passphrases.given spec is prompt) stands = record { silent = prompt_silent prompt.in_session; explained = tt }
-    prompts_new_of before events result after (passphrases.refused spec is prompt refusal) stands = refused_any Anything asks prompt refusal stands
+    prompts_new_of before events result after (passphrases.refused spec is prompt enough refusal) stands = refused_any Anything asks prompt refusal stands
 
     pub prompts_new : ExplainsHere (PromptsNew rules kept.options grip) Anything
     prompts_new = record { of = prompts_new_of }

@@ -119,7 +119,7 @@ module _ (rules : Rules) (kept : Kept) (request : Request) (whole : List (EventW
   looks_over_of : (nonce : Option (List ℕ)) (before : Option ℕ) (events : List (EventWith FurtherEvent)) (result : Result (Option (List ℕ)) Refusal) (after : Option ℕ) → LooksOver nonce before events result after
       → StandIn events whole → ComesHere (Overlooked nonce) events result
   looks_over_of id before events result after parts.no_nonce stands = record { silent = tt; explained = tt }
-  looks_over_of id before events result after parts.given stands = record { silent = (tt, tt); explained = tt }
+  looks_over_of id before events result after (parts.given can) stands = record { silent = (tt, tt); explained = tt }
   looks_over_of id before events result after parts.empty stands = record { silent = (tt, tt); explained = none_given Empty tt (has_first stands) }
   looks_over_of id before events result after parts.stopping stands = record { silent = (tt, tt); explained = none_given Stopping tt (has_first stands) }
   looks_over_of id before events result after parts.no_memory stands = record { silent = (tt, tt); explained = one (cache_turn _ Refused) refl (has_first stands) }

@@ -17,7 +17,7 @@ use Rattle.agent_ask.specs.TurnParts.{Asks, Seats, Changes, Closes}
 use Rattle.agent_ask.specs.TurnParts as turning
 use Rattle.assuan_server.specs.Clients.{session_lines}
 use Rattle.assuan_server.specs.Written.{refusal_line}
-use Rattle.cache_policy.specs.Turns.{Given}
+use Rattle.cache_policy.specs.Turns.{Given, Open, FitsStep}
 use Rattle.cache_policy.specs.declared.grant.Grant.{Grant}
 use Rattle.cache_policy.specs.declared.life.Life.{Life}
 use Rattle.cache_policy.specs.declared.life.Life.TheVariants.{Default}
@@ -131,8 +131,8 @@ module _ (rules : Rules) where
     module _ (Is After : List (EventWith FurtherEvent) → Type 0) (step : MarkStep) (own : (prior : List (EventWith FurtherEvent)) → Is prior → HandsIn step → StoresOwn rules kept request prior step)
         (then : (prior more : List (EventWith FurtherEvent)) → Is prior → After (prior ++ more)) where
       changes_of : Owns (λ prior held. Is prior) (Changes step) (λ changed prior held. After prior)
-      changes_of prior before events result after turning.done pre = ((own prior pre, tt), (tt, tt), then prior _ pre)
-      changes_of prior before events result after (turning.interrupted why) pre = ((own prior pre, tt), (tt, tt), tt)
+      changes_of prior before events result after (turning.done can) pre = ((own prior pre, tt), (tt, tt), then prior _ pre)
+      changes_of prior before events result after (turning.interrupted can why) pre = ((own prior pre, tt), (tt, tt), tt)
 
       changes : OwnUntold (λ prior held. Is prior) (Changes step) (λ changed prior held. After prior)
       changes = owned changes_of
@@ -167,12 +167,12 @@ module _ (rules : Rules) where
     opened_own {prior} has other is = subst (HasTicket rules kept request prior) (cc is) has
 
     seats_of : Owns Held (Seats (Seat None None)) (λ seated. Held)
-    seats_of prior before events result after turning.opened pre = (((λ hands. elim hands [ ]), tt), (tt, tt), opened_own (has_ticket unkept (has_right prior here)))
-    seats_of prior before events result after (turning.interrupted why) pre = (((λ hands. elim hands [ ]), tt), (tt, tt), tt)
+    seats_of prior before events result after (turning.opened can) pre = (((λ hands. elim hands [ ]), tt), (tt, tt), opened_own (has_ticket unkept (has_right prior here)))
+    seats_of prior before events result after (turning.interrupted can why) pre = (((λ hands. elim hands [ ]), tt), (tt, tt), tt)
 
     closes_of : (pin : List ℕ) → Owns (λ prior held. Held prior held × IsAccepted rules kept.options request prior pin) (Closes (Some pin)) (λ closed prior held. IsAccepted rules kept.options request prior pin)
     closes_of pin prior before events result after turning.unheld pre = (tt, tt, accepted_more [] pre.1)
-    closes_of pin prior before events result after (turning.closed {ticket} turn) pre = (((λ hands. whose.accepted (pre.0 ticket refl) pre.1), tt), (tt, tt), accepted_more _ pre.1)
+    closes_of pin prior before events result after (turning.closed {ticket} turn can) pre = (((λ hands. whose.accepted (pre.0 ticket refl) pre.1), tt), (tt, tt), accepted_more _ pre.1)
 
     -- ---- GET_PASSPHRASE
 
@@ -188,23 +188,22 @@ module _ (rules : Rules) where
       module _ (step : MarkStep) (quiet : HandsIn step → ⊥)
           (gives : (prior : List (EventWith FurtherEvent)) (grant : Grant) → Has (cache_turn step (Given grant)) prior → IsAnswered rules kept.options request prior fields grant.entry.secret) where
         asks_of : (prior : List (EventWith FurtherEvent)) (before : Option ℕ) (events : List (EventWith FurtherEvent)) (result : Result (Option (List ℕ)) Refusal) (after : Option ℕ)
-            → ((ticket : ℕ) → before ≡ None → after ≡ Some ticket → WantsTicket rules kept request (prior ++ events) step) → Asks step before events result after → Held prior before
+            → ((ticket : ℕ) → FitsStep step (Open ticket) → WantsTicket rules kept request (prior ++ events) step) → Asks step before events result after → Held prior before
             → AreOwn Mine prior events × Open rules events × HoldsOf (λ found. Known found (prior ++ events) after) result
-        asks_of prior before events result after wants (turning.given {grant}) pre = (((λ hands. absurd (quiet hands)), tt), (tt, tt), gives _ grant (has_right prior here))
-        asks_of prior before events result after wants turning.empty pre = (((λ hands. absurd (quiet hands)), tt), (tt, tt), held_more _ pre)
-        asks_of prior before events result after wants turning.opened pre = (((λ hands. absurd (quiet hands)), tt), (tt, tt), opened_own (has_ticket (wants _ refl refl) (has_right prior here)))
-        asks_of prior before events result after wants (turning.interrupted why) pre = (((λ hands. absurd (quiet hands)), tt), (tt, tt), tt)
+        asks_of prior before events result after wants (turning.given {grant} can) pre = (((λ hands. absurd (quiet hands)), tt), (tt, tt), gives _ grant (has_right prior here))
+        asks_of prior before events result after wants (turning.empty can) pre = (((λ hands. absurd (quiet hands)), tt), (tt, tt), held_more _ pre)
+        asks_of prior before events result after wants (turning.opened fits) pre = (((λ hands. absurd (quiet hands)), tt), (tt, tt), opened_own (has_ticket (wants _ fits) (has_right prior here)))
+        asks_of prior before events result after wants (turning.interrupted can why) pre = (((λ hands. absurd (quiet hands)), tt), (tt, tt), tt)
 
       looks_for : (id : Option (List ℕ)) → fields.id ≡ id → OwnUntold Held (LooksFor id) Known
       looks_for None same = returned None (λ prior held pre. pre)
       looks_for (Some id) same = owned (λ prior before events result after does pre.
-          let unopened : (ticket : ℕ) → before ≡ None → after ≡ Some ticket → WantsTicket rules kept request (prior ++ events) (ask id) = λ ticket none some. absurd (cc (none, some, does.keeps)) in
-          asks_of (ask id) (λ hands. elim hands [ ]) (λ prior grant has. cached same has) prior before events result after unopened does.asks pre)
+          asks_of (ask id) (λ hands. elim hands [ ]) (λ prior grant has. cached same has) prior before events result after (λ ticket fits. absurd fits) does pre)
 
       wants_prompt : (id : Option (List ℕ)) → fields.id ≡ id → OwnUntold Held (WantsPrompt id) Known
       wants_prompt None same = bind (owned seats_of) (λ seated. returned None (λ prior held pre. pre))
       wants_prompt (Some id) same = owned (λ prior before events result after does pre.
-          asks_of (ask_or_open id) (λ hands. elim hands [ ]) (λ prior grant has. unprompted same has) prior before events result after (λ ticket none some. by_id fields is_get same) does pre)
+          asks_of (ask_or_open id) (λ hands. elim hands [ ]) (λ prior grant has. unprompted same has) prior before events result after (λ ticket fits. by_id fields is_get same) does pre)
 
       found_or : (found : Option (List ℕ)) {other : CachePart (List ℕ)} → OwnUntold Held other IsFound → OwnUntold (Known found) (or_else found other) IsFound
       found_or None other = other

@@ -105,10 +105,10 @@ module _ {rules : Rules} {kept : Kept} {request : Request} {prior : List (EventW
 module _ (id : List ℕ) where
   nonce_of : (before : Option ℕ) (events : List (EventWith FurtherEvent)) (result : Result (Option (List ℕ)) Refusal) (after : Option ℕ) → Asks (ask_nonce id) before events result after → Fit events
       → AllByRecursion IsQuiet events × (after ≡ before)
-  nonce_of before events result after turning.given fits = (((λ hands. elim hands [ ]), tt), refl)
-  nonce_of before events result after turning.empty fits = (((λ hands. elim hands [ ]), tt), refl)
+  nonce_of before events result after (turning.given can) fits = (((λ hands. elim hands [ ]), tt), refl)
+  nonce_of before events result after (turning.empty can) fits = (((λ hands. elim hands [ ]), tt), refl)
   nonce_of before events result after turning.opened fits = absurd fits.0
-  nonce_of before events result after (turning.interrupted why) fits = (((λ hands. elim hands [ ]), tt), refl)
+  nonce_of before events result after (turning.interrupted can why) fits = (((λ hands. elim hands [ ]), tt), refl)
 
 inquires_of : (word : List ℕ) (limit : ℕ) (prior : List (EventWith FurtherEvent)) (before : Option ℕ) (events : List (EventWith FurtherEvent)) (result : Result (List ℕ) Refusal) (after : Option ℕ)
     → Inquires session_lines word limit before events result after → Fit events → AllByRecursion IsQuiet events × (after ≡ before) × HoldsOf (λ pass. IsSent (prior ++ events) word limit pass) result
@@ -190,10 +190,10 @@ module _ (rules : Rules) (kept : Kept) (request : Request) where
 
   new_nonce_of : (id : List ℕ) → NamesNew request id → (prior : List (EventWith FurtherEvent)) (before : Option ℕ) (events : List (EventWith FurtherEvent)) (result : Result (Option (List ℕ)) Refusal) (after : Option ℕ)
       → Asks (ask_nonce id) before events result after → Fit events → AllByRecursion IsQuiet events × (after ≡ before) × HoldsOf (λ found. FoundNew found (prior ++ events)) result
-  new_nonce_of id names prior before events result after turning.given fits = (((λ hands. elim hands [ ]), tt), refl, given names (has_right prior here))
-  new_nonce_of id names prior before events result after turning.empty fits = (((λ hands. elim hands [ ]), tt), refl, tt)
+  new_nonce_of id names prior before events result after (turning.given can) fits = (((λ hands. elim hands [ ]), tt), refl, given names (has_right prior here))
+  new_nonce_of id names prior before events result after (turning.empty can) fits = (((λ hands. elim hands [ ]), tt), refl, tt)
   new_nonce_of id names prior before events result after turning.opened fits = absurd fits.0
-  new_nonce_of id names prior before events result after (turning.interrupted why) fits = (((λ hands. elim hands [ ]), tt), refl, tt)
+  new_nonce_of id names prior before events result after (turning.interrupted can why) fits = (((λ hands. elim hands [ ]), tt), refl, tt)
 
   no_nonce_of : (prior : List (EventWith FurtherEvent)) (before : Option ℕ) (events : List (EventWith FurtherEvent)) (result : Result (Option (List ℕ)) Refusal) (after : Option ℕ)
       → chain.Returns None before events result after → Fit events → AllByRecursion IsQuiet events × (after ≡ before) × HoldsOf (λ found. FoundNew found (prior ++ events)) result
@@ -207,7 +207,7 @@ module _ (rules : Rules) (kept : Kept) (request : Request) where
       (result : Result (Option (List ℕ)) Refusal) (after : Option ℕ) → LooksOver id before events result after → Fit events
       → AllByRecursion IsQuiet events × (after ≡ before) × HoldsOf (λ found. FoundNew found (prior ++ events)) result
   looks_over_of id names prior before events result after parts.no_nonce fits = (tt, refl, tt)
-  looks_over_of id names prior before events result after (parts.given {nonce}) fits = (((λ hands. elim hands [ ]), tt), refl, given (names nonce refl) (has_right prior here))
+  looks_over_of id names prior before events result after (parts.given {nonce} can) fits = (((λ hands. elim hands [ ]), tt), refl, given (names nonce refl) (has_right prior here))
   looks_over_of id names prior before events result after parts.empty fits = (((λ hands. elim hands [ ]), tt), refl, tt)
   looks_over_of id names prior before events result after parts.stopping fits = (((λ hands. elim hands [ ]), tt), refl, tt)
   looks_over_of id names prior before events result after parts.no_memory fits = (((λ hands. elim hands [ ]), tt), refl, tt)

@@ -60,7 +60,7 @@ work_noted (events.Further what) work = tt
 
 back_noted : {held : Option ℕ} {back : List Event} → Closes None held back (Ok tt) None → AllByRecursion IsNoted back
 back_noted unheld = tt
-back_noted (closed turn) = (tt, tt)
+back_noted (closed turn can) = (tt, tt)
 
 -- ---- what was drawn
 

@@ -160,9 +160,9 @@ module _ (rules : Rules) (kept : Kept) (request : Request) where
       -- a prompt's ticket
       takes_of : (prior : List (EventWith FurtherEvent)) (before : Option ℕ) (events : List (EventWith FurtherEvent)) (result : Result (Unit {0}) Refusal) (after : Option ℕ) → TakesSeat grip before events result after
           → Fit events → Ready mode.Ask prior before → AreOwn Mine prior events × HoldsOf (λ done. IsReadLocked (prior ++ events) grip locked × Seated (prior ++ events) after) result
-      takes_of prior None events result after (turning.opened {ticket}) fits pre =
+      takes_of prior None events result after (turning.opened {ticket} can) fits pre =
           (((λ hands. elim hands [ ]), tt), (locked_more _ pre.0, seated (has_ticket (by_seat (named unlocks)) (has_right prior here))))
-      takes_of prior None events result after (turning.interrupted why) fits pre = (((λ hands. elim hands [ ]), tt), tt)
+      takes_of prior None events result after (turning.interrupted can why) fits pre = (((λ hands. elim hands [ ]), tt), tt)
       takes_of prior (Some number) events result after chain.returns fits pre =
           (tt, subst (λ p. IsReadLocked p grip locked × Seated p (Some number)) (sym (append-nil prior)) (pre.0, seat_at pre.1))
         where
@@ -188,8 +188,8 @@ module _ (rules : Rules) (kept : Kept) (request : Request) where
       put_of : (pass : List ℕ) (prior : List (EventWith FurtherEvent)) (before : Option ℕ) (events : List (EventWith FurtherEvent)) (result : Result (Unit {0}) Refusal) (after : Option ℕ)
           → Changes (put_key grip pass) before events result after → Fit events → GaveOld pass prior before × OpensBy locked pass
           → AreOwn Mine prior events × HoldsOf (λ done. Unheld (prior ++ events) after) result
-      put_of pass prior before events result after turning.done fits pre = (((λ hands. whose.sent_old unlocks pre.0.0.0 pre.0.1 pre.1), tt), pre.0.0.1)
-      put_of pass prior before events result after (turning.interrupted why) fits pre = (((λ hands. whose.sent_old unlocks pre.0.0.0 pre.0.1 pre.1), tt), tt)
+      put_of pass prior before events result after (turning.done can) fits pre = (((λ hands. whose.sent_old unlocks pre.0.0.0 pre.0.1 pre.1), tt), pre.0.0.1)
+      put_of pass prior before events result after (turning.interrupted can why) fits pre = (((λ hands. whose.sent_old unlocks pre.0.0.0 pre.0.1 pre.1), tt), tt)
 
       opened_by_client : {A : Type 0} (pass : List ℕ) (tried : Option A) → OwnSo Mine (λ prior held. GaveOld pass prior held × ((opened : A) → tried ≡ Some opened → OpensBy locked pass)) (needed code.BadPass tried)
           (λ opened prior held. GaveOld pass prior held × OpensBy locked pass)
@@ -233,12 +233,12 @@ module _ (rules : Rules) (kept : Kept) (request : Request) where
 
       asks_of : (way : PinMode) (prior : List (EventWith FurtherEvent)) (before : Option ℕ) (events : List (EventWith FurtherEvent)) (result : Result (Option (List ℕ)) Refusal) (after : Option ℕ)
           → Asks (ask_key grip (way_of way)) before events result after → Fit events → Free prior before → AreOwn Mine prior events × HoldsOf (λ cached. AskedAt way cached (prior ++ events) after) result
-      asks_of way prior before events result after turning.given fits pre = (((λ hands. elim hands [ ]), tt), free (locked_more _ pre.0, pre.1))
-      asks_of way prior before events result after turning.empty fits pre = (((λ hands. elim hands [ ]), tt), free (locked_more _ pre.0, pre.1))
-      asks_of way prior before events result after (turning.opened {ticket}) fits pre =
+      asks_of way prior before events result after (turning.given can) fits pre = (((λ hands. elim hands [ ]), tt), free (locked_more _ pre.0, pre.1))
+      asks_of way prior before events result after (turning.empty can) fits pre = (((λ hands. elim hands [ ]), tt), free (locked_more _ pre.0, pre.1))
+      asks_of way prior before events result after (turning.opened {ticket} can) fits pre =
           let wants = wants_of (prior ++ cache_turn (ask_key grip (way_of way)) (Open ticket) ∷ []) way ticket fits in
           (((λ hands. elim hands [ ]), tt), missed refl (locked_more _ pre.0, own_ticket wants.0 (has_ticket wants.1 (has_right prior here))))
-      asks_of way prior before events result after (turning.interrupted why) fits pre = (((λ hands. elim hands [ ]), tt), tt)
+      asks_of way prior before events result after (turning.interrupted can why) fits pre = (((λ hands. elim hands [ ]), tt), tt)
 
       tries_free : (pass : Option (List ℕ)) → OwnSo Mine Free (TriesFound locked pass) (λ opened. Free)
       tries_free None = own_returned Mine None (λ prior held so. so)
@@ -294,7 +294,7 @@ module _ (rules : Rules) (kept : Kept) (request : Request) where
       closes_of : (way : PinMode) (by : Option (List ℕ)) (prior : List (EventWith FurtherEvent)) (before : Option ℕ) (events : List (EventWith FurtherEvent)) (result : Result (Unit {0}) Refusal) (after : Option ℕ)
           → Closes by before events result after → Fit events → OpenedAt way by prior before → AreOwn Mine prior events × HoldsOf (λ done. Anything (prior ++ events) after) result
       closes_of way by prior before events result after turning.unheld fits pre = (tt, tt)
-      closes_of way by prior before events result after (turning.closed {ticket} turn) fits pre = (((λ hands. opened_own way by prior ticket pre hands), tt), tt)
+      closes_of way by prior before events result after (turning.closed {ticket} turn can) fits pre = (((λ hands. opened_own way by prior ticket pre hands), tt), tt)
 
       closes_own : (way : PinMode) (by : Option (List ℕ)) → OwnSo Mine (OpenedAt way by) (Closes by) (λ done. Anything)
       closes_own way by = owns Mine (closes_of way by)
@@ -339,18 +339,18 @@ module _ (rules : Rules) (kept : Kept) (request : Request) where
 
     keeps_of : (pass : List ℕ) (prior : List (EventWith FurtherEvent)) (before : Option ℕ) (events : List (EventWith FurtherEvent)) (result : Result (Unit {0}) Refusal) (after : Option ℕ) → KeepsNew grip pass before events result after
         → Fit events → MineAt pass prior before → AreOwn Mine prior events × HoldsOf (λ done. Anything (prior ++ events) after) result
-    keeps_of pass prior None events result after turning.done fits pre = (((λ hands. put_new pass prior pre), tt), tt)
-    keeps_of pass prior None events result after (turning.interrupted why) fits pre = (((λ hands. put_new pass prior pre), tt), tt)
-    keeps_of pass prior (Some number) events result after (turning.closed turn) fits pre = (((λ hands. close_new pass prior number pre), tt), tt)
+    keeps_of pass prior None events result after (turning.done can) fits pre = (((λ hands. put_new pass prior pre), tt), tt)
+    keeps_of pass prior None events result after (turning.interrupted can why) fits pre = (((λ hands. put_new pass prior pre), tt), tt)
+    keeps_of pass prior (Some number) events result after (turning.closed turn can) fits pre = (((λ hands. close_new pass prior number pre), tt), tt)
 
     keeps_new : (pass : List ℕ) → OwnSo Mine (MineAt pass) (KeepsNew grip pass) (λ done. Anything)
     keeps_new pass = owns Mine (keeps_of pass)
 
     takes_new : (prior : List (EventWith FurtherEvent)) (before : Option ℕ) (events : List (EventWith FurtherEvent)) (result : Result (Unit {0}) Refusal) (after : Option ℕ) → TakesSeat grip before events result after
         → Fit events → IsMine prior × TicketAt mode.Ask prior before → AreOwn Mine prior events × HoldsOf (λ done. IsMine (prior ++ events) × Seated (prior ++ events) after) result
-    takes_new prior None events result after turning.opened fits pre =
+    takes_new prior None events result after (turning.opened can) fits pre =
         (((λ hands. elim hands [ ]), tt), (about_more _ pre.0, seated (has_ticket (by_seat (about_more _ pre.0)) (has_right prior here))))
-    takes_new prior None events result after (turning.interrupted why) fits pre = (((λ hands. elim hands [ ]), tt), tt)
+    takes_new prior None events result after (turning.interrupted can why) fits pre = (((λ hands. elim hands [ ]), tt), tt)
     takes_new prior (Some number) events result after chain.returns fits pre = (tt, subst (λ p. IsMine p × Seated p (Some number)) (sym (append-nil prior)) (pre.0, seat_at pre.1))
       where
         seat_at : TicketAt mode.Ask prior (Some number) → Seated prior (Some number)
@@ -362,7 +362,7 @@ module _ (rules : Rules) (kept : Kept) (request : Request) where
       quiet_are_own Mine prior shown (each_shown IsQuiet still_quiet (λ event. tt) prompt.in_session),
       (about_more shown pre.0, at_prompt (ticket_more shown (seat_of pre.1)) (any takes (has_prompt prompt (stand_last prior shown)))),
     )
-    prompts_new_of prior before events result after (passphrases.refused {shown} spec is prompt refusal) fits pre = (quiet_are_own Mine prior shown (each_shown IsQuiet still_quiet (λ event. tt) prompt.in_session), tt)
+    prompts_new_of prior before events result after (passphrases.refused {shown} spec is prompt enough refusal) fits pre = (quiet_are_own Mine prior shown (each_shown IsQuiet still_quiet (λ event. tt) prompt.in_session), tt)
 
     client_new : OwnSo Mine (λ prior held. IsMine prior × Unheld prior held) ClientNew MineAt
     unfolding ClientNew
@@ -430,9 +430,9 @@ module _ (rules : Rules) (kept : Kept) (request : Request) where
       put_drawn_of : (pass drawn : List ℕ) (prior : List (EventWith FurtherEvent)) (before : Option ℕ) (events : List (EventWith FurtherEvent)) (result : Result (Unit {0}) Refusal) (after : Option ℕ)
           → Changes (Put (hex_text (drop 20 drawn)) Nonce Default pass) before events result after → Fit events → MineAt pass prior before × IsDrawn prior 32 drawn
           → AreOwn Mine prior events × HoldsOf (λ done. MineAt pass (prior ++ events) after) result
-      put_drawn_of pass drawn prior before events result after turning.done fits pre =
+      put_drawn_of pass drawn prior before events result after (turning.done can) fits pre =
           (((λ hands. nonce_own pass drawn prior before pre.0.1 pre.1), tt), (about_more _ pre.0.0, new_stays_of pass prior _ before pre.0.1))
-      put_drawn_of pass drawn prior before events result after (turning.interrupted why) fits pre = (((λ hands. nonce_own pass drawn prior before pre.0.1 pre.1), tt), tt)
+      put_drawn_of pass drawn prior before events result after (turning.interrupted can why) fits pre = (((λ hands. nonce_own pass drawn prior before pre.0.1 pre.1), tt), tt)
 
       drawn_stays : (pass drawn : List ℕ) → Stays (λ prior held. MineAt pass prior held × IsDrawn prior 32 drawn)
       drawn_stays pass drawn = record { of = λ prior more held so. ((new_stays pass).of prior more held so.0, drawn_more more so.1) }
@@ -552,7 +552,7 @@ module _ (rules : Rules) (kept : Kept) (request : Request) where
 
   back_quiet : {held : Option ℕ} {back : List (EventWith FurtherEvent)} → Closes None held back (Ok tt) None → AllByRecursion IsQuiet back
   back_quiet turning.unheld = tt
-  back_quiet (turning.closed turn) = (kept_none _, tt)
+  back_quiet (turning.closed turn can) = (kept_none _, tt)
 
   ended_own : (events back last : List (EventWith FurtherEvent)) → AreOwn Mine [] events → AllByRecursion IsQuiet back → AllByRecursion IsQuiet last → AreOwn Mine [] (events ++ (back ++ last))
   ended_own events back last own back_so last_so = own_then Mine [] events (back ++ last) own (quiet_are_own Mine events (back ++ last) (each_append IsQuiet back last back_so last_so))

@@ -85,7 +85,7 @@ module _ (rules : Rules) where
 
   pub back_plain : {held : Option ℕ} {back : List (EventWith FurtherEvent)} → Closes None held back (Ok tt) None → Plain back
   back_plain turning.unheld = tt
-  back_plain (turning.closed turn) = ((kept_none _, tt), tt)
+  back_plain (turning.closed turn can) = ((kept_none _, tt), tt)
 
   -- ---- whose they are
 

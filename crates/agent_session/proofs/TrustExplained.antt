@@ -111,8 +111,8 @@ module _ (rules : Rules) (kept : Kept) (other : Request) (request : TrustRequest
 
   seats_of : (before : Option ℕ) (events : List Event) (result : Result (Unit {0}) Refusal) (after : Option ℕ) → Seats (Seat None None) before events result after → StandIn events within
       → ComesHere Anything events result
-  seats_of before events result after taken.opened stands = record { silent = (tt, tt); explained = tt }
-  seats_of before events result after (taken.interrupted why) stands = record { silent = (tt, tt); explained = interrupts (Seat None None) refl why stands }
+  seats_of before events result after (taken.opened can) stands = record { silent = (tt, tt); explained = tt }
+  seats_of before events result after (taken.interrupted can why) stands = record { silent = (tt, tt); explained = interrupts (Seat None None) refl why stands }
 
   -- ---- the user
 
@@ -251,7 +251,7 @@ module _ (rules : Rules) (kept : Kept) (other : Request) (request : TrustRequest
 
   back_silent : {held : Option ℕ} {back : List Event} → Closes None held back (Ok tt) None → AllByRecursion AnswersNothing back
   back_silent taken.unheld = tt
-  back_silent (taken.closed turn) = (tt, tt)
+  back_silent (taken.closed turn can) = (tt, tt)
 
   client_explained : (why : Unheard) → IsSaid whole why → Here (said_last (option_map written.failed (refusal_code why))) (went_after (gone_of why))
   client_explained unheard.Cancelled is = failed [] code.Cancelled Agent tt (by_client is) tt

@@ -29,7 +29,7 @@ use Rattle.session_client.specs.declared.code.Code.TheVariants as code
 use Rattle.assuan_server.specs.declared.errors.Origin.TheVariants.{Agent}
 use Rattle.assuan_text.specs.LineEnds.{line_of}
 use Rattle.assuan_text.specs.Words.{command_of}
-use Rattle.cache_policy.specs.Turns.{Empty, Given}
+use Rattle.cache_policy.specs.Turns.{Empty, Given, FitsStep}
 use Rattle.cache_policy.specs.declared.grant.Grant.{Grant}
 use Rattle.cache_policy.specs.declared.life.Life.{Life}
 use Rattle.cache_policy.specs.declared.secret.TheConstants.{MAX_SECRET_LEN}
@@ -112,7 +112,7 @@ module _ (one_canon : (file : List ℕ) (a b : Option (List ℕ)) → Canon file
 
   quiet_exchange : CacheExchange rules kept.options (Cache (get_passphrase quietly)) nothing_cached kept.options On
   quiet_exchange =
-      exchanges.refused (cache_turn (ask (codes "k")) Empty ∷ []) None (refusals.Agent code.NoData) (chain.stops (chain.goes_on (record { asks = turning.empty; keeps = refl }) chain.refuses)) turning.unheld
+      exchanges.refused (cache_turn (ask (codes "k")) Empty ∷ []) None (refusals.Agent code.NoData) (chain.stops (chain.goes_on (turning.empty tt) chain.refuses)) turning.unheld
 
   no_data : HasError code.NoData Agent nothing_cached
   no_data =
@@ -210,7 +210,7 @@ module _ (one_canon : (file : List ℕ) (a b : Option (List ℕ)) → Canon file
 
   -- PASSWD of a clear key in an extended file, which is too long with the list of that key, whatever passphrase that is under
   module _ (line : ArrayVec ℕ) (grip : Grip) (old : Option (List ℕ)) (fresh : List ℕ) (is : key_request_of line.items ≡ on.Passwd grip old (Some fresh) false) (answer : KeyRead) (file : List ℕ) (found : file_in answer ≡ Some file)
-      (key : Key) (says : FileSays file (Ok key)) (clear_one : key.is_clear ≡ true) (within : length (key_list_of key) ≤ MAX_LIST_LEN) (entry : Grant) (bytes : List ℕ) (twenty : length bytes ≡ 20) (extended : is_canonical file ≡ false)
+      (key : Key) (says : FileSays file (Ok key)) (clear_one : key.is_clear ≡ true) (within : length (key_list_of key) ≤ MAX_LIST_LEN) (entry : Grant) (of_fresh : FitsStep (ask_nonce fresh) (Given entry)) (bytes : List ℕ) (twenty : length bytes ≡ 20) (extended : is_canonical file ≡ false)
       (much : (pass changed : List ℕ) → IsWithList file (list_under key bytes kept.options.s2k_count pass) changed → most_bytes < length changed)
       (made_file : List ℕ) (with_list : IsWithList file (list_under key bytes kept.options.s2k_count entry.entry.secret) made_file) where
     abbrev too_long_file : List Event
@@ -224,7 +224,7 @@ module _ (one_canon : (file : List ℕ) (a b : Option (List ℕ)) → Canon file
         (chain.goes_on {first = []} (open_clear grip old key key.is_clear clear_one)
         (chain.stops
         (chain.goes_on {first = []} {value = tt} {mid = None} (key_parts.short within)
-        (chain.goes_on {first = cache_turn (ask_nonce fresh) (Given entry) ∷ []} (chain.goes_on turning.given chain.returns)
+        (chain.goes_on {first = cache_turn (ask_nonce fresh) (Given entry) ∷ []} (chain.goes_on (turning.given of_fresh) chain.returns)
         (chain.goes_on (small.drawn twenty)
         (chain.goes_on key_parts.made
         (chain.stops (files.too_long made_file extended with_list (much entry.entry.secret made_file with_list)))))))))) turning.unheld

@@ -27,7 +27,7 @@ use Rattle.assuan_server.specs.Written.{failed, greeting, ok_text}
 use Rattle.session_client.specs.declared.code.Code.TheVariants as code
 use Rattle.assuan_server.specs.declared.errors.Origin.TheVariants.{Agent as OfAgent}
 use Rattle.assuan_text.specs.LineEnds.{line_of}
-use Rattle.cache_policy.specs.Turns.{Given, Open, Done, Refused}
+use Rattle.cache_policy.specs.Turns.{Given, Open, Done, Refused, FitsStep}
 use Rattle.cache_policy.specs.declared.grant.Grant.{Grant}
 use Rattle.cache_policy.specs.declared.life.Life.{Life}
 use Rattle.cache_policy.specs.declared.mark.MarkStep.TheVariants.{Close}
@@ -125,7 +125,7 @@ module _ (rules : Rules) (kept : Kept) (id pin : List ℕ) (texts : Texts) (spec
   events = before_close ++ cache_turn (Close ticket (Some pin)) Done ∷ Sent (line_of (ok_text (hex_text pin))) ∷ []
 
   asked_by : ByUser rules kept.options texts false false 0 (Some id) None (before_close ++ cache_turn (Close ticket (Some pin)) Done ∷ []) (Ok pin) None
-  asked_by = goes_on turning.opened (goes_on (passphrases.given spec is_spec (record { prompt = prompt; asks = asks; in_session = in_session })) (goes_on (turning.closed Done) returns))
+  asked_by = goes_on (turning.opened tt) (goes_on (passphrases.given spec is_spec (record { prompt = prompt; asks = asks; in_session = in_session })) (goes_on (turning.closed Done tt) returns))
 
   asked_so : CacheExchange rules kept.options request events kept.options On
   asked_so =
@@ -170,7 +170,7 @@ module _ (rules : Rules) (kept : Kept) (allowed : rules.allow_preset ≡ true) (
   refused = cache_turn (put id life pass) Refused ∷ Sent (failed code.NoMemory) ∷ []
 
   refused_so : Presets rules id life (Some pass) None (cache_turn (put id life pass) Refused ∷ []) (Err (Agent code.NoMemory)) None
-  refused_so = goes_on {first = []} (subst (λ so. wanted {E = EventWith FurtherEvent} code.NotSupported so None [] (Ok tt) None) (sym allowed) returns) (goes_on returns (turning.interrupted interrupts.refused))
+  refused_so = goes_on {first = []} (subst (λ so. wanted {E = EventWith FurtherEvent} code.NotSupported so None [] (Ok tt) None) (sym allowed) returns) (goes_on returns (turning.interrupted tt interrupts.refused))
 
   refused_exchange : SessionExchange rules kept line refused kept On
   refused_exchange =
@@ -186,6 +186,7 @@ module _ (rules : Rules) (kept : Kept) (allowed : rules.allow_preset ≡ true) (
 -- ---- a key comes in, and its file can't be replaced
 
 module _ (rules : Rules) (options : OptionValues) (wrap wrapped : List ℕ) (key : Key) (says : WrappedSays wrap wrapped (Ok key)) (grip : Grip) (named : grip.0 ≡ grip_of key) (nonce : List ℕ) (grant : Grant)
+    (of_nonce : FitsStep (ask_nonce nonce) (Given grant))
     (drawn : List ℕ) (long : length drawn ≡ 32) where
   abbrev wraps : WrapKeys
   wraps = record { import = Some wrap; export = None }
@@ -202,7 +203,7 @@ module _ (rules : Rules) (options : OptionValues) (wrap wrapped : List ℕ) (key
   unfolding ImportKeyReplies
   import_fails =
       goes_on returns (goes_on (goes_on client_parts.written (goes_on (parts.asked (client_parts.given refl)) (parts.is_key says))) (goes_on (parts.named named) (goes_on returns
-      (goes_on (goes_on parts.given returns) (stops (goes_on (small.drawn long) (goes_on parts.made (goes_on turning.done (stops (parts.not_done refl))))))))))
+      (goes_on (goes_on (parts.given of_nonce) returns) (stops (goes_on (small.drawn long) (goes_on parts.made (goes_on (turning.done tt) (stops (parts.not_done refl))))))))))
 
   -- the passphrase stays under the nonce, and nothing is kept for the key
   import_stores : ImportCourse (imports ++ Sent (failed code.General) ∷ [])

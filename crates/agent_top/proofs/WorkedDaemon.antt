@@ -362,7 +362,7 @@ module _ (some : AtCounted) where
   second_talk : Session (DoorExchange Home rules) (kept rules) second_events Killed
   unfolding door_command_named
   second_talk =
-      talks.greeted (talks.goes_on get (whole (own_way get refl (is_given rules grant refl))) (talks.goes_on get (whole (own_way get refl (is_empty rules)))
+      talks.greeted (talks.goes_on get (whole (own_way get refl (is_given rules grant refl (refl, refl)))) (talks.goes_on get (whole (own_way get refl (is_empty rules)))
       (talks.over kill (whole (own_way kill refl (is_stopped rules))))))
 
   abbrev second_link : LinkSides
@@ -576,7 +576,7 @@ module _ (some : AtCounted) where
   gets_want_no_memory =
       subst (λ (r : Request). AnswersAlone r (cache_turn (ask id) (Given grant) ∷ Sent told ∷ [])) get_is
       (daemon_alone {supply = supply_of (Some [])} {before = ends_with (Some []) (at_pass rules second second_link (pass_at 1 1 []) (clock_at 0) launches keys dice trust_file)}
-      (own_way get refl (is_given rules grant refl)) refl refl (one (worlds.turned gets) (one worlds.sent none)) ((λ is. cc is), ((λ never. never), tt))) refl
+      (own_way get refl (is_given rules grant refl (refl, refl))) refl refl (one (worlds.turned gets) (one worlds.sent none)) ((λ is. cc is), ((λ never. never), tt))) refl
 
   -- ---- what agent_serve says of its workers and sessions
 
