@@ -61,4 +61,5 @@ mod WorkedLink
 mod WorkedPassphrases
 mod WorkedRefusals
 mod WorkedRuns
+mod WorkedTrust
 mod Works
