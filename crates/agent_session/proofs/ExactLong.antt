@@ -341,7 +341,7 @@ module _ (rules : Rules) (kept : Kept) (grip : Grip) (new : Option (List ℕ)) (
     rewrites_long pass _ _ _ _ (stops small.faulted) stands_so remembers = inl (tt, tt)
     rewrites_long pass _ _ _ _ (goes_on (small.drawn many) (stops parts.no_memory)) stands_so remembers = absurd (remembers.1.0 tt)
     rewrites_long pass _ _ _ _ (goes_on (small.drawn many) (goes_on parts.made (stops (files.too_long new_file other with_list much)))) stands_so remembers = inr refl
-    rewrites_long pass _ _ _ _ (goes_on (small.drawn many) (goes_on parts.made (stops files.no_memory))) stands_so remembers = absurd (remembers.1.0 tt)
+    rewrites_long pass _ _ _ _ (goes_on (small.drawn many) (goes_on parts.made (stops (files.no_memory other)))) stands_so remembers = absurd (remembers.1.0 tt)
     rewrites_long pass _ _ _ _ (goes_on (small.drawn many) (goes_on parts.made (goes_on (files.canonical_file is) does))) stands_so remembers =
         let other = (long file key pass _ read_so opens (protected (record { long = many; has = has_first stands_so }) refl)).0 in absurd (cc (is, other))
     rewrites_long pass _ _ _ _ (goes_on (small.drawn many) (goes_on parts.made (goes_on (files.extended_file {new = new_file} other with_list few) does))) stands_so remembers =

@@ -443,7 +443,7 @@ module _ (rules : Rules) (kept : Kept) (request : Request) (whole : List (EventW
           rewrites_of before events result after (files.extended_file other with_list few) stands = record { silent = tt; explained = tt }
           rewrites_of before events result after (files.too_long new_file other with_list many) stands =
               record { silent = tt; explained = long_file pass asked is_read other opens is_list with_list many }
-          rewrites_of before events result after files.no_memory stands = record { silent = (tt, tt); explained = out_of_memory_first rules kept request whole stands }
+          rewrites_of before events result after (files.no_memory other) stands = record { silent = (tt, tt); explained = out_of_memory_first rules kept request whole stands }
 
           rewrites : Explains whole (IsCaused whole rules kept request) (Rewrites file list) Anything
           rewrites = record { of = rewrites_of }

@@ -107,7 +107,7 @@ module _ (id : List ℕ) where
       → AllByRecursion IsQuiet events × (after ≡ before)
   nonce_of before events result after (turning.given can) fits = (((λ hands. elim hands [ ]), tt), refl)
   nonce_of before events result after (turning.empty can) fits = (((λ hands. elim hands [ ]), tt), refl)
-  nonce_of before events result after turning.opened fits = absurd fits.0
+  nonce_of before events result after (turning.opened can) fits = absurd can
   nonce_of before events result after (turning.interrupted can why) fits = (((λ hands. elim hands [ ]), tt), refl)
 
 inquires_of : (word : List ℕ) (limit : ℕ) (prior : List (EventWith FurtherEvent)) (before : Option ℕ) (events : List (EventWith FurtherEvent)) (result : Result (List ℕ) Refusal) (after : Option ℕ)
@@ -192,7 +192,7 @@ module _ (rules : Rules) (kept : Kept) (request : Request) where
       → Asks (ask_nonce id) before events result after → Fit events → AllByRecursion IsQuiet events × (after ≡ before) × HoldsOf (λ found. FoundNew found (prior ++ events)) result
   new_nonce_of id names prior before events result after (turning.given can) fits = (((λ hands. elim hands [ ]), tt), refl, given names (has_right prior here))
   new_nonce_of id names prior before events result after (turning.empty can) fits = (((λ hands. elim hands [ ]), tt), refl, tt)
-  new_nonce_of id names prior before events result after turning.opened fits = absurd fits.0
+  new_nonce_of id names prior before events result after (turning.opened can) fits = absurd can
   new_nonce_of id names prior before events result after (turning.interrupted can why) fits = (((λ hands. elim hands [ ]), tt), refl, tt)
 
   no_nonce_of : (prior : List (EventWith FurtherEvent)) (before : Option ℕ) (events : List (EventWith FurtherEvent)) (result : Result (Option (List ℕ)) Refusal) (after : Option ℕ)

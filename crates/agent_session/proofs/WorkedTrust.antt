@@ -69,11 +69,11 @@ module _ (rules : Rules) (kept : Kept) (fingerprint : Grip) (purpose : TrustPurp
     marked : Marked rules asking.options fingerprint purpose owner.items None work (Err (refusals.Agent code.TooMuch)) (Some ticket)
     unfolding Marked Consented StoresUnsaid Stores
     marked =
-        chain.goes_on (has_read found) (asked_next _ unsaid (chain.goes_on turning.opened (chain.goes_on trusts_it (chain.goes_on is_right (chain.goes_on (has_read found_again)
+        chain.goes_on (has_read found) (asked_next _ unsaid (chain.goes_on (turning.opened tt) (chain.goes_on trusts_it (chain.goes_on is_right (chain.goes_on (has_read found_again)
         (asked_next _ unsaid_still (chain.stops (parts.too_long much))))))))
 
     exchange : TrustExchange rules asking.options (MarkTrusted fingerprint purpose owner) events On
-    exchange = exchanges.refused work (Some ticket) (refusals.Agent code.TooMuch) (chain.stops marked) (turning.closed Done)
+    exchange = exchanges.refused work (Some ticket) (refusals.Agent code.TooMuch) (chain.stops marked) (turning.closed Done tt)
 
   -- its cause is the second read: at a door where the command is allowed the answer is Too much data
   module _ (one_canon : (file : List ℕ) (a b : Option (List ℕ)) → Canon file a → Canon file b → a ≡ b) (door : Door) (line : List ℕ) (allows : allowed door line ≡ true)

@@ -407,7 +407,7 @@ module _ (Fits : Event → Type 0) where
     rewrites _ _ _ _ (files.canonical_file is) = (works tt, refl)
     rewrites _ _ _ _ (files.extended_file other with_list few) = (works tt, refl)
     rewrites _ _ _ _ (files.too_long new_file other with_list many) = (works tt, refl)
-    rewrites _ _ _ _ files.no_memory = (no_memory, refl)
+    rewrites _ _ _ _ (files.no_memory other) = (no_memory, refl)
 
     pub names_key : {key : Key} → Keeps (NamesKey key)
     names_key _ _ _ _ (parts.named is) = (works tt, refl)
