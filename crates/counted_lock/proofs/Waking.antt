@@ -1,5 +1,5 @@
 -- Only a Close, a Put and a Stop end another's stand: no other step frees the seat, ends the agent, or makes an entry live.
-use Rattle.std.proofs.Common.{◌≡◌, ◌≢◌, ◌≤◌, ◌<◌, ◌&&◌, ◌||◌, ℕ, List, [], Bool, true, false, Option, Some, None, IfSome, cond, max, not, refl, sym, ap, ◌∙◌, subst}
+use Rattle.std.proofs.Common.{◌≡◌, ◌≤◌, ◌&&◌, ◌||◌, ℕ, List, [], Bool, true, false, Option, Some, None, IfSome, cond, max, not, refl, sym, ap, ◌∙◌}
 use Rattle.std.specs.Prelude.{if◌then◌else◌, ◌==◌}
 use Rattle.std.specs.Option.{option_or, option_and_then, is_some}
 use Rattle.std.proofs.Math.Bool.{or-false}
@@ -16,11 +16,14 @@ use Rattle.cache_policy.specs.declared.mark.Way.TheVariants.{Quiet, Prompt}
 use Rattle.cache_policy.specs.declared.mode.Mode.{Mode}
 use Rattle.cache_policy.specs.Entries.{stored}
 use Rattle.cache_policy.specs.Entry.{within}
-use Rattle.cache_policy.specs.Histories.{History, with_mark}
+use Rattle.cache_policy.specs.Histories.{History, next_number, with_mark}
 use Rattle.cache_policy.specs.Live.{newest_of, newest, takes_away, gone, gives, last_use, is_live, live}
-use Rattle.cache_policy.specs.Policy.{Ruling, Reply, Stand, policy, prompt_ruling, ask_ruling}
-use Rattle.cache_policy.specs.Seat.{is_open, is_stop, gives_back, unless_given_back, seat, stopped}
-use Rattle.cache_policy.specs.Turns.{with_since}
+use Rattle.cache_policy.specs.Policy.{Reply, Stand, policy, prompt_ruling, ask_ruling}
+use Rattle.cache_policy.specs.Seat.{under_of, is_open, is_stop, gives_back, unless_given_back, seat, stopped}
+use Rattle.cache_policy.specs.declared.life.Life.{Life}
+use Rattle.cache_policy.specs.declared.step.Step.{Step}
+use Rattle.cache_policy.specs.declared.step.Step.TheVariants as asked
+use Rattle.cache_policy.specs.Turns.{asked_step, with_since}
 use Rattle.cache_policy.specs.Waits.{is_late}
 use Rattle.cache_policy.proofs.ReturnLemmas.{prompt_gives_nothing}
 use Rattle.cache_policy.proofs.OneMore.{stopped_with_mark, seat_with_mark, newest_with_mark, is_live_with_mark}
@@ -143,7 +146,7 @@ module _ (limits : Limits) (history : History) (mark : Mark) (quiet : may_end ma
   seat_same : (ticket : Held) → seat history ≡ Some ticket → seat (with_mark history mark) ≡ Some ticket
   seat_same ticket out =
       seat_with_mark history mark
-      ∙ ap (λ (b : Bool). cond b _ (option_and_then (unless_given_back mark.step) (seat history))) (opens_none limits history mark.moment mark.reply mark.step ticket quiet out ruled)
+      ∙ ap (λ (b : Bool). cond b (Some (record { ticket = next_number history; under = under_of mark.step })) (option_and_then (unless_given_back mark.step) (seat history))) (opens_none limits history mark.moment mark.reply mark.step ticket quiet out ruled)
       ∙ ap (option_and_then (unless_given_back mark.step)) out
       ∙ ap (λ (b : Bool). cond b None (Some ticket)) (gives_none_back mark.step ticket.ticket quiet)
 
@@ -190,8 +193,8 @@ module _ (limits : Limits) (history : History) (mark : Mark) (quiet : may_end ma
         alive entry = if is_live (with_mark history mark) again entry then Some entry else None
 
         by_live : (entry : Entry) (lives : Bool) → is_live (with_mark history mark) again entry ≡ lives → (lives ≡ true → ⊥) → alive entry ≡ None
-        by_live entry true is no = absurd (no refl)
-        by_live entry false is no = ap (λ (b : Bool). cond b (Some entry) None) is
+        by_live entry true is never = absurd (never refl)
+        by_live entry false is never = ap (λ (b : Bool). cond b (Some entry) None) is
 
         by_newest : (found : Option Entry) → newest limits history id mode ≡ found → IfSome found (IsKnown limits history) → option_and_then alive found ≡ None
         by_newest None is known = refl
@@ -220,7 +223,7 @@ ends_stand limits history mark ends = by_step (may_end mark.step) refl
     by_step false is = absurd (ends.ends (stands_still limits history mark is ends.ruled ends.standing ends.first ends.again ends.before ends.stood ends.stands))
 
 -- and a step may as its mark does
-pub may_end_as : (since : Option ℕ) (asked : MarkStep) → may_end (with_since since asked) ≡ may_end asked
+pub may_end_as : (since : Option ℕ) (step : MarkStep) → may_end (with_since since step) ≡ may_end step
 may_end_as since (Ask id mode way first) = refl
 may_end_as since (Seat under first) = refl
 may_end_as since (Close ticket keep) = refl
@@ -229,3 +232,15 @@ may_end_as since (Clear id mode) = refl
 may_end_as since Flush = refl
 may_end_as since (Peek id mode) = refl
 may_end_as since Stop = refl
+
+-- any other step doesn't
+pub none_ends : (step : Step) → ((ticket : ℕ) (keep : Option (List ℕ)) → step ≡ asked.Close ticket keep → ⊥)
+    → ((id : List ℕ) (mode : Mode) (life : Life) (secret : List ℕ) → step ≡ asked.Put id mode life secret → ⊥) → (step ≡ asked.Stop → ⊥) → may_end (asked_step step) ≡ false
+none_ends (asked.Ask id mode way wait) no_close no_put no_stop = refl
+none_ends (asked.Seat under wait) no_close no_put no_stop = refl
+none_ends (asked.Close ticket keep) no_close no_put no_stop = absurd (no_close ticket keep refl)
+none_ends (asked.Put id mode life secret) no_close no_put no_stop = absurd (no_put id mode life secret refl)
+none_ends (asked.Clear id mode) no_close no_put no_stop = refl
+none_ends asked.Flush no_close no_put no_stop = refl
+none_ends (asked.Peek id mode) no_close no_put no_stop = refl
+none_ends asked.Stop no_close no_put no_stop = absurd (no_stop refl)
