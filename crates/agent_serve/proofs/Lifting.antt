@@ -1,5 +1,5 @@
 -- A session at the desk and with the pinentry is one at what they show.
-use Rattle.std.proofs.Common.{◌≡◌, List, [], ◌++◌, Option, None, Some, ◌+◌, false, refl, ap, ◌∙◌, subst}
+use Rattle.std.proofs.Common.{◌≡◌, ℕ, List, [], ◌++◌, Option, None, Some, ◌+◌, false, refl, ap, ◌∙◌, subst}
 use Rattle.std.specs.Prelude.{is_some}
 use Rattle.agent_ask.specs.Doing.{called, out_of_memory}
 use Rattle.agent_ask.specs.Events.{Call}

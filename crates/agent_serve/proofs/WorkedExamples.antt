@@ -1,5 +1,5 @@
 -- A worker that was stopped, worked by hand.
-use Rattle.std.proofs.Common.{◌≡◌, ◌<◌, ◌-◌, ◌^◌, ℕ, None, refl, arith}
+use Rattle.std.proofs.Common.{◌≡◌, ◌<◌, ◌-◌, ◌^◌, ℕ, List, None, refl, arith}
 use Rattle.agent_origin.specs.declared.door.Door.TheVariants.{Home}
 use Rattle.agent_ports.specs.HostParts.{Views}
 use Rattle.agent_ports.specs.Sides.{Side}

@@ -1,6 +1,6 @@
 -- Runs of the agent, and sessions of its daemon: each error line has its cause, and where no count rose each request is answered.
 use Rattle.std.specs.List.{AllByRecursion}
-use Rattle.std.proofs.Common.{◌+◌, ◌-◌, ◌^◌, ℕ, min, arith}
+use Rattle.std.proofs.Common.{◌+◌, ◌-◌, ◌^◌, ℕ, List, min, arith}
 use Rattle.agent_ask.specs.Events.{Call}
 use Rattle.agent_ask.specs.Prompters.{IsCall}
 use Rattle.agent_commands.specs.Talks.{Session}
