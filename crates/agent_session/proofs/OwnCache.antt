@@ -17,7 +17,8 @@ use Rattle.agent_ask.specs.TurnParts.{Asks, Seats, Changes, Closes}
 use Rattle.agent_ask.specs.TurnParts as turning
 use Rattle.assuan_server.specs.Clients.{session_lines}
 use Rattle.assuan_server.specs.Written.{refusal_line}
-use Rattle.cache_policy.specs.Turns.{Given, Open, FitsStep}
+use Rattle.cache_policy.specs.Turns.{Given, FitsStep}
+use Rattle.cache_policy.specs.Turns as turns
 use Rattle.cache_policy.specs.declared.grant.Grant.{Grant}
 use Rattle.cache_policy.specs.declared.life.Life.{Life}
 use Rattle.cache_policy.specs.declared.life.Life.TheVariants.{Default}
@@ -188,7 +189,7 @@ module _ (rules : Rules) where
       module _ (step : MarkStep) (quiet : HandsIn step → ⊥)
           (gives : (prior : List (EventWith FurtherEvent)) (grant : Grant) → Has (cache_turn step (Given grant)) prior → IsAnswered rules kept.options request prior fields grant.entry.secret) where
         asks_of : (prior : List (EventWith FurtherEvent)) (before : Option ℕ) (events : List (EventWith FurtherEvent)) (result : Result (Option (List ℕ)) Refusal) (after : Option ℕ)
-            → ((ticket : ℕ) → FitsStep step (Open ticket) → WantsTicket rules kept request (prior ++ events) step) → Asks step before events result after → Held prior before
+            → ((ticket : ℕ) → FitsStep step (turns.Open ticket) → WantsTicket rules kept request (prior ++ events) step) → Asks step before events result after → Held prior before
             → AreOwn Mine prior events × Open rules events × HoldsOf (λ found. Known found (prior ++ events) after) result
         asks_of prior before events result after wants (turning.given {grant} can) pre = (((λ hands. absurd (quiet hands)), tt), (tt, tt), gives _ grant (has_right prior here))
         asks_of prior before events result after wants (turning.empty can) pre = (((λ hands. absurd (quiet hands)), tt), (tt, tt), held_more _ pre)
