@@ -7,7 +7,8 @@ use Rattle.cache_policy.specs.Turns.{Turn}
 use Rattle.agent_ports.specs.Sides.{Side}
 use Rattle.agent_ports.specs.Writing.{StopsWriting}
 use Rattle.agent_ports.specs.declared.link.WriteFault.{WriteFault}
-use Rattle.session_client.specs.Asking.{AnyInquired, Asked, NotAsked, HasSaid, HasReceived, HasInquired}
+use Rattle.session_client.specs.Asking.{AnyInquired, Asked, NotAsked, HasSaid, HasInquired}
+use Rattle.session_client.proofs.Received.{HasReceived}
 use Rattle.session_client.specs.Lines.{Lines, Views}
 use Rattle.agent_ask.specs.LinkFaults.{fails_at_input, fails_at_output}
 use Rattle.agent_ask.specs.SessionEvents.{AnyEvent, Received, Sent, Cut, Inquiry, Further, cache_turn}

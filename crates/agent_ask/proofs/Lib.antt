@@ -1,6 +1,7 @@
 pub mod Making
 pub mod Stopping
 pub mod Trying
+pub mod WorkedPrompts
 pub mod OnlyAnswer
 pub mod Counting
 pub mod Unheard

@@ -2,7 +2,7 @@
 use Rattle.std.proofs.Common.{◌≡◌, ◌≤◌, ℕ, List, [], ◌∷◌, ◌++◌, Option, Some, None, Result, Ok, Err, refl, arith}
 use Rattle.cache_policy.specs.declared.mark.MarkStep.{MarkStep}
 use Rattle.cache_policy.specs.declared.mark.MarkStep.TheVariants.{Close}
-use Rattle.cache_policy.specs.Turns.{Turn, Open}
+use Rattle.cache_policy.specs.Turns.{Turn, Open, FitsStep}
 use Rattle.session_client.specs.Lines.{Lines, Views, IsOpen}
 use Rattle.session_client.specs.declared.refusal.Refusal.{Refusal}
 use Rattle.session_client.specs.declared.unheard.Gone.{Gone}
@@ -132,22 +132,22 @@ module _ {T O F D A B : Type 0} {turned : D → MarkStep → Turn → D → Type
 -- ---- tickets
 
 module _ {T O F D : Type 0} {turned : D → MarkStep → Turn → D → Type 0} {desk now : D} where
-  opened_by : {step : MarkStep} {turn : Turn} {number : ℕ} → turned desk step turn now → Gives turn (Ok number)
+  opened_by : {step : MarkStep} {turn : Turn} {number : ℕ} → turned desk step turn now → FitsStep step turn → Gives turn (Ok number)
       → DoesTurn turned (Seats {T = T} {O = O} {F = F} step) None desk (Ok tt) (Some number) now
-  opened_by {step} {number} turned_so ticket_opened = record { step = step; turn = Open number; turned_so = turned_so; does = turns.Seats.opened; on = refl }
+  opened_by {step} {number} turned_so fits ticket_opened = record { step = step; turn = Open number; turned_so = turned_so; does = turns.Seats.opened fits; on = refl }
 
-  refused_by : {step : MarkStep} {turn : Turn} {why : Refusal} → turned desk step turn now → Gives turn (Err why)
+  refused_by : {step : MarkStep} {turn : Turn} {why : Refusal} → turned desk step turn now → FitsStep step turn → Gives turn (Err why)
       → DoesTurn turned (Seats {T = T} {O = O} {F = F} step) None desk (Err why) None now
-  refused_by {step} {turn} turned_so (ticket_refused by) = record { step = step; turn = turn; turned_so = turned_so; does = turns.Seats.interrupted by; on = refl }
+  refused_by {step} {turn} turned_so fits (ticket_refused by) = record { step = step; turn = turn; turned_so = turned_so; does = turns.Seats.interrupted fits by; on = refl }
 
   -- a request took the seat, or is refused
   pub ticket_taken : {step : MarkStep} {result : Result (Unit {0}) Refusal} {after : Option ℕ} → TakesTicket turned step desk result after now
       → DoesTurn turned (Seats {T = T} {O = O} {F = F} step) None desk result after now
-  ticket_taken (taken wants) = opened_by wants.turned_so wants.gives
-  ticket_taken (refused wants) = refused_by wants.turned_so wants.gives
+  ticket_taken (taken wants) = opened_by wants.turned_so wants.fits wants.gives
+  ticket_taken (refused wants) = refused_by wants.turned_so wants.fits wants.gives
 
 -- a request gave its ticket back
 pub ticket_given : {T O F D : Type 0} {turned : D → MarkStep → Turn → D → Type 0} {desk now : D} {keep : Option (List ℕ)} {before : Option ℕ} → GivesTicket turned keep before desk now
     → DoesTurns turned (Closes {T = T} {O = O} {F = F} keep) before desk (Ok tt) None now
 ticket_given unheld = still turns.Closes.unheld refl
-ticket_given (given {ticket} turn turned_so) = one (record { step = Close ticket _; turn = turn; turned_so = turned_so; does = closed turn; on = refl })
+ticket_given (given {ticket} turn turned_so fits) = one (record { step = Close ticket _; turn = turn; turned_so = turned_so; does = closed turn fits; on = refl })

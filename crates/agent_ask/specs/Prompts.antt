@@ -18,7 +18,6 @@ use Rattle.agent_ask.specs.declared.tries.Failure.{Failure}
 use Rattle.agent_ask.specs.declared.tries.Failure.TheVariants.{BadPassphrase, TooWeak, Differ}
 use Rattle.agent_ask.specs.declared.tries.Stop.{Stop}
 use Rattle.agent_ask.specs.declared.tries.Stop.TheVariants as stop
-use Rattle.agent_ask.specs.declared.tries.TheConstants.{MAX_TRIES}
 use Rattle.agent_ask.specs.declared.test.Tested.{Tested}
 use Rattle.agent_ask.specs.declared.test.Tested.TheVariants.{Yes, No, NoMemory}
 use Rattle.agent_ask.specs.Tests.{PinTest, Tests, test_of}
@@ -27,6 +26,10 @@ use Rattle.agent_ask.specs.Tests.{PinTest, Tests, test_of}
 abbrev pub MeetsCheck : Option (ℕ × ℕ) → List ℕ → Type 0
 MeetsCheck None pin = ⊤
 MeetsCheck (Some least) pin = (least.0 ≤ length pin) × (least.1 ≤ count_by (λ byte. not (is_ascii_alphabetic byte)) pin)
+
+-- how many tries a prompt has
+abbrev pub most_tries : ℕ
+most_tries = 3
 
 -- what failed a try, as it is told to the user
 abbrev pub failure_words : Failure → List ℕ
@@ -38,7 +41,7 @@ failure_words Differ = codes "Passphrases differ"
 abbrev pub try_text : AskPlan → Option Failure → ℕ → List ℕ
 try_text plan None number = plan.first_error.items
 try_text plan (Some failure) number =
-    failure_words failure ++ codes " (try " ++ (48 + number) ∷ codes " of " ++ (48 + MAX_TRIES) ∷ codes ")"
+    failure_words failure ++ codes " (try " ++ (48 + number) ∷ codes " of 3)"
 
 abbrev pub repeat_text : List ℕ
 repeat_text = codes "Please repeat the passphrase"
@@ -86,14 +89,14 @@ pub data IsTry (plan : AskPlan) (Rule : List ℕ → Type 0) (error : List ℕ) 
 -- The tries from the one of this number on, where this failed the one before, and their tests: the passphrase of the first try that
 -- doesn't fail, what ended the prompt earlier, or a bad passphrase after three tries that failed.
 pub data Tries (plan : AskPlan) (Rule : List ℕ → Type 0) : ℕ → Option Failure → List PromptEvent → List PinTest → Asked → Type 0 where
-  good : {number : ℕ} {before : Option Failure} {events : List PromptEvent} {tests : List PinTest} {pin : List ℕ} → number ≤ MAX_TRIES
+  good : {number : ℕ} {before : Option Failure} {events : List PromptEvent} {tests : List PinTest} {pin : List ℕ} → number ≤ most_tries
       → IsTry plan Rule (try_text plan before number) events tests (Ok pin) → Tries plan Rule number before events tests (asked.Pin pin)
-  over : {number : ℕ} {before : Option Failure} {events : List PromptEvent} {tests : List PinTest} {end : Asked} → number ≤ MAX_TRIES
+  over : {number : ℕ} {before : Option Failure} {events : List PromptEvent} {tests : List PinTest} {end : Asked} → number ≤ most_tries
       → IsTry plan Rule (try_text plan before number) events tests (Err (stop.Over end)) → Tries plan Rule number before events tests end
   again : {number : ℕ} {before : Option Failure} {events more : List PromptEvent} {tests later : List PinTest} {failure : Failure} {end : Asked}
-      → number ≤ MAX_TRIES → IsTry plan Rule (try_text plan before number) events tests (Err (stop.Failed failure))
+      → number ≤ most_tries → IsTry plan Rule (try_text plan before number) events tests (Err (stop.Failed failure))
       → Tries plan Rule (number + 1) (Some failure) more later end → Tries plan Rule number before (events ++ more) (tests ++ later) end
-  bad : {number : ℕ} {before : Option Failure} → MAX_TRIES < number → Tries plan Rule number before [] [] asked.Bad
+  bad : {number : ℕ} {before : Option Failure} → most_tries < number → Tries plan Rule number before [] [] asked.Bad
 
 -- a prompt is opened, and the client is told of it where it wants to be
 pub data Opens (spec : PromptSpec) (notify : Bool) : List PromptEvent → Opening → Type 0 where

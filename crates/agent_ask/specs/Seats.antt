@@ -3,7 +3,7 @@ use Rattle.std.specs.Prelude.{◌≡◌, ℕ, List, Option, Some, None, Result, 
 use Rattle.cache_policy.specs.Desks.{AtDesk}
 use Rattle.cache_policy.specs.declared.mark.MarkStep.{MarkStep}
 use Rattle.cache_policy.specs.declared.mark.MarkStep.TheVariants.{Close}
-use Rattle.cache_policy.specs.Turns.{Turn, Open}
+use Rattle.cache_policy.specs.Turns.{Turn, Open, FitsStep}
 use Rattle.session_client.specs.declared.code.Code.{Code}
 use Rattle.session_client.specs.declared.refusal.Refusal.{Refusal}
 use Rattle.session_client.specs.declared.refusal.Refusal.TheVariants.{Agent}
@@ -19,6 +19,7 @@ pub data Gives : Turn → Result ℕ Refusal → Type 0 where
 pub record WantsSeat {D : Type 0} (turned : D → MarkStep → Turn → D → Type 0) (step : MarkStep) (desk : D) (result : Result ℕ Refusal) (now : D) : Type 0 where
   pub turn : Turn
   pub turned_so : turned desk step turn now
+  pub fits : FitsStep step turn
   pub gives : Gives turn result
 
 -- a request that held no ticket wanted the seat: it holds this ticket then, or is refused
@@ -29,7 +30,8 @@ pub data TakesTicket {D : Type 0} (turned : D → MarkStep → Turn → D → Ty
 -- a request that may hold a ticket gave it back, and this is kept
 pub data GivesTicket {D : Type 0} (turned : D → MarkStep → Turn → D → Type 0) (keep : Option (List ℕ)) : Option ℕ → D → D → Type 0 where
   unheld : {desk : D} → GivesTicket turned keep None desk desk
-  given : {ticket : ℕ} {desk now : D} (turn : Turn) → turned desk (Close ticket keep) turn now → GivesTicket turned keep (Some ticket) desk now
+  given : {ticket : ℕ} {desk now : D} (turn : Turn) → turned desk (Close ticket keep) turn now → FitsStep (Close ticket keep) turn
+      → GivesTicket turned keep (Some ticket) desk now
 
 -- Between the parts of a request that holds this ticket: no other is out, and no prompt is open.
 pub record IsReady (desk : AtDesk) (prompter : AtPrompter) (ticket : Option ℕ) : Type 0 where

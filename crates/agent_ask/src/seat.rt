@@ -3,7 +3,7 @@
 ghost use Rattle.std.specs.Prelude.{◌≡◌, Ok, Err, Some, None, IfOk, IfErr, IsOk, IsSome};
 ghost use Rattle.agent_ask.specs.Seats.{GivesTicket, TakesTicket, WantsSeat};
 ghost use Rattle.cache_policy.specs.declared.mark.MarkStep.TheVariants.{Close, Seat};
-ghost use Rattle.cache_policy.specs.Turns.{Turn, asked_step, closes};
+ghost use Rattle.cache_policy.specs.Turns.{Turn, FitsStep, asked_step, closes};
 
 use crate::held::Held;
 use cache_policy::{Desk, Refused, Reply, Secret, Step, Under};
@@ -44,7 +44,8 @@ pub fn without_memory(step: Step) -> Refusal
 /// nothing.
 pub fn give_back<D: Desk>(ticket: Ticket, keep: Option<Secret>, desk: &mut D)
     requires out { (D.at desk.old).out ≡ Some ticket }
-    ensures turned { (turn : Turn) × D.turned desk.old (Close ticket keep) turn desk.new }
+    ensures turned { (turn : Turn) × D.turned desk.old (Close ticket keep) turn desk.new
+        × FitsStep (Close ticket keep) turn }
     ensures free { (D.at desk.new).out ≡ None }
 {
     match desk.turn(Step::Close { ticket, keep }) {

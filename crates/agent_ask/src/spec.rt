@@ -2,7 +2,7 @@ use assuan_text::Text;
 use session_options::Env;
 
 /// What a prompt shows, and where (pinentry manual, "protocol"). An empty text is not shown.
-#[derive(Debug, Drop)]
+#[derive(Drop)]
 pub struct PromptSpec {
     /// The title of the window.
     pub title: Text,
@@ -10,7 +10,7 @@ pub struct PromptSpec {
     pub description: Text,
     /// What stands before the field of the passphrase.
     pub prompt: Text,
-    /// What stands on the button that accepts, and on the one that cancels.
+    /// What stands on the button that accepts.
     pub ok: Text,
     /// What stands on the button that cancels.
     pub cancel: Text,
@@ -23,7 +23,7 @@ pub struct PromptSpec {
 }
 
 /// How a passphrase is asked for.
-#[derive(Debug, Drop)]
+#[derive(Drop)]
 pub struct AskPlan {
     /// The client is told that the prompt is open.
     pub notify: bool,

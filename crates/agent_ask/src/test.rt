@@ -4,7 +4,7 @@ ghost use Rattle.agent_ask.specs.Tests.{IsTest};
 use cache_policy::Secret;
 
 /// What a test says of a passphrase.
-#[derive(Clone, Copy, Debug, PartialEq, Eq)]
+#[derive(Clone, Copy, PartialEq, Eq)]
 pub enum Tested {
     /// It is right.
     Yes,

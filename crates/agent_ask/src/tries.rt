@@ -17,7 +17,7 @@ pub const MAX_TRIES: u8 = 3;
 const REPEAT: &[u8] = b"Please repeat the passphrase";
 
 /// What failed a try.
-#[derive(Clone, Copy, Debug, PartialEq, Eq)]
+#[derive(Clone, Copy, PartialEq, Eq)]
 pub(crate) enum Failure {
     BadPassphrase,
     TooWeak,

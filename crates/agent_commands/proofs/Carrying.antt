@@ -7,6 +7,7 @@ use Rattle.agent_ask.specs.PartReplies.{reply_by, comes_to, stops_at}
 use Rattle.agent_ask.specs.Parts.{◌>>=◌, Returns, returns, refuses, goes_on}
 use Rattle.agent_ask.specs.PartStates.{PartState, part_state, gone_in, DoesPart, NoTurn, NoEnd, DoesTurn, DoesTurns}
 use Rattle.agent_ask.specs.Seats.{TakesTicket}
+use Rattle.agent_ask.specs.TurnParts.{Seats}
 use Rattle.agent_ask.proofs.PartsDone.{part_then, part_stops, part_turned, part_still, part_turns, part_in, ticket_taken}
 use Rattle.agent_ask.proofs.Replying.{carries_in}
 use Rattle.assuan_server.specs.Clients.{connection_views}
@@ -26,7 +27,7 @@ use Rattle.agent_commands.specs.Outside.{DoesPrompts, prompts}
 use Rattle.agent_commands.specs.Parts.{CachePart}
 use Rattle.agent_commands.specs.Passphrases.{ByCache, WithoutPrompt, as_wanted, passphrase_by}
 use Rattle.agent_commands.specs.Requests.{GetFields}
-use Rattle.agent_commands.specs.Steps.{CacheChange, CacheSeat, IsText, went_of, CarriesOut, DoesAtDesk, DoesAtPrompter, option_reply, info_response, TellsCached, cached, refused}
+use Rattle.agent_commands.specs.Steps.{CacheChange, IsText, went_of, CarriesOut, DoesAtDesk, DoesAtPrompter, option_reply, info_response, TellsCached, cached, refused}
 use Rattle.agent_commands.specs.declared.request.Info.{Info}
 use Rattle.agent_commands.specs.declared.request.Info.TheVariants as info
 use Rattle.agent_commands.specs.declared.request.Texts.{Texts}
@@ -144,6 +145,10 @@ module _ {D E : Type 0} {turned : D → MarkStep → Turn → D → Type 0} {fur
   wanted_else texts Cancel other done = done
   wanted_else texts Error other done = done
   wanted_else texts Loopback other done = done
+
+-- a turn that wants the seat, as a part of a request on the cache
+abbrev CacheSeat : MarkStep → CachePart (Unit {0})
+CacheSeat step = Seats step
 
 -- a request on the cache took the seat, or is refused
 pub seat_turn : {D : Type 0} {turned : D → MarkStep → Turn → D → Type 0} {desk now : D} {step : MarkStep} {result : Result (Unit {0}) Refusal} {after : Option ℕ}

@@ -5,3 +5,4 @@ pub mod Replying
 mod Quieting
 mod WorkedExamples
 mod WorkedExchanges
+mod WorkedPrompts

@@ -31,15 +31,10 @@ ask id = Ask id User Quiet None
 abbrev pub ask_or_open : List ℕ → MarkStep
 ask_or_open id = Ask id User Prompt None
 
--- a turn that asks the cache, and opens no prompt
-pub record Looks (step : MarkStep) (held : Option ℕ) (events : List CacheEvent) (result : Result (Option (List ℕ)) Refusal) (after : Option ℕ) : Type 0 where
-  pub asks : Asks step held events result after
-  pub keeps : after ≡ held
-
 -- what is cached, where there is an id
 abbrev pub LooksFor : Option (List ℕ) → CachePart (Option (List ℕ))
 LooksFor None = Returns None
-LooksFor (Some id) = Looks (ask id)
+LooksFor (Some id) = Asks (ask id)
 
 -- the same, or the seat for a prompt
 abbrev pub WantsPrompt : Option (List ℕ) → CachePart (Option (List ℕ))

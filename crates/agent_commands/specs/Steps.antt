@@ -3,7 +3,7 @@ use Rattle.std.specs.Prelude.{◌≡◌, ℕ, Bool, List, decimal, Option, None,
 use Rattle.agent_ask.specs.Events.{Call}
 use Rattle.agent_ask.specs.Further.{FurtherEvent}
 use Rattle.agent_ask.specs.Parts.{Refuses}
-use Rattle.agent_ask.specs.TurnParts.{Asks, Changes, Closes, Seats}
+use Rattle.agent_ask.specs.TurnParts.{Asks, Changes}
 use Rattle.agent_ask.specs.PartReplies.{RespondsBy, CarriesBy}
 use Rattle.agent_ask.specs.PartStates.{PartState, part_state, DoesPart, NoTurn, NoEnd, DoesTurns}
 use Rattle.assuan_server.specs.Clients.{connection_views}
@@ -74,12 +74,6 @@ AsksNobody _ = Unit {0}
 -- turns as parts of a request on the cache
 abbrev pub CacheChange : MarkStep → CachePart (Unit {0})
 CacheChange step = Changes step
-
-abbrev pub CacheSeat : MarkStep → CachePart (Unit {0})
-CacheSeat step = Seats step
-
-abbrev pub CacheCloses : Option (List ℕ) → CachePart (Unit {0})
-CacheCloses keep = Closes keep
 
 abbrev pub CacheAsks : MarkStep → CachePart (Option (List ℕ))
 CacheAsks step = Asks step

@@ -27,7 +27,7 @@ pub use cut_line::CutLine;
 pub use fields::MAX_REPEAT;
 pub use line_request::LineRequest;
 pub use names::{COMMANDS, CommandName, KEY_COMMANDS, PROMPT_COMMANDS, commands_are_as_defined};
-pub use read::{read_quiet, read_request};
+pub use read::read_request;
 pub use request::{CacheCommand, Info, QuietRequest, Request, Texts};
 pub use response::{went_after, write_help};
 pub use went::{SessionEnd, Went};

@@ -8,7 +8,7 @@ use crate::Info;
 use assuan_text::{found, found_in_any_case, has_pair};
 
 /// The commands that are known.
-#[derive(Clone, Copy, Debug, PartialEq, Eq)]
+#[derive(Clone, Copy, PartialEq, Eq)]
 pub enum CommandName {
     /// NOP, which does nothing.
     Nop,

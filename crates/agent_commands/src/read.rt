@@ -2,7 +2,6 @@ ghost use Rattle.std.specs.Prelude.{◌≡◌, ◌≤◌, length, if◌then◌el
 ghost use Rattle.assuan_text.specs.declared.TheConstants.{MAX_LINE_LEN};
 ghost use Rattle.assuan_text.specs.Options.{options_of, arguments_of};
 ghost use Rattle.assuan_text.specs.Words.{words};
-ghost use Rattle.agent_commands.specs.Exchanges.{quiet_of};
 ghost use Rattle.agent_ask.specs.Plans.{text};
 ghost use Rattle.agent_commands.specs.Names.{is_key_command};
 ghost use Rattle.agent_commands.specs.Requests.{request_of, asked_by, ReadsGet, info_of};
@@ -12,7 +11,7 @@ ghost use Rattle.agent_commands.specs.Requests.{description_of};
 use crate::fields::{cache_id, cleared_mode, given_passphrase, life, text_or};
 use crate::get_line::GetLine;
 use crate::names::{CommandName, HAS_OPTION, info_named, is_key_command, is_listed};
-use crate::{CacheCommand, Info, LineRequest, QuietRequest, Request};
+use crate::{CacheCommand, Info, LineRequest, Request};
 use assuan_escape::unescape;
 use assuan_line::Line;
 use assuan_server::Code;
@@ -26,15 +25,6 @@ pub fn read_request(line: &Line) -> Request
     ensures { result ≡ request_of line.now }
 {
     LineRequest::of(line).whole()
-}
-
-/// Reads a line that asks the cache alone for a passphrase, as GET_PASSPHRASE does with `--no-ask`
-/// or without texts. `None` for any other line, which `read_request` reads. Where both may be
-/// wanted, `LineRequest` reads the line once.
-pub fn read_quiet(line: &Line) -> Option<QuietRequest>
-    ensures { result ≡ quiet_of (request_of line.now) }
-{
-    LineRequest::of(line).quiet()
 }
 
 /// A line that begins with none of the commands on the cache.

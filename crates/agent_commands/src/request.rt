@@ -97,7 +97,7 @@ pub enum Info {
 }
 
 /// What a prompt says.
-#[derive(Debug, Drop)]
+#[derive(Drop)]
 pub struct Texts {
     /// Empty where there was no error.
     pub error: Text,

@@ -4,7 +4,7 @@ ghost use Rattle.agent_commands.specs.Endings.{end_of};
 use session_client::Gone;
 
 /// How a session ended.
-#[derive(Clone, Copy, Debug, PartialEq, Eq)]
+#[derive(Clone, Copy, PartialEq, Eq)]
 pub enum SessionEnd {
     /// The client said BYE.
     Bye,
@@ -23,7 +23,7 @@ pub enum SessionEnd {
 }
 
 /// How a session goes on after a request.
-#[derive(Clone, Copy, Debug, PartialEq, Eq)]
+#[derive(Clone, Copy, PartialEq, Eq)]
 pub enum Went {
     /// It goes on with the next line.
     On,

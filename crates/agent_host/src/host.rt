@@ -1,4 +1,4 @@
-ghost use Rattle.std.specs.Prelude.{◌≡◌, ◌≤◌, Some, IsSome, IsNone, IfSome};
+ghost use Rattle.std.specs.Prelude.{◌≡◌, ◌≤◌, Some, None, IsSome, IsNone, IfSome};
 ghost use Rattle.agent_ports.specs.Counts.{Rose};
 ghost use Rattle.unix_socket.specs.declared.path.SocketName.{SocketName as Named};
 
@@ -109,8 +109,8 @@ fn new_parts<'a, R: rt::Clock + rt::Env + Processes + Files<File = File> + Net +
 ) -> SystemParts<'a, R>
     ensures launcher { (⟦<PipeLauncher<'a, R> as Launcher>⟧.launches result.launcher).faults ≡ 0 }
     ensures dice { (⟦<SystemDice<'a, R> as Dice>⟧.draws result.dice).faults ≡ 0 }
-    ensures keys { (⟦<SystemKeys<'a, R> as Keys>⟧.keys result.keys).faults ≡ 0 }
-    ensures homedir { result.keys.homedir ≡ homedir.now }
+    ensures keys { ⟦<SystemKeys<'a, R> as Keys>⟧.keys result.keys
+        ≡ record { files = None; folder = Some homedir.now; faults = 0 } }
 {
     let mut keys = SystemKeys::new(rt);
     keys.settle(homedir);
@@ -147,9 +147,6 @@ impl<'a, R: rt::Clock + rt::Env + Processes + Files<File = File> + Net + Eprint>
     ghost process = { λ h. h.pid };
 
     ghost homedir = { λ h. h.homedir };
-
-    ghost of_folder = { λ path.
-        record { keys = λ keys. keys.homedir ≡ path; trust = λ trust. trust.homedir ≡ path } };
 
     ghost is_home = { λ l. l.name ≡ Named.Standard };
 
@@ -206,39 +203,5 @@ impl<'a, R: rt::Clock + rt::Env + Processes + Files<File = File> + Net + Eprint>
 
     fn gate(&self) -> &NoGate {
         &self.gate
-    }
-}
-
-#[cfg(test)]
-mod tests {
-    use super::*;
-    use agent_ports::{KeyNames, TrustRead};
-
-    /// What the workers of a daemon want of its host, each on a thread of its own.
-    fn serves_threads<H: Host + Sync>(_host: &H)
-    where
-        H::Link: Send + Sync,
-        H::Ear: Send + Sync + Drop,
-        H::Listener: Send + Sync + Drop,
-        H::Launcher: Send + Sync + Drop,
-        <H::Launcher as Launcher>::Child: Send + Sync,
-        H::Clock: Send + Sync + Drop,
-        H::Dice: Send + Sync + Drop,
-        H::Keys: Send + Sync + Drop,
-        H::Trust: Send + Sync + Drop,
-        H::Gate: Send + Sync,
-    {}
-
-    #[test]
-    fn a_host_without_a_folder_has_no_socket_and_no_files(rt: HostRuntime) {
-        let mut host = SystemHost::new(&rt, rt.alloc(), 4711);
-        serves_threads(&host);
-        assert_eq!(rt; host.pid(), 4711);
-        assert!(rt; host.listen().is_none());
-        assert!(rt; host.listen_extra().is_none());
-        assert_eq!(rt; host.listens, 2);
-        let mut keys = host.session_parts().keys;
-        assert!(rt; matches!(keys.list(rt.alloc()), KeyNames::Failed));
-        assert!(rt; matches!(host.trust().read(rt.alloc()), TrustRead::Failed));
     }
 }

@@ -1,4 +1,4 @@
-ghost use Rattle.std.specs.Prelude.{◌≡◌, [], None, IfOk};
+ghost use Rattle.std.specs.Prelude.{◌≡◌, [], Some, None, IfOk};
 
 use crate::faults::count;
 use crate::no_folder::NoFolder;
@@ -13,8 +13,7 @@ use std::rt;
 #[derive(Drop)]
 pub struct SystemKeys<'a, R> {
     rt: &'a R,
-    /// The folder.
-    pub homedir: Homedir,
+    homedir: Homedir,
     faults: u64,
 }
 
@@ -22,8 +21,7 @@ impl<'a, R: rt::Clock + Files<File = File>> SystemKeys<'a, R> {
     /// Keys of no folder yet: each call fails.
     pub fn new(rt: &'a R) -> Self
         ensures keys { ⟦<SystemKeys<'a, R> as Keys>⟧.keys result
-            ≡ record { files = None; faults = 0 } }
-        ensures homedir { result.homedir ≡ [] }
+            ≡ record { files = None; folder = Some []; faults = 0 } }
     {
         SystemKeys {
             rt,
@@ -34,16 +32,15 @@ impl<'a, R: rt::Clock + Files<File = File>> SystemKeys<'a, R> {
 
     /// The folder that is used from now on.
     pub fn settle(&mut self, homedir: &Homedir)
-        ensures keys { ⟦<SystemKeys<'a, R> as Keys>⟧.keys self.new
-            ≡ ⟦<SystemKeys<'a, R> as Keys>⟧.keys self.old }
-        ensures homedir { self.new.homedir ≡ homedir.now }
+        ensures { ⟦<SystemKeys<'a, R> as Keys>⟧.keys self.new
+            ≡ record (⟦<SystemKeys<'a, R> as Keys>⟧.keys self.old) { folder = Some homedir.now } }
     {
         self.homedir = homedir.copy();
     }
 
     fn folder(&self, alloc: Global) -> Result<FolderKeys<'a, R>, NoFolder>
         ensures { IfOk result (λ folder. ⟦<FolderKeys<'a, R> as Keys>⟧.keys folder
-            ≡ record { files = None; faults = 0 }) }
+            ≡ record { files = None; folder = None; faults = 0 }) }
     {
         let path = self.homedir.path().ok_or(NoFolder::Failed)?;
         FolderKeys::new(self.rt, alloc, path).map_err(|_| NoFolder::NoMemory)
@@ -51,7 +48,8 @@ impl<'a, R: rt::Clock + Files<File = File>> SystemKeys<'a, R> {
 }
 
 impl<R: rt::Clock + Files<File = File>> Keys for SystemKeys<'_, R> {
-    ghost keys = { λ k. record { files = None; faults = k.faults } };
+    ghost keys = { λ k.
+        record { files = None; folder = Some k.homedir; faults = k.faults } };
 
     fn read(&mut self, alloc: Global, grip: &Grip) -> KeyRead {
         let answer = match self.folder(alloc) {

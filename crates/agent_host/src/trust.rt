@@ -1,4 +1,4 @@
-ghost use Rattle.std.specs.Prelude.{◌≡◌, None, IfOk};
+ghost use Rattle.std.specs.Prelude.{◌≡◌, Some, None, IfOk};
 
 use crate::faults::count;
 use crate::no_folder::NoFolder;
@@ -13,8 +13,7 @@ use std::rt;
 #[derive(Drop)]
 pub struct SystemTrust<'a, R> {
     rt: &'a R,
-    /// The folder.
-    pub homedir: Homedir,
+    homedir: Homedir,
     found: TrustFound,
     faults: u64,
 }
@@ -22,9 +21,8 @@ pub struct SystemTrust<'a, R> {
 impl<'a, R: rt::Clock + Files<File = File>> SystemTrust<'a, R> {
     /// The trust list of this folder.
     pub fn new(rt: &'a R, homedir: &Homedir) -> Self
-        ensures trust { ⟦<SystemTrust<'a, R> as TrustFile>⟧.trust result
-            ≡ record { file = None; faults = 0 } }
-        ensures homedir { result.homedir ≡ homedir.now }
+        ensures { ⟦<SystemTrust<'a, R> as TrustFile>⟧.trust result
+            ≡ record { file = None; folder = Some homedir.now; faults = 0 } }
     {
         SystemTrust {
             rt,
@@ -36,7 +34,7 @@ impl<'a, R: rt::Clock + Files<File = File>> SystemTrust<'a, R> {
 
     fn folder(&self, alloc: Global) -> Result<FolderTrust<'a, R>, NoFolder>
         ensures { IfOk result (λ folder. ⟦<FolderTrust<'a, R> as TrustFile>⟧.trust folder
-            ≡ record { file = None; faults = 0 }) }
+            ≡ record { file = None; folder = None; faults = 0 }) }
     {
         let path = self.homedir.path().ok_or(NoFolder::Failed)?;
         FolderTrust::found_before(self.rt, alloc, path, self.found).map_err(|_| NoFolder::NoMemory)
@@ -44,7 +42,8 @@ impl<'a, R: rt::Clock + Files<File = File>> SystemTrust<'a, R> {
 }
 
 impl<R: rt::Clock + Files<File = File>> TrustFile for SystemTrust<'_, R> {
-    ghost trust = { λ t. record { file = None; faults = t.faults } };
+    ghost trust = { λ t.
+        record { file = None; folder = Some t.homedir; faults = t.faults } };
 
     fn read(&mut self, alloc: Global) -> TrustRead {
         let answer = match self.folder(alloc) {
@@ -72,38 +71,5 @@ impl<R: rt::Clock + Files<File = File>> TrustFile for SystemTrust<'_, R> {
         };
         count(&mut self.faults, answer == TrustDone::Failed);
         answer
-    }
-}
-
-#[cfg(test)]
-mod tests {
-    use super::*;
-    use std::os::unix::fs::DirBuilderExt;
-    use std::test::Fail;
-    use std::{env, fs, process};
-
-    #[test]
-    fn a_list_that_changed_since_it_was_read_stays(rt: HostRuntime) -> Result<(), Fail> {
-        let temporary = env::temp_dir(&rt)?;
-        let temporary = temporary.as_path().to_str().ok_or("no text")?;
-        let number = process::id(rt.process());
-        let folder = format!(in rt.alloc(); "{temporary}/trusting{number}")?;
-        let list = format!(in rt.alloc(); "{folder}/trustlist.txt")?;
-        fs::DirBuilder::new().mode(0o700).create(&rt, &folder)?;
-        let mut homedir = Homedir::new();
-        homedir.settle(folder.as_bytes());
-        let mut trust = SystemTrust::new(&rt, &homedir);
-        assert!(rt; matches!(trust.read(rt.alloc()), TrustRead::Absent));
-        // An editor makes it.
-        fs::write(&rt, &list, b"one")?;
-        for (answer, faults) in [(TrustDone::Failed, 1u64), (TrustDone::Done, 1)] {
-            assert_eq!(rt; trust.replace(rt.alloc(), b"two"), answer);
-            assert_eq!(rt; trust.faults, faults);
-            assert!(rt; matches!(trust.read(rt.alloc()), TrustRead::Found(_)));
-        }
-        let left = fs::read(&rt, &list)?;
-        assert_eq!(rt; left.as_slice(), b"two".as_slice());
-        fs::remove_dir_all(&rt, &folder)?;
-        Ok(())
     }
 }

@@ -16,7 +16,7 @@ impl Marks for Brand {
 }
 
 /// What one worker's turns came to.
-#[derive(Clone, Copy, Debug, PartialEq, Eq)]
+#[derive(Clone, Copy, PartialEq, Eq)]
 pub struct Counts {
     /// How many of them made a mark.
     pub calls: u64,

@@ -3,7 +3,7 @@ use Rattle.std.proofs.Common.{codes, ℕ, Bool, List, Option, Some, None, Result
 use Rattle.agent_commands.specs.Exchanges.{option_replies, Presets, TellsPassphrase, TellsInfo}
 use Rattle.agent_commands.specs.Exchanges as exchange
 use Rattle.agent_commands.specs.Parts.{AsksPassphrase}
-use Rattle.agent_commands.specs.Passphrases.{Looks, ask, LooksFor, WantsPrompt, KeepsUnder, ByCache, Uncached, WithoutPrompt}
+use Rattle.agent_commands.specs.Passphrases.{LooksFor, WantsPrompt, KeepsUnder, ByCache, Uncached, WithoutPrompt}
 use Rattle.agent_commands.specs.declared.request.Info.{Info}
 use Rattle.cache_policy.specs.declared.life.Life.{Life}
 use Rattle.agent_ask.specs.SessionEvents.{cache_turn}
@@ -26,12 +26,9 @@ module _ (Is : Event → Type 0) (still : (event : Event) → IsStill event → 
   asks_passphrase : EachSo Is AsksPassphrase
   asks_passphrase = asks_secret Is still (codes "PASSPHRASE")
 
-  looks_of : (asked : MarkStep) (before : Option ℕ) (events : List Event) (result : Result (Option (List ℕ)) Refusal) (after : Option ℕ) → Looks asked before events result after → All Is events
-  looks_of asked before events result after looks = (each_looks Is (turns _)).of before events result after looks.asks
-
   looks_for : (id : Option (List ℕ)) → EachSo Is (LooksFor id)
   looks_for None = each_returned Is None
-  looks_for (Some id) = record { of = looks_of (ask id) }
+  looks_for (Some id) = each_looks Is (turns _)
 
   pub wants_prompt : (id : Option (List ℕ)) → EachSo Is (WantsPrompt id)
   wants_prompt None = each_bind Is (each_seats Is (turns _)) (λ seated. each_returned Is None)

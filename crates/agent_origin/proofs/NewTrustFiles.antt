@@ -281,7 +281,7 @@ module _ (fingerprint : Grip) (purpose : TrustPurpose) (file : List ℕ) (later 
 
     was_seated : {held after : Option ℕ} {events : List Event} {value : Unit {0}} → Seats (Seat None None) held events (Ok value) after
         → (ticket : ℕ) × (events ≡ cache_turn (Seat None None) (Open ticket) ∷ []) × (after ≡ Some ticket)
-    was_seated (opened {ticket}) = (ticket, refl, refl)
+    was_seated (opened {ticket} can) = (ticket, refl, refl)
 
     marks_it : (held after : Option ℕ) (events : List Event) (result : Result (Unit {0}) Refusal) → Marked rules options fingerprint purpose name.items held events result after → (before : List Event)
         → Here file later before events → Marks after before
@@ -338,7 +338,7 @@ module _ (rules : Rules) (options : OptionValues) (before : List Event) (file : 
       }
     where
       closed_by : (ticket : ℕ) (events : List Event) → Closes None (Some ticket) events (Ok tt) None → (turn : Turn) × (events ≡ cache_turn (Close ticket None) turn ∷ [])
-      closed_by ticket events (closed turn) = (turn, refl)
+      closed_by ticket events (closed turn can) = (turn, refl)
 
   carried_consents : (request : TrustRequest) (events rest back last : List Event) (result : Result (Unit {0}) Refusal) (held : Option ℕ) → events ≡ before ++ replaced file ∷ rest
       → Carried rules options request None events result held → Closes None held back (Ok tt) None → HasConsents rules options request before file (rest ++ (back ++ last))

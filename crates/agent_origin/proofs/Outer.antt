@@ -144,7 +144,7 @@ inquires_of word most before events result after (not_given is) later owes = owe
 -- a ticket that is held is given back
 closes_of : (keep : Option (List ℕ)) (before : Option ℕ) (events : List CacheEvent) (result : Result (Unit {0}) Refusal) (after : Option ℕ) → Closes keep before events result after → LeaveLaw before events result after
 closes_of keep before events result after unheld later owes = owes
-closes_of keep before events result after (closed turn) later owes = seated owes
+closes_of keep before events result after (closed turn can) later owes = seated owes
 
 -- a prompt takes no turn
 shown_of : {prompt : List PromptEvent} {events : List CacheEvent} (held : Option ℕ) → AnyInSession session_lines prompt events → (later : List Taken) → Owes held later
@@ -153,8 +153,8 @@ shown_of held in_session later owes = subst (Owes held) (sym (ap (λ (t : List T
 
 -- the seat is taken where no ticket is held
 seats_of : (before : Option ℕ) (events : List CacheEvent) (result : Result (Unit {0}) Refusal) (after : Option ℕ) → Seats (Seat None None) before events result after → before ≡ None → LeaveLaw before events result after
-seats_of None events result after opened free later owes = owes
-seats_of None events result after (interrupted by) free later owes = unseated by owes
+seats_of None events result after (opened can) free later owes = owes
+seats_of None events result after (interrupted can by) free later owes = unseated by owes
 seats_of (Some ticket) events result after does free later owes = absurd (cc free)
 
 asks_client : Leaves AsksPassphrase

@@ -67,7 +67,7 @@ module _ (agent : Rules) (options : OptionValues) (wraps : WrapKeys) where
       → LeaveLaw before events result after
   unfolding KeyInfoReplies
   info_of grip None events result after (goes_on (is_key file says) (goes_on (goes_on peeked returns) returns)) free later owes = peeks owes
-  info_of grip None events result after (goes_on (is_key file says) (stops (stops (interrupted by)))) free later owes = peeks owes
+  info_of grip None events result after (goes_on (is_key file says) (stops (stops (interrupted can by)))) free later owes = peeks owes
   info_of grip None events result after (goes_on (is_key file says) (stops (goes_on asks never))) free later owes = elim never [ ]
   info_of grip None events result after (stops (faulty file says)) free later owes = owes
   info_of grip None events result after (stops (no_key_memory file)) free later owes = owes

@@ -119,13 +119,13 @@ module _ (rules : Rules) (values : OptionValues) where
           (Some 3) (reply asking ok)
           (goes_on
           (goes_on (has_read refl)
-          (goes_on opened
+          (goes_on (opened tt)
           (goes_on {first = prompt first Yes} (consents first is_first (record { prompt = _; asks = asks first false refl Yes; in_session = shown (shown (shown none)) }))
           (goes_on {first = prompt second Yes} (consents second is_second (record { prompt = _; asks = asks second false refl Yes; in_session = shown (shown (shown none)) }))
           (goes_on (has_read refl)
           (goes_on {first = []} (added (lit≤ tt)) replaced))))))
           returns)
-          (closed Done)
+          (closed Done tt)
 
       -- the second one isn't: no file is made, and the seat is free
       unmarked : TrustExchange rules asking mark
@@ -136,7 +136,7 @@ module _ (rules : Rules) (values : OptionValues) where
           refused (trust_called (Read Absent) ∷ cache_turn (Seat None None) (Open 3) ∷ (prompt first Yes ++ prompt second No)) (Some 3) (Pinentry NotConfirmed)
           (stops
           (goes_on (has_read refl)
-          (goes_on opened
+          (goes_on (opened tt)
           (goes_on {first = prompt first Yes} (consents first is_first (record { prompt = _; asks = asks first false refl Yes; in_session = shown (shown (shown none)) }))
           (stops {first = prompt second No} (dissents second is_second (record { prompt = _; asks = asks second false refl No; in_session = shown (shown (shown none)) }) refl))))))
-          (closed Done)
+          (closed Done tt)

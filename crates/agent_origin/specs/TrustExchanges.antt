@@ -1,5 +1,5 @@
 -- Requests on the trust list and what is done for them, as the GnuPG manual has them ("Agent's Assuan protocol", ISTRUSTED and MARKTRUSTED). The
--- codes, the texts and the order of what is done are this project's own.
+-- codes, the texts and the order of what is done are this project's own. A row of each stands in proofs/WorkedExchanges.
 use Rattle.std.specs.Prelude.{◌++◌, ℕ, Bool, true, false, List, codes, Option, Some, None}
 use Rattle.agent_ask.specs.ConsentParts.{AgreesTo}
 use Rattle.agent_ask.specs.Events.{Call}

@@ -20,7 +20,7 @@ use agent_commands::{CutLine, LineRequest, Request, SessionEnd, Went, run_cache,
 use agent_ports::{Dice, Keys, Link};
 use assuan_server::{Code, Conn, Origin};
 use cache_policy::Desk;
-use key_commands::{KeyWent, is_described, read_key_cut, run_key};
+use key_commands::{KeyWent, may_prompt, read_key_cut, run_key};
 use session_options::{Options, Rules};
 use std::alloc::Global;
 use wiping::wipe_stack;
@@ -126,7 +126,7 @@ fn end_description(word: &[u8], options: &mut Options)
     ensures { (line : List ℕ) → word.now ≡ command_of line
         → options.new ≡ described_after line options.old }
 {
-    if is_described(word) {
+    if may_prompt(word) {
         options.end_description();
     }
 }

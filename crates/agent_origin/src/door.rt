@@ -29,7 +29,7 @@ const VERSION: &[u8] = b"version";
 const HAS_OPTION: &[u8] = b"cmd_has_option";
 
 /// By which of the agent's sockets a session came in.
-#[derive(Clone, Copy, Debug, PartialEq, Eq)]
+#[derive(Clone, Copy, PartialEq, Eq)]
 pub enum Door {
     /// The user's own.
     Home,
@@ -41,7 +41,7 @@ pub enum Door {
 
 /// What the line of a command has to be at the outer door. Which rule a command has is this
 /// project's own.
-#[derive(Clone, Copy, Debug, PartialEq, Eq)]
+#[derive(Clone, Copy, PartialEq, Eq)]
 pub(crate) enum Rule {
     /// Any line, in form or not.
     Always,

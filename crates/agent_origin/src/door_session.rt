@@ -26,7 +26,7 @@ use std::alloc::Global;
 
 /// What a session that came in by a door does with a command for itself. All others are those of
 /// every session.
-#[derive(Clone, Copy, Debug, PartialEq, Eq)]
+#[derive(Clone, Copy, PartialEq, Eq)]
 enum DoorCommand {
     /// HELP, which tells the commands on the trust list too.
     Help,

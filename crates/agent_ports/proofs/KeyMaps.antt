@@ -69,7 +69,7 @@ keys_listed es sorted = sym (ap (map (λ e. e.0)) (sorted_entries es sorted))
 
 -- keys whose files are known
 abbrev pub known_keys : FinMap grip_cmp (List ℕ) → ℕ → KeyFiles
-known_keys files faults = record { files = Some files; faults = faults }
+known_keys files faults = record { files = Some files; folder = None; faults = faults }
 
 pub removes_key : (files now : FinMap grip_cmp (List ℕ)) (grip : Grip) (before after : ℕ) → now ≡ remove files grip → IsSome (get files grip) → before ≤ after
     → RemovesKey (known_keys files before) grip Done (known_keys now after)
@@ -77,6 +77,7 @@ removes_key files now grip before after removed had risen = record {
   changes = record {
     changed = λ _. ap (λ files. Some files) removed;
     unchanged = λ other. absurd (other refl);
+    folder = refl;
     failed = λ failed. absurd (cc failed);
     never_falls = risen;
   };
@@ -90,6 +91,7 @@ lacks_key files now grip before after same none risen = record {
   changes = record {
     changed = λ done. absurd (cc done);
     unchanged = λ _. ap (λ files. Some files) same;
+    folder = refl;
     failed = λ failed. absurd (cc failed);
     never_falls = risen;
   };

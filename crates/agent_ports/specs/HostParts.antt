@@ -1,5 +1,6 @@
 -- A host's parts, as far as they show what they are. This is the project's own.
-use Rattle.std.specs.Prelude.{◌≡◌, ℕ, List, [], length, nat_le, if◌then◌else◌, Option, Some, None, ⊤}
+use Rattle.std.specs.Prelude.{◌≡◌, ℕ, List, [], length, nat_le, if◌then◌else◌, Option, Some, None, IfSome, ⊤}
+use Rattle.std.specs.Option.{option_map}
 use Rattle.agent_ports.specs.Sides.{Side}
 use Rattle.agent_ports.specs.Launches.{Launches}
 use Rattle.agent_ports.specs.Readings.{Readings}
@@ -14,10 +15,13 @@ pub record Views (La C R K : Type 0) : Type 0 where
   pub draws : R → Side
   pub keys : K → KeyFiles
 
--- whether key files are those of a folder, and whether a trust file is the one of it, as far as a host shows this
-pub record InFolder (K T : Type 0) : Type 1 where
-  pub keys : K → Type 0
-  pub trust : T → Type 0
+-- the folder is the one at this path, where it is known
+abbrev pub IsFolder : List ℕ → Option (List ℕ) → Type 0
+IsFolder path folder = IfSome folder (λ known. known ≡ path)
+
+-- the same key files in the folder at this path; it is known where theirs was
+abbrev pub settled_at : List ℕ → KeyFiles → KeyFiles
+settled_at path keys = record keys { folder = option_map (λ folder. path) keys.folder }
 
 -- what a host keeps of a folder's path: one that is too long is none
 abbrev pub kept_path : List ℕ → List ℕ
@@ -30,15 +34,15 @@ module _ {La C R K : Type 0} (views : Views La C R K) where
     pub dice : (views.draws parts.dice).faults ≡ 0
     pub keys : (views.keys parts.keys).faults ≡ 0
 
-  -- other parts, with the same counts and the same contents
-  pub record AreAlike (before after : Parts La C R K) : Type 0 where
+  -- other parts, with the same counts and the same contents, whose key files are in the folder at this path
+  pub record AreIn (path : List ℕ) (before after : Parts La C R K) : Type 0 where
     pub launcher : views.launches after.launcher ≡ views.launches before.launcher
     pub clock : views.readings after.clock ≡ views.readings before.clock
     pub dice : views.draws after.dice ≡ views.draws before.dice
-    pub keys : views.keys after.keys ≡ views.keys before.keys
+    pub keys : views.keys after.keys ≡ settled_at path (views.keys before.keys)
 
-  -- a host that has its parts has them afterwards
-  abbrev pub AreSettled : Option (Parts La C R K) → Option (Parts La C R K) → Type 0
-  AreSettled (Some before) (Some after) = AreAlike before after
-  AreSettled (Some before) None = ⊥
-  AreSettled None after = ⊤
+  -- a host that has its parts has them afterwards, in the folder at this path
+  abbrev pub AreSettled : List ℕ → Option (Parts La C R K) → Option (Parts La C R K) → Type 0
+  AreSettled path (Some before) (Some after) = AreIn path before after
+  AreSettled path (Some before) None = ⊥
+  AreSettled path None after = ⊤

@@ -20,14 +20,16 @@ use Rattle.agent_ports.specs.Counts.{Rose}
 abbrev pub grip_cmp : Grip → Grip → Ordering
 grip_cmp a b = slice_cmp nat_cmp a.0 b.0
 
--- the bytes of each file, where they are known, and how many calls failed
+-- the bytes of each file, and the path of the folder that was settled for them, where these are known; and how many calls failed
 pub record KeyFiles : Type 0 where
   pub files : Option (map.FinMap grip_cmp (List ℕ))
+  pub folder : Option (List ℕ)
   pub faults : ℕ
 
--- a call leaves the files, and its count of faults doesn't fall
+-- a call leaves the files and their folder, and its count of faults doesn't fall
 pub record LeavesKeys (before after : KeyFiles) : Type 0 where
   pub files : after.files ≡ before.files
+  pub folder : after.folder ≡ before.folder
   pub never_falls : before.faults ≤ after.faults
 
 -- what a read says of a key's file: that it is this one, or that there is none
@@ -64,10 +66,11 @@ pub record ListsKeys (before : KeyFiles) (answer : KeyNames) (after : KeyFiles) 
   pub leaves : LeavesKeys before after
   pub failed : answer ≡ names.Failed → Rose before.faults after.faults
 
--- a change was made where the answer is Done, and else none
+-- a change was made where the answer is Done, and else none; the folder is the same
 pub record ChangesKeys (change : map.FinMap grip_cmp (List ℕ) → map.FinMap grip_cmp (List ℕ)) (before : KeyFiles) (answer : KeyDone) (after : KeyFiles) : Type 0 where
   pub changed : answer ≡ done.Done → after.files ≡ option_map change before.files
   pub unchanged : (answer ≡ done.Done → ⊥) → after.files ≡ before.files
+  pub folder : after.folder ≡ before.folder
   pub failed : answer ≡ done.Failed → Rose before.faults after.faults
   pub never_falls : before.faults ≤ after.faults
 

@@ -1,8 +1,27 @@
 -- The links of a listener in memory, from its fields.
-use Rattle.std.specs.Prelude.{ℕ, Bool, List, map, vec_capacity}
+use Rattle.std.specs.Prelude.{ℕ, ◌+◌, ◌-◌, ◌^◌, min, Bool, true, false, List, map, vec_capacity}
+use Rattle.agent_ports.specs.declared.listener.Next.{Next}
+use Rattle.agent_ports.specs.declared.listener.Next.TheVariants.{Link, Failed, Stopped}
+use Rattle.agent_ports.specs.declared.mem_link.MemLink.{MemLink}
+use Rattle.agent_ports.specs.declared.mem_listener.MemEar.{MemEar}
 use Rattle.agent_ports.specs.Plans.{Plan}
 use Rattle.agent_ports.specs.MemPlans.{OpenLink, plan_of, planned_link, written_text}
 use Rattle.agent_ports.specs.declared.mem_listener.ListedLinks.{ListedLinks}
+
+-- one more, up to the last count
+abbrev pub one_more : ℕ → ℕ
+one_more count = min (count + 1) (2 ^ 64 - 1)
+
+-- what an answer leaves of the ear with which it was asked for
+abbrev pub heard : Next MemLink → MemEar → MemEar
+heard (Link link) ear = record ear { links = one_more ear.links }
+heard Failed ear = record ear { faults = one_more ear.faults }
+heard Stopped ear = record ear { stops = one_more ear.stops }
+
+-- what is left of an ear whose worker told a listener to stop: the one for restricted sessions, or the other
+abbrev pub told : Bool → MemEar → MemEar
+told true ear = record ear { told_extra = one_more ear.told_extra }
+told false ear = record ear { told = one_more ear.told }
 
 -- the links to come
 abbrev pub coming_links : ListedLinks → List OpenLink

@@ -7,9 +7,10 @@ use Rattle.agent_ports.specs.declared.trust.TrustDone.{TrustDone}
 use Rattle.agent_ports.specs.declared.trust.TrustDone.TheVariants as done
 use Rattle.agent_ports.specs.Counts.{Rose}
 
--- the bytes of the file, or that there is none, where this is known; and how many calls failed
+-- the bytes of the file, or that there is none, and the path of the folder that was settled for it, where these are known; and how many calls failed
 pub record TrustState : Type 0 where
   pub file : Option (Option (List ℕ))
+  pub folder : Option (List ℕ)
   pub faults : ℕ
 
 -- what a read says of the file: that it is this one, or that there is none
@@ -23,6 +24,7 @@ TrustReadSays read.NoMemory there = ⊤
 pub record ReadsTrust (before : TrustState) (answer : TrustRead) (after : TrustState) : Type 0 where
   pub says : IfSome before.file (λ there. TrustReadSays answer there)
   pub leaves : after.file ≡ before.file
+  pub folder : after.folder ≡ before.folder
   pub failed : answer ≡ read.Failed → Rose before.faults after.faults
   pub never_falls : before.faults ≤ after.faults
 
@@ -30,5 +32,6 @@ pub record ReadsTrust (before : TrustState) (answer : TrustRead) (after : TrustS
 pub record ReplacesTrust (before : TrustState) (file : List ℕ) (answer : TrustDone) (after : TrustState) : Type 0 where
   pub changed : answer ≡ done.Done → after.file ≡ option_map (λ there. Some file) before.file
   pub unchanged : (answer ≡ done.Done → ⊥) → after.file ≡ before.file
+  pub folder : after.folder ≡ before.folder
   pub failed : answer ≡ done.Failed → Rose before.faults after.faults
   pub never_falls : before.faults ≤ after.faults

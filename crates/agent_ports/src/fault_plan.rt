@@ -3,7 +3,7 @@ ghost use Rattle.std.specs.Bool.{OnTrue, OnFalse};
 ghost use Rattle.agent_ports.specs.Counts.{Rose, RoseBy};
 
 /// The calls that are to fail, by their number from 0, and how many failed so far.
-#[derive(Debug, Drop)]
+#[derive(Drop)]
 pub(crate) struct FaultPlan {
     failing: Vec<u64>,
     calls: u64,

@@ -2,7 +2,7 @@ use crate::SessionId;
 use std::sync::atomic::{AtomicBool, AtomicU64, Ordering};
 
 /// A point in a session's life.
-#[derive(Clone, Copy, Debug, PartialEq, Eq)]
+#[derive(Clone, Copy, PartialEq, Eq)]
 pub enum GatePoint {
     /// The session begins, and nothing of it is read yet.
     Began,
@@ -19,7 +19,7 @@ pub trait Gate {
 }
 
 /// Holds no session.
-#[derive(Clone, Copy, Debug, PartialEq, Eq)]
+#[derive(Clone, Copy, PartialEq, Eq)]
 pub struct NoGate;
 
 impl Gate for NoGate {

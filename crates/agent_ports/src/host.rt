@@ -1,6 +1,6 @@
 ghost use Rattle.std.specs.Prelude.{◌≡◌, ◌≤◌, ℕ, List, Option, Some, None, IfSome, IsSome, IsNone};
 ghost use Rattle.agent_ports.specs.Counts.{Rose, RoseBy};
-ghost use Rattle.agent_ports.specs.HostParts.{InFolder, AreSettled, AreNew, kept_path};
+ghost use Rattle.agent_ports.specs.HostParts.{IsFolder, AreSettled, AreNew, kept_path};
 ghost use Rattle.agent_ports.specs.declared.host.Parts.{Parts as HostParts};
 
 use crate::{Clock, Dice, Ear, Gate, Keys, Launcher, Link, Listener, TrustFile};
@@ -48,10 +48,6 @@ pub trait Host {
     /// The path of the folder that was settled last, without a byte where there is none.
     ghost homedir: { Self → List ℕ };
 
-    /// Whether the key files of parts, and a trust file, are those of the folder at a path, as far
-    /// as the host shows it.
-    ghost of_folder: { List ℕ → InFolder Self.Keys Self.Trust };
-
     /// Whether a listener is the daemon's own.
     ghost is_home: { Self.Listener → Type 0 };
 
@@ -61,18 +57,16 @@ pub trait Host {
     /// How many calls for a listener failed, and how many calls with the ears that came back.
     ghost listens: { Self → ℕ };
 
-    /// The folder that is used from now on. The server's parts are of it then, and stay as they
-    /// are, as far as they show it.
+    /// The folder that is used from now on. The server's parts are of it then, and stay as they are
+    /// otherwise, as far as they show it.
     fn settle(&mut self, path: &[u8])
         ensures homedir { homedir self.new ≡ kept_path path.now }
-        ensures folder { IfSome (server self.new)
-            (λ parts. (of_folder (homedir self.new)).keys parts.keys) }
         ensures parts { AreSettled (record {
           launches = Self.Launcher.launches;
           readings = Self.Clock.readings;
           draws = Self.Dice.draws;
           keys = Self.Keys.keys;
-        }) (server self.old) (server self.new) }
+        }) (homedir self.new) (server self.old) (server self.new) }
         ensures process { process self.new ≡ process self.old }
         ensures listens { listens self.new ≡ listens self.old };
 
@@ -104,12 +98,12 @@ pub trait Host {
           draws = Self.Dice.draws;
           keys = Self.Keys.keys;
         }) result }
-        ensures folder { (of_folder (homedir self.now)).keys result.keys };
+        ensures folder { IsFolder (homedir self.now) (Self.Keys.keys result.keys).folder };
 
     /// The folder's trust file, for one session of a daemon.
     fn trust(&self) -> Self::Trust
         ensures unused { (Self.Trust.trust result).faults ≡ 0 }
-        ensures folder { (of_folder (homedir self.now)).trust result };
+        ensures folder { IsFolder (homedir self.now) (Self.Trust.trust result).folder };
 
     /// The daemon's listener.
     fn listen(&mut self) -> Option<Self::Listener>

@@ -23,7 +23,7 @@ pub enum KeyRead {
 }
 
 /// What a question for the keys that there are gave.
-#[derive(Debug, Drop)]
+#[derive(Drop)]
 pub enum KeyNames {
     /// Their grips, ascending.
     Names(Vec<Grip>),
@@ -48,7 +48,7 @@ pub enum KeyDone {
 
 /// Private keys, each in a file that its grip names.
 pub trait Keys {
-    /// The files, where they are known, and how many calls failed.
+    /// The files and the folder that they lie in, where they are known, and how many calls failed.
     ghost keys: { Self → KeyFiles };
 
     /// The file of a key.

@@ -1,6 +1,7 @@
 ghost use Rattle.std.specs.Prelude.{◌≡◌, ◌<◌, ◌≤◌, ◌↔◌, ℕ, IsTrue};
 ghost use Rattle.agent_ports.specs.Counts.{Rose};
 ghost use Rattle.agent_ports.specs.Listening.{IfLink, NothingFailed};
+ghost use Rattle.agent_ports.specs.declared.listener.Next.{Next};
 
 use crate::Link;
 
@@ -36,13 +37,29 @@ pub trait Listener {
     /// Which links come in at it: each listener says for itself what is so of them.
     ghost gives: { Self → Self.Link → Type 0 };
 
+    /// What it answers that is asked with an ear, and what it leaves of the ear.
+    ghost answers: { Self → Self.Ear → Next Self.Link → Self.Ear → Type 0 };
+
+    /// Whether it was told to stop.
+    ghost is_told: { Self → Type 0 };
+
+    /// What is left of an ear whose worker told it to stop.
+    ghost tells: { Self → Self.Ear → Self.Ear → Type 0 };
+
+    /// Whether an ear is one of its own.
+    ghost hears: { Self → Self.Ear → Type 0 };
+
     /// An ear for one more worker.
     fn ear(&self) -> Self::Ear
-        ensures { Self.Ear.faults result ≡ 0 };
+        ensures fresh { Self.Ear.faults result ≡ 0 }
+        ensures own { hears self.now result };
 
-    /// Waits for the next link. Whether the listener was stopped is in no clause, since any worker
-    /// may stop it at any time.
+    /// Waits for the next link. It is stopped only where it was told to be. That it is stopped then
+    /// is in no clause, since any worker may tell it at any time.
     fn next(&self, ear: &mut Self::Ear) -> Next<Self::Link>
+        ensures answers { answers self.now ear.old result ear.new }
+        ensures own { hears self.now ear.old → hears self.now ear.new }
+        ensures stopped { result ≡ Next.Stopped → is_told self.now }
         ensures gives { IfLink result (λ link. gives self.now link) }
         ensures link { IfLink result
             (λ link. NothingFailed (Self.Link.input link) (Self.Link.output link)) }
@@ -54,5 +71,13 @@ pub trait Listener {
     fn done(&self, link: Self::Link);
 
     /// From now on no link is taken. Sessions whose links were taken before go on.
-    fn stop(&self);
+    fn stop(&self)
+        ensures { is_told self.now };
+
+    /// The same, for the worker whose ear this is, so that contracts see which worker told it.
+    fn stop_by(&self, ear: &mut Self::Ear)
+        ensures told { is_told self.now }
+        ensures tells { tells self.now ear.old ear.new }
+        ensures own { (whose : Self) → hears whose ear.old → hears whose ear.new }
+        ensures faults { Self.Ear.faults ear.new ≡ Self.Ear.faults ear.old };
 }

@@ -5,7 +5,7 @@ use crate::Clock;
 
 /// A clock that gives the readings of a list, the last of them again and again, and 0 where there
 /// is none.
-#[derive(Debug, Drop)]
+#[derive(Drop)]
 pub struct ListClock {
     readings: Vec<u64>,
     given: u64,
@@ -49,7 +49,7 @@ impl Clock for ListClock {
 }
 
 /// A clock whose readings rise by one step each, up to the greatest number.
-#[derive(Clone, Copy, Debug, PartialEq, Eq)]
+#[derive(Clone, Copy, PartialEq, Eq)]
 pub struct StepClock {
     next: u64,
     step: u64,

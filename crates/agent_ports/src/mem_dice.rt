@@ -5,7 +5,7 @@ use crate::fault_plan::FaultPlan;
 
 /// Dice that give the bytes of a list. A draw fails where its number, from 0, is among those that
 /// are to fail, and where fewer bytes are left than it wants.
-#[derive(Debug, Drop)]
+#[derive(Drop)]
 pub struct ListDice {
     bytes: Vec<u8>,
     taken: usize,

@@ -1,4 +1,4 @@
-ghost use Rattle.std.specs.Prelude.{◌≡◌, ◌≤◌, [], Some, IfSome, IsNone, true, false, ⊤};
+ghost use Rattle.std.specs.Prelude.{◌≡◌, ◌≤◌, [], Some, IfSome, IsNone, true, false};
 ghost use Rattle.agent_ports.specs.Counts.{Rose};
 
 use crate::fault_plan::FaultPlan;
@@ -212,9 +212,6 @@ impl<'l, W: Wait, G: Gate> Host for MemHost<'l, W, G> {
     ghost process = { λ h. h.pid };
 
     ghost homedir = { λ h. h.homedir };
-
-    // Its key files and trust files are those of its lists, whatever the folder is.
-    ghost of_folder = { λ path. record { keys = λ keys. ⊤; trust = λ trust. ⊤ } };
 
     ghost is_home = { λ l. l.extra ≡ false };
 

@@ -1,4 +1,4 @@
-ghost use Rattle.std.specs.Prelude.{◌≡◌, ◌≢◌, ◌≤◌, ◌↔◌, length, vec_len, Some, OnOk, OnErr};
+ghost use Rattle.std.specs.Prelude.{◌≡◌, ◌≢◌, ◌≤◌, ◌↔◌, length, vec_len, Some, None, OnOk, OnErr};
 ghost use Rattle.agent_ports.specs.declared.keys.TheConstants.{MAX_KEY_FILE_LEN};
 
 use crate::fault_plan::FaultPlan;
@@ -40,7 +40,8 @@ impl KeyFile {
     }
 }
 
-/// Key files in memory. A call fails where its number, from 0, is among those that are to fail.
+/// Key files in memory, which lie in no folder that shows. A call fails where its number, from 0,
+/// is among those that are to fail.
 #[derive(Drop)]
 pub struct MapKeys {
     files: BTreeMap<Grip, KeyFile>,
@@ -55,7 +56,7 @@ impl MapKeys {
     /// No files yet. It takes no memory.
     pub fn new(alloc: Global, failing: Vec<u64>) -> Self
         ensures keys { ⟦<MapKeys as Keys>⟧.keys result
-            ≡ record { files = Some map.empty; faults = 0 } }
+            ≡ record { files = Some map.empty; folder = None; faults = 0 } }
         ensures plan { keys_plan result ≡ record { failing = failing.items; calls = 0; size = 0 } }
     {
         MapKeys {
@@ -95,7 +96,7 @@ impl Keys for MapKeys {
     ghost use Rattle.agent_ports.specs.Plans.{Fails, after_call};
 
     ghost keys = { λ k.
-        record { files = Some (files_of k.files.entries); faults = k.plan.faults } };
+        record { files = Some (files_of k.files.entries); folder = None; faults = k.plan.faults } };
 
     fn read(&mut self, alloc: Global, grip: &Grip) -> KeyRead
         ensures reads { ReadsKey (⟦<MapKeys as Keys>⟧.keys self.old) grip.now result

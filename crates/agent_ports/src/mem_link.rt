@@ -11,7 +11,7 @@ use crate::{Got, Link, Sent, Sink, Source};
 use std::alloc::Global;
 
 /// Gives the bytes of a list, a limited number a read.
-#[derive(Debug, Drop)]
+#[derive(Drop)]
 pub struct MemSource {
     bytes: Vec<u8>,
     taken: usize,
@@ -86,7 +86,7 @@ impl Source for MemSource {
 }
 
 /// Keeps what is written to it.
-#[derive(Debug, Drop)]
+#[derive(Drop)]
 pub struct MemSink {
     bytes: Vec<u8>,
     kept: usize,
@@ -163,7 +163,7 @@ impl Sink for MemSink {
 
 /// A link to be opened: what it gives, at most `piece` bytes a read, or one where that is 0, and
 /// the reads and writes that fail, by their number from 0. A write that fails keeps nothing.
-#[derive(Debug, Drop)]
+#[derive(Drop)]
 pub struct PlannedLink {
     /// The bytes that it gives.
     pub gives: Vec<u8>,
@@ -194,7 +194,7 @@ impl PlannedLink {
 }
 
 /// Gives the bytes of its source, and keeps what is written to its sink.
-#[derive(Debug, Drop)]
+#[derive(Drop)]
 pub struct MemLink {
     source: MemSource,
     sink: MemSink,

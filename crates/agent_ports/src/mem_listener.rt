@@ -4,7 +4,7 @@ ghost use Rattle.std.specs.Option.{option_map};
 ghost use Rattle.agent_ports.specs.Counts.{Rose};
 ghost use Rattle.agent_ports.specs.Listening.{IfLink, MatchNext, NothingFailed};
 ghost use Rattle.agent_ports.specs.MemListening.{listen_plan, coming_links, ended_texts};
-ghost use Rattle.agent_ports.specs.MemListening.{is_stopped, room};
+ghost use Rattle.agent_ports.specs.MemListening.{heard, is_stopped, room, told};
 ghost use Rattle.agent_ports.specs.MemPlans.{open_link, planned_link, written_text};
 ghost use Rattle.agent_ports.specs.Plans.{Fails, after_call};
 
@@ -13,10 +13,16 @@ use crate::{Ear, Listener, MemLink, Next, PlannedLink, Sink, Source};
 use std::alloc::{AllocError, Global};
 use std::sync::{Mutex, Wait};
 
-/// The faults that one worker met at a `ListListener`.
-#[derive(Clone, Copy, Debug, PartialEq, Eq)]
+/// What one worker was answered by a `ListListener`, and told it: how often each.
+#[derive(Drop)]
 pub struct MemEar {
+    /// Whether it is one of the listener for restricted sessions.
+    extra: bool,
+    links: u64,
     faults: u64,
+    stops: u64,
+    told: u64,
+    told_extra: u64,
 }
 
 impl MemEar {
@@ -27,11 +33,15 @@ impl MemEar {
         self.faults
     }
 
-    fn raise(&mut self)
-        ensures { Rose (⟦<MemEar as Ear>⟧.faults self.old) (⟦<MemEar as Ear>⟧.faults self.new)
-            × (⟦<MemEar as Ear>⟧.faults self.old ≤ ⟦<MemEar as Ear>⟧.faults self.new) }
+    /// Counts that a listener, the one for restricted sessions or the other, was told to stop.
+    fn tell(&mut self, extra: bool)
+        ensures { self.new ≡ told extra self.old }
     {
-        self.faults = self.faults.saturating_add(1);
+        if extra {
+            self.told_extra = self.told_extra.saturating_add(1);
+        } else {
+            self.told = self.told.saturating_add(1);
+        }
     }
 }
 
@@ -109,18 +119,21 @@ impl ListedLinks {
         ensures calls { listen_plan self.new ≡ after_call (listen_plan self.old) }
         ensures others { (is_stopped self.new ≡ is_stopped self.old)
             × (ended_texts self.new ≡ ended_texts self.old) × (room self.new ≡ room self.old) }
+        ensures heard { ear.new ≡ heard result ear.old }
         ensures rose { result ≡ Next.Failed
             → Rose (⟦<MemEar as Ear>⟧.faults ear.old) (⟦<MemEar as Ear>⟧.faults ear.new) }
         ensures faults { ⟦<MemEar as Ear>⟧.faults ear.old ≤ ⟦<MemEar as Ear>⟧.faults ear.new }
     {
         let fails = self.plan.next_fails();
         if self.stopped {
+            ear.stops = ear.stops.saturating_add(1);
             return Next::Stopped;
         }
         if fails || self.coming.is_empty() {
-            ear.raise();
+            ear.faults = ear.faults.saturating_add(1);
             return Next::Failed;
         }
+        ear.links = ear.links.saturating_add(1);
         Next::Link(self.coming.remove(0).open(self.alloc))
     }
 
@@ -176,11 +189,27 @@ impl<'l, W: Wait> Listener for ListListener<'l, W> {
 
     type Ear = MemEar;
 
-    // Its links lie behind a lock, so which come next isn't known.
+    // Its links lie behind a lock, so which come next isn't known, nor whether it was told to stop.
+    // What it answered and was told is known by each ear.
     ghost gives = { λ _ _. ⊤ };
 
+    ghost is_told = { λ _. ⊤ };
+
+    ghost answers = { λ _ ear answer later. later ≡ heard answer ear };
+
+    ghost tells = { λ l ear later. later ≡ told l.extra ear };
+
+    ghost hears = { λ l ear. ear.extra ≡ l.extra };
+
     fn ear(&self) -> MemEar {
-        MemEar { faults: 0 }
+        MemEar {
+            extra: self.extra,
+            links: 0,
+            faults: 0,
+            stops: 0,
+            told: 0,
+            told_extra: 0,
+        }
     }
 
     fn next(&self, ear: &mut MemEar) -> Next<MemLink> {
@@ -193,5 +222,10 @@ impl<'l, W: Wait> Listener for ListListener<'l, W> {
 
     fn stop(&self) {
         self.links.lock(self.rt).stop();
+    }
+
+    fn stop_by(&self, ear: &mut MemEar) {
+        self.stop();
+        ear.tell(self.extra);
     }
 }

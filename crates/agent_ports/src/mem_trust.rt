@@ -1,4 +1,4 @@
-ghost use Rattle.std.specs.Prelude.{◌≡◌, ◌↔◌, Some};
+ghost use Rattle.std.specs.Prelude.{◌≡◌, ◌↔◌, Some, None};
 ghost use Rattle.std.specs.Option.{option_map};
 ghost use Rattle.agent_ports.specs.MemPlans.{trust_plan};
 
@@ -6,8 +6,9 @@ use crate::fault_plan::FaultPlan;
 use crate::{TrustDone, TrustFile, TrustRead};
 use std::alloc::Global;
 
-/// A trust file in memory. A call fails where its number, from 0, is among those that are to fail.
-#[derive(Debug, Drop)]
+/// A trust file in memory, which lies in no folder that shows. A call fails where its number, from
+/// 0, is among those that are to fail.
+#[derive(Drop)]
 pub struct MemTrust {
     file: Option<Vec<u8>>,
     plan: FaultPlan,
@@ -16,8 +17,11 @@ pub struct MemTrust {
 impl MemTrust {
     /// A file of these bytes, or none, of which the calls of these numbers, from 0, fail.
     pub fn new(file: Option<Vec<u8>>, failing: Vec<u64>) -> Self
-        ensures trust { ⟦<MemTrust as TrustFile>⟧.trust result
-            ≡ record { file = Some (option_map (λ bytes. bytes.items) file); faults = 0 } }
+        ensures trust { ⟦<MemTrust as TrustFile>⟧.trust result ≡ record {
+          file = Some (option_map (λ bytes. bytes.items) file);
+          folder = None;
+          faults = 0;
+        } }
         ensures plan { trust_plan result ≡ record { failing = failing.items; calls = 0; size = 0 } }
     {
         MemTrust {
@@ -52,8 +56,11 @@ impl TrustFile for MemTrust {
     ghost use Rattle.agent_ports.specs.Plans.{Fails, after_call};
     ghost use Rattle.agent_ports.specs.TrustFiles.{ReadsTrust, ReplacesTrust};
 
-    ghost trust = { λ t.
-        record { file = Some (option_map (λ bytes. bytes.items) t.file); faults = t.plan.faults } };
+    ghost trust = { λ t. record {
+      file = Some (option_map (λ bytes. bytes.items) t.file);
+      folder = None;
+      faults = t.plan.faults;
+    } };
 
     fn read(&mut self, alloc: Global) -> TrustRead
         ensures reads { ReadsTrust (⟦<MemTrust as TrustFile>⟧.trust self.old) result

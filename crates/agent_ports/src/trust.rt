@@ -28,7 +28,7 @@ pub enum TrustDone {
 
 /// The file of the root certificates that the user trusts.
 pub trait TrustFile {
-    /// The file, where it is known, and how many calls failed.
+    /// The file and the folder that it lies in, where they are known, and how many calls failed.
     ghost trust: { Self → TrustState };
 
     fn read(&mut self, alloc: Global) -> TrustRead

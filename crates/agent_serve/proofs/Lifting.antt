@@ -1,5 +1,5 @@
 -- A session at the desk and with the pinentry is one at what they show.
-use Rattle.std.proofs.Common.{◌≡◌, List, [], ◌++◌, Option, None, Some, ◌+◌, false, refl, ap, ◌∙◌, subst}
+use Rattle.std.proofs.Common.{◌≡◌, ℕ, List, [], ◌++◌, Option, None, Some, ◌+◌, false, refl, ap, ◌∙◌, subst}
 use Rattle.std.specs.Prelude.{is_some}
 use Rattle.agent_ask.specs.Doing.{called, out_of_memory}
 use Rattle.agent_ask.specs.Events.{Call}
@@ -10,7 +10,7 @@ use Rattle.agent_ask.specs.SessionEvents.{turns_in}
 use Rattle.agent_ask.specs.Worlds.{Outside, Does, received, sent, cut, asked, not_asked, turned, further}
 use Rattle.agent_commands.specs.Outside.{World}
 use Rattle.assuan_server.specs.Clients.{session_lines}
-use Rattle.agent_ports.specs.HostParts.{Views, InFolder, AreNew}
+use Rattle.agent_ports.specs.HostParts.{Views, IsFolder, AreNew}
 use Rattle.agent_ports.specs.KeyFiles.{KeyFiles}
 use Rattle.agent_ports.specs.Launches.{Launches}
 use Rattle.agent_ports.specs.Leads.{Leads, none, one}
@@ -120,15 +120,15 @@ pub shut_is_idle : {La : Type 0} (launches : La → Launches) (rules : Rules) (p
 shut_is_idle launches rules pinentry program shut = rw (program, shut.idle, not_some_is_none pinentry.child shut.childless) refl
 
 -- what a session at the desk is at its pass
-module _ {C La R K T : Type 0} (views : Views La C R K) (trusts : T → TrustState) (folder : InFolder K T) (rules : Rules) (door : Door) (session : SessionId) (before after : LinkSides) (pass : AtPass) (parts : Parts La C R K)
+module _ {C La R K T : Type 0} (views : Views La C R K) (trusts : T → TrustState) (folder : List ℕ) (rules : Rules) (door : Door) (session : SessionId) (before after : LinkSides) (pass : AtPass) (parts : Parts La C R K)
     (trust_file : T)
     (desk desk_now : AtCountedDesk C) (gated gated_now : Gated (PinentryState La)) (keys_now : KeyFiles) (dice_now : Side) (trust_now : TrustState) (end : SessionEnd)
     (desk_is : desk ≡ record { pass = record pass { sessions = session.count + 1 }; session = session; out = None; clock = parts.clock })
     (unused : at_pinentry views.launches gated.prompter ≡ idle rules.pinentry.items (views.launches gated.prompter.launcher))
     (new : AreNew views parts)
     (unfailed : (trusts trust_file).faults ≡ 0)
-    (keys_in : folder.keys parts.keys)
-    (trust_in : folder.trust trust_file)
+    (keys_in : IsFolder folder (views.keys parts.keys).folder)
+    (trust_in : IsFolder folder (trusts trust_file).folder)
     (own : gated.prompter.launcher ≡ parts.launcher)
     (served : ServesDoor (CountedTurn views.readings) (GatedCall views.launches) door rules
     (surroundings (CountedTurn views.readings) (GatedCall views.launches) before.input before.output desk gated (views.keys parts.keys) (views.draws parts.dice) (trusts trust_file)) end

@@ -1,7 +1,7 @@
 -- A worker that was stopped, worked by hand.
-use Rattle.std.proofs.Common.{◌≡◌, ◌<◌, ◌-◌, ◌^◌, ℕ, None, refl, arith}
+use Rattle.std.proofs.Common.{◌≡◌, ◌<◌, ◌-◌, ◌^◌, ℕ, List, None, refl, arith}
 use Rattle.agent_origin.specs.declared.door.Door.TheVariants.{Home}
-use Rattle.agent_ports.specs.HostParts.{Views, InFolder}
+use Rattle.agent_ports.specs.HostParts.{Views}
 use Rattle.agent_ports.specs.Sides.{Side}
 use Rattle.agent_ports.specs.TrustFiles.{TrustState}
 use Rattle.agent_ports.specs.declared.listener.Next.TheVariants.{Stopped}
@@ -10,7 +10,7 @@ use Rattle.session_options.specs.declared.rules.Rules.{Rules}
 use Rattle.agent_serve.proofs.Works.{told_where_nothing_failed}
 use Rattle.agent_serve.specs.Working.{HostViews, Works, post_at, none, stopped}
 
-module _ {Li La C R K T : Type 0} (input output : Li → Side) (parts : Views La C R K) (trust : T → TrustState) (folder : InFolder K T) (rules : Rules) where
+module _ {Li La C R K T : Type 0} (input output : Li → Side) (parts : Views La C R K) (trust : T → TrustState) (folder : List ℕ) (rules : Rules) where
   -- Listeners are numbers here, and an ear is its count of faults. Listener 0 was told to stop, and answers so.
   abbrev stopped_host : HostViews ℕ ℕ Li La C R K T
   stopped_host = record {
@@ -33,7 +33,7 @@ module _ {Li La C R K T : Type 0} (input output : Li → Side) (parts : Views La
   stopped_at_once : (pass : AtPass) → Works stopped_host rules (post_at Home 0 None) pass 3 pass 3
   stopped_at_once pass = record { last = 3; serves = none; ends = stopped (refl, refl, refl) refl; unfallen = omega arith; own_ear = λ own. own }
 
-  -- so its listener was told to stop
-  was_told : (pass : AtPass) → pass.sessions < 2 ^ 64 - 1 → stopped_host.is_told 0
+  -- so its listener answered that it is stopped, as it was told to be
+  was_told : (pass : AtPass) → pass.sessions < 2 ^ 64 - 1 → (last : ℕ) × stopped_host.answers 0 last Stopped 3 × stopped_host.is_told 0
   was_told pass numbered =
       told_where_nothing_failed stopped_host rules (post_at Home 0 None) pass 3 pass 3 (stopped_at_once pass) (λ rose. omega (arith, rose)) numbered

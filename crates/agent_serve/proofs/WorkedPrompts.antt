@@ -71,10 +71,10 @@ module _ (rules : Rules) (kept : Kept) (description : _) (spec : PromptSpec) (as
       }) refl
 
   confirms : confirms_by rules kept.options kept.options.mode description None (cache_turn (Seat None None) (Open 0) ∷ shown) (Err (Agent code.NoPinentry)) (Some 0)
-  confirms = subst (λ way. confirms_by rules kept.options way description None (cache_turn (Seat None None) (Open 0) ∷ shown) (Err (Agent code.NoPinentry)) (Some 0)) (sym asks) (goes_on taken.opened refused)
+  confirms = subst (λ way. confirms_by rules kept.options way description None (cache_turn (Seat None None) (Open 0) ∷ shown) (Err (Agent code.NoPinentry)) (Some 0)) (sym asks) (goes_on (taken.opened tt) refused)
 
   exchange : RequestExchange rules kept (Cache (GetConfirmation description)) unstarted kept On
-  exchange = cache (whole.refused (cache_turn (Seat None None) (Open 0) ∷ shown) (Some 0) (Agent code.NoPinentry) (stops confirms) (taken.closed Done))
+  exchange = cache (whole.refused (cache_turn (Seat None None) (Open 0) ∷ shown) (Some 0) (Agent code.NoPinentry) (stops confirms) (taken.closed Done tt))
 
   module _ (program : List ℕ) (keys : KeyFiles) (dice : Side) (trust : TrustState) (supply : Supply) where
     abbrev launches : ℕ → Launches

@@ -46,13 +46,13 @@ module _ {Ls E Li La C R K T : Type 0} (host : HostViews Ls E Li La C R K T) (ru
       failed (subst (λ a. host.answers post.listener last a back) is answers) (omega (arith, rose is, unfallen))
   ends_without_link post early last now back answer (inr is) answers told rose unfallen = stopped (subst (λ a. host.answers post.listener last a back) is answers) (told is)
 
-  -- where nothing failed and there are numbers left, the listener was told to stop
+  -- where nothing failed and there are numbers left, the listener answered that it is stopped, as it was told to be
   pub told_where_nothing_failed : (post : Post Ls) (pass : AtPass) (ear : E) (now : AtPass) (back : E) → Works host rules post pass ear now back → ¬ Rose (host.faults ear) (host.faults back) → now.sessions < 2 ^ 64 - 1
-      → host.is_told post.listener
+      → (last : E) × host.answers post.listener last Stopped back × host.is_told post.listener
   told_where_nothing_failed post pass ear now back works still numbered = by_cause works.ends refl where
-    by_cause : {left : E} → EndsWork host rules post ear works.last now left → left ≡ back → host.is_told post.listener
+    by_cause : {left : E} → EndsWork host rules post ear works.last now left → left ≡ back → (last : E) × host.answers post.listener last Stopped back × host.is_told post.listener
     by_cause (failed answers rose) is = absurd (still (subst (λ e. Rose (host.faults ear) (host.faults e)) is rose))
-    by_cause (stopped answers told) is = told
+    by_cause (stopped answers told) is = (_, subst (host.answers post.listener works.last Stopped) is answers, told)
     by_cause (numbers_spent spent) is = absurd (omega (arith, spent, numbered))
 
   -- where there is no extra listener all workers stand alike

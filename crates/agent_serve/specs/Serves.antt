@@ -3,7 +3,7 @@ use Rattle.std.specs.Prelude.{◌≡◌, ◌+◌, ℕ, Bool, true, false, List, 
 use Rattle.std.specs.List.{AllByRecursion}
 use Rattle.agent_ask.specs.SessionEvents.{turns_in}
 use Rattle.agent_commands.specs.declared.went.SessionEnd.{SessionEnd}
-use Rattle.agent_ports.specs.HostParts.{Views, InFolder, AreNew}
+use Rattle.agent_ports.specs.HostParts.{Views, IsFolder, AreNew}
 use Rattle.agent_ports.specs.KeyFiles.{KeyFiles}
 use Rattle.agent_ports.specs.Launches.{Launches}
 use Rattle.agent_ports.specs.Readings.{Readings}
@@ -76,16 +76,16 @@ at_pass rules session link pass clock launches keys dice trust_file =
     surroundings (CountedTurn (λ readings. readings)) PinentryDoes link.input link.output (desk_at pass session clock) (idle rules.pinentry.items launches) keys dice trust_file
 
 -- A session was served at this pass that came in by this door, with new parts of its own and a trust file of which no call had failed, all of the
--- types that the host has: so by a clock, a launcher, keys, dice and a trust file of the host's. The keys and the trust file were those of the folder. It ended so, and no ticket and no child of it is
+-- types that the host has: so by a clock, a launcher, keys, dice and a trust file of the host's. The keys and the trust file were those of the folder at this path. It ended so, and no ticket and no child of it is
 -- left. What it did to the run is what its turns did.
-pub record ServesOne {La C R K T : Type 0} (views : Views La C R K) (trusts : T → TrustState) (folder : InFolder K T) (rules : Rules) (door : Door) (session : SessionId)
+pub record ServesOne {La C R K T : Type 0} (views : Views La C R K) (trusts : T → TrustState) (folder : List ℕ) (rules : Rules) (door : Door) (session : SessionId)
     (before : LinkSides) (pass : AtPass) (end : SessionEnd) (after : LinkSides) (now : AtPass) : Type 0 where
   pub parts : Parts La C R K
   pub new : AreNew views parts
   pub trust_file : T
   pub unused : (trusts trust_file).faults ≡ 0
-  pub keys_in : folder.keys parts.keys
-  pub trust_in : folder.trust trust_file
+  pub keys_in : IsFolder folder (views.keys parts.keys).folder
+  pub trust_in : IsFolder folder (trusts trust_file).folder
   pub clock_now : Readings
   pub launches_now : Launches
   pub keys_now : KeyFiles

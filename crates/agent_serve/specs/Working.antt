@@ -6,7 +6,7 @@ use Rattle.agent_ports.specs.Counts.{Rose}
 use Rattle.agent_ports.specs.declared.listener.Next.{Next}
 use Rattle.agent_ports.specs.declared.listener.Next.TheVariants.{Link, Failed, Stopped}
 use Rattle.agent_ports.specs.declared.session.SessionId.{SessionId}
-use Rattle.agent_ports.specs.HostParts.{Views, InFolder}
+use Rattle.agent_ports.specs.HostParts.{Views}
 use Rattle.agent_ports.specs.Listening.{NothingFailed}
 use Rattle.agent_ports.specs.Sides.{Side}
 use Rattle.agent_ports.specs.TrustFiles.{TrustState}
@@ -22,7 +22,7 @@ use Rattle.agent_serve.specs.Serves.{LinkSides, link_of, ServesOne}
 abbrev pub next_session : AtPass → SessionId
 next_session pass = record { pass = pass.number; count = pass.sessions }
 
--- how the listeners, the ears, the links, the parts and the trust files are seen that a host has for its sessions, and which of them are those of its folder
+-- how the listeners, the ears, the links, the parts and the trust files are seen that a host has for its sessions, and of which folder they are
 pub record HostViews (Ls E Li La C R K T : Type 0) : Type 1 where
   -- which links come in at a listener
   pub gives : Ls → Li → Type 0
@@ -43,7 +43,8 @@ pub record HostViews (Ls E Li La C R K T : Type 0) : Type 1 where
   pub output : Li → Side
   pub parts : Views La C R K
   pub trust : T → TrustState
-  pub folder : InFolder K T
+  -- the path of the folder at which it is settled
+  pub folder : List ℕ
 
 -- where a worker stands: the door by which its links come, its listener, and the other one, which is stopped with it
 pub record Post (Ls : Type 0) : Type 0 where
@@ -79,7 +80,7 @@ pub record TellsToStop {Ls E Li La C R K T : Type 0} (host : HostViews Ls E Li L
 abbrev pub IsToStop : SessionEnd → AtPass → Type 0
 IsToStop end now = (end ≡ Killed) ⊎ (is_stopped now.seen ≡ true)
 
--- Both listeners are told to stop where the agent is to be; else none is, and nothing is done with the ear.
+-- Both listeners are told to stop where the agent is to be; else none is told with this ear, with which nothing is done.
 pub record StopsAfter {Ls E Li La C R K T : Type 0} (host : HostViews Ls E Li La C R K T) (post : Post Ls) (end : SessionEnd) (now : AtPass) (ear next : E) : Type 0 where
   pub stops : IsToStop end now → TellsToStop host post ear next
   pub goes_on : ¬ IsToStop end now → next ≡ ear

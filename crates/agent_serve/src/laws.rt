@@ -19,9 +19,9 @@ ghost use Rattle.agent_serve.specs.Prompts.{HavePrompts, Prompted};
 ghost use Rattle.agent_serve.specs.Serves.{LinkSides, ServesOne};
 ghost use Rattle.agent_serve.specs.Working.{Post, Works};
 
-use crate::listening::{ListeningHost, ViewedHost};
+use crate::views::ViewedHost;
 use agent_ask::Prompter;
-use agent_ports::{Ear, Host};
+use agent_ports::{Ear, Host, Listener, Next};
 use cache_policy::Desk;
 use pinentry_client::a_pinentry_is_a_prompter;
 
@@ -29,34 +29,19 @@ use pinentry_client::a_pinentry_is_a_prompter;
 /// back, and looks whether passphrases are cached. So its marks in the one run store and clear
 /// nothing, and none of them was given a passphrase.
 pub fn a_restricted_session_leaves_the_run<H: Host>()
-    ensures cache { (path : List ℕ) (rules : Rules) (session : SessionId) (before after : LinkSides)
-        (pass now : AtPass) (end : Ends) → (serves : ServesOne (record {
-          launches = H.Launcher.launches;
-          readings = H.Clock.readings;
-          draws = H.Dice.draws;
-          keys = H.Keys.keys;
-        }) H.Trust.trust (H.of_folder path) rules Outer session before pass end after now)
-        → LeavesCache serves.served.events }
-    ensures run { (path : List ℕ) (rules : Rules) (session : SessionId) (before after : LinkSides)
-        (pass now : AtPass) (end : Ends) → (serves : ServesOne (record {
-          launches = H.Launcher.launches;
-          readings = H.Clock.readings;
-          draws = H.Dice.draws;
-          keys = H.Keys.keys;
-        }) H.Trust.trust (H.of_folder path) rules Outer session before pass end after now)
-        → LeavesDesk (at_counted (record pass { sessions = session.count + 1 }) session None)
+    ensures { (path : List ℕ) (rules : Rules) (session : SessionId) (before after : LinkSides)
+        (pass now : AtPass) (end : Ends) → (serves : ServesOne (⟦<H as ViewedHost>⟧.views path).parts
+        H.Trust.trust path rules Outer session before pass end after now)
+        → LeavesCache serves.served.events
+        × LeavesDesk (at_counted (record pass { sessions = session.count + 1 }) session None)
         (turns_in serves.served.events) (at_counted now session None) }
 {}
 
 /// A prompt of a restricted session of the daemon names no terminal and no language.
 pub fn a_restricted_session_names_no_terminal<H: Host>()
     ensures { (path : List ℕ) (rules : Rules) (session : SessionId) (before after : LinkSides)
-        (pass now : AtPass) (end : Ends) → (serves : ServesOne (record {
-          launches = H.Launcher.launches;
-          readings = H.Clock.readings;
-          draws = H.Dice.draws;
-          keys = H.Keys.keys;
-        }) H.Trust.trust (H.of_folder path) rules Outer session before pass end after now)
+        (pass now : AtPass) (end : Ends) → (serves : ServesOne (⟦<H as ViewedHost>⟧.views path).parts
+        H.Trust.trust path rules Outer session before pass end after now)
         → PromptsName no_words serves.served.events }
 {}
 
@@ -78,12 +63,9 @@ pub fn the_calls_of_a_session_are_prompts<D: Desk, P: Prompter>()
 /// prompt, with which its calls are a dialogue, but for a prompt whose launch failed.
 pub fn prompts_of_a_daemons_session_have_their_children<H: Host>()
     ensures { (path : List ℕ) (rules : Rules) (door : Door) (session : SessionId)
-        (before after : LinkSides) (pass now : AtPass) (end : Ends) → (serves : ServesOne (record {
-          launches = H.Launcher.launches;
-          readings = H.Clock.readings;
-          draws = H.Dice.draws;
-          keys = H.Keys.keys;
-        }) H.Trust.trust (H.of_folder path) rules door session before pass end after now)
+        (before after : LinkSides) (pass now : AtPass) (end : Ends)
+        → (serves : ServesOne (⟦<H as ViewedHost>⟧.views path).parts H.Trust.trust path rules door
+        session before pass end after now)
         → HavePrompts rules.pinentry.items serves.served.events
         (H.Launcher.launches serves.parts.launcher) serves.launches_now }
 {
@@ -91,11 +73,12 @@ pub fn prompts_of_a_daemons_session_have_their_children<H: Host>()
 }
 
 /// A worker ends for a cause: where no call with its ear failed, and its pass still has numbers for
-/// sessions, its listener was told to stop.
-pub fn a_worker_ends_for_a_cause<H: ListeningHost>()
+/// sessions, its listener's last answer was that it is stopped, as it was told to be.
+pub fn a_worker_ends_for_a_cause<H: Host>()
     ensures { (path : List ℕ) (rules : Rules) (post : Post H.Listener)
         (pass now : AtPass) (ear back : H.Ear)
         → Works (⟦<H as ViewedHost>⟧.views path) rules post pass ear now back
         → ¬ Rose (H.Ear.faults ear) (H.Ear.faults back) → now.sessions < 2 ^ 64 - 1
-        → H.is_told post.listener }
+        → (last : H.Ear) × H.Listener.answers post.listener last Next.Stopped back
+        × H.Listener.is_told post.listener }
 {}

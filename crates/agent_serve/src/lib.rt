@@ -10,8 +10,8 @@
 mod each;
 mod gated;
 mod laws;
-mod listening;
 mod serving;
+mod views;
 mod workers;
 
 pub use gated::GatedPrompter;
@@ -20,6 +20,6 @@ pub use laws::{
     a_worker_ends_for_a_cause, prompts_of_a_daemons_session_have_their_children,
     the_calls_of_a_session_are_prompts,
 };
-pub use listening::{ListeningHost, ViewedHost};
 pub use serving::serve_one;
+pub use views::ViewedHost;
 pub use workers::run_workers;

@@ -1,6 +1,6 @@
 ghost use Rattle.std.specs.Prelude.{◌≡◌, ◌<◌, ◌≤◌, ◌-◌, ◌^◌, None, is_some, false};
 ghost use Rattle.pinentry_client.specs.States.{at_pinentry};
-ghost use Rattle.agent_ports.specs.HostParts.{AreNew};
+ghost use Rattle.agent_ports.specs.HostParts.{AreNew, IsFolder};
 ghost use Rattle.agent_serve.specs.Serves.{ServesOne, link_of};
 
 use crate::GatedPrompter;
@@ -42,7 +42,7 @@ where
       readings = H.Clock.readings;
       draws = H.Dice.draws;
       keys = H.Keys.keys;
-    }) H.Trust.trust (H.of_folder (H.homedir host.now)) rules.now door session
+    }) H.Trust.trust (H.homedir host.now) rules.now door session
         (link_of (H.Link.input link.old) (H.Link.output link.old)) pass result.1
         (link_of (H.Link.input link.new) (H.Link.output link.new)) result.0 }
 {
@@ -88,14 +88,14 @@ where
       keys = H.Keys.keys;
     }) parts }
     requires unused { (H.Trust.trust trust).faults ≡ 0 }
-    requires keys_in { (H.of_folder (H.homedir host.now)).keys parts.keys }
-    requires trust_in { (H.of_folder (H.homedir host.now)).trust trust }
+    requires keys_in { IsFolder (H.homedir host.now) (H.Keys.keys parts.keys).folder }
+    requires trust_in { IsFolder (H.homedir host.now) (H.Trust.trust trust).folder }
     ensures { ServesOne (record {
       launches = H.Launcher.launches;
       readings = H.Clock.readings;
       draws = H.Dice.draws;
       keys = H.Keys.keys;
-    }) H.Trust.trust (H.of_folder (H.homedir host.now)) rules.now door session
+    }) H.Trust.trust (H.homedir host.now) rules.now door session
         (link_of (H.Link.input link.old) (H.Link.output link.old)) pass result.1
         (link_of (H.Link.input link.new) (H.Link.output link.new)) result.0 }
 {

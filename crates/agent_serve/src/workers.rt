@@ -6,8 +6,8 @@ ghost use Rattle.agent_serve.specs.Working.{ServesNext, StopsAfter, TellsToStop,
 ghost use Rattle.agent_serve.specs.Working.{WorkEach, post_at};
 
 use crate::each::{Task, run_each};
-use crate::listening::{ListeningHost, ViewedHost};
 use crate::serving::serve_one;
+use crate::views::ViewedHost;
 use agent_commands::SessionEnd;
 use agent_origin::Door;
 use agent_ports::{Ear, Host, Launcher, Listener, Next, SessionId};
@@ -20,7 +20,7 @@ use std::time;
 
 /// What the workers of a listener share.
 #[derive(Drop)]
-struct Working<'a, W: Wait + time::Clock, H: ListeningHost> {
+struct Working<'a, W: Wait + time::Clock, H: Host> {
     rt: &'a W,
     alloc: Global,
     rules: &'a Rules,
@@ -33,7 +33,7 @@ struct Working<'a, W: Wait + time::Clock, H: ListeningHost> {
     counted: &'a Counted,
 }
 
-impl<'a, W: Wait + time::Clock, H: ListeningHost> Working<'a, W, H>
+impl<'a, W: Wait + time::Clock, H: Host> Working<'a, W, H>
 where
     H::Launcher: Drop,
     H::Clock: Drop,
@@ -55,7 +55,7 @@ where
             if pass.sessions() == u64::MAX {
                 return (pass, ear);
             }
-            match H::next_link(self.listener, &mut ear) {
+            match self.listener.next(&mut ear) {
                 Next::Link(link) => pass = self.serve(pass, link, &mut ear),
                 Next::Failed | Next::Stopped => return (pass, ear),
             }
@@ -73,7 +73,8 @@ where
         ensures serves { ServesNext (⟦<H as ViewedHost>⟧.views (H.homedir self.now.host.now))
             self.now.rules.now (post_at self.now.door self.now.listener.now
             (option_copied self.now.other)) pass link ear.old result ear.new }
-        ensures own { (whose : H.Listener) → H.hears whose ear.old → H.hears whose ear.new }
+        ensures own { (whose : H.Listener)
+            → H.Listener.hears whose ear.old → H.Listener.hears whose ear.new }
         ensures faults { H.Ear.faults ear.new ≡ H.Ear.faults ear.old }
     {
         let mut link = link;
@@ -103,7 +104,8 @@ where
         ensures stops { StopsAfter (⟦<H as ViewedHost>⟧.views (H.homedir self.now.host.now))
             (post_at self.now.door self.now.listener.now
             (option_copied self.now.other)) end pass.now ear.old ear.new }
-        ensures own { (whose : H.Listener) → H.hears whose ear.old → H.hears whose ear.new }
+        ensures own { (whose : H.Listener)
+            → H.Listener.hears whose ear.old → H.Listener.hears whose ear.new }
         ensures faults { H.Ear.faults ear.new ≡ H.Ear.faults ear.old }
     {
         if end == SessionEnd::Killed || pass.stopped() {
@@ -116,17 +118,18 @@ where
         ensures told { TellsToStop (⟦<H as ViewedHost>⟧.views (H.homedir self.now.host.now))
             (post_at self.now.door self.now.listener.now
             (option_copied self.now.other)) ear.old ear.new }
-        ensures own { (whose : H.Listener) → H.hears whose ear.old → H.hears whose ear.new }
+        ensures own { (whose : H.Listener)
+            → H.Listener.hears whose ear.old → H.Listener.hears whose ear.new }
         ensures faults { H.Ear.faults ear.new ≡ H.Ear.faults ear.old }
     {
-        H::stop_listener(self.listener, ear);
+        self.listener.stop_by(ear);
         if let Some(other) = self.other {
-            H::stop_listener(other, ear);
+            other.stop_by(ear);
         }
     }
 }
 
-impl<'a, W: Wait + time::Clock, H: ListeningHost> Task<CountedPass, H::Ear> for Working<'a, W, H>
+impl<'a, W: Wait + time::Clock, H: Host> Task<CountedPass, H::Ear> for Working<'a, W, H>
 where
     H::Launcher: Drop,
     H::Clock: Drop,
@@ -154,7 +157,7 @@ where
 /// A worker takes links until its listener is stopped or fails, and hands each link back whose
 /// session has ended. It stops both listeners where its session has stopped the agent, or has seen
 /// that another one did.
-pub fn run_workers<W: Threads + Wait + time::Clock + Sync, H: ListeningHost + Sync>(
+pub fn run_workers<W: Threads + Wait + time::Clock + Sync, H: Host + Sync>(
     rt: &W,
     alloc: Global,
     rules: &Rules,

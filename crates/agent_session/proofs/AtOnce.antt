@@ -95,8 +95,8 @@ module _ (step : MarkStep) (unhurried : FitsStep step Late → ⊥) where
 module _ (step : MarkStep) where
   pub changed : {before after : OptionValues} {reply : CacheReply} {events : List (EventWith FurtherEvent)} {went : Went} → reply.text ≡ ok
       → AnyExchange refusal_line went_after (ChangeReplies step reply) before events after went → ByTurn step (AnswersDone step) events
-  changed is (answered _ _ _ (goes_on turning.done returns) turning.unheld) = answers (ap (λ t. cache_turn step Done ∷ Sent t ∷ []) is)
-  changed is (refused _ _ _ (stops (turning.interrupted why)) turning.unheld) = interrupted why
+  changed is (answered _ _ _ (goes_on (turning.done can) returns) turning.unheld) = answers (ap (λ t. cache_turn step Done ∷ Sent t ∷ []) is)
+  changed is (refused _ _ _ (stops (turning.interrupted can why)) turning.unheld) = interrupted why
   changed is (refused _ _ _ (goes_on does next) closes) = elim next [ ]
 
 module _ (rules : Rules) (options : OptionValues) (id : List ℕ) (life : Life) (secret : List ℕ) where
@@ -104,8 +104,8 @@ module _ (rules : Rules) (options : OptionValues) (id : List ℕ) (life : Life) 
       → AnyExchange refusal_line went_after (PresetReplies (record rules { allow_preset = allow }) options id life (Some secret)) options events after went
       → ByTurn (put id life secret) (AnswersDone (put id life secret)) events
   preset false is exchange = absurd (cc is)
-  preset true is (answered _ _ _ (goes_on (goes_on returns (goes_on returns turning.done)) returns) turning.unheld) = answers refl
-  preset true is (refused _ _ _ (stops (goes_on returns (goes_on returns (turning.interrupted why)))) turning.unheld) = interrupted why
+  preset true is (answered _ _ _ (goes_on (goes_on returns (goes_on returns (turning.done can))) returns) turning.unheld) = answers refl
+  preset true is (refused _ _ _ (stops (goes_on returns (goes_on returns (turning.interrupted can why)))) turning.unheld) = interrupted why
   preset true is (refused _ _ _ (stops (goes_on returns (stops next))) closes) = elim next [ ]
   preset true is (refused _ _ _ (stops (stops next)) closes) = elim next [ ]
   preset true is (refused _ _ _ (goes_on does next) closes) = elim next [ ]
@@ -116,31 +116,31 @@ module _ (plain : Bool) where
   given : {id first : _} {held after : Option ℕ} {value : Option (List ℕ)} (more back : List (EventWith FurtherEvent)) (secret text : List ℕ) → Asks (ask id) None first (Ok value) held
       → needed code.NoData value held more (Ok secret) after → IsPassphrase plain secret text → Closes None after back (Ok tt) None
       → LooksAlone plain (Some id) (((first ++ more) ++ []) ++ (back ++ Sent text ∷ []))
-  given _ _ _ _ turning.given returns is turning.unheld = answers (completeness.given is)
-  given _ _ _ _ turning.empty next is closes = elim next [ ]
-  given _ _ _ _ turning.opened next is closes = elim next [ ]
+  given _ _ _ _ (turning.given can) returns is turning.unheld = answers (completeness.given is)
+  given _ _ _ _ (turning.empty can) next is closes = elim next [ ]
+  given _ _ _ _ (turning.opened can) next is closes = elim next [ ]
 
-  none_given : {id first : _} {held after : Option ℕ} {value : Option (List ℕ)} (more back : List (EventWith FurtherEvent)) (why : Refusal) → Asks (ask id) None first (Ok value) held → held ≡ None
+  none_given : {id first : _} {held after : Option ℕ} {value : Option (List ℕ)} (more back : List (EventWith FurtherEvent)) (why : Refusal) → Asks (ask id) None first (Ok value) held
       → needed code.NoData value held more (Err why) after → Closes None after back (Ok tt) None → LooksAlone plain (Some id) ((first ++ more) ++ (back ++ said_last (refusal_line why)))
-  none_given _ _ _ turning.given keeps next closes = elim next [ ]
-  none_given _ _ _ turning.empty keeps refuses turning.unheld = answers completeness.empty
-  none_given _ _ _ turning.opened keeps next closes = absurd (cc keeps)
+  none_given _ _ _ (turning.given can) next closes = elim next [ ]
+  none_given _ _ _ (turning.empty can) refuses turning.unheld = answers completeness.empty
+  none_given _ _ _ (turning.opened fits) next closes = absurd fits
 
   stopped : {id first : _} {held : Option ℕ} {back : List (EventWith FurtherEvent)} {why : Refusal} → Asks (ask id) None first (Err why) held → Closes None held back (Ok tt) None
       → LooksAlone plain (Some id) (first ++ (back ++ said_last (refusal_line why)))
-  stopped (turning.interrupted why) turning.unheld = interrupted why
+  stopped (turning.interrupted can why) turning.unheld = interrupted why
 
   tells : (id : Option (List ℕ)) (first back : List (EventWith FurtherEvent)) (secret text : List ℕ) (held : Option ℕ) → ByCache id None first (Ok secret) held → IsPassphrase plain secret text
       → Closes None held back (Ok tt) None → LooksAlone plain id ((first ++ []) ++ (back ++ Sent text ∷ []))
   tells None _ _ _ _ _ (goes_on returns next) is closes = elim next [ ]
-  tells (Some id) _ _ _ _ _ (goes_on looks next) is closes = given _ _ _ _ looks.asks next is closes
+  tells (Some id) _ _ _ _ _ (goes_on looks next) is closes = given _ _ _ _ looks next is closes
 
   tells_none : (id : Option (List ℕ)) (first back : List (EventWith FurtherEvent)) (why : Refusal) (held : Option ℕ) → ByCache id None first (Err why) held → Closes None held back (Ok tt) None
       → LooksAlone plain id (first ++ (back ++ said_last (refusal_line why)))
   tells_none None _ _ _ _ (goes_on returns refuses) turning.unheld = completeness.no_id
   tells_none None _ _ _ _ (stops next) closes = elim next [ ]
-  tells_none (Some id) _ _ _ _ (goes_on looks next) closes = none_given _ _ _ looks.asks looks.keeps next closes
-  tells_none (Some id) _ _ _ _ (stops looks) closes = stopped looks.asks closes
+  tells_none (Some id) _ _ _ _ (goes_on looks next) closes = none_given _ _ _ looks next closes
+  tells_none (Some id) _ _ _ _ (stops looks) closes = stopped looks closes
 
 module _ (rules : Rules) (options : OptionValues) (fields : GetFields) where
   by_cache : (no_ask : Bool) (texts : Option Texts) → is_quiet no_ask texts ≡ true → {before after : Option ℕ} {events : List (EventWith FurtherEvent)} {result : Result (List ℕ) Refusal}

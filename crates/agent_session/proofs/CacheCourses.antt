@@ -40,16 +40,17 @@ use Rattle.agent_commands.specs.declared.went.Went.TheVariants.{End}
 use Rattle.key_commands.specs.Events.{Event}
 use Rattle.agent_session.specs.Causes.{IsSaid}
 use Rattle.agent_session.specs.Completeness.{EndsInOk}
-use Rattle.agent_session.specs.Refusals.{IsAllowed, MayStore, preset, given, Course}
+use Rattle.agent_session.specs.Refusals.{IsAllowed, MayStore, preset, given, CourseBy}
 use Rattle.key_commands.specs.Lines.{of_passphrase}
 use Rattle.agent_session.proofs.CacheWorks.{FitsCache, wants_prompt, changes, by_cache, without_prompt, prompts_any, confirmed, presets, tells_info}
-use Rattle.agent_session.proofs.Courses.{Ends, ends_with, EndsSo, working_ends, ends_working, bind_ends, made, closed, RepliesOk, ok_returns, ok_refuses, ok_then, reply_ends_in_ok, ok_course, err_course, ends_said, gone_only, said_before, answer_heard}
+use Rattle.agent_session.proofs.Courses.{AnyNonce, Ends, ends_with, EndsSo, working_ends, ends_working, bind_ends, made, closed, RepliesOk, ok_returns, ok_refuses, ok_then, reply_ends_in_ok, ok_course, err_course, ends_said}
+use Rattle.agent_session.proofs.Courses.{gone_only, said_before, answer_heard}
 use Rattle.agent_session.proofs.Replying.{IsReply, reply_ok, reply_closing, reply_help, reply_cache, reply_passphrase}
 use Rattle.agent_session.proofs.Works.{works, WorksSo, bind, returned, refuses_by}
 
 module _ (request : Request) where
   abbrev Fits : Event → Type 0
-  Fits = IsAllowed request
+  Fits = IsAllowed request AnyNonce
 
   abbrev Here : {A : Type 0} → CachePart A → Type 0
   Here = WorksSo Fits
@@ -71,10 +72,10 @@ module _ (request : Request) where
     kept_of : {pin : List ℕ} (before : Option ℕ) (events : List Event) (result : Result (List ℕ) Refusal) (after : Option ℕ) → (Closes (Some pin) >>= λ kept. Returns pin) before events result after
         → Ends request events result after
     kept_of _ _ _ _ (goes_on taken.unheld returns) = working_ends request (works Fits tt)
-    kept_of _ _ _ _ (goes_on (taken.closed turn) returns) = ends_with request (closed turn)
+    kept_of _ _ _ _ (goes_on (taken.closed turn can) returns) = ends_with request (closed turn)
     kept_of _ _ _ _ (stops never) = elim never [ ]
 
-    module _ (fields : GetFields) (stores : (named : List ℕ) → fields.id ≡ Some named → MayStore request named User) where
+    module _ (fields : GetFields) (stores : (named : List ℕ) → fields.id ≡ Some named → MayStore request AnyNonce named User) where
       prompted : (texts : Texts) (cached : Option (List ℕ)) → EndsSo request (or_else cached (Prompts rules options texts fields.check fields.quality fields.repeat))
       prompted texts None = bind_ends request (prompts_any fits rules options texts fields.check fields.quality fields.repeat) (λ pin. record { of = kept_of })
       prompted texts (Some secret) = ends_working request (returned Fits secret)
@@ -167,7 +168,7 @@ module _ (rules : Rules) (options : OptionValues) where
 -- ---- exchanges
 
 module _ (request : Request) {part : CachePart CacheReply} (ends : EndsSo request part) where
-  part_course : {before after : OptionValues} {events : List Event} {went : Went} → ReplyOk part → AnyExchange refusal_line went_after part before events after went → Course request events
+  part_course : {before after : OptionValues} {events : List Event} {went : Went} → ReplyOk part → AnyExchange refusal_line went_after part before events after went → CourseBy request AnyNonce events
   part_course oks (exchange.answered some held given_reply does closes_so) = ok_course request (oks.of None some (Ok given_reply) held does) (ends.of _ _ _ _ does) closes_so
   part_course oks (exchange.refused some held why does closes_so) = err_course request (ends.of _ _ _ _ does) closes_so
 
@@ -180,13 +181,13 @@ module _ (request : Request) {part : CachePart CacheReply} (ends : EndsSo reques
       ap (λ w. went_after (gone_by w)) refusal
 
 module _ (rules : Rules) (before after : OptionValues) (events : List Event) (went : Went) where
-  pub cache_course : (request : Request) → CacheExchange rules before request events after went → Course request events
+  pub cache_course : (request : Request) → CacheExchange rules before request events after went → CourseBy request AnyNonce events
   cache_course (Cache command) exchanged = part_course (Cache command) (replies (Cache command) rules before command refl) (replies_ok rules before command) exchanged
-  cache_course (Bad why) exchanged = part_course (Bad why) (ends_working (Bad why) (refuses_by (IsAllowed (Bad why)) (Agent why))) (ok_refuses _) exchanged
+  cache_course (Bad why) exchanged = part_course (Bad why) (ends_working (Bad why) (refuses_by (IsAllowed (Bad why) AnyNonce) (Agent why))) (ok_refuses _) exchanged
   cache_course (Key line) never = absurd never
 
   -- a client that is gone ends its session
   pub cache_gone : (request : Request) {how : Gone} → CacheExchange rules before request events after went → IsSaid events (unheard.Gone how) → went ≡ End (end_of how)
   cache_gone (Cache command) exchanged says = part_gone (Cache command) (replies (Cache command) rules before command refl) exchanged says
-  cache_gone (Bad why) exchanged says = part_gone (Bad why) (ends_working (Bad why) (refuses_by (IsAllowed (Bad why)) (Agent why))) exchanged says
+  cache_gone (Bad why) exchanged says = part_gone (Bad why) (ends_working (Bad why) (refuses_by (IsAllowed (Bad why) AnyNonce) (Agent why))) exchanged says
   cache_gone (Key line) never says = absurd never

@@ -6,6 +6,7 @@ use Rattle.agent_ask.specs.SessionEvents.{said_last}
 use Rattle.agent_ask.specs.Further.{FurtherEvent}
 use Rattle.agent_ask.specs.PartExchanges as exchange
 use Rattle.agent_ask.specs.Parts.{◌>>=◌, Returns}
+use Rattle.agent_ask.specs.Plans.{plan_of}
 use Rattle.agent_ask.specs.TurnParts as taken
 use Rattle.assuan_server.specs.Clients.{session_lines}
 use Rattle.assuan_server.specs.Written.{refusal_line}
@@ -45,7 +46,8 @@ use Rattle.agent_commands.specs.declared.request.Request.{Request}
 use Rattle.agent_commands.specs.declared.request.Request.TheVariants.{Cache, Key, Bad}
 use Rattle.agent_commands.specs.declared.request.Texts.{Texts}
 use Rattle.agent_commands.specs.declared.went.Went.{Went}
-use Rattle.agent_session.specs.Causes.{StandIn, IsCaused, IsRefusedBy, IsSaid, said, by_client, by_mode, no_id, empty, option, preset, confirmation, none_given, HasNoEntry, IsUnprompted, IsMalformed, IsUnsupported, without_id, passphrase}
+use Rattle.agent_session.specs.Causes.{AsksAny, wanted, StandIn, IsCaused, IsRefusedBy, IsSaid, said, by_client, by_mode, no_id, empty, option, preset, confirmation, none_given, HasNoEntry, IsUnprompted, IsMalformed}
+use Rattle.agent_session.specs.Causes.{IsUnsupported, without_id, passphrase}
 use Rattle.agent_origin.specs.declared.kept.Kept.{Kept}
 use Rattle.agent_session.proofs.Asides.{secret_limit}
 use Rattle.agent_session.proofs.Explained.{Explained, replied, failed, silent, after_these, IsLast}
@@ -110,10 +112,10 @@ module _ (rules : Rules) (kept : Kept) (whole : List (EventWith FurtherEvent)) (
 
   -- ---- prompts
 
-  module _ (texts : Texts) (check quality : Bool) (repeat : ℕ) where
+  module _ (texts : Texts) (check quality : Bool) (repeat : ℕ) (asks : AsksAny rules kept.options request (plan_of rules kept.options texts.error check repeat)) where
     prompts_any_of : EachOf (PromptsAny rules kept.options texts check quality repeat) Anything
     prompts_any_of before events result after (passphrases.given spec is prompt) stands = record { silent = prompt_silent prompt.in_session; explained = tt }
-    prompts_any_of before events result after (passphrases.refused spec is prompt other refusal) stands = refused_any rules kept request whole Anything prompt.asks prompt.in_session refusal stands
+    prompts_any_of before events result after (passphrases.refused spec is prompt other refusal) stands = refused_any rules kept request whole Anything asks prompt refusal stands
 
     by_user : (id : Option (List ℕ)) → ExplainsHere (ByUser rules kept.options texts check quality repeat id) Anything
     by_user id =
@@ -139,16 +141,16 @@ module _ (rules : Rules) (kept : Kept) (whole : List (EventWith FurtherEvent)) (
     HasNone = HasNoEntry whole request × (is_quiet fields.no_ask fields.texts ≡ true → Caused rules kept request whole code.NoData)
 
     looks_of : (id : List ℕ) → fields.id ≡ Some id → {before after : Option ℕ} {events : List (EventWith FurtherEvent)} {result : Result (Option (List ℕ)) Refusal} → taken.Asks (ask id) before events result after
-        → after ≡ before → StandIn events whole → Comes whole (IsCaused whole rules kept request) (Either rules kept request whole Anything HasNone) events result
-    looks_of id same taken.given keeps stands = record { silent = (tt, tt); explained = tt }
-    looks_of id same taken.empty keeps stands =
+        → StandIn events whole → Comes whole (IsCaused whole rules kept request) (Either rules kept request whole Anything HasNone) events result
+    looks_of id same (taken.given can) stands = record { silent = (tt, tt); explained = tt }
+    looks_of id same (taken.empty can) stands =
         record { silent = (tt, tt); explained = (passphrase fields id is_get same (none_given Empty tt (has_first stands)), λ quiet. empty fields id is_get quiet same (has_first stands)) }
-    looks_of id same taken.opened keeps stands = absurd (cc keeps)
-    looks_of id same (taken.interrupted why) keeps stands = record { silent = (tt, tt); explained = interrupts rules kept request whole (ask id) refl why stands }
+    looks_of id same (taken.opened fits) stands = absurd fits
+    looks_of id same (taken.interrupted can why) stands = record { silent = (tt, tt); explained = interrupts rules kept request whole (ask id) refl why stands }
 
     looks_for : (id : Option (List ℕ)) → fields.id ≡ id → ExplainsHere (LooksFor id) (Either rules kept request whole Anything HasNone)
     looks_for None same = returned _ None (without_id fields is_get same, λ quiet. no_id fields is_get quiet same)
-    looks_for (Some id) same = record { of = λ before events result after looked stands. looks_of id same looked.asks looked.keeps stands }
+    looks_for (Some id) same = record { of = λ before events result after looked stands. looks_of id same looked stands }
 
     by_cache : is_quiet fields.no_ask fields.texts ≡ true → ExplainsHere (ByCache fields.id) Anything
     by_cache quiet = bind _ Anything (looks_for fields.id refl) (λ cached so. if_needed rules kept request whole Anything HasNone code.NoData cached so (λ none. none.1 quiet))
@@ -157,17 +159,17 @@ module _ (rules : Rules) (kept : Kept) (whole : List (EventWith FurtherEvent)) (
     without_prompt way other =
         bind _ Anything (looks_for fields.id refl) (λ cached so. or_else_explained rules kept request whole Anything HasNone cached _ so (λ none. other none.0))
 
-    as_client_wants : (way : PinMode) → kept.options.mode ≡ way → (texts : Texts) → ExplainsHere (as_wanted rules kept.options fields way texts) Anything
-    as_client_wants mode.Ask same texts = by_user texts fields.check fields.quality fields.repeat fields.id
-    as_client_wants mode.Cancel same texts = without_prompt mode.Cancel (λ unmet. refused Anything (Agent code.Cancelled) (by_mode same unmet))
-    as_client_wants mode.Error same texts = without_prompt mode.Error (λ unmet. refused Anything (Agent code.NoPinentry) (inl (by_mode same unmet)))
-    as_client_wants mode.Loopback same texts = without_prompt mode.Loopback (λ unmet. by_client_itself fields.id)
+    as_client_wants : (way : PinMode) → kept.options.mode ≡ way → (texts : Texts) → fields.texts ≡ Some texts → ExplainsHere (as_wanted rules kept.options fields way texts) Anything
+    as_client_wants mode.Ask same texts is = by_user texts fields.check fields.quality fields.repeat (wanted fields is_get is) fields.id
+    as_client_wants mode.Cancel same texts is = without_prompt mode.Cancel (λ unmet. refused Anything (Agent code.Cancelled) (by_mode same unmet))
+    as_client_wants mode.Error same texts is = without_prompt mode.Error (λ unmet. refused Anything (Agent code.NoPinentry) (inl (by_mode same unmet)))
+    as_client_wants mode.Loopback same texts is = without_prompt mode.Loopback (λ unmet. by_client_itself fields.id)
 
     -- the fields say whether the cache alone is asked
-    found : (no_ask : Bool) (texts : Option Texts) → (is_quiet no_ask texts ≡ true → is_quiet fields.no_ask fields.texts ≡ true) → ExplainsHere (passphrase_by rules kept.options fields no_ask texts) Anything
-    found no_ask None quiet = by_cache (quiet refl)
-    found true (Some texts) quiet = by_cache (quiet refl)
-    found false (Some texts) quiet = as_client_wants kept.options.mode refl texts
+    found : (no_ask : Bool) (texts : Option Texts) → fields.texts ≡ texts → (is_quiet no_ask texts ≡ true → is_quiet fields.no_ask fields.texts ≡ true) → ExplainsHere (passphrase_by rules kept.options fields no_ask texts) Anything
+    found no_ask None is quiet = by_cache (quiet refl)
+    found true (Some texts) is quiet = by_cache (quiet refl)
+    found false (Some texts) is quiet = as_client_wants kept.options.mode refl texts is
 
   option_said : (text : ArrayVec ℕ) → request ≡ Cache (command.SetOption text) → (answer : OptionAnswer) → (applied kept.options text.items).answer ≡ answer → (after : OptionValues)
       → ExplainsHere (option_replies answer after) Answers
@@ -195,7 +197,7 @@ module _ (rules : Rules) (kept : Kept) (whole : List (EventWith FurtherEvent)) (
   replies (command.GetInfo what) is = bind IsReply Answers (record { of = tells_info_of what }) (λ text reply. answered reply tt)
   replies (command.GetPassphrase plain check no_ask repeat quality id texts) is =
       let fields : GetFields = record { plain = plain; check = check; no_ask = no_ask; repeat = repeat; quality = quality; id = id; texts = texts } in
-      then Answers (found fields is no_ask texts (λ quiet. quiet)) (λ secret. bind IsReply Answers (record { of = tells_of plain secret }) (λ text reply. answered reply tt))
+      then Answers (found fields is no_ask texts refl (λ quiet. quiet)) (λ secret. bind IsReply Answers (record { of = tells_of plain secret }) (λ text reply. answered reply tt))
   replies (command.PresetPassphrase id life secret) is =
       then Answers (bind _ Anything (is_wanted code.NotSupported rules.allow_preset (λ none. preset is none)) (λ allowed so. then Anything
       (or_otherwise Anything secret AsksPassphrase (λ some is. tt) (λ none. asks_passphrase)) (λ given. changes rules kept request whole _ refl))) (λ stored. answered reply_ok tt)
@@ -206,7 +208,7 @@ module _ (rules : Rules) (kept : Kept) (whole : List (EventWith FurtherEvent)) (
 
   -- ---- what is written last
 
-  unheard_explained : (why : Unheard) → IsSaid whole why → Here (said_last (session_lines.refusal why)) (went_after (gone_of why))
+  unheard_explained : (why : Unheard) → IsSaid whole why → Here (said_last (refusal_line (Client why))) (went_after (gone_of why))
   unheard_explained unheard.Cancelled is = failed [] code.Cancelled origin.Agent tt (by_client is) tt
   unheard_explained unheard.TooMuch is = failed [] code.TooMuch origin.Agent tt is tt
   unheard_explained unheard.Unexpected is = failed [] code.Unexpected origin.Agent tt is tt

@@ -53,7 +53,7 @@ module _ {Fits : Event → Type 0} (fits : FitsCache Fits) where
 
   looks_for : (id : Option (List ℕ)) → Here (LooksFor id)
   looks_for None = returned Fits None
-  looks_for (Some id) = record { of = λ before events result after does. (work.asks Fits (turns_of Fits refl (fits.asks id))).of before events result after does.asks }
+  looks_for (Some id) = work.asks Fits (turns_of Fits refl (fits.asks id))
 
   pub wants_prompt : (id : Option (List ℕ)) → Here (WantsPrompt id)
   wants_prompt None = bind Fits (work.seats Fits (turns_of Fits refl fits.seats)) (λ seated. returned Fits None)

@@ -1,6 +1,7 @@
 -- How a request ends, once its work is done: what its last part does, and the course that this makes of its exchange. So a client that is gone ends it.
 use Rattle.std.specs.List.{AllByRecursion}
 use Rattle.std.specs.Option.{option_map}
+use Rattle.std.specs.Prelude.{⊤}
 use Rattle.std.proofs.Common.{◌≡◌, ℕ, List, [], ◌∷◌, ◌++◌, Option, Some, None, Result, Ok, Err, refl, sym, ap, ◌∙◌, subst, append_assoc, append-nil, inl, inr, ◌⊎◌}
 use Rattle.agent_ask.specs.Further.{Prompt, Keys, Dice, Trust, NoMemory, Replaced, Removed}
 use Rattle.agent_ask.specs.Interrupts.{Interrupts}
@@ -32,7 +33,7 @@ use Rattle.key_commands.specs.Passphrases.{put_key}
 use Rattle.key_commands.proofs.EachEvent.{each_append, each_answer}
 use Rattle.agent_session.specs.Causes.{here, later, IsSaid, said as says_so}
 use Rattle.agent_session.specs.Completeness.{EndsInOk, error, done}
-use Rattle.agent_session.specs.Refusals.{refuses, shuts, IsAllowed, IsWork, AreWork, IsLast, said, gone, GivesBack, no_ticket, with_ticket, settled, interrupted, IsEnd, Course}
+use Rattle.agent_session.specs.Refusals.{refuses, shuts, IsAllowed, IsWork, AreWork, IsLast, said, gone, GivesBack, no_ticket, with_ticket, settled, interrupted, IsEnd, CourseBy}
 use Rattle.agent_session.specs.Refusals as course
 use Rattle.agent_session.proofs.Explained.{has_split}
 use Rattle.agent_session.proofs.Replying.{IsReply, begins}
@@ -53,7 +54,7 @@ refusal_last (Client why) = coded_last (refusal_code why)
 
 held_back : {held : Option ℕ} {back : List Event} (last : List Event) → Closes None held back (Ok tt) None → GivesBack last (back ++ last)
 held_back last taken.unheld = no_ticket
-held_back last (taken.closed turn) = with_ticket turn
+held_back last (taken.closed turn can) = with_ticket turn
 
 -- ---- what the client said
 
@@ -122,18 +123,22 @@ module _ (Fits : Event → Type 0) where
   pub works_said : {A : Type 0} {events : List Event} {result : Result A Refusal} {why : Unheard} → WorksTo Fits events result → IsSaid events why → ComesTo why result
   works_said {why} does says = work_said does.end (said_behind does.work does.last does.each (subst (λ e. IsSaid e why) does.is says))
 
+-- whatever nonce
+abbrev pub AnyNonce : List ℕ → Type 0
+AnyNonce id = ⊤
+
 module _ (request : Request) where
   abbrev Fine : Event → Type 0
-  Fine = GoesOn (IsAllowed request)
+  Fine = GoesOn (IsAllowed request AnyNonce)
 
-  are_work : (events : List Event) → AllByRecursion Fine events → AreWork request events
+  are_work : (events : List Event) → AllByRecursion Fine events → AreWork request AnyNonce events
   are_work [] each = tt
   are_work (event ∷ more) each = ((each.0.0, each.0.1), are_work more each.1)
 
   -- ---- what a request ends with
 
   pub data RequestEnd {A : Type 0} : List Event → Result A Refusal → Option ℕ → Type 0 where
-    working : {last : List Event} {result : Result A Refusal} {held : Option ℕ} → WorkEnd (IsAllowed request) last result → RequestEnd last result held
+    working : {last : List Event} {result : Result A Refusal} {held : Option ℕ} → WorkEnd (IsAllowed request AnyNonce) last result → RequestEnd last result held
     closed : {ticket : ℕ} {keep : Option (List ℕ)} {value : A} (turn : Turn) → RequestEnd (cache_turn (Close ticket keep) turn ∷ []) (Ok value) None
     unwrapped : {ticket : ℕ} {keep : Option (List ℕ)} (turn : Turn) → RequestEnd (cache_turn (Close ticket keep) turn ∷ Further NoMemory ∷ []) (Err (Agent code.NoMemory)) None
     kept : {grip : Grip} {file : List ℕ} {ticket : ℕ} {pass : List ℕ} {value : A} (turn : Turn)
@@ -152,7 +157,7 @@ module _ (request : Request) where
     pub each : AllByRecursion Fine work
     pub end : RequestEnd last result held
 
-  pub working_ends : {A : Type 0} {events : List Event} {result : Result A Refusal} {held : Option ℕ} → WorksTo (IsAllowed request) events result → Ends events result held
+  pub working_ends : {A : Type 0} {events : List Event} {result : Result A Refusal} {held : Option ℕ} → WorksTo (IsAllowed request AnyNonce) events result → Ends events result held
   working_ends does = record { work = does.work; last = does.last; is = does.is; each = does.each; end = working does.end }
 
   -- nothing is left of the work
@@ -167,7 +172,7 @@ module _ (request : Request) where
   abbrev pub EndsSo : {A : Type 0} → Part A → Type 0
   EndsSo part = Within part EndsLaw
 
-  pub ends_working : {A : Type 0} {part : Part A} → WorksSo (IsAllowed request) part → EndsSo part
+  pub ends_working : {A : Type 0} {part : Part A} → WorksSo (IsAllowed request AnyNonce) part → EndsSo part
   ends_working = weaker (record { of = λ before events result after does. working_ends does })
 
   behind : {A : Type 0} {events : List Event} {result : Result A Refusal} {held : Option ℕ} (first : List Event) → AllByRecursion Fine first → Ends events result held → Ends (first ++ events) result held
@@ -180,13 +185,13 @@ module _ (request : Request) where
   }
 
   -- work, and then what ends the request
-  work_joins : {A B : Type 0} → Joins {A = A} {B = B} (WorkLaw (IsAllowed request)) (λ value. EndsLaw) EndsLaw
+  work_joins : {A B : Type 0} → Joins {A = A} {B = B} (WorkLaw (IsAllowed request AnyNonce)) (λ value. EndsLaw) EndsLaw
   work_joins = record {
-    then = λ some later work ends. behind some (ok_works (IsAllowed request) work) ends;
-    alone = λ work. working_ends (err_works (IsAllowed request) work);
+    then = λ some later work ends. behind some (ok_works (IsAllowed request AnyNonce) work) ends;
+    alone = λ work. working_ends (err_works (IsAllowed request AnyNonce) work);
   }
 
-  pub bind_ends : {A B : Type 0} {part : Part A} {next : A → Part B} → WorksSo (IsAllowed request) part → ((value : A) → EndsSo (next value)) → EndsSo (part >>= next)
+  pub bind_ends : {A B : Type 0} {part : Part A} {next : A → Part B} → WorksSo (IsAllowed request AnyNonce) part → ((value : A) → EndsSo (next value)) → EndsSo (part >>= next)
   bind_ends = bind work_joins
 
   -- a value is made of what a request ends with
@@ -233,15 +238,15 @@ module _ (request : Request) where
 
   -- ---- courses
 
-  course_at : (work last more : List Event) → AllByRecursion Fine work → IsEnd request (last ++ more) → Course request ((work ++ last) ++ more)
+  course_at : (work last more : List Event) → AllByRecursion Fine work → IsEnd request AnyNonce (last ++ more) → CourseBy request AnyNonce ((work ++ last) ++ more)
   course_at work last more each end = record { work = work; last = last ++ more; is = append_assoc work last more; each = are_work work each; end = end }
 
-  last_end : {held : Option ℕ} {back last : List Event} → IsLast last → Closes None held back (Ok tt) None → IsEnd request (back ++ last)
+  last_end : {held : Option ℕ} {back last : List Event} → IsLast last → Closes None held back (Ok tt) None → IsEnd request AnyNonce (back ++ last)
   last_end is_last taken.unheld = course.answered is_last
-  last_end is_last (taken.closed turn) = course.given_back turn is_last
+  last_end is_last (taken.closed turn can) = course.given_back turn is_last
 
   ok_course_at : {A : Type 0} (work last back : List Event) {held : Option ℕ} {value : A} {text : List ℕ} → AllByRecursion Fine work → EndsInOk text → RequestEnd last (Ok value) held
-      → Closes None held back (Ok tt) None → Course request ((work ++ last) ++ (back ++ Sent text ∷ []))
+      → Closes None held back (Ok tt) None → CourseBy request AnyNonce ((work ++ last) ++ (back ++ Sent text ∷ []))
   ok_course_at _ _ _ each good (working no_more) closes_so = course_at _ _ _ each (last_end (said (done good)) closes_so)
   ok_course_at _ _ _ each good (closed turn) taken.unheld = course_at _ _ _ each (course.given_back turn (said (done good)))
   ok_course_at _ _ _ each good (kept turn) taken.unheld = course_at _ _ _ each (course.kept turn good)
@@ -249,21 +254,21 @@ module _ (request : Request) where
   ok_course_at _ _ _ each good cleared closes_so = course_at _ _ _ each (course.cleared (settled good) (held_back _ closes_so))
 
   err_course_at : {A : Type 0} (work last back : List Event) {held : Option ℕ} {why : Refusal} → AllByRecursion Fine work → RequestEnd {A = A} last (Err why) held → Closes None held back (Ok tt) None
-      → Course request ((work ++ last) ++ (back ++ said_last (refusal_line why)))
+      → CourseBy request AnyNonce ((work ++ last) ++ (back ++ said_last (refusal_line why)))
   err_course_at _ _ _ each (working no_more) closes_so = course_at _ _ _ each (last_end (refusal_last _) closes_so)
   err_course_at _ _ _ each (working (refused allowed is)) closes_so = course_at _ _ _ each (course.refused allowed is (held_back _ closes_so))
   err_course_at work _ back each (working (lost {event} {last} {why} allowed is each_last)) closes_so = record {
     work = work ++ event ∷ last;
     last = _;
     is = refl;
-    each = each_append (IsWork request) work (event ∷ last) (are_work work each) ((allowed, lost_goes event is), are_work last each_last);
+    each = each_append (IsWork request AnyNonce) work (event ∷ last) (are_work work each) ((allowed, lost_goes event is), are_work last each_last);
     end = last_end (refusal_last (Client why)) closes_so;
   }
   err_course_at work _ back each (working (forgot {event} allowed is memory)) closes_so = record {
     work = work ++ event ∷ [];
     last = _;
     is = append_assoc work (event ∷ Further NoMemory ∷ []) (back ++ said_last (refusal_line (Agent code.NoMemory))) ∙ sym (append_assoc work (event ∷ []) (Further NoMemory ∷ (back ++ said_last (refusal_line (Agent code.NoMemory)))));
-    each = each_append (IsWork request) work (event ∷ []) (are_work work each) ((allowed, lost_goes event is), tt);
+    each = each_append (IsWork request AnyNonce) work (event ∷ []) (are_work work each) ((allowed, lost_goes event is), tt);
     end = course.refused {event = Further NoMemory} memory refl (held_back _ closes_so);
   }
   err_course_at _ _ _ each (unwrapped turn) taken.unheld = course_at _ _ _ each (course.unanswered turn)
@@ -271,16 +276,16 @@ module _ (request : Request) where
   err_course_at _ _ _ each (uncleared why) closes_so = course_at _ _ _ each (course.cleared (interrupted why) (held_back _ closes_so))
 
   module _ {A : Type 0} {events back : List Event} {held : Option ℕ} where
-    pub ok_course : {value : A} {text : List ℕ} → EndsInOk text → Ends events (Ok value) held → Closes None held back (Ok tt) None → Course request (events ++ (back ++ Sent text ∷ []))
-    ok_course {text} good ends closes_so = subst (λ e. Course request (e ++ (back ++ Sent text ∷ []))) (sym ends.is) (ok_course_at ends.work ends.last back ends.each good ends.end closes_so)
+    pub ok_course : {value : A} {text : List ℕ} → EndsInOk text → Ends events (Ok value) held → Closes None held back (Ok tt) None → CourseBy request AnyNonce (events ++ (back ++ Sent text ∷ []))
+    ok_course {text} good ends closes_so = subst (λ e. CourseBy request AnyNonce (e ++ (back ++ Sent text ∷ []))) (sym ends.is) (ok_course_at ends.work ends.last back ends.each good ends.end closes_so)
 
-    pub err_course : {why : Refusal} → Ends {A = A} events (Err why) held → Closes None held back (Ok tt) None → Course request (events ++ (back ++ said_last (refusal_line why)))
-    err_course {why} ends closes_so = subst (λ e. Course request (e ++ (back ++ said_last (refusal_line why)))) (sym ends.is) (err_course_at ends.work ends.last back ends.each ends.end closes_so)
+    pub err_course : {why : Refusal} → Ends {A = A} events (Err why) held → Closes None held back (Ok tt) None → CourseBy request AnyNonce (events ++ (back ++ said_last (refusal_line why)))
+    err_course {why} ends closes_so = subst (λ e. CourseBy request AnyNonce (e ++ (back ++ said_last (refusal_line why)))) (sym ends.is) (err_course_at ends.work ends.last back ends.each ends.end closes_so)
 
   -- ---- what its client said ends a request
 
   end_said : {A : Type 0} {last : List Event} {result : Result A Refusal} {held : Option ℕ} {why : Unheard} → RequestEnd last result held → IsSaid last why → ComesTo why result
-  end_said (working end) says = work_said (IsAllowed request) end says
+  end_said (working end) says = work_said (IsAllowed request AnyNonce) end says
   end_said (closed turn) says = absurd (heard_so _ (refl, tt) says)
   end_said (unwrapped turn) says = absurd (heard_so _ (refl, (refl, tt)) says)
   end_said (kept turn) says = absurd (heard_so _ (refl, (refl, tt)) says)
@@ -291,7 +296,7 @@ module _ (request : Request) where
 
   pub ends_said : {A : Type 0} {events : List Event} {result : Result A Refusal} {held : Option ℕ} {why : Unheard} → Ends events result held → IsSaid events why
       → ComesTo why result
-  ends_said {why} ends says = end_said ends.end (said_behind (IsAllowed request) ends.work ends.last ends.each (subst (λ e. IsSaid e why) ends.is says))
+  ends_said {why} ends says = end_said ends.end (said_behind (IsAllowed request AnyNonce) ends.work ends.last ends.each (subst (λ e. IsSaid e why) ends.is says))
 
 -- ---- every reply ends in an OK line
 

@@ -34,7 +34,7 @@ use Rattle.agent_origin.specs.declared.trust.request.TrustRequest.TheVariants.{B
 use Rattle.agent_origin.proofs.EachLine.{each_request}
 use Rattle.agent_origin.proofs.OwnCommands.{own_command, not_own}
 use Rattle.agent_session.specs.Causes.{HasOne, HasCall, WantsMemory, is_broken}
-use Rattle.agent_session.specs.Completeness.{IsAnsweredBy, HasError, CausedInSession, CausedAtDoor, WantsNoPrompt, any, on_trust}
+use Rattle.agent_session.specs.Completeness.{IsAnsweredBy, HasError, CausedAtDoor, WantsNoPrompt, any, on_trust}
 use Rattle.agent_session.specs.DoorCauses.{IsTrustCaused, IsCausedBy, IsCausedAtDoor, IsReadTrust, read_trust, IsNotTrusted, unsaid, denied, denied_mark, forbidden, is_allowed}
 use Rattle.agent_session.proofs.Answering.{Judging, none_failed, no_trust_failed}
 use Rattle.agent_session.proofs.Asides.{asides_append, comments_aside}

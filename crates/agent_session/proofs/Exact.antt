@@ -41,7 +41,7 @@ use Rattle.agent_session.specs.Causes.{Has, IsSaid, said, sent, IsRead, read, on
 use Rattle.agent_session.specs.Causes.{IsOption, option, KeyDataSays, data_says, IsFaulty, file, protection, key_data, HasNoData, no_id, empty, no_import, no_export, there, here}
 use Rattle.agent_session.specs.Causes as causes
 use Rattle.agent_session.specs.Completeness.{Remembers, HasError}
-use Rattle.agent_session.specs.Exactly.{ExactCause, IsLong, long, long_file, IsReadAgain, read_again, too_long, ExactTrustCause, ExactCauseAtDoor, forbidden, on_trust, any}
+use Rattle.agent_session.specs.Exactly.{ExactCause, IsLong, long, long_file, ExactTrustCause, ExactCauseAtDoor, forbidden, on_trust, any}
 use Rattle.agent_session.proofs.ExactCache.{option_due, cache_due, cache_answered, none_without, none_cached}
 use Rattle.agent_session.proofs.ExactKeys.{have_answered, by_said, NoFault, due_of, deciding_of, keys_answered}
 use Rattle.agent_session.proofs.ExactLong.{long_answered}
@@ -72,7 +72,6 @@ use Rattle.agent_origin.specs.declared.trust.request.TrustPurpose.{TrustPurpose}
 use Rattle.agent_origin.specs.declared.trust.request.TrustRequest.{TrustRequest}
 use Rattle.agent_origin.specs.declared.trust.request.TrustRequest.TheVariants.{MarkTrusted}
 use Rattle.agent_origin.proofs.OwnCommands.{own_command, not_own, terminal_set}
-use Rattle.agent_session.specs.DoorCauses.{read_trust}
 use Rattle.agent_session.proofs.DoorAnswering.{is_word, no_command, door_is_session}
 use Rattle.agent_session.proofs.ExactTrust.{ByLong, marked_long, due_trust, trust_answered}
 use Rattle.agent_session.proofs.Standing.{each_left}
@@ -80,7 +79,7 @@ use Rattle.agent_session.proofs.TrustDenied.{denial_is_said}
 use Rattle.agent_session.proofs.TrustTold.{Told, told}
 use Rattle.agent_session.proofs.TrustTold as telling
 use Rattle.agent_ask.specs.TurnParts.{Closes}
-use Rattle.agent_session.specs.DoorCauses.{IsReadTrust}
+use Rattle.agent_session.specs.DoorCauses.{IsReadTrust, read_trust, IsReadAgain, read_again, inquired, too_long}
 use Rattle.agent_ask.specs.TurnParts as turning
 
 -- what the client said decides its request
@@ -315,7 +314,7 @@ again_said (Some text) (read_trust is (later has)) = elim has [ ]
 
 none_behind : {held : Option ℕ} {back : List Event} {file : List ℕ} (line : Option (List ℕ)) → Closes None held back (Ok tt) None → IsReadAgain file (back ++ said_last line) → ⊥
 none_behind line turning.unheld again = none_again line again
-none_behind line (turning.closed turn) (read_again is_read) = again_said line is_read
+none_behind line (turning.closed turn can) (read_again is_read) = again_said line is_read
 
 module _ (rules : Rules) (before : Kept) where
   -- MARKTRUSTED, whose file is too long with its new entry
@@ -343,8 +342,8 @@ module _ (rules : Rules) (before : Kept) where
   trust_cause request exchanged remembers code.NotTrusted cause = denial_is_said rules before.options exchanged cause
   trust_cause request exchanged remembers code.Parameter cause =
       trust_answered rules before.options request exchanged remembers code.Parameter (inl (subst (λ r. due_trust r code.Parameter) (sym cause) refl))
-  trust_cause request exchanged remembers code.TooMuch (inl says) = trust_answered rules before.options request exchanged remembers code.TooMuch (inr (said_decides (by_said None) unheard.TooMuch refl says))
-  trust_cause request {events} {went} exchanged remembers code.TooMuch (inr (too_long {fingerprint} {purpose} {name} {file} is again none many)) =
+  trust_cause request exchanged remembers code.TooMuch (inquired says) = trust_answered rules before.options request exchanged remembers code.TooMuch (inr (said_decides (by_said None) unheard.TooMuch refl says))
+  trust_cause request {events} {went} exchanged remembers code.TooMuch (too_long {fingerprint} {purpose} {name} {file} is again none many) =
       long_file_answered fingerprint purpose name file none many (subst (λ r. TrustExchange rules before.options r events went) is exchanged) remembers again
   trust_cause request exchanged remembers code.Unexpected cause =
       trust_answered rules before.options request exchanged remembers code.Unexpected (inr (said_decides (by_said None) unheard.Unexpected refl cause))

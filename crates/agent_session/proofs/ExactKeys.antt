@@ -264,7 +264,7 @@ absents_all (grip ∷ more) = let e = absents_all more in omega arith
 
 absents_closed : {held : Option ℕ} {back : List Event} → Closes None held back (Ok tt) None → absents back ≡ 0
 absents_closed turning.unheld = refl
-absents_closed (turning.closed turn) = refl
+absents_closed (turning.closed turn can) = refl
 
 -- where the request goes on, or is refused otherwise, fewer reads said so than it names keys
 found_first : (grips : List Grip) (before : Option ℕ) (events : List Event) (value : Unit {0}) (after : Option ℕ) → HasOne grips before events (Ok value) after → absents events < length grips

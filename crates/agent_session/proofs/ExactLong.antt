@@ -63,7 +63,7 @@ use Rattle.key_commands.specs.declared.went.KeyWent.{KeyWent}
 use Rattle.key_commands.specs.declared.wrap_keys.WrapKeys.{WrapKeys}
 use Rattle.key_commands.proofs.EachEvent.{each_append}
 use Rattle.agent_origin.specs.declared.kept.Kept.{Kept}
-use Rattle.agent_session.specs.Causes.{Has, here, IsRead, read, IsReadOf, read_of, IsDrawn, protected, OpensRead, on_keys, StandIn, changed, changes}
+use Rattle.agent_session.specs.Causes.{Has, here, IsRead, read, IsReadOf, read_of, IsDrawn, protected, OpensRead, of_change, on_keys, StandIn, changed, changes}
 use Rattle.agent_session.specs.Completeness.{HasError, Remembers}
 use Rattle.agent_session.specs.Exactly.{OpensIt, IsOpened, clear, by_nonce, cached, typed, given, HasLongList, HasLongFile, IsLong, long, long_file}
 use Rattle.agent_session.proofs.ImportCourses.{some_key}
@@ -102,8 +102,8 @@ module _ (Vain : List ℕ → Type 0) where
   back_vain : {held : Option ℕ} {back : List Event} (line : Option (List ℕ)) → Closes None held back (Ok tt) None → AllByRecursion IsVain (back ++ said_last line)
   back_vain None taken.unheld = tt
   back_vain (Some line) taken.unheld = (tt, tt)
-  back_vain None (taken.closed turn) = (tt, tt)
-  back_vain (Some line) (taken.closed turn) = (tt, (tt, tt))
+  back_vain None (taken.closed turn can) = (tt, tt)
+  back_vain (Some line) (taken.closed turn can) = (tt, (tt, tt))
 
 -- no memory was wanted in a prompt
 abbrev Recalls : PromptEvent → Type 0
@@ -184,8 +184,8 @@ module _ (rules : Rules) (options : OptionValues) (grip : Grip) (locked : Locked
   interrupted_put pass turns.late = (tt, tt)
 
   seat_vain : (before : Option ℕ) (events : List Event) (result : Result (Unit {0}) Refusal) (after : Option ℕ) → TakesSeat grip before events result after → Vain events
-  seat_vain None _ _ _ taken.opened = (tt, tt)
-  seat_vain None _ _ _ (taken.interrupted why) = (tt, tt)
+  seat_vain None _ _ _ (taken.opened can) = (tt, tt)
+  seat_vain None _ _ _ (taken.interrupted can why) = (tt, tt)
   seat_vain (Some ticket) _ _ _ returns = tt
 
   prompts_vain : (before : Option ℕ) (events : List Event) (why : Refusal) (after : Option ℕ) → PromptsOld rules options grip locked before events (Err why) after → AllByRecursion Remembers events → Vain events
@@ -200,8 +200,8 @@ module _ (rules : Rules) (options : OptionValues) (grip : Grip) (locked : Locked
   client_vain _ _ _ _ (goes_on (goes_on client_parts.written (client_parts.given is)) (goes_on (passphrases.stays closed) (stops chain.refuses))) = (tt, (tt, tt))
   client_vain _ _ _ _ (goes_on (goes_on client_parts.written (client_parts.given is)) (goes_on (passphrases.stays closed) (goes_on never more))) = elim never [ ]
   client_vain _ _ _ _ (goes_on (goes_on client_parts.written (client_parts.given is)) (goes_on (passphrases.opens to) (stops never))) = elim never [ ]
-  client_vain _ _ _ _ (goes_on (goes_on client_parts.written (client_parts.given is)) (goes_on (passphrases.opens to) (goes_on returns (stops (taken.interrupted why))))) = (tt, (tt, interrupted_put _ why))
-  client_vain _ _ _ _ (goes_on (goes_on client_parts.written (client_parts.given is)) (goes_on (passphrases.opens to) (goes_on returns (goes_on taken.done never)))) = elim never [ ]
+  client_vain _ _ _ _ (goes_on (goes_on client_parts.written (client_parts.given is)) (goes_on (passphrases.opens to) (goes_on returns (stops (taken.interrupted can why))))) = (tt, (tt, interrupted_put _ why))
+  client_vain _ _ _ _ (goes_on (goes_on client_parts.written (client_parts.given is)) (goes_on (passphrases.opens to) (goes_on returns (goes_on (taken.done can) never)))) = elim never [ ]
 
   uncached_vain : (way : PinMode) (before : Option ℕ) (events : List Event) (why : Refusal) (after : Option ℕ) → UncachedOld rules options grip way locked before events (Err why) after → AllByRecursion Remembers events
       → Vain events
@@ -213,14 +213,14 @@ module _ (rules : Rules) (options : OptionValues) (grip : Grip) (locked : Locked
   uncached_vain mode.Loopback _ _ _ _ does remembers = client_vain _ _ _ _ does
 
   cached_vain : (before : Option ℕ) (events : List Event) (why : Refusal) (after : Option ℕ) → CachedOld rules options grip locked before events (Err why) after → AllByRecursion Remembers events → Vain events
-  cached_vain _ _ _ _ (stops (taken.interrupted why)) remembers = interrupted_ask (grip_text grip) Normal (passphrases.way_of options.mode) None why
-  cached_vain _ _ _ _ (goes_on taken.given (stops passphrases.no_memory)) remembers = absurd (remembers.1.0 tt)
-  cached_vain _ _ _ _ (goes_on taken.given (goes_on (passphrases.opens to) never)) remembers = elim never [ ]
-  cached_vain _ _ _ _ (goes_on taken.given (goes_on (passphrases.stays closed) does)) remembers = (closed, uncached_vain options.mode _ _ _ _ does remembers.1)
-  cached_vain _ _ _ _ (goes_on taken.empty (goes_on returns does)) remembers = (tt, uncached_vain options.mode _ _ _ _ does remembers.1)
-  cached_vain _ _ _ _ (goes_on taken.empty (stops never)) remembers = elim never [ ]
-  cached_vain _ _ _ _ (goes_on taken.opened (goes_on returns does)) remembers = (tt, uncached_vain options.mode _ _ _ _ does remembers.1)
-  cached_vain _ _ _ _ (goes_on taken.opened (stops never)) remembers = elim never [ ]
+  cached_vain _ _ _ _ (stops (taken.interrupted can why)) remembers = interrupted_ask (grip_text grip) Normal (passphrases.way_of options.mode) None why
+  cached_vain _ _ _ _ (goes_on (taken.given can) (stops passphrases.no_memory)) remembers = absurd (remembers.1.0 tt)
+  cached_vain _ _ _ _ (goes_on (taken.given can) (goes_on (passphrases.opens to) never)) remembers = elim never [ ]
+  cached_vain _ _ _ _ (goes_on (taken.given can) (goes_on (passphrases.stays closed) does)) remembers = (closed, uncached_vain options.mode _ _ _ _ does remembers.1)
+  cached_vain _ _ _ _ (goes_on (taken.empty can) (goes_on returns does)) remembers = (tt, uncached_vain options.mode _ _ _ _ does remembers.1)
+  cached_vain _ _ _ _ (goes_on (taken.empty can) (stops never)) remembers = elim never [ ]
+  cached_vain _ _ _ _ (goes_on (taken.opened can) (goes_on returns does)) remembers = (tt, uncached_vain options.mode _ _ _ _ does remembers.1)
+  cached_vain _ _ _ _ (goes_on (taken.opened can) (stops never)) remembers = elim never [ ]
 
   locked_vain : (id : Option (List ℕ)) (before : Option ℕ) (events : List Event) (why : Refusal) (after : Option ℕ) → OpensLocked rules options grip id locked before events (Err why) after → AllByRecursion Remembers events
       → Vain events
@@ -228,14 +228,14 @@ module _ (rules : Rules) (options : OptionValues) (grip : Grip) (locked : Locked
   locked_vain None _ _ _ _ (goes_on returns (goes_on returns does)) remembers = cached_vain _ _ _ _ does remembers
   locked_vain None _ _ _ _ (goes_on returns (stops never)) remembers = elim never [ ]
   locked_vain None _ _ _ _ (stops never) remembers = elim never [ ]
-  locked_vain (Some id) _ _ _ _ (stops (taken.interrupted why)) remembers = interrupted_ask id Nonce Quiet None why
-  locked_vain (Some id) _ _ _ _ (goes_on taken.given (stops passphrases.no_memory)) remembers = absurd (remembers.1.0 tt)
-  locked_vain (Some id) _ _ _ _ (goes_on taken.given (goes_on (passphrases.opens to) never)) remembers = elim never [ ]
-  locked_vain (Some id) _ _ _ _ (goes_on taken.given (goes_on (passphrases.stays closed) does)) remembers = (closed, cached_vain _ _ _ _ does remembers.1)
-  locked_vain (Some id) _ _ _ _ (goes_on taken.empty (goes_on returns does)) remembers = (tt, cached_vain _ _ _ _ does remembers.1)
-  locked_vain (Some id) _ _ _ _ (goes_on taken.empty (stops never)) remembers = elim never [ ]
-  locked_vain (Some id) _ _ _ _ (goes_on taken.opened (goes_on returns does)) remembers = (tt, cached_vain _ _ _ _ does remembers.1)
-  locked_vain (Some id) _ _ _ _ (goes_on taken.opened (stops never)) remembers = elim never [ ]
+  locked_vain (Some id) _ _ _ _ (stops (taken.interrupted can why)) remembers = interrupted_ask id Nonce Quiet None why
+  locked_vain (Some id) _ _ _ _ (goes_on (taken.given can) (stops passphrases.no_memory)) remembers = absurd (remembers.1.0 tt)
+  locked_vain (Some id) _ _ _ _ (goes_on (taken.given can) (goes_on (passphrases.opens to) never)) remembers = elim never [ ]
+  locked_vain (Some id) _ _ _ _ (goes_on (taken.given can) (goes_on (passphrases.stays closed) does)) remembers = (closed, cached_vain _ _ _ _ does remembers.1)
+  locked_vain (Some id) _ _ _ _ (goes_on (taken.empty can) (goes_on returns does)) remembers = (tt, cached_vain _ _ _ _ does remembers.1)
+  locked_vain (Some id) _ _ _ _ (goes_on (taken.empty can) (stops never)) remembers = elim never [ ]
+  locked_vain (Some id) _ _ _ _ (goes_on (taken.opened can) (goes_on returns does)) remembers = (tt, cached_vain _ _ _ _ does remembers.1)
+  locked_vain (Some id) _ _ _ _ (goes_on (taken.opened can) (stops never)) remembers = elim never [ ]
 
 reads_vain : (Vain : List ℕ → Type 0) {grip : Grip} {before after : Option ℕ} {events : List Event} {result : _} → ReadsFile grip before events result after → AllByRecursion (IsVain Vain) events
 reads_vain Vain (parts.is_key is says) = (tt, tt)
@@ -302,8 +302,8 @@ undrawn_keys = record {
 undrawn_said : {held : Option ℕ} {back : List Event} (line : Option (List ℕ)) → Closes None held back (Ok tt) None → AllByRecursion IsUndrawn (back ++ said_last line)
 undrawn_said None taken.unheld = tt
 undrawn_said (Some line) taken.unheld = (tt, tt)
-undrawn_said None (taken.closed turn) = (tt, tt)
-undrawn_said (Some line) (taken.closed turn) = (tt, (tt, tt))
+undrawn_said None (taken.closed turn can) = (tt, tt)
+undrawn_said (Some line) (taken.closed turn can) = (tt, (tt, tt))
 
 -- ---- the request
 
@@ -334,14 +334,14 @@ module _ (rules : Rules) (kept : Kept) (grip : Grip) (new : Option (List ℕ)) (
   changed_long _ _ _ _ (stops (parts.long much)) many = refl
   changed_long _ _ _ _ (goes_on (parts.short few) does) many = let no : ⊥ = omega (arith, few, many) in absurd no
 
-  module _ (whole : List Event) (read_so : IsReadOf whole grip file) (opens : OpensRead whole grip key) (long : HasLongFile whole grip kept.options.s2k_count) where
+  module _ (whole : List Event) (request : Request) (read_so : IsReadOf whole grip file) (opens : OpensRead whole rules kept.options request grip key) (long : HasLongFile whole rules kept request grip) where
     rewrites_long : (pass : List ℕ) (before : Option ℕ) (events : List Event) (result : Result (Unit {0}) Refusal) (after : Option ℕ) → RewritesFile rules kept.options grip file key pass before events result after
         → StandIn events whole → AllByRecursion Remembers events → AllByRecursion IsUndrawn events ⊎ SaysTo NoneOwed result code.BadSecKey
     unfolding RewritesFile
     rewrites_long pass _ _ _ _ (stops small.faulted) stands_so remembers = inl (tt, tt)
     rewrites_long pass _ _ _ _ (goes_on (small.drawn many) (stops parts.no_memory)) stands_so remembers = absurd (remembers.1.0 tt)
     rewrites_long pass _ _ _ _ (goes_on (small.drawn many) (goes_on parts.made (stops (files.too_long new_file other with_list much)))) stands_so remembers = inr refl
-    rewrites_long pass _ _ _ _ (goes_on (small.drawn many) (goes_on parts.made (stops files.no_memory))) stands_so remembers = absurd (remembers.1.0 tt)
+    rewrites_long pass _ _ _ _ (goes_on (small.drawn many) (goes_on parts.made (stops (files.no_memory other)))) stands_so remembers = absurd (remembers.1.0 tt)
     rewrites_long pass _ _ _ _ (goes_on (small.drawn many) (goes_on parts.made (goes_on (files.canonical_file is) does))) stands_so remembers =
         let other = (long file key pass _ read_so opens (protected (record { long = many; has = has_first stands_so }) refl)).0 in absurd (cc (is, other))
     rewrites_long pass _ _ _ _ (goes_on (small.drawn many) (goes_on parts.made (goes_on (files.extended_file {new = new_file} other with_list few) does))) stands_so remembers =
@@ -399,14 +399,15 @@ module _ (one_canon : (file : List ℕ) (a b : Option (List ℕ)) → Canon file
     rest_stands = stand_right (Further (Keys (Read grip answer)) ∷ []) rest (stands_in is)
 
     opens_read : (before after : Option ℕ) (second third : List Event) (opened : _) → rest ≡ second ++ third → OldPassphrase rules kept.options grip old key before second (Ok opened) after
-        → OpensRead whole grip opened.key
+        → OpensRead whole rules kept.options request grip opened.key
     opens_read before after second third opened rest_is does =
-        let comes = (old_passphrase rules kept request whole grip (changes asked_so) key.is_clear key old is_read (λ locked is_locked by_id by_key. changed _ asked_so is_locked by_id by_key)).of before second (Ok opened) after does
+        let comes = (old_passphrase rules kept request whole grip (changes asked_so) key.is_clear key old
+        (λ nonce same. of_change (subst (λ n. on_keys request ≡ Some (on.Passwd grip n new false)) same asked_so)) is_read (λ locked is_locked by_id by_key. changed _ asked_so is_locked by_id by_key)).of before second (Ok opened) after does
         (stand_left second third (subst (λ r. StandIn r whole) rest_is rest_stands)) in
         comes.explained
 
   passwd_long : (events : List Event) (result : Result KeyReply Refusal) (held : Option ℕ) → PasswdReplies rules kept.options kept.wraps grip old new None events result held → whole ≡ events ++ more
-      → AllByRecursion Remembers events → IsOpened whole grip old → HasLongList whole grip → SaysTo NoneOwed result code.BadSecKey
+      → AllByRecursion Remembers events → IsOpened whole grip old → HasLongList whole rules kept request grip → SaysTo NoneOwed result code.BadSecKey
   unfolding PasswdReplies
   passwd_long _ _ _ (stops does) is remembers opened long_so =
       unread_long does is remembers (opened_clear (unopened_all is (record { vain = λ pass. ⊥; each = reads_vain (λ pass. ⊥) does; never = λ pass opens none. none })) opened)
@@ -424,14 +425,14 @@ module _ (one_canon : (file : List ℕ) (a b : Option (List ℕ)) → Canon file
   drawn_none events is each drawn = each_has IsUndrawn whole (subst (AllByRecursion IsUndrawn) (sym is) (each_append IsUndrawn events more each behind.undrawn)) drawn.has
 
   passwd_long_file : (events : List Event) (result : Result KeyReply Refusal) (held : Option ℕ) (drawn : List ℕ) → PasswdReplies rules kept.options kept.wraps grip old new None events result held
-      → whole ≡ events ++ more → AllByRecursion Remembers events → IsDrawn whole 20 drawn → HasLongFile whole grip kept.options.s2k_count → SaysTo NoneOwed result code.BadSecKey
+      → whole ≡ events ++ more → AllByRecursion Remembers events → IsDrawn whole 20 drawn → HasLongFile whole rules kept request grip → SaysTo NoneOwed result code.BadSecKey
   unfolding PasswdReplies
   passwd_long_file _ _ _ _ (stops does) is remembers drawn long_so = absurd (drawn_none _ is (each_fits IsUndrawn tt (work.reads_file IsUndrawn tt (λ answer. tt) _ _ _ _ does).0) drawn)
   passwd_long_file _ _ _ _ (goes_on (parts.is_key {answer} {key} found says) (stops {first = second} does)) is remembers drawn long_so =
       absurd (drawn_none (Further (Keys (Read grip answer)) ∷ second) is (tt, each_fits IsUndrawn tt ((old_here undrawn_keys rules kept.options grip (λ pass turn. tt) old key key.is_clear).of _ _ _ _ does)) drawn)
   passwd_long_file _ _ _ _ (goes_on (parts.is_key {answer} {file} {key} found says) (goes_on {first = second} {events = third} {value = opened_key} old_does (stops does))) is remembers drawn long_so =
       let opens = opens_read found says _ is _ _ _ _ _ refl old_does in
-      elim (changes_long rules kept grip new file opened_key.key whole (read_of found (has_read found says _ is)) opens long_so _ _ _ _ does
+      elim (changes_long rules kept grip new file opened_key.key whole request (read_of found (has_read found says _ is)) opens long_so _ _ _ _ does
       (stand_right second third (rest_stands found says _ is)) (each_right Remembers second third remembers.1)) [
         | inl undrawn ↦ absurd (drawn_none (Further (Keys (Read grip answer)) ∷ (second ++ third)) is
             (tt, each_append IsUndrawn second third (each_fits IsUndrawn tt ((old_here undrawn_keys rules kept.options grip (λ pass turn. tt) old key key.is_clear).of _ _ _ _ old_does)) undrawn) drawn)
@@ -439,7 +440,7 @@ module _ (one_canon : (file : List ℕ) (a b : Option (List ℕ)) → Canon file
       ]
   passwd_long_file _ _ _ _ (goes_on (parts.is_key {answer} {file} {key} found says) (goes_on {first = second} {value = opened_key} old_does (goes_on {first = third} does returns))) is remembers drawn long_so =
       let opens = opens_read found says _ is _ _ _ _ _ refl old_does in
-      elim (changes_long rules kept grip new file opened_key.key whole (read_of found (has_read found says _ is)) opens long_so _ _ _ _ does
+      elim (changes_long rules kept grip new file opened_key.key whole request (read_of found (has_read found says _ is)) opens long_so _ _ _ _ does
       (stand_left third [] (stand_right second (third ++ []) (rest_stands found says _ is))) (each_left Remembers third [] (each_right Remembers second (third ++ []) remembers.1))) [
         | inl undrawn ↦ absurd (drawn_none (Further (Keys (Read grip answer)) ∷ (second ++ (third ++ []))) is (
           tt,
@@ -459,7 +460,7 @@ module _ (one_canon : (file : List ℕ) (a b : Option (List ℕ)) → Canon file
       run (subst (λ a. KeyExchange rules kept.options kept.wraps a whole after went) asked_is exchanged) remembers opened long_list
     where
       run : {whole : List Event} {after : WrapKeys} {went : KeyWent} → KeyExchange rules kept.options kept.wraps (on.Passwd grip old new false) whole after went → AllByRecursion Remembers whole → IsOpened whole grip old
-          → HasLongList whole grip → HasError code.BadSecKey OfAgent whole
+          → HasLongList whole rules kept request grip → HasError code.BadSecKey OfAgent whole
       run (part_exchanges.answered some held reply {back} does closes) all opened_so list_so =
           absurd (passwd_long one_canon rules kept request grip old new is _ _ (behind_of (Some reply.text) closes) _ _ _ does refl (each_left Remembers some _ all) opened_so list_so)
       run (part_exchanges.refused some held why {back} does closes) all opened_so list_so =
@@ -469,7 +470,7 @@ module _ (one_canon : (file : List ℕ) (a b : Option (List ℕ)) → Canon file
       run (subst (λ a. KeyExchange rules kept.options kept.wraps a whole after went) asked_is exchanged) remembers drawn file_long
     where
       run : {whole : List Event} {after : WrapKeys} {went : KeyWent} {bytes : List ℕ} → KeyExchange rules kept.options kept.wraps (on.Passwd grip old new false) whole after went → AllByRecursion Remembers whole
-          → IsDrawn whole 20 bytes → HasLongFile whole grip kept.options.s2k_count → HasError code.BadSecKey OfAgent whole
+          → IsDrawn whole 20 bytes → HasLongFile whole rules kept request grip → HasError code.BadSecKey OfAgent whole
       run (part_exchanges.answered some held reply {back} does closes) all drawn_so file_so =
           absurd (passwd_long_file one_canon rules kept request grip old new is _ _ (behind_of (Some reply.text) closes) _ _ _ _ does refl (each_left Remembers some _ all) drawn_so file_so)
       run (part_exchanges.refused some held why {back} does closes) all drawn_so file_so =

@@ -129,7 +129,7 @@ module _ {whole : List (EventWith FurtherEvent)} {Causes : Code → Origin → T
     pub closes_of : (before : Option ℕ) (events : List (EventWith FurtherEvent)) (result : Result (Unit {0}) Refusal) (after : Option ℕ) → Closes keep before events result after
         → StandIn events whole → Comes whole Causes Anything events result
     closes_of before events result after taken.unheld stands = record { silent = tt; explained = tt }
-    closes_of before events result after (taken.closed turn) stands = record { silent = (tt, tt); explained = tt }
+    closes_of before events result after (taken.closed turn can) stands = record { silent = (tt, tt); explained = tt }
 
     pub closes_explained : Explains whole Causes (Closes keep) Anything
     closes_explained = record { of = closes_of }
@@ -162,26 +162,26 @@ module _ (rules : Rules) (kept : Kept) (request : Request) (whole : List (EventW
   module _ (step : MarkStep) (keeps : closes step ≡ None) where
     looks_of : (before : Option ℕ) (events : List (EventWith FurtherEvent)) (result : Result (Option (List ℕ)) Refusal) (after : Option ℕ) → Asks step before events result after
         → StandIn events whole → Comes whole (IsCaused whole rules kept request) (FoundBy step) events result
-    looks_of before events result after taken.given stands = record { silent = (tt, tt); explained = found (has_first stands) }
-    looks_of before events result after taken.empty stands = record { silent = (tt, tt); explained = found_none (none_given Empty tt (has_first stands)) }
-    looks_of before events result after (taken.opened {ticket}) stands = record { silent = (tt, tt); explained = found_none (none_given (Open ticket) tt (has_first stands)) }
-    looks_of before events result after (taken.interrupted why) stands = record { silent = (tt, tt); explained = interrupts step keeps why stands }
+    looks_of before events result after (taken.given can) stands = record { silent = (tt, tt); explained = found (has_first stands) }
+    looks_of before events result after (taken.empty can) stands = record { silent = (tt, tt); explained = found_none (none_given Empty tt (has_first stands)) }
+    looks_of before events result after (taken.opened {ticket} can) stands = record { silent = (tt, tt); explained = found_none (none_given (Open ticket) tt (has_first stands)) }
+    looks_of before events result after (taken.interrupted can why) stands = record { silent = (tt, tt); explained = interrupts step keeps why stands }
 
     pub looks : Explains whole (IsCaused whole rules kept request) (Asks step) (FoundBy step)
     looks = record { of = looks_of }
 
     seats_of : (before : Option ℕ) (events : List (EventWith FurtherEvent)) (result : Result (Unit {0}) Refusal) (after : Option ℕ) → Seats step before events result after
         → StandIn events whole → Comes whole (IsCaused whole rules kept request) Anything events result
-    seats_of before events result after taken.opened stands = record { silent = (tt, tt); explained = tt }
-    seats_of before events result after (taken.interrupted why) stands = record { silent = (tt, tt); explained = interrupts step keeps why stands }
+    seats_of before events result after (taken.opened can) stands = record { silent = (tt, tt); explained = tt }
+    seats_of before events result after (taken.interrupted can why) stands = record { silent = (tt, tt); explained = interrupts step keeps why stands }
 
     pub seats : Explains whole (IsCaused whole rules kept request) (Seats step) Anything
     seats = record { of = seats_of }
 
     changes_of : (before : Option ℕ) (events : List (EventWith FurtherEvent)) (result : Result (Unit {0}) Refusal) (after : Option ℕ) → Changes step before events result after
         → StandIn events whole → Comes whole (IsCaused whole rules kept request) Anything events result
-    changes_of before events result after taken.done stands = record { silent = (tt, tt); explained = tt }
-    changes_of before events result after (taken.interrupted why) stands = record { silent = (tt, tt); explained = interrupts step keeps why stands }
+    changes_of before events result after (taken.done can) stands = record { silent = (tt, tt); explained = tt }
+    changes_of before events result after (taken.interrupted can why) stands = record { silent = (tt, tt); explained = interrupts step keeps why stands }
 
     pub changes : Explains whole (IsCaused whole rules kept request) (Changes step) Anything
     changes = record { of = changes_of }
@@ -190,7 +190,7 @@ module _ (rules : Rules) (kept : Kept) (request : Request) (whole : List (EventW
     peeks_of : (before : Option ℕ) (events : List (EventWith FurtherEvent)) (result : Result Bool Refusal) (after : Option ℕ) → Peeks (grip_text grip) Normal before events result after
         → StandIn events whole → Comes whole (IsCaused whole rules kept request) Anything events result
     peeks_of before events result after taken.peeked stands = record { silent = (tt, tt); explained = tt }
-    peeks_of before events result after (taken.interrupted why) stands = record { silent = (tt, tt); explained = interrupts _ refl why stands }
+    peeks_of before events result after (taken.interrupted can why) stands = record { silent = (tt, tt); explained = interrupts _ refl why stands }
 
     pub peeks : Explains whole (IsCaused whole rules kept request) (Peeks (grip_text grip) Normal) Anything
     peeks = record { of = peeks_of }

@@ -1,10 +1,17 @@
 -- What an IMPORT_KEY hands to the cache, in its order.
-use Rattle.std.proofs.Common.{◌≡◌, ℕ, Bool, List, [], ◌∷◌, ◌++◌, Option, Some, None, Result, Ok, Err, sym, ap, ◌∙◌, subst, append_assoc}
-use Rattle.agent_ask.specs.Further.{FurtherEvent}
-use Rattle.agent_ask.specs.SessionEvents.{Sent, said_last}
+use Rattle.std.specs.Prelude.{drop}
+use Rattle.std.proofs.Common.{◌≡◌, ◌⊎◌, ℕ, Bool, List, [], ◌∷◌, ◌++◌, length, inl, inr, Option, Some, None, Result, Ok, Err, refl, sym, ap, ◌∙◌, subst, append_assoc}
+use Rattle.agent_ask.specs.Further.{FurtherEvent, Replaced}
+use Rattle.agent_ask.specs.SessionEvents.{Sent, CacheTurn, cache_turn, said_last}
 use Rattle.agent_ports.specs.declared.grip.Grip.{Grip}
 use Rattle.agent_ports.specs.declared.keys.KeyDone.{KeyDone}
+use Rattle.assuan_escape.specs.Escapes.{hex_text}
 use Rattle.agent_ports.specs.declared.keys.KeyDone.TheVariants as key_done
+use Rattle.cache_policy.specs.Turns.{Turn}
+use Rattle.cache_policy.specs.declared.life.Life.{Life}
+use Rattle.cache_policy.specs.declared.mark.MarkStep.{MarkStep}
+use Rattle.cache_policy.specs.declared.mark.MarkStep.TheVariants.{Close, Put}
+use Rattle.cache_policy.specs.declared.mode.Mode.TheVariants.{Nonce}
 use Rattle.session_client.specs.declared.code.Code.{Code}
 use Rattle.session_client.specs.declared.code.Code.TheVariants as code
 use Rattle.session_options.specs.OptionValues.{OptionValues}
@@ -16,6 +23,7 @@ use Rattle.agent_commands.specs.Events.{EventWith}
 use Rattle.agent_commands.specs.declared.request.Request.{Request}
 use Rattle.agent_commands.specs.declared.request.Request.TheVariants.{Cache, Key as OnKeys, Bad}
 use Rattle.agent_commands.specs.declared.went.Went.{Went}
+use Rattle.key_commands.specs.Events.{drew, called}
 use Rattle.key_commands.specs.Exchanges.{KeyExchange, ImportKeyReplies, StoresKey, FoundOrNew}
 use Rattle.agent_ask.specs.PartExchanges as part_exchanges
 use Rattle.key_commands.specs.KeyParts.{change_fault}
@@ -28,6 +36,7 @@ use Rattle.assuan_server.specs.Written.{refusal_line}
 use Rattle.agent_ask.specs.Parts as chain
 use Rattle.agent_ask.specs.TurnParts as turning
 use Rattle.key_commands.specs.Parts as small
+use Rattle.key_commands.specs.Passphrases.{put_key}
 use Rattle.key_commands.specs.Passphrases as passphrases
 use Rattle.session_client.specs.declared.refusal.Refusal.{Refusal}
 use Rattle.session_client.specs.declared.refusal.Refusal.TheVariants.{Agent}
@@ -38,10 +47,63 @@ use Rattle.key_commands.specs.declared.wrap_keys.WrapKeys.{WrapKeys}
 use Rattle.key_commands.proofs.EachEvent.{each_answer, each_returned, each_append, EachSo, each_bind, each_refused, each_needed, each_otherwise, receives_key, names_key, is_free, looks_over, takes_seat, prompts_new, client_new}
 use Rattle.agent_origin.specs.SessionExchanges.{RequestExchange, cache, keys}
 use Rattle.agent_origin.specs.declared.kept.Kept.{Kept}
-use Rattle.agent_session.specs.Causes.{on_keys}
-use Rattle.agent_session.specs.Imports.{HandsNothing, HandNothing, put, given_back, ImportCourse, not_drawn, not_put, not_replaced, replaced}
+use Rattle.agent_session.specs.Causes.{Has, here, later, on_keys}
+use Rattle.agent_session.specs.Imports.{HandsNothing, HandNothing, put_nonce, KeepsPass, put, given_back, ImportCourse, not_drawn, not_put, not_replaced, replaced}
+use Rattle.agent_session.specs.OwnPassphrases.{puts}
+use Rattle.agent_session.specs.Refusals.{IsNonceOf, nonce_of}
+use Rattle.agent_session.proofs.Explained.{has_split}
 use Rattle.agent_session.proofs.OwnKeys.{still_quiet}
 use Rattle.agent_session.proofs.OwnParts.{kept_none}
+use Rattle.agent_session.proofs.Standing.{each_has, has_right}
+
+-- ---- what is stored under a nonce is stored under one that was drawn
+
+-- the first one, or one of the others
+first_or : {E : Type 0} {one other : E} {more : List E} → Has one (other ∷ more) → (one ≡ other) ⊎ Has one more
+first_or here = inl refl
+first_or (later has) = inr has
+
+-- the step of a turn
+abbrev step_of : EventWith FurtherEvent → Option MarkStep
+step_of (CacheTurn taken) = Some taken.asked
+step_of _ = None
+
+module _ (id pass : List ℕ) (life : Life) (turn : Turn) where
+  abbrev Puts : EventWith FurtherEvent
+  Puts = cache_turn (Put id Nonce life pass) turn
+
+  none_in : (events : List (EventWith FurtherEvent)) → HandNothing events → Has Puts events → ⊥
+  none_in events nothing has = each_has HandsNothing events nothing has puts
+
+  at_put : (early tail : List (EventWith FurtherEvent)) (drawn other : List ℕ) (came : Turn) → HandNothing early → length drawn ≡ 32 → (Has Puts tail → ⊥)
+      → Has Puts (early ++ drew drawn ∷ cache_turn (put_nonce drawn other) came ∷ tail) → IsNonceOf (early ++ drew drawn ∷ cache_turn (put_nonce drawn other) came ∷ tail) id
+  at_put early tail drawn other came nothing long none has = elim (has_split early _ has) [ inl first ↦ absurd (none_in early nothing first) | inr rest ↦ drawn_here (first_or rest) ]
+    where
+      put_here : (Puts ≡ cache_turn (put_nonce drawn other) came) ⊎ Has Puts tail → IsNonceOf (early ++ drew drawn ∷ cache_turn (put_nonce drawn other) came ∷ tail) id
+      put_here (inl same) =
+          let asked_is : Some (Put id Nonce life pass) ≡ Some (put_nonce drawn other) = ap step_of same in
+          let id_is : id ≡ hex_text (drop 20 drawn) = cc asked_is in
+          subst (IsNonceOf (early ++ drew drawn ∷ cache_turn (put_nonce drawn other) came ∷ tail)) (sym id_is) (nonce_of (record { long = long; has = has_right early here }))
+      put_here (inr behind) = absurd (none behind)
+
+      drawn_here : (Puts ≡ drew drawn) ⊎ Has Puts (cache_turn (put_nonce drawn other) came ∷ tail) → IsNonceOf (early ++ drew drawn ∷ cache_turn (put_nonce drawn other) came ∷ tail) id
+      drawn_here (inl same) = absurd (cc same)
+      drawn_here (inr rest) = put_here (first_or rest)
+
+  kept_elsewhere : {grip : Grip} {kept_pass : List ℕ} {step : MarkStep} {came : Turn} → KeepsPass grip kept_pass step → Puts ≡ cache_turn step came → ⊥
+  kept_elsewhere {grip} {kept_pass} put same = let asked_is : Some (Put id Nonce life pass) ≡ Some (put_key grip kept_pass) = ap step_of same in cc asked_is
+  kept_elsewhere {kept_pass} (given_back {ticket}) same = let asked_is : Some (Put id Nonce life pass) ≡ Some (Close ticket (Some kept_pass)) = ap step_of same in cc asked_is
+
+  behind_file : {grip : Grip} {file : List ℕ} {answer : KeyDone} {behind : List (EventWith FurtherEvent)} → (Has Puts behind → ⊥) → Has Puts (called (Replaced grip file answer) ∷ behind) → ⊥
+  behind_file none has = elim (first_or has) [ inl same ↦ cc same | inr rest ↦ none rest ]
+
+  pub nonce_drawn : {events : List (EventWith FurtherEvent)} → ImportCourse events → Has Puts events → IsNonceOf events id
+  nonce_drawn (not_drawn {events} nothing) has = absurd (none_in events nothing has)
+  nonce_drawn (not_put early late drawn other nothing long why behind) has = at_put early late drawn other _ nothing long (none_in late behind) has
+  nonce_drawn (not_replaced early late drawn other file grip answer nothing long not_done behind) has = at_put early (called (Replaced grip file answer) ∷ late) drawn other _ nothing long (behind_file (none_in late behind)) has
+  nonce_drawn (replaced early late drawn other file {grip} {step} came nothing long keeps behind) has =
+      at_put early (called (Replaced grip file key_done.Done) ∷ cache_turn step came ∷ late) drawn other _ nothing long
+      (behind_file (λ there. elim (first_or there) [ inl same ↦ kept_elsewhere {step = step} {came = came} keeps same | inr rest ↦ none_in late behind rest ])) has
 
 -- behind what hands nothing in, and before it
 course_behind : (first : List (EventWith FurtherEvent)) {events : List (EventWith FurtherEvent)} → HandNothing first → ImportCourse events → ImportCourse (first ++ events)
@@ -81,16 +143,16 @@ stores_of : (count : ℕ) (key : Key) (grip : Grip) (pass : List ℕ) (before : 
     → ImportCourse events
 stores_of count key grip pass before events result after (stops small.faulted) = not_drawn (tt, tt)
 stores_of count key grip pass before events result after (goes_on (small.drawn long) (stops parts.no_memory)) = not_drawn (tt, (tt, tt))
-stores_of count key grip pass before events result after (goes_on (small.drawn long) (goes_on parts.made (stops (turning.interrupted why)))) = not_put [] [] _ _ tt long why tt
-stores_of count key grip pass before events result after (goes_on (small.drawn long) (goes_on parts.made (goes_on turning.done (stops (parts.not_done {answer} is))))) =
+stores_of count key grip pass before events result after (goes_on (small.drawn long) (goes_on parts.made (stops (turning.interrupted can why)))) = not_put [] [] _ _ tt long why tt
+stores_of count key grip pass before events result after (goes_on (small.drawn long) (goes_on parts.made (goes_on (turning.done can) (stops (parts.not_done {answer} is))))) =
     not_replaced [] [] _ _ _ _ _ tt long (undone answer is) tt
-stores_of count key grip pass None events result after (goes_on (small.drawn long) (goes_on parts.made (goes_on turning.done (goes_on parts.done (stops (turning.interrupted why)))))) =
+stores_of count key grip pass None events result after (goes_on (small.drawn long) (goes_on parts.made (goes_on (turning.done can) (goes_on parts.done (stops (turning.interrupted can_too why)))))) =
     replaced [] [] _ _ _ _ tt long put tt
-stores_of count key grip pass None events result after (goes_on (small.drawn long) (goes_on parts.made (goes_on turning.done (goes_on parts.done (goes_on turning.done chain.returns))))) =
+stores_of count key grip pass None events result after (goes_on (small.drawn long) (goes_on parts.made (goes_on (turning.done can) (goes_on parts.done (goes_on (turning.done can_too) chain.returns))))) =
     replaced [] [] _ _ _ _ tt long put tt
-stores_of count key grip pass (Some number) events result after (goes_on (small.drawn long) (goes_on parts.made (goes_on turning.done (goes_on parts.done (goes_on (turning.closed turn) chain.returns))))) =
+stores_of count key grip pass (Some number) events result after (goes_on (small.drawn long) (goes_on parts.made (goes_on (turning.done can) (goes_on parts.done (goes_on (turning.closed turn can_too) chain.returns))))) =
     replaced [] [] _ _ _ _ tt long given_back tt
-stores_of count key grip pass (Some number) events result after (goes_on (small.drawn long) (goes_on parts.made (goes_on turning.done (goes_on parts.done (stops never))))) = elim never [ ]
+stores_of count key grip pass (Some number) events result after (goes_on (small.drawn long) (goes_on parts.made (goes_on (turning.done can) (goes_on parts.done (stops never))))) = elim never [ ]
 
 -- ---- before
 

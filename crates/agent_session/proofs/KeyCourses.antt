@@ -45,10 +45,11 @@ use Rattle.assuan_escape.specs.Escapes.{hex_text}
 use Rattle.agent_session.specs.Causes.{on_keys, IsSaid}
 use Rattle.agent_session.specs.Completeness.{EndsInOk}
 use Rattle.agent_session.specs.Completeness as completeness
-use Rattle.agent_session.specs.Refusals.{IsAllowed, IsWorkStep, MayStore, exported, changed, imported, Course}
+use Rattle.agent_session.specs.Refusals.{IsAllowed, IsWorkStep, MayStore, exported, changed, imported, CourseBy}
 use Rattle.key_commands.specs.Lines.{of_passphrase, of_key_data, of_key}
 use Rattle.agent_session.proofs.Asides.{info_status, nonce_status, status_aside}
-use Rattle.agent_session.proofs.Courses.{Ends, ends_with, EndsSo, working_ends, ends_working, bind_ends, made, makes, closed, unwrapped, kept, put, unput, cleared, uncleared, RepliesOk, ok_returns, ok_refuses, ok_then, reply_ends_in_ok, ok_course, err_course, ends_said, gone_only, said_before, answer_heard}
+use Rattle.agent_session.proofs.Courses.{AnyNonce, Ends, ends_with, EndsSo, working_ends, ends_working, bind_ends, made, makes, closed, unwrapped, kept, put, unput, cleared, uncleared, RepliesOk, ok_returns, ok_refuses, ok_then}
+use Rattle.agent_session.proofs.Courses.{reply_ends_in_ok, ok_course, err_course, ends_said, gone_only, said_before, answer_heard}
 use Rattle.agent_session.proofs.KeyWorks.{FitsKeys, looks_nonce, old_here, verified_here, new_here, consents, tells_info, writes_infos, has_one}
 use Rattle.agent_session.proofs.Replying.{ends_in_ok, reply_keys}
 use Rattle.agent_session.proofs.Works as work
@@ -56,7 +57,7 @@ use Rattle.agent_session.proofs.Works.{WorksTo, works, WorksSo, Keeps, keeps_wor
 
 module _ (request : Request) where
   abbrev Fits : Event → Type 0
-  Fits = IsAllowed request
+  Fits = IsAllowed request AnyNonce
 
   abbrev Here : {A : Type 0} → Part A → Type 0
   Here = WorksSo Fits
@@ -66,7 +67,7 @@ module _ (request : Request) where
   so keeps = keeps_works Fits keeps
 
   -- a step that gives no ticket back, and is the request's work
-  own : (asked : MarkStep) → closes asked ≡ None → IsWorkStep request asked → work.Turns Fits asked
+  own : (asked : MarkStep) → closes asked ≡ None → IsWorkStep request AnyNonce asked → work.Turns Fits asked
   own asked no_close allowed = turns_of Fits no_close (λ turn. allowed)
 
   fits : FitsKeys Fits
@@ -106,9 +107,9 @@ module _ (request : Request) where
 
     replaces_so_of : (before : Option ℕ) (events : List Event) (result : Result (Unit {0}) Refusal) (after : Option ℕ) → (Replaces grip file >>= λ replaced. KeepsNew grip pass) before events result after
         → Ends request events result after
-    replaces_so_of None _ _ _ (goes_on parts.done taken.done) = ends_with request put
-    replaces_so_of None _ _ _ (goes_on parts.done (taken.interrupted why)) = ends_with request (unput why)
-    replaces_so_of (Some number) _ _ _ (goes_on parts.done (taken.closed turn)) = ends_with request (kept turn)
+    replaces_so_of None _ _ _ (goes_on parts.done (taken.done can)) = ends_with request put
+    replaces_so_of None _ _ _ (goes_on parts.done (taken.interrupted can why)) = ends_with request (unput why)
+    replaces_so_of (Some number) _ _ _ (goes_on parts.done (taken.closed turn can)) = ends_with request (kept turn)
     replaces_so_of before _ _ _ (stops (parts.not_done {answer} is)) = working_ends request (not_done answer is)
 
     ends_replacing : EndsSo request (Replaces grip file >>= λ replaced. KeepsNew grip pass)
@@ -117,9 +118,9 @@ module _ (request : Request) where
     -- and then a value
     stores_so_of : {A : Type 0} {value : A} (before : Option ℕ) (events : List Event) (result : Result A Refusal) (after : Option ℕ)
         → (Replaces grip file >>= λ replaced. (KeepsNew grip pass >>= λ kept. Returns value)) before events result after → Ends request events result after
-    stores_so_of None _ _ _ (goes_on parts.done (goes_on taken.done returns)) = ends_with request put
-    stores_so_of None _ _ _ (goes_on parts.done (stops (taken.interrupted why))) = ends_with request (unput why)
-    stores_so_of (Some number) _ _ _ (goes_on parts.done (goes_on (taken.closed turn) returns)) = ends_with request (kept turn)
+    stores_so_of None _ _ _ (goes_on parts.done (goes_on (taken.done can) returns)) = ends_with request put
+    stores_so_of None _ _ _ (goes_on parts.done (stops (taken.interrupted can why))) = ends_with request (unput why)
+    stores_so_of (Some number) _ _ _ (goes_on parts.done (goes_on (taken.closed turn can) returns)) = ends_with request (kept turn)
     stores_so_of (Some number) _ _ _ (goes_on parts.done (stops never)) = elim never [ ]
     stores_so_of before _ _ _ (stops (parts.not_done {answer} is)) = working_ends request (not_done answer is)
 
@@ -128,8 +129,8 @@ module _ (request : Request) where
 
   removes_so_of : {A : Type 0} {grip : Grip} {value : A} (before : Option ℕ) (events : List Event) (result : Result A Refusal) (after : Option ℕ)
       → (Removes grip >>= λ removed. (Changes (Clear (grip_text grip) Normal) >>= λ cleared. Returns value)) before events result after → Ends request events result after
-  removes_so_of _ _ _ _ (goes_on parts.done (goes_on taken.done returns)) = ends_with request cleared
-  removes_so_of _ _ _ _ (goes_on parts.done (stops (taken.interrupted why))) = ends_with request (uncleared why)
+  removes_so_of _ _ _ _ (goes_on parts.done (goes_on (taken.done can) returns)) = ends_with request cleared
+  removes_so_of _ _ _ _ (goes_on parts.done (stops (taken.interrupted can why))) = ends_with request (uncleared why)
   removes_so_of {grip} _ _ _ _ (stops (parts.not_done {answer} is)) =
       working_ends request (work.unchanged Fits tt answer (λ given. Further (Keys (Removed grip given))) (λ given other. other) (λ given. refl) (λ given. refl) (λ given. refl) is)
 
@@ -137,17 +138,17 @@ module _ (request : Request) where
   gives_back_of : {A : Type 0} {keep : Option (List ℕ)} {value : A} (before : Option ℕ) (events : List Event) (result : Result A Refusal) (after : Option ℕ)
       → (Closes keep >>= λ closed. Returns value) before events result after → Ends request events result after
   gives_back_of _ _ _ _ (goes_on taken.unheld returns) = working_ends request (works Fits tt)
-  gives_back_of _ _ _ _ (goes_on (taken.closed turn) returns) = ends_with request (closed turn)
+  gives_back_of _ _ _ _ (goes_on (taken.closed turn can) returns) = ends_with request (closed turn)
   gives_back_of _ _ _ _ (stops never) = elim never [ ]
 
   wraps_last_of : {keep : Option (List ℕ)} {wrap : List ℕ} {key : Key} {wraps : WrapKeys} (before : Option ℕ) (events : List Event) (result : Result KeyReply Refusal) (after : Option ℕ)
       → (Closes keep >>= λ closed. (WrapsKey wrap key >>= λ wrapped. (Tells wrapped >>= λ text. Returns (exchange.key_reply wraps text)))) before events result after → Ends request events result after
   wraps_last_of _ _ _ _ (goes_on taken.unheld (goes_on parts.is_wrapped (goes_on (tells answers) returns))) = working_ends request (works Fits tt)
   wraps_last_of _ _ _ _ (goes_on taken.unheld (stops parts.no_memory)) = working_ends request (work.no_memory Fits tt)
-  wraps_last_of _ _ _ _ (goes_on (taken.closed turn) (goes_on parts.is_wrapped (goes_on (tells answers) returns))) = ends_with request (closed turn)
-  wraps_last_of _ _ _ _ (goes_on (taken.closed turn) (stops parts.no_memory)) = ends_with request (unwrapped turn)
+  wraps_last_of _ _ _ _ (goes_on (taken.closed turn can) (goes_on parts.is_wrapped (goes_on (tells answers) returns))) = ends_with request (closed turn)
+  wraps_last_of _ _ _ _ (goes_on (taken.closed turn can) (stops parts.no_memory)) = ends_with request (unwrapped turn)
   wraps_last_of _ _ _ _ (goes_on taken.unheld (goes_on parts.is_wrapped (stops never))) = elim never [ ]
-  wraps_last_of _ _ _ _ (goes_on (taken.closed turn) (goes_on parts.is_wrapped (stops never))) = elim never [ ]
+  wraps_last_of _ _ _ _ (goes_on (taken.closed turn can) (goes_on parts.is_wrapped (stops never))) = elim never [ ]
   wraps_last_of _ _ _ _ (stops never) = elim never [ ]
 
   -- ---- requests
@@ -172,13 +173,13 @@ module _ (request : Request) where
     unfolding KeyWrapReplies
     key_wrap way = ends_working request (bind Fits (or_otherwise Fits (wrap_key way wraps) (so (work.draws Fits tt (λ draw. tt)))) (λ key. bind Fits (so (work.told Fits tt)) (λ text. returned Fits _)))
 
-    export_key : (grip : Grip) → MayStore request (grip_text grip) Normal → (id : Option (List ℕ)) → EndsHere (ExportKeyReplies rules options wraps grip id)
+    export_key : (grip : Grip) → MayStore request AnyNonce (grip_text grip) Normal → (id : Option (List ℕ)) → EndsHere (ExportKeyReplies rules options wraps grip id)
     unfolding ExportKeyReplies
     export_key grip stores id =
         bind_ends request (is_needed Fits code.Parameter wraps.export) (λ wrap. bind_ends request (reads_file grip) (λ file. bind_ends request (old_here fits rules options grip (λ pass turn. stores) id file.key file.key.is_clear)
         (λ opened. record { of = wraps_last_of })))
 
-    verify : (grip : Grip) → MayStore request (grip_text grip) Normal → EndsHere (VerifyReplies rules options wraps grip)
+    verify : (grip : Grip) → MayStore request AnyNonce (grip_text grip) Normal → EndsHere (VerifyReplies rules options wraps grip)
     unfolding VerifyReplies
     verify grip stores = bind_ends request (reads_file grip) (λ file. bind_ends request (verified_here fits rules options grip (λ pass turn. stores) file.key file.key.is_clear) (λ opened. record { of = gives_back_of }))
 
@@ -198,18 +199,18 @@ module _ (request : Request) where
         bind_ends request (so (work.is_short Fits tt)) (λ short. bind_ends request (bind Fits (looks_nonce fits id) (λ found. or_otherwise Fits found (new_here fits rules options grip options.mode)))
         (λ pass. rewrites_file grip file key pass))
 
-    passwd : (grip : Grip) → MayStore request (grip_text grip) Normal → (id new_id : Option (List ℕ)) → EndsHere (PasswdReplies rules options wraps grip id new_id)
+    passwd : (grip : Grip) → MayStore request AnyNonce (grip_text grip) Normal → (id new_id : Option (List ℕ)) → EndsHere (PasswdReplies rules options wraps grip id new_id)
     unfolding PasswdReplies
     passwd grip stores id new_id =
         bind_ends request (reads_file grip) (λ file. bind_ends request (old_here fits rules options grip (λ pass turn. stores) id file.key file.key.is_clear)
         (λ opened. made request (changes_opened grip new_id file.bytes opened.key) (λ changed. makes request _)))
 
-    stores_key : ((drawn : List ℕ) → MayStore request (hex_text drawn) Nonce) → (count : ℕ) (key : Key) (grip : Grip) (pass : List ℕ) → EndsHere (StoresKey count key grip pass)
+    stores_key : ((drawn : List ℕ) → MayStore request AnyNonce (hex_text drawn) Nonce) → (count : ℕ) (key : Key) (grip : Grip) (pass : List ℕ) → EndsHere (StoresKey count key grip pass)
     stores_key stores count key grip pass =
         bind_ends request (so (work.draws Fits tt (λ draw. tt))) (λ drawn. bind_ends request (so (work.protects Fits tt))
         (λ file. bind_ends request (so (work.changes Fits (own _ refl (stores (drop 20 drawn))))) (λ cached. ends_storing grip file pass (drop 20 drawn))))
 
-    import_key : ((drawn : List ℕ) → MayStore request (hex_text drawn) Nonce) → (force : Bool) (id : Option (List ℕ)) → EndsHere (ImportKeyReplies rules options wraps force id)
+    import_key : ((drawn : List ℕ) → MayStore request AnyNonce (hex_text drawn) Nonce) → (force : Bool) (id : Option (List ℕ)) → EndsHere (ImportKeyReplies rules options wraps force id)
     unfolding ImportKeyReplies
     import_key stores force id =
         bind_ends request (is_needed Fits code.Parameter wraps.import) (λ wrap. bind_ends request (receives_key wrap) (λ key. bind_ends request (so (work.names_key Fits tt)) (λ grip. bind_ends request (is_free force grip)
@@ -221,7 +222,7 @@ module _ (request : Request) where
     replies (on.KeyInfo grip) is = key_info grip
     replies on.ListKeys is = list_keys
     replies (on.KeyWrap way) is = key_wrap way
-    replies (on.ImportKey force id) is = import_key (imported is) force id
+    replies (on.ImportKey force id) is = import_key (λ drawn. imported is tt) force id
     replies (on.ExportKey grip id) is = export_key grip (exported is) id
     replies (on.Passwd grip old new true) is = verify grip (changed is)
     replies (on.Passwd grip old new false) is = passwd grip (changed is) old new
@@ -295,7 +296,7 @@ module _ (rules : Rules) (options : OptionValues) (wraps : WrapKeys) where
 
 module _ (request : Request) (rules : Rules) (options : OptionValues) (wraps : WrapKeys) where
   module _ {asked : KeyRequest} (is : on_keys request ≡ Some asked) where
-    pub key_course : {events : List Event} {after : WrapKeys} {went : KeyWent} → KeyExchange rules options wraps asked events after went → Course request events
+    pub key_course : {events : List Event} {after : WrapKeys} {went : KeyWent} → KeyExchange rules options wraps asked events after went → CourseBy request AnyNonce events
     key_course (part_exchanges.answered some held reply does closes_so) =
         ok_course request ((replies_ok rules options wraps asked).of None some (Ok reply) held does) ((replies request rules options wraps asked is).of _ _ _ _ does) closes_so
     key_course (part_exchanges.refused some held why does closes_so) = err_course request ((replies request rules options wraps asked is).of _ _ _ _ does) closes_so

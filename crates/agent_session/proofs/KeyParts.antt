@@ -6,8 +6,7 @@ use Rattle.std.specs.Option.{option_map}
 use Rattle.agent_ask.specs.Callers.{unheard_of}
 use Rattle.agent_ask.specs.Events.{OutOfMemory, PromptEvent, Called, Notified}
 use Rattle.agent_ask.specs.Further.{FurtherEvent, Keys, Read, Replaced, Removed, Prompt}
-use Rattle.agent_ask.specs.Prompts.{AsksPin}
-use Rattle.agent_ask.specs.SessionEvents.{Further}
+use Rattle.agent_ask.specs.SessionEvents.{Further, cache_turn}
 use Rattle.agent_ask.specs.SessionPrompts.{AnyInSession}
 use Rattle.agent_ask.specs.SessionPrompts as session
 use Rattle.agent_ask.specs.declared.ask.Asked.{Asked}
@@ -26,6 +25,8 @@ use Rattle.agent_ports.specs.declared.keys.KeyRead.TheVariants as key_read
 use Rattle.assuan_server.specs.Clients.{session_lines}
 use Rattle.session_client.specs.declared.code.Code.{Code}
 use Rattle.session_client.specs.declared.code.Code.TheVariants as code
+use Rattle.cache_policy.specs.Turns.{Given}
+use Rattle.cache_policy.specs.declared.grant.Grant.{Grant}
 use Rattle.cache_policy.specs.declared.mark.MarkStep.{MarkStep}
 use Rattle.session_client.specs.declared.unheard.Unheard.{Unheard}
 use Rattle.session_client.specs.declared.unheard.Unheard.TheVariants as unheard
@@ -43,11 +44,12 @@ use Rattle.agent_ask.specs.ConsentParts as consent
 use Rattle.key_commands.specs.KeyParts as parts
 use Rattle.key_commands.specs.Parts.{read_fault}
 use Rattle.key_commands.specs.Passphrases.{ask_nonce, LooksForNonce, TakesSeat, Locks, OpensBy, TriesPassphrase, TriesFound, PromptsOld, PromptsNew}
-use Rattle.agent_ask.specs.PinParts.{pin_refusal}
+use Rattle.agent_ask.specs.PinParts.{PromptsPin, pin_refusal}
 use Rattle.key_commands.specs.Passphrases as passphrases
 use Rattle.session_client.specs.declared.refusal.Refusal.{Refusal}
 use Rattle.session_client.specs.declared.refusal.Refusal.TheVariants.{Client}
-use Rattle.agent_session.specs.Causes.{Has, StandIn, IsCaused, IsSaid, said, IsUnread, IsUnremoved, LacksKeys, on_keys, one, IsRead, read, IsReadOf, read_of, IsReadLocked, OpensRead, opens, IsFaulty, Unlocks, Judges}
+use Rattle.agent_session.specs.Causes.{Has, StandIn, IsCaused, IsSaid, said, IsUnread, IsUnremoved, LacksKeys, on_keys, one, IsRead, read, IsReadOf, read_of, IsReadLocked, OpensRead, opens, IsFaulty, Unlocks, Judges, NamesOld}
+use Rattle.agent_session.specs.Causes.{ComesBy, HasPrompt, AsksAny, old_plan, new_plan}
 use Rattle.agent_session.specs.Causes.{protection, faulty, HasCall, GivesNone, GivesNoneFor, none_at_all, wrong, ByNonce}
 use Rattle.agent_session.specs.Causes as causes
 use Rattle.agent_session.specs.Completeness.{AnswersNothing}
@@ -56,7 +58,7 @@ use Rattle.agent_session.proofs.Explaining.{Caused, CausedRefusal, client_said, 
 use Rattle.agent_session.proofs.Faulty.{file_fault_said, locked_fault_said}
 use Rattle.agent_session.proofs.Faulty as said
 use Rattle.agent_session.proofs.Prompted as prompted
-use Rattle.agent_session.proofs.Prompted.{PinShows, ConsentShows, HasCalled, HasHeard, pin_shows, consent_shows, shown_as, note_says}
+use Rattle.agent_session.proofs.Prompted.{has_prompt, PinShows, ConsentShows, HasCalled, HasHeard, pin_shows, consent_shows, shown_as, note_says}
 use Rattle.agent_session.proofs.Standing.{has_first, has_in}
 
 -- nothing is answered by a prompt
@@ -78,6 +80,10 @@ module _ (rules : Rules) (kept : Kept) (request : Request) (whole : List (EventW
 
   abbrev ExplainsHere : {A : Type 0} → (Option ℕ → List (EventWith FurtherEvent) → Result A Refusal → Option ℕ → Type 0) → (A → Type 0) → Type 0
   ExplainsHere = Explains whole (IsCaused whole rules kept request)
+
+  -- the request opened the key of this grip to this one
+  abbrev pub OpensHere : Grip → Key → Type 0
+  OpensHere = OpensRead whole rules kept.options request
 
   -- ---- faults of keys
 
@@ -166,6 +172,17 @@ module _ (rules : Rules) (kept : Kept) (request : Request) (whole : List (EventW
   nonce_none_opens None locked pass by closed = tt
   nonce_none_opens (Some nonce) locked pass by closed = none_opens (ask_nonce nonce) locked pass by closed
 
+  -- how the request came by what was found
+  pub comes_of : (So : List ℕ → Type 0) {step : MarkStep} {pass : Option (List ℕ)} → FoundBy rules kept request whole step pass → ((grant : Grant) → Has (cache_turn step (Given grant)) whole → So grant.entry.secret)
+      → (secret : List ℕ) → pass ≡ Some secret → So secret
+  comes_of So (found {grant} has) by secret is = let same : grant.entry.secret ≡ secret = cc is in subst So same (by grant has)
+  comes_of So (found_none gives) by secret is = absurd (cc is)
+
+  pub comes_by_nonce : {grip : Grip} {locked : LockedKey} (nonce pass : Option (List ℕ)) → ((id : List ℕ) → nonce ≡ Some id → NamesOld request grip id) → FoundByNonce nonce pass → (secret : List ℕ) → pass ≡ Some secret
+      → ComesBy whole rules kept.options request grip locked secret
+  comes_by_nonce None pass names by secret is = absurd (cc (by, is))
+  comes_by_nonce {grip} {locked} (Some id) pass names by secret is = comes_of (ComesBy whole rules kept.options request grip locked) by (λ grant has. causes.cached_by_nonce (names id refl) has) secret is
+
   module _ (grip : Grip) where
     takes_seat_of : (before : Option ℕ) (events : List (EventWith FurtherEvent)) (result : Result (Unit {0}) Refusal) (after : Option ℕ) → TakesSeat grip before events result after
         → StandIn events whole → ComesHere Anything events result
@@ -204,67 +221,63 @@ module _ (rules : Rules) (kept : Kept) (request : Request) (whole : List (EventW
   Either Is Else None = Else
 
   module _ (grip : Grip) (unlocks : Unlocks request grip) (locked : LockedKey) (is_locked : IsReadLocked whole grip locked) where
-    module _ (pass : List ℕ) where
+    module _ (pass : List ℕ) (comes : ComesBy whole rules kept.options request grip locked pass) where
       tries_of : (before : Option ℕ) (events : List (EventWith FurtherEvent)) (result : Result (Option _) Refusal) (after : Option ℕ) → TriesPassphrase locked pass before events result after
-          → StandIn events whole → ComesHere (Either (λ opened. OpensRead whole grip opened.key) (¬ OpensBy locked pass)) events result
-      tries_of before events result after (passphrases.opens to) stands = record { silent = tt; explained = opens is_locked to }
+          → StandIn events whole → ComesHere (Either (λ opened. OpensHere grip opened.key) (¬ OpensBy locked pass)) events result
+      tries_of before events result after (passphrases.opens to) stands = record { silent = tt; explained = opens is_locked comes to }
       tries_of before events result after (passphrases.stays closed) stands = record { silent = tt; explained = closed }
       tries_of before events result after passphrases.no_memory stands = record { silent = (tt, tt); explained = out_of_memory_first rules kept request whole stands }
 
-      pub tries : ExplainsHere (TriesPassphrase locked pass) (Either (λ opened. OpensRead whole grip opened.key) (¬ OpensBy locked pass))
+      pub tries : ExplainsHere (TriesPassphrase locked pass) (Either (λ opened. OpensHere grip opened.key) (¬ OpensBy locked pass))
       tries = record { of = tries_of }
 
     -- no passphrase was found, or one that doesn't open it
     abbrev pub NoneOpens : Option (List ℕ) → Type 0
     NoneOpens pass = (secret : List ℕ) → pass ≡ Some secret → ¬ OpensBy locked secret
 
-    module _ (pass : List ℕ) where
+    module _ (pass : List ℕ) (comes : ComesBy whole rules kept.options request grip locked pass) where
       tried_of : (before : Option ℕ) (events : List (EventWith FurtherEvent)) (result : Result (Option _) Refusal) (after : Option ℕ) → TriesPassphrase locked pass before events result after
-          → StandIn events whole → ComesHere (Either (λ opened. OpensRead whole grip opened.key) (NoneOpens (Some pass))) events result
-      tried_of before events result after (passphrases.opens to) stands = record { silent = tt; explained = opens is_locked to }
+          → StandIn events whole → ComesHere (Either (λ opened. OpensHere grip opened.key) (NoneOpens (Some pass))) events result
+      tried_of before events result after (passphrases.opens to) stands = record { silent = tt; explained = opens is_locked comes to }
       tried_of before events result after (passphrases.stays closed) stands =
           record { silent = tt; explained = λ secret is. let same : pass ≡ secret = cc is in subst (λ p. ¬ OpensBy locked p) same closed }
       tried_of before events result after passphrases.no_memory stands = record { silent = (tt, tt); explained = out_of_memory_first rules kept request whole stands }
 
     -- one that was found is tried
-    pub tries_found : (pass : Option (List ℕ)) → ExplainsHere (TriesFound locked pass) (Either (λ opened. OpensRead whole grip opened.key) (NoneOpens pass))
-    tries_found None = returned (Either (λ opened. OpensRead whole grip opened.key) (NoneOpens None)) None (λ secret is. absurd (cc is))
-    tries_found (Some pass) = record { of = tried_of pass }
+    pub tries_found : (pass : Option (List ℕ)) → ((secret : List ℕ) → pass ≡ Some secret → ComesBy whole rules kept.options request grip locked secret)
+        → ExplainsHere (TriesFound locked pass) (Either (λ opened. OpensHere grip opened.key) (NoneOpens pass))
+    tries_found None comes = returned (Either (λ opened. OpensHere grip opened.key) (NoneOpens None)) None (λ secret is. absurd (cc is))
+    tries_found (Some pass) comes = record { of = tried_of pass (comes pass refl) }
 
     -- ---- prompts for passphrases
 
-    bad_opening : {spec : PromptSpec} {plan : AskPlan} {prompt : List PromptEvent} {shown : List (EventWith FurtherEvent)} {answer : Asked} → AsksPin spec plan (OpensBy locked) prompt answer
-        → AnyInSession session_lines prompt shown → StandIn shown whole → answer ≡ asked.Bad → CausedHere code.BadPass
-    bad_opening {spec} {plan} {prompt} prompted_so in_session stands bad =
-        causes.at_prompt (causes.opening unlocks is_locked (subst (λ a. AsksPin spec plan (OpensBy locked) prompt a) bad prompted_so) in_session stands)
-
     prompts_old_of : (before : Option ℕ) (events : List (EventWith FurtherEvent)) (result : Result _ Refusal) (after : Option ℕ) → PromptsOld rules kept.options grip locked before events result after
-        → StandIn events whole → ComesHere (λ opened. OpensRead whole grip opened.key) events result
+        → StandIn events whole → ComesHere (λ opened. OpensHere grip opened.key) events result
     prompts_old_of before events result after (passphrases.opens_by spec is prompt to) stands =
-        record { silent = prompt_silent prompt.in_session; explained = opens is_locked to }
+        record { silent = prompt_silent prompt.in_session; explained = opens is_locked (causes.typed_by_user (has_prompt prompt stands)) to }
     prompts_old_of before events result after (passphrases.refused {answer} {why} spec is prompt refusal) stands = record {
       silent = prompt_silent prompt.in_session;
       explained = pin_caused prompt.in_session stands answer why (pin_shows prompt.asks)
-          (λ bad. bad_opening prompt.asks prompt.in_session stands bad) refusal;
+          (λ bad. causes.at_prompt (causes.opening unlocks is_locked (subst (HasPrompt whole (old_plan rules kept.options) (OpensBy locked)) bad (has_prompt prompt stands)))) refusal;
     }
 
-    pub prompts_old : ExplainsHere (PromptsOld rules kept.options grip locked) (λ opened. OpensRead whole grip opened.key)
+    pub prompts_old : ExplainsHere (PromptsOld rules kept.options grip locked) (λ opened. OpensHere grip opened.key)
     prompts_old = record { of = prompts_old_of }
 
   -- a prompt at which every passphrase is right, and that gave none
-  pub refused_any : {A : Type 0} (Good : A → Type 0) {spec : PromptSpec} {plan : AskPlan} {prompt : List PromptEvent} {shown : List (EventWith FurtherEvent)} {answer : Asked} {why : Refusal}
-      → AsksPin spec plan (λ pin. ⊤) prompt answer → AnyInSession session_lines prompt shown → pin_refusal answer ≡ Some why → StandIn shown whole → ComesHere Good shown (Err why)
-  refused_any Good {spec} {plan} {prompt} {answer} {why} prompted_so in_session refusal stands = record {
-    silent = prompt_silent in_session;
-    explained = pin_caused in_session stands answer why (pin_shows prompted_so)
-        (λ bad. causes.at_prompt (causes.any (subst (λ a. AsksPin spec plan (λ pin. ⊤) prompt a) bad prompted_so) in_session stands)) refusal;
+  pub refused_any : {A : Type 0} (Good : A → Type 0) {spec : PromptSpec} {plan : AskPlan} {shown : List (EventWith FurtherEvent)} {answer : Asked} {why : Refusal} → AsksAny rules kept.options request plan
+      → PromptsPin session_lines spec plan (λ pin. ⊤) shown answer → pin_refusal answer ≡ Some why → StandIn shown whole → ComesHere Good shown (Err why)
+  refused_any Good {plan} {answer} {why} asks prompt refusal stands = record {
+    silent = prompt_silent prompt.in_session;
+    explained = pin_caused prompt.in_session stands answer why (pin_shows prompt.asks)
+        (λ bad. causes.at_prompt (causes.any asks (subst (HasPrompt whole plan (λ pin. ⊤)) bad (has_prompt prompt stands)))) refusal;
   }
 
-  module _ (grip : Grip) where
+  module _ (grip : Grip) (asks : AsksAny rules kept.options request (new_plan rules kept.options)) where
     prompts_new_of : (before : Option ℕ) (events : List (EventWith FurtherEvent)) (result : Result (List ℕ) Refusal) (after : Option ℕ) → PromptsNew rules kept.options grip before events result after
         → StandIn events whole → ComesHere Anything events result
     prompts_new_of before events result after (passphrases.given spec is prompt) stands = record { silent = prompt_silent prompt.in_session; explained = tt }
-    prompts_new_of before events result after (passphrases.refused spec is prompt refusal) stands = refused_any Anything prompt.asks prompt.in_session refusal stands
+    prompts_new_of before events result after (passphrases.refused spec is prompt enough refusal) stands = refused_any Anything asks prompt refusal stands
 
     pub prompts_new : ExplainsHere (PromptsNew rules kept.options grip) Anything
     prompts_new = record { of = prompts_new_of }

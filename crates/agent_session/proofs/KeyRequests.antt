@@ -16,6 +16,7 @@ use Rattle.cache_policy.specs.Turns.{Refused, Empty, Stopping}
 use Rattle.cache_policy.specs.declared.secret.TheConstants.{MAX_SECRET_LEN}
 use Rattle.secret_file.specs.Opens.{LockedKey}
 use Rattle.secret_file.specs.Protects.{ocb_protection, protected_file}
+use Rattle.session_options.specs.OptionValues.{OptionValues}
 use Rattle.session_options.specs.declared.options.PinMode.{PinMode}
 use Rattle.session_options.specs.declared.options.PinMode.TheVariants as mode
 use Rattle.session_options.specs.declared.rules.Rules.{Rules}
@@ -44,7 +45,8 @@ use Rattle.session_client.specs.declared.refusal.Refusal.TheVariants.{Agent}
 use Rattle.key_commands.specs.declared.request.Direction.{Direction}
 use Rattle.key_commands.specs.declared.request.KeyRequest.{KeyRequest}
 use Rattle.key_commands.specs.declared.request.KeyRequest.TheVariants as on
-use Rattle.agent_session.specs.Causes.{Has, here, StandIn, IsCaused, IsSent, AreUnread, LacksKeys, on_keys, IsRefusedBy, one, IsRead, IsReadOf, IsDrawn, IsListOf, protected, IsReadLocked, OpensRead, Unlocks, exports}
+use Rattle.agent_session.specs.Causes.{Has, here, StandIn, IsCaused, IsSent, AreUnread, LacksKeys, on_keys, IsRefusedBy, one, IsRead, IsReadOf, IsDrawn, IsListOf, protected, IsReadLocked, OpensRead, Unlocks, exports, NamesOld}
+use Rattle.agent_session.specs.Causes.{of_export, of_change, ComesBy, AsksAny, of_new, of_import, new_plan}
 use Rattle.agent_session.specs.Causes.{is_clear, key_data, KeyDataSays, data_says, faulty, long, long_file, by_mode, deletion, stays, empty, no_import, no_export, there, GivesNone, none_given}
 use Rattle.agent_session.specs.Causes.{GivesNoneFor, ByNonce, HasNoEntry, exported, changed, verified, imported, renewed, IsUnprompted}
 use Rattle.agent_session.specs.Causes as causes
@@ -55,7 +57,7 @@ use Rattle.agent_session.proofs.Asides.{info_status, limit_status}
 use Rattle.agent_session.proofs.Explaining.{writes, inquires_of, asks_client, finds, draws, out_of_memory_first, out_of_memory_second, FoundBy, looks}
 use Rattle.agent_session.proofs.Faulty.{first_fault_said}
 use Rattle.agent_session.proofs.KeyParts.{Either, fault_caused, looks_for_nonce, takes_seat, keeps_new, locks, tries, tries_found, prompts_old, prompts_new, agrees, reads_file, removes, replaces}
-use Rattle.agent_session.proofs.KeyParts.{FoundByNonce, nonce_none, none_opens, nonce_none_opens, NoneOpens}
+use Rattle.agent_session.proofs.KeyParts.{OpensHere, comes_of, comes_by_nonce, FoundByNonce, nonce_none, none_opens, nonce_none_opens, NoneOpens}
 use Rattle.agent_session.proofs.Replying.{IsReply, reply_ok, reply_status, reply_nonce, reply_keys}
 use Rattle.agent_session.proofs.Standing.{has_first, has_in, has_right}
 
@@ -68,6 +70,9 @@ module _ (rules : Rules) (kept : Kept) (request : Request) (whole : List (EventW
 
   abbrev ExplainsHere : {A : Type 0} → (Option ℕ → List (EventWith FurtherEvent) → Result A Refusal → Option ℕ → Type 0) → (A → Type 0) → Type 0
   ExplainsHere = Explains whole (IsCaused whole rules kept request)
+
+  abbrev Opens : Grip → Key → Type 0
+  Opens = OpensHere rules kept request whole
 
   -- ---- parts that only want memory
 
@@ -114,7 +119,7 @@ module _ (rules : Rules) (kept : Kept) (request : Request) (whole : List (EventW
   looks_over_of : (nonce : Option (List ℕ)) (before : Option ℕ) (events : List (EventWith FurtherEvent)) (result : Result (Option (List ℕ)) Refusal) (after : Option ℕ) → LooksOver nonce before events result after
       → StandIn events whole → ComesHere (Overlooked nonce) events result
   looks_over_of id before events result after parts.no_nonce stands = record { silent = tt; explained = tt }
-  looks_over_of id before events result after parts.given stands = record { silent = (tt, tt); explained = tt }
+  looks_over_of id before events result after (parts.given can) stands = record { silent = (tt, tt); explained = tt }
   looks_over_of id before events result after parts.empty stands = record { silent = (tt, tt); explained = none_given Empty tt (has_first stands) }
   looks_over_of id before events result after parts.stopping stands = record { silent = (tt, tt); explained = none_given Stopping tt (has_first stands) }
   looks_over_of id before events result after parts.no_memory stands = record { silent = (tt, tt); explained = one (cache_turn _ Refused) refl (has_first stands) }
@@ -243,57 +248,59 @@ module _ (rules : Rules) (kept : Kept) (request : Request) (whole : List (EventW
     or_else_explained (Some value) other good explains = returned Good value good
 
   module _ (grip : Grip) (unlocks : Unlocks request grip) (locked : LockedKey) (is_locked : IsReadLocked whole grip locked) where
-    client_old : kept.options.mode ≡ mode.Loopback → ExplainsHere (ClientOld rules kept.options grip locked) (λ opened. OpensRead whole grip opened.key)
+    client_old : kept.options.mode ≡ mode.Loopback → ExplainsHere (ClientOld rules kept.options grip locked) (λ opened. Opens grip opened.key)
     unfolding ClientOld
     client_old loopback =
-        bind (IsSent whole (codes "PASSPHRASE") MAX_SECRET_LEN) (λ opened. OpensRead whole grip opened.key) (asks_client rules kept request whole (codes "PASSPHRASE") MAX_SECRET_LEN (omega arith))
-        (λ pass sent. bind (Either rules kept request whole (λ opened. OpensRead whole grip opened.key) (¬ OpensBy locked pass)) (λ opened. OpensRead whole grip opened.key)
-        (tries rules kept request whole grip unlocks locked is_locked pass)
-        (λ tried so. bind (λ opened. OpensRead whole grip opened.key) (λ opened. OpensRead whole grip opened.key)
-        (if_needed (λ opened. OpensRead whole grip opened.key) (¬ OpensBy locked pass) code.BadPass tried so (λ closed. stays loopback unlocks is_locked sent closed))
-        (λ opened opens. bind Anything (λ opened. OpensRead whole grip opened.key) (changes rules kept request whole _ refl)
-        (λ kept_so any. returned (λ opened. OpensRead whole grip opened.key) opened opens))))
+        bind (IsSent whole (codes "PASSPHRASE") MAX_SECRET_LEN) (λ opened. Opens grip opened.key) (asks_client rules kept request whole (codes "PASSPHRASE") MAX_SECRET_LEN (omega arith))
+        (λ pass sent. bind (Either rules kept request whole (λ opened. Opens grip opened.key) (¬ OpensBy locked pass)) (λ opened. Opens grip opened.key)
+        (tries rules kept request whole grip unlocks locked is_locked pass (causes.sent_by_client loopback sent))
+        (λ tried so. bind (λ opened. Opens grip opened.key) (λ opened. Opens grip opened.key)
+        (if_needed (λ opened. Opens grip opened.key) (¬ OpensBy locked pass) code.BadPass tried so (λ closed. stays loopback unlocks is_locked sent closed))
+        (λ opened opens. bind Anything (λ opened. Opens grip opened.key) (changes rules kept request whole _ refl)
+        (λ kept_so any. returned (λ opened. Opens grip opened.key) opened opens))))
 
-    uncached_old : (way : PinMode) → kept.options.mode ≡ way → HasNoEntry whole request → ExplainsHere (UncachedOld rules kept.options grip way locked) (λ opened. OpensRead whole grip opened.key)
+    uncached_old : (way : PinMode) → kept.options.mode ≡ way → HasNoEntry whole request → ExplainsHere (UncachedOld rules kept.options grip way locked) (λ opened. Opens grip opened.key)
     uncached_old mode.Ask is unmet =
-        bind Anything (λ opened. OpensRead whole grip opened.key) (takes_seat rules kept request whole grip) (λ seated any. prompts_old rules kept request whole grip unlocks locked is_locked)
-    uncached_old mode.Cancel is unmet = refused (λ opened. OpensRead whole grip opened.key) (Agent code.Cancelled) (by_mode is unmet)
-    uncached_old mode.Error is unmet = refused (λ opened. OpensRead whole grip opened.key) (Agent code.NoPinentry) (inl (by_mode is unmet))
+        bind Anything (λ opened. Opens grip opened.key) (takes_seat rules kept request whole grip) (λ seated any. prompts_old rules kept request whole grip unlocks locked is_locked)
+    uncached_old mode.Cancel is unmet = refused (λ opened. Opens grip opened.key) (Agent code.Cancelled) (by_mode is unmet)
+    uncached_old mode.Error is unmet = refused (λ opened. Opens grip opened.key) (Agent code.NoPinentry) (inl (by_mode is unmet))
     uncached_old mode.Loopback is unmet = client_old is
 
-    opens_locked : (nonce : Option (List ℕ)) → (ByNonce whole (GivesNoneFor whole locked) nonce → GivesNoneFor whole locked (ask_key grip (way_of kept.options.mode)) → HasNoEntry whole request)
-        → ExplainsHere (OpensLocked rules kept.options grip nonce locked) (λ opened. OpensRead whole grip opened.key)
+    opens_locked : (nonce : Option (List ℕ)) → ((id : List ℕ) → nonce ≡ Some id → NamesOld request grip id)
+        → (ByNonce whole (GivesNoneFor whole locked) nonce → GivesNoneFor whole locked (ask_key grip (way_of kept.options.mode)) → HasNoEntry whole request)
+        → ExplainsHere (OpensLocked rules kept.options grip nonce locked) (λ opened. Opens grip opened.key)
     unfolding OpensLocked
-    opens_locked nonce unmet =
-        bind (FoundByNonce rules kept request whole nonce) (λ opened. OpensRead whole grip opened.key) (looks_for_nonce rules kept request whole nonce)
-        (λ by_nonce by. bind (Either rules kept request whole (λ opened. OpensRead whole grip opened.key) (NoneOpens rules kept request whole grip unlocks locked is_locked by_nonce))
-        (λ opened. OpensRead whole grip opened.key)
-        (tries_found rules kept request whole grip unlocks locked is_locked by_nonce)
-        (λ first so. or_else_explained (λ opened. OpensRead whole grip opened.key) (NoneOpens rules kept request whole grip unlocks locked is_locked by_nonce) first _ so
-        (λ first_closed. bind (FoundBy rules kept request whole (ask_key grip (way_of kept.options.mode))) (λ opened. OpensRead whole grip opened.key) (looks rules kept request whole _ refl)
-        (λ cached given. bind (Either rules kept request whole (λ opened. OpensRead whole grip opened.key) (NoneOpens rules kept request whole grip unlocks locked is_locked cached))
-        (λ opened. OpensRead whole grip opened.key)
-        (tries_found rules kept request whole grip unlocks locked is_locked cached)
-        (λ second so. or_else_explained (λ opened. OpensRead whole grip opened.key) (NoneOpens rules kept request whole grip unlocks locked is_locked cached) second _ so
+    opens_locked nonce names unmet =
+        bind (FoundByNonce rules kept request whole nonce) (λ opened. Opens grip opened.key) (looks_for_nonce rules kept request whole nonce)
+        (λ by_nonce by. bind (Either rules kept request whole (λ opened. Opens grip opened.key) (NoneOpens rules kept request whole grip unlocks locked is_locked by_nonce))
+        (λ opened. Opens grip opened.key)
+        (tries_found rules kept request whole grip unlocks locked is_locked by_nonce (comes_by_nonce rules kept request whole nonce by_nonce names by))
+        (λ first so. or_else_explained (λ opened. Opens grip opened.key) (NoneOpens rules kept request whole grip unlocks locked is_locked by_nonce) first _ so
+        (λ first_closed. bind (FoundBy rules kept request whole (ask_key grip (way_of kept.options.mode))) (λ opened. Opens grip opened.key) (looks rules kept request whole _ refl)
+        (λ cached given. bind (Either rules kept request whole (λ opened. Opens grip opened.key) (NoneOpens rules kept request whole grip unlocks locked is_locked cached))
+        (λ opened. Opens grip opened.key)
+        (tries_found rules kept request whole grip unlocks locked is_locked cached
+        (comes_of rules kept request whole (ComesBy whole rules kept.options request grip locked) given (λ grant has. causes.cached_by_key (way_of kept.options.mode) has)))
+        (λ second so. or_else_explained (λ opened. Opens grip opened.key) (NoneOpens rules kept request whole grip unlocks locked is_locked cached) second _ so
         (λ second_closed. uncached_old kept.options.mode refl
         (unmet (nonce_none_opens rules kept request whole nonce locked by_nonce by first_closed)
         (none_opens rules kept request whole (ask_key grip (way_of kept.options.mode)) locked cached given second_closed))))))))
 
   module _ (grip : Grip) (unlocks : Unlocks request grip) where
-    pub old_passphrase : (clear : Bool) (key : Key) (id : Option (List ℕ)) → IsRead whole grip (Ok (record key { is_clear = clear }))
+    pub old_passphrase : (clear : Bool) (key : Key) (id : Option (List ℕ)) → ((nonce : List ℕ) → id ≡ Some nonce → NamesOld request grip nonce) → IsRead whole grip (Ok (record key { is_clear = clear }))
         → ((locked : LockedKey) → IsReadLocked whole grip locked → ByNonce whole (GivesNoneFor whole locked) id → GivesNoneFor whole locked (ask_key grip (way_of kept.options.mode)) → HasNoEntry whole request)
-        → ExplainsHere (OldPassphrase rules kept.options grip id (record key { is_clear = clear })) (λ opened. OpensRead whole grip opened.key)
-    old_passphrase true key id is_read unmet = returned (λ opened. OpensRead whole grip opened.key) _ (is_clear is_read refl)
-    old_passphrase false key id is_read unmet =
-        bind (IsReadLocked whole grip) (λ opened. OpensRead whole grip opened.key) (locks rules kept request whole grip unlocks (record key { is_clear = false }) is_read refl)
-        (λ locked is_locked. opens_locked grip unlocks locked is_locked id (unmet locked is_locked))
+        → ExplainsHere (OldPassphrase rules kept.options grip id (record key { is_clear = clear })) (λ opened. Opens grip opened.key)
+    old_passphrase true key id names is_read unmet = returned (λ opened. Opens grip opened.key) _ (is_clear is_read refl)
+    old_passphrase false key id names is_read unmet =
+        bind (IsReadLocked whole grip) (λ opened. Opens grip opened.key) (locks rules kept request whole grip unlocks (record key { is_clear = false }) is_read refl)
+        (λ locked is_locked. opens_locked grip unlocks locked is_locked id names (unmet locked is_locked))
 
     verifies_passphrase : (clear : Bool) (key : Key) → IsRead whole grip (Ok (record key { is_clear = clear }))
         → ((locked : LockedKey) → IsReadLocked whole grip locked → HasNoEntry whole request)
-        → ExplainsHere (VerifiesPassphrase rules kept.options grip (record key { is_clear = clear })) (λ opened. OpensRead whole grip opened.key)
-    verifies_passphrase true key is_read unmet = returned (λ opened. OpensRead whole grip opened.key) _ (is_clear is_read refl)
+        → ExplainsHere (VerifiesPassphrase rules kept.options grip (record key { is_clear = clear })) (λ opened. Opens grip opened.key)
+    verifies_passphrase true key is_read unmet = returned (λ opened. Opens grip opened.key) _ (is_clear is_read refl)
     verifies_passphrase false key is_read unmet =
-        bind (IsReadLocked whole grip) (λ opened. OpensRead whole grip opened.key) (locks rules kept request whole grip unlocks (record key { is_clear = false }) is_read refl)
+        bind (IsReadLocked whole grip) (λ opened. Opens grip opened.key) (locks rules kept request whole grip unlocks (record key { is_clear = false }) is_read refl)
         (λ locked is_locked. uncached_old grip unlocks locked is_locked kept.options.mode refl (unmet locked is_locked))
 
   -- ---- a new passphrase
@@ -315,12 +322,13 @@ module _ (rules : Rules) (kept : Kept) (request : Request) (whole : List (EventW
   abbrev in_mode : PinMode → Kept
   in_mode way = record kept { options = record kept.options { mode = way } }
 
-  new_passphrase : (way : PinMode) → HasNoEntry whole request → Explains whole (IsCaused whole rules (in_mode way) request) (NewPassphrase rules (in_mode way).options grip) Anything
-  new_passphrase mode.Ask unmet =
-      bind Anything Anything (takes_seat rules (in_mode mode.Ask) request whole grip) (λ seated any. prompts_new rules (in_mode mode.Ask) request whole grip)
-  new_passphrase mode.Cancel unmet = refused Anything (Agent code.Cancelled) (by_mode refl unmet)
-  new_passphrase mode.Error unmet = refused Anything (Agent code.NoPinentry) (inl (by_mode refl unmet))
-  new_passphrase mode.Loopback unmet = client_new rules (in_mode mode.Loopback) request whole grip refl
+  new_passphrase : (way : PinMode) → ((values : OptionValues) → AsksAny rules values request (new_plan rules values)) → HasNoEntry whole request
+      → Explains whole (IsCaused whole rules (in_mode way) request) (NewPassphrase rules (in_mode way).options grip) Anything
+  new_passphrase mode.Ask asks unmet =
+      bind Anything Anything (takes_seat rules (in_mode mode.Ask) request whole grip) (λ seated any. prompts_new rules (in_mode mode.Ask) request whole grip (asks (in_mode mode.Ask).options))
+  new_passphrase mode.Cancel asks unmet = refused Anything (Agent code.Cancelled) (by_mode refl unmet)
+  new_passphrase mode.Error asks unmet = refused Anything (Agent code.NoPinentry) (inl (by_mode refl unmet))
+  new_passphrase mode.Loopback asks unmet = client_new rules (in_mode mode.Loopback) request whole grip refl
 
   consents : (way : PinMode) (force : Bool) → on_keys request ≡ Some (on.DeleteKey grip force) → Explains whole (IsCaused whole rules (in_mode way) request) (Consents rules (in_mode way).options force grip) Anything
   consents way true asked = returned Anything tt tt
@@ -333,6 +341,9 @@ module _ (rules : Rules) (kept : Kept) (request : Request) (whole : List (EventW
 -- ---- requests
 
 module _ (rules : Rules) (kept : Kept) (request : Request) (whole : List (EventWith FurtherEvent)) where
+  abbrev OpensAs : Grip → Key → Type 0
+  OpensAs = OpensHere rules kept request whole
+
   abbrev pub Replied : KeyReply → Type 0
   Replied reply = IsReply reply.text
 
@@ -370,7 +381,8 @@ module _ (rules : Rules) (kept : Kept) (request : Request) (whole : List (EventW
       bind Anything Replied (is_needed Anything code.Parameter kept.wraps.export (λ none. no_export asked none) (λ some is. tt))
       (λ wrap any. bind (λ file. IsReadOf whole grip file.bytes × IsRead whole grip (Ok file.key)) Replied
       (reads_file rules kept request whole grip (causes.unlocks (exports asked)) (λ absent. subst (LacksKeys whole) (sym asked) absent))
-      (λ file is_read. bind (λ opened. OpensRead whole grip opened.key) Replied (old_passphrase rules kept request whole grip (exports asked) file.key.is_clear file.key id is_read.1
+      (λ file is_read. bind (λ opened. OpensAs grip opened.key) Replied (old_passphrase rules kept request whole grip (exports asked) file.key.is_clear file.key id
+      (λ nonce same. of_export (subst (λ n. on_keys request ≡ Some (on.ExportKey grip n)) same asked)) is_read.1
       (λ locked is_locked by_nonce by_key. exported _ asked is_locked by_nonce by_key))
       (λ opened opens. bind Anything Replied (closes_explained opened.by)
       (λ closed any. bind Anything Replied (wraps_key rules kept request whole wrap opened.key)
@@ -383,7 +395,7 @@ module _ (rules : Rules) (kept : Kept) (request : Request) (whole : List (EventW
       bind (λ file. IsReadOf whole grip file.bytes × IsRead whole grip (Ok file.key)) Replied
       (reads_file rules kept request whole grip (causes.unlocks (causes.changes asked)) (λ absent. subst (LacksKeys whole) (sym asked) absent))
       (λ file is_read. bind
-      (λ opened. OpensRead whole grip opened.key) Replied (verifies_passphrase rules kept request whole grip (causes.changes asked) file.key.is_clear file.key is_read.1 (λ locked is_locked. verified asked is_locked))
+      (λ opened. OpensAs grip opened.key) Replied (verifies_passphrase rules kept request whole grip (causes.changes asked) file.key.is_clear file.key is_read.1 (λ locked is_locked. verified asked is_locked))
       (λ opened opens. bind Anything Replied (closes_explained opened.by) (λ closed any. replied _ reply_ok)))
 
   delete_key : (grip : Grip) (force : Bool) → on_keys request ≡ Some (on.DeleteKey grip force) → Explains whole (IsCaused whole rules kept request) (DeleteKeyReplies rules kept.options kept.wraps force grip) Replied
@@ -404,7 +416,7 @@ module _ (rules : Rules) (kept : Kept) (request : Request) (whole : List (EventW
   found_or_new grip force id asked =
       bind (Overlooked rules kept request whole id) Anything (looks_over rules kept request whole id)
       (λ found so. or_otherwise Anything found _ (λ some is. tt)
-      (λ none. new_passphrase rules kept request whole grip kept.options.mode (imported asked (subst (Overlooked rules kept request whole id) none so))))
+      (λ none. new_passphrase rules kept request whole grip kept.options.mode (λ values. of_import asked) (imported asked (subst (Overlooked rules kept request whole id) none so))))
 
   -- PASSWD of a key
   module _ (grip : Grip) {old new : Option (List ℕ)} (asked : on_keys request ≡ Some (on.Passwd grip old new false)) where
@@ -412,9 +424,9 @@ module _ (rules : Rules) (kept : Kept) (request : Request) (whole : List (EventW
     renews =
         bind (FoundByNonce rules kept request whole new) Anything (looks_for_nonce rules kept request whole new)
         (λ found by. or_otherwise Anything found _ (λ some is. tt)
-        (λ none. new_passphrase rules kept request whole grip kept.options.mode (renewed asked (nonce_none rules kept request whole new (subst (FoundByNonce rules kept request whole new) none by)))))
+        (λ none. new_passphrase rules kept request whole grip kept.options.mode (λ values. of_new asked) (renewed asked (nonce_none rules kept request whole new (subst (FoundByNonce rules kept request whole new) none by)))))
 
-    module _ (key : Key) (opens : OpensRead whole grip key) where
+    module _ (key : Key) (opens : OpensRead whole rules kept.options request grip key) where
       is_short_of : (before : Option ℕ) (events : List (EventWith FurtherEvent)) (result : Result (Unit {0}) Refusal) (after : Option ℕ) → IsShort key before events result after → StandIn events whole
           → Comes whole (IsCaused whole rules kept request) Anything events result
       is_short_of before events result after (parts.short few) stands = record { silent = tt; explained = tt }
@@ -431,7 +443,7 @@ module _ (rules : Rules) (kept : Kept) (request : Request) (whole : List (EventW
           rewrites_of before events result after (files.extended_file other with_list few) stands = record { silent = tt; explained = tt }
           rewrites_of before events result after (files.too_long new_file other with_list many) stands =
               record { silent = tt; explained = long_file pass asked is_read other opens is_list with_list many }
-          rewrites_of before events result after files.no_memory stands = record { silent = (tt, tt); explained = out_of_memory_first rules kept request whole stands }
+          rewrites_of before events result after (files.no_memory other) stands = record { silent = (tt, tt); explained = out_of_memory_first rules kept request whole stands }
 
           rewrites : Explains whole (IsCaused whole rules kept request) (Rewrites file list) Anything
           rewrites = record { of = rewrites_of }
@@ -463,7 +475,7 @@ module _ (rules : Rules) (kept : Kept) (request : Request) (whole : List (EventW
         (λ cache_nonce any. replied _ (reply_nonce _)))))))
 
     module _ (grip : Grip) {old new : Option (List ℕ)} (asked : on_keys request ≡ Some (on.Passwd grip old new false)) (file : List ℕ) (is_read : IsReadOf whole grip file) (key : Key)
-        (opens : OpensRead whole grip key) where
+        (opens : OpensRead whole rules kept.options request grip key) where
       rewrites_file : (pass : List ℕ) → Explains whole (IsCaused whole rules kept request) (RewritesFile rules kept.options grip file key pass) Anything
       unfolding RewritesFile
       rewrites_file pass =
@@ -485,7 +497,8 @@ module _ (rules : Rules) (kept : Kept) (request : Request) (whole : List (EventW
     passwd grip id new_id asked =
         bind (λ file. IsReadOf whole grip file.bytes × IsRead whole grip (Ok file.key)) Replied
         (reads_file rules kept request whole grip (causes.unlocks (causes.changes asked)) (λ absent. subst (LacksKeys whole) (sym asked) absent))
-        (λ file is_read. bind (λ opened. OpensRead whole grip opened.key) Replied (old_passphrase rules kept request whole grip (causes.changes asked) file.key.is_clear file.key id is_read.1
+        (λ file is_read. bind (λ opened. OpensAs grip opened.key) Replied (old_passphrase rules kept request whole grip (causes.changes asked) file.key.is_clear file.key id
+        (λ nonce same. of_change (subst (λ n. on_keys request ≡ Some (on.Passwd grip n new_id false)) same asked)) is_read.1
         (λ locked is_locked by_nonce by_key. changed _ asked is_locked by_nonce by_key))
         (λ opened opens. bind Anything Replied (changes_opened grip asked file.bytes is_read.0 opened.key opens) (λ changed_so any. replied _ reply_ok)))
 

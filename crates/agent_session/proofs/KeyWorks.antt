@@ -71,7 +71,7 @@ module _ {Fits : Event → Type 0} (fits : FitsKeys Fits) where
 
     prompts_new_of : (before : Option ℕ) (events : List Event) (result : Result (List ℕ) Refusal) (after : Option ℕ) → PromptsNew rules options grip before events result after → WorksTo Fits events result
     prompts_new_of _ _ _ _ (passphrases.given spec is prompt) = pin_works Fits fits.calls fits.notes prompt.asks refl prompt.in_session
-    prompts_new_of _ _ _ _ (passphrases.refused {answer} spec is prompt refusal) = pin_works Fits fits.calls fits.notes prompt.asks (pin_comes answer refusal) prompt.in_session
+    prompts_new_of _ _ _ _ (passphrases.refused {answer} spec is prompt enough refusal) = pin_works Fits fits.calls fits.notes prompt.asks (pin_comes answer refusal) prompt.in_session
 
     -- ---- passphrases
 

@@ -59,5 +59,7 @@ mod WorkedExact
 mod WorkedExamples
 mod WorkedLink
 mod WorkedPassphrases
+mod WorkedRefusals
 mod WorkedRuns
+mod WorkedTrust
 mod Works

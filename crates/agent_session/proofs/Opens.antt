@@ -144,7 +144,7 @@ module _ (rules : Rules) (options : OptionValues) (grip : Grip) where
 
   new_seated : (before : Option ℕ) (events : List (EventWith FurtherEvent)) (result : Result (List ℕ) Refusal) (after : Option ℕ) → PromptsNew rules options grip before events result after → after ≡ None → ⊥
   new_seated before events result after (passphrases.given spec is prompt) none = absurd (cc none)
-  new_seated before events result after (passphrases.refused spec is prompt refusal) none = absurd (cc none)
+  new_seated before events result after (passphrases.refused spec is prompt enough refusal) none = absurd (cc none)
 
   new_prompts : PromptsSo (PromptsNew rules options grip)
   new_prompts = seated_prompts (prompts_new IsUnopening still_unopening (λ event. tt) rules options grip) new_seated
@@ -222,10 +222,10 @@ short_stays key _ _ _ _ (parts.long many) held = (tt, held)
 nonce_stays : (id : Option (List ℕ)) (before : Option ℕ) (events : List (EventWith FurtherEvent)) (result : Result (Option (List ℕ)) Refusal) (after : Option ℕ) → LooksForNonce id before events result after
     → StayLaw before events result after
 nonce_stays None _ _ _ _ chain.returns held = (tt, held)
-nonce_stays (Some id) _ _ _ _ taken.given held = ((refl, tt), held)
-nonce_stays (Some id) _ _ _ _ taken.empty held = ((refl, tt), held)
-nonce_stays (Some id) _ _ _ _ taken.opened held = absurd held
-nonce_stays (Some id) _ _ _ _ (taken.interrupted why) held = ((refl, tt), held)
+nonce_stays (Some id) _ _ _ _ (taken.given can) held = ((refl, tt), held)
+nonce_stays (Some id) _ _ _ _ (taken.empty can) held = ((refl, tt), held)
+nonce_stays (Some id) _ _ _ _ (taken.opened can) held = absurd held
+nonce_stays (Some id) _ _ _ _ (taken.interrupted can why) held = ((refl, tt), held)
 
 seat_stays : (grip : Grip) (before : Option ℕ) (events : List (EventWith FurtherEvent)) (result : Result (Unit {0}) Refusal) (after : Option ℕ) → TakesSeat grip before events result after → StayLaw before events result after
 seat_stays grip None events result after does held = absurd held

@@ -1,13 +1,19 @@
 -- What was done for a request stays so, whatever is done then; and the parts of requests on keys by which nothing is handed to the cache and the ticket stays.
 use Rattle.std.specs.List.{AllByRecursion}
-use Rattle.std.proofs.Common.{◌≡◌, ℕ, List, ◌++◌, Option, Some, None, Result, Ok, refl, ap, ◌∙◌, append_assoc}
+use Rattle.std.proofs.Common.{◌≡◌, ℕ, List, ◌++◌, codes, Option, Some, None, Result, Ok, refl, ap, ◌∙◌, append_assoc}
 use Rattle.agent_ask.specs.Further.{FurtherEvent}
+use Rattle.agent_ask.specs.declared.ask.Asked.{Asked}
+use Rattle.agent_ask.specs.declared.spec.AskPlan.{AskPlan}
+use Rattle.cache_policy.specs.declared.mark.MarkStep.{MarkStep}
 use Rattle.agent_ports.specs.declared.grip.Grip.{Grip}
 use Rattle.secret_file.specs.Opens.{LockedKey, IsLocked}
 use Rattle.sexp_keys.specs.Key.{Key}
+use Rattle.sexp_keys.specs.Lists.{grip_of}
 use Rattle.agent_commands.specs.Events.{EventWith}
 use Rattle.agent_commands.specs.declared.request.Request.{Request}
-use Rattle.key_commands.specs.KeyParts.{ReadsFile, LooksOver}
+use Rattle.key_commands.specs.Lines.{max_key_data}
+use Rattle.key_commands.specs.Wrapping.{WrappedSays}
+use Rattle.key_commands.specs.KeyParts.{ReadsFile, LooksOver, AsksKeyData, Unwraps, NamesKey}
 use Rattle.key_commands.specs.KeyParts as parts
 use Rattle.key_commands.specs.Parts.{Draws}
 use Rattle.agent_ask.specs.ClientParts.{Inquires}
@@ -17,11 +23,14 @@ use Rattle.agent_ask.specs.TurnParts as turning
 use Rattle.assuan_server.specs.Clients.{session_lines}
 use Rattle.agent_ask.specs.ClientParts as client_parts
 use Rattle.key_commands.specs.Parts as small
-use Rattle.key_commands.specs.Passphrases.{LooksForNonce, Locks, ask_nonce}
+use Rattle.key_commands.specs.Passphrases.{LooksForNonce, Locks, TriesPassphrase, OpensBy, ask_nonce}
 use Rattle.key_commands.specs.Passphrases as passphrases
 use Rattle.session_client.specs.declared.refusal.Refusal.{Refusal}
-use Rattle.agent_session.specs.Causes.{here, StandIn, IsSent, sent, IsDrawn, IsRead, read, IsReadLocked}
-use Rattle.agent_session.specs.OwnPassphrases.{HasTicket, has_ticket, IsAccepted, any, opening, IsGivenNew, given, NamesNew}
+use Rattle.agent_session.specs.Causes.{here, StandIn, HasPrompt, ComesBy, cached_by_nonce, cached_by_key, sent_by_client, typed_by_user, OpensRead, is_clear, opens, KeyDataSays, data_says, IsSent, sent, IsDrawn, IsRead, read, IsReadLocked}
+use Rattle.agent_session.specs.OwnPassphrases.{IsAbout, named, brought, WantsTicket, by_id, by_key, by_seat, unkept, HasTicket, has_ticket, IsAccepted, any, opening, IsGivenNew, given, NamesNew}
+use Rattle.agent_origin.specs.declared.kept.Kept.{Kept}
+use Rattle.session_options.specs.OptionValues.{OptionValues}
+use Rattle.session_options.specs.declared.rules.Rules.{Rules}
 use Rattle.agent_ask.proofs.Within.{HoldsOf}
 use Rattle.agent_session.proofs.OwnParts.{IsQuiet, Fit, Quiet, QuietWith}
 use Rattle.agent_session.proofs.Standing.{has_left, has_right}
@@ -45,16 +54,50 @@ read_more more (read is says has) = read is says (has_left more has)
 pub locked_more : {prior : List (EventWith FurtherEvent)} {grip : Grip} {locked : LockedKey} (more : List (EventWith FurtherEvent)) → IsReadLocked prior grip locked → IsReadLocked (prior ++ more) grip locked
 locked_more more locked = record { key = read_more more locked.key; protection = locked.protection }
 
-module _ (request : Request) where
-  pub ticket_more : {prior : List (EventWith FurtherEvent)} {ticket : ℕ} (more : List (EventWith FurtherEvent)) → HasTicket request prior ticket → HasTicket request (prior ++ more) ticket
-  ticket_more more (has_ticket wants has) = has_ticket wants (has_left more has)
+pub prompt_more : {prior : List (EventWith FurtherEvent)} {plan : AskPlan} {Rule : List ℕ → Type 0} {answer : Asked} (more : List (EventWith FurtherEvent)) → HasPrompt prior plan Rule answer → HasPrompt (prior ++ more) plan Rule answer
+prompt_more more prompted = record {
+  spec = prompted.spec;
+  prompt = prompted.prompt;
+  shown = prompted.shown;
+  asks = prompted.asks;
+  in_session = prompted.in_session;
+  stands = stand_more more prompted.stands;
+}
 
-  pub accepted_more : {prior : List (EventWith FurtherEvent)} {pin : List ℕ} (more : List (EventWith FurtherEvent)) → IsAccepted request prior pin → IsAccepted request (prior ++ more) pin
-  accepted_more more (any asks in_session stands) = any asks in_session (stand_more more stands)
-  accepted_more more (opening unlocks locked asks in_session stands) = opening unlocks (locked_more more locked) asks in_session (stand_more more stands)
+module _ {rules : Rules} {options : OptionValues} {request : Request} {prior : List (EventWith FurtherEvent)} (more : List (EventWith FurtherEvent)) where
+  pub accepted_more : {pin : List ℕ} → IsAccepted rules options request prior pin → IsAccepted rules options request (prior ++ more) pin
+  accepted_more (any asks prompted) = any asks (prompt_more more prompted)
+  accepted_more (opening keeps locked prompted) = opening keeps (locked_more more locked) (prompt_more more prompted)
 
-  pub given_more : {prior : List (EventWith FurtherEvent)} {pass : List ℕ} (more : List (EventWith FurtherEvent)) → IsGivenNew request prior pass → IsGivenNew request (prior ++ more) pass
-  given_more more (given names has) = given names (has_left more has)
+  comes_more : {grip : Grip} {locked : LockedKey} {pass : List ℕ} → ComesBy prior rules options request grip locked pass → ComesBy (prior ++ more) rules options request grip locked pass
+  comes_more (cached_by_nonce names has) = cached_by_nonce names (has_left more has)
+  comes_more (cached_by_key way has) = cached_by_key way (has_left more has)
+  comes_more (sent_by_client is says) = sent_by_client is (sent_more more says)
+  comes_more (typed_by_user prompted) = typed_by_user (prompt_more more prompted)
+
+  pub opens_more : {grip : Grip} {key : Key} → OpensRead prior rules options request grip key → OpensRead (prior ++ more) rules options request grip key
+  opens_more (is_clear is_read clear) = is_clear (read_more more is_read) clear
+  opens_more (opens locked comes to) = opens (locked_more more locked) (comes_more comes) to
+
+module _ {rules : Rules} {kept : Kept} {request : Request} {prior : List (EventWith FurtherEvent)} (more : List (EventWith FurtherEvent)) where
+  pub key_data_more : {says : _} → KeyDataSays prior rules kept request says → KeyDataSays (prior ++ more) rules kept request says
+  key_data_more (data_says wrap says key) = data_says wrap (sent_more more says) key
+
+  pub about_more : {grip : Grip} → IsAbout rules kept request prior grip → IsAbout rules kept request (prior ++ more) grip
+  about_more (named unlocks) = named unlocks
+  about_more (brought is says named_so) = brought is (key_data_more says) named_so
+
+  wants_more : {step : MarkStep} → WantsTicket rules kept request prior step → WantsTicket rules kept request (prior ++ more) step
+  wants_more (by_id fields is named_so) = by_id fields is named_so
+  wants_more (by_key about) = by_key (about_more about)
+  wants_more (by_seat about) = by_seat (about_more about)
+  wants_more unkept = unkept
+
+  pub ticket_more : {ticket : ℕ} → HasTicket rules kept request prior ticket → HasTicket rules kept request (prior ++ more) ticket
+  ticket_more (has_ticket wants has) = has_ticket (wants_more wants) (has_left more has)
+
+  pub given_more : {pass : List ℕ} → IsGivenNew rules kept request prior pass → IsGivenNew rules kept request (prior ++ more) pass
+  given_more (given names has) = given names (has_left more has)
 
 -- ---- quiet parts
 
@@ -62,10 +105,10 @@ module _ (request : Request) where
 module _ (id : List ℕ) where
   nonce_of : (before : Option ℕ) (events : List (EventWith FurtherEvent)) (result : Result (Option (List ℕ)) Refusal) (after : Option ℕ) → Asks (ask_nonce id) before events result after → Fit events
       → AllByRecursion IsQuiet events × (after ≡ before)
-  nonce_of before events result after turning.given fits = (((λ hands. elim hands [ ]), tt), refl)
-  nonce_of before events result after turning.empty fits = (((λ hands. elim hands [ ]), tt), refl)
-  nonce_of before events result after turning.opened fits = absurd fits.0
-  nonce_of before events result after (turning.interrupted why) fits = (((λ hands. elim hands [ ]), tt), refl)
+  nonce_of before events result after (turning.given can) fits = (((λ hands. elim hands [ ]), tt), refl)
+  nonce_of before events result after (turning.empty can) fits = (((λ hands. elim hands [ ]), tt), refl)
+  nonce_of before events result after (turning.opened can) fits = absurd can
+  nonce_of before events result after (turning.interrupted can why) fits = (((λ hands. elim hands [ ]), tt), refl)
 
 inquires_of : (word : List ℕ) (limit : ℕ) (prior : List (EventWith FurtherEvent)) (before : Option ℕ) (events : List (EventWith FurtherEvent)) (result : Result (List ℕ) Refusal) (after : Option ℕ)
     → Inquires session_lines word limit before events result after → Fit events → AllByRecursion IsQuiet events × (after ≡ before) × HoldsOf (λ pass. IsSent (prior ++ events) word limit pass) result
@@ -102,18 +145,55 @@ locks_of key prior before events result after passphrases.no_memory fits = ((tt,
 pub locks_quiet : (key : Key) → QuietWith (Locks key) (λ locked prior. (locked.key ≡ key) × IsLocked locked)
 locks_quiet key = record { of = locks_of key }
 
-module _ (request : Request) where
+-- a key that the client sends
+key_data_of : (prior : List (EventWith FurtherEvent)) (before : Option ℕ) (events : List (EventWith FurtherEvent)) (result : Result (List ℕ) Refusal) (after : Option ℕ) → AsksKeyData before events result after → Fit events
+    → AllByRecursion IsQuiet events × (after ≡ before) × HoldsOf (λ bytes. IsSent (prior ++ events) (codes "KEYDATA") max_key_data bytes) result
+key_data_of prior before events result after (parts.asked does) fits = inquires_of (codes "KEYDATA") max_key_data prior before events result before does fits
+key_data_of prior before events result after (parts.no_memory at_end) fits = ((tt, (tt, tt)), refl, tt)
+
+pub key_data_quiet : QuietWith AsksKeyData (λ bytes prior. IsSent prior (codes "KEYDATA") max_key_data bytes)
+key_data_quiet = record { of = key_data_of }
+
+unwraps_of : (wrap wrapped : List ℕ) (prior : List (EventWith FurtherEvent)) (before : Option ℕ) (events : List (EventWith FurtherEvent)) (result : Result Key Refusal) (after : Option ℕ) → Unwraps wrap wrapped before events result after
+    → Fit events → AllByRecursion IsQuiet events × (after ≡ before) × HoldsOf (λ key. WrappedSays wrap wrapped (Ok key)) result
+unwraps_of wrap wrapped prior before events result after (parts.is_key says) fits = (tt, refl, says)
+unwraps_of wrap wrapped prior before events result after (parts.refused says) fits = (tt, refl, tt)
+unwraps_of wrap wrapped prior before events result after parts.no_memory fits = ((tt, tt), refl, tt)
+
+pub unwraps_quiet : (wrap wrapped : List ℕ) → QuietWith (Unwraps wrap wrapped) (λ key prior. WrappedSays wrap wrapped (Ok key))
+unwraps_quiet wrap wrapped = record { of = unwraps_of wrap wrapped }
+
+names_of : (key : Key) (prior : List (EventWith FurtherEvent)) (before : Option ℕ) (events : List (EventWith FurtherEvent)) (result : Result Grip Refusal) (after : Option ℕ) → NamesKey key before events result after → Fit events
+    → AllByRecursion IsQuiet events × (after ≡ before) × HoldsOf (λ grip. grip.0 ≡ grip_of key) result
+names_of key prior before events result after (parts.named is) fits = (tt, refl, is)
+names_of key prior before events result after parts.no_memory fits = ((tt, tt), refl, tt)
+
+pub names_quiet : (key : Key) → QuietWith (NamesKey key) (λ grip prior. grip.0 ≡ grip_of key)
+names_quiet key = record { of = names_of key }
+
+-- a passphrase that opens a key
+module _ (locked : LockedKey) (pass : List ℕ) where
+  tries_of : (prior : List (EventWith FurtherEvent)) (before : Option ℕ) (events : List (EventWith FurtherEvent)) (result : Result (Option _) Refusal) (after : Option ℕ) → TriesPassphrase locked pass before events result after
+      → Fit events → AllByRecursion IsQuiet events × (after ≡ before) × HoldsOf (λ tried. (opened : _) → tried ≡ Some opened → OpensBy locked pass) result
+  tries_of prior before events result after (passphrases.opens to) fits = (tt, refl, λ opened is. (_, to))
+  tries_of prior before events result after (passphrases.stays closed) fits = (tt, refl, λ opened is. absurd (cc is))
+  tries_of prior before events result after passphrases.no_memory fits = ((tt, tt), refl, tt)
+
+  pub tries_quiet : QuietWith (TriesPassphrase locked pass) (λ tried prior. (opened : _) → tried ≡ Some opened → OpensBy locked pass)
+  tries_quiet = record { of = tries_of }
+
+module _ (rules : Rules) (kept : Kept) (request : Request) where
   -- what was found under the nonce of a new one
   abbrev pub FoundNew : Option (List ℕ) → List (EventWith FurtherEvent) → Type 0
   FoundNew None prior = Unit {0}
-  FoundNew (Some pass) prior = IsGivenNew request prior pass
+  FoundNew (Some pass) prior = IsGivenNew rules kept request prior pass
 
   new_nonce_of : (id : List ℕ) → NamesNew request id → (prior : List (EventWith FurtherEvent)) (before : Option ℕ) (events : List (EventWith FurtherEvent)) (result : Result (Option (List ℕ)) Refusal) (after : Option ℕ)
       → Asks (ask_nonce id) before events result after → Fit events → AllByRecursion IsQuiet events × (after ≡ before) × HoldsOf (λ found. FoundNew found (prior ++ events)) result
-  new_nonce_of id names prior before events result after turning.given fits = (((λ hands. elim hands [ ]), tt), refl, given names (has_right prior here))
-  new_nonce_of id names prior before events result after turning.empty fits = (((λ hands. elim hands [ ]), tt), refl, tt)
-  new_nonce_of id names prior before events result after turning.opened fits = absurd fits.0
-  new_nonce_of id names prior before events result after (turning.interrupted why) fits = (((λ hands. elim hands [ ]), tt), refl, tt)
+  new_nonce_of id names prior before events result after (turning.given can) fits = (((λ hands. elim hands [ ]), tt), refl, given names (has_right prior here))
+  new_nonce_of id names prior before events result after (turning.empty can) fits = (((λ hands. elim hands [ ]), tt), refl, tt)
+  new_nonce_of id names prior before events result after (turning.opened can) fits = absurd can
+  new_nonce_of id names prior before events result after (turning.interrupted can why) fits = (((λ hands. elim hands [ ]), tt), refl, tt)
 
   no_nonce_of : (prior : List (EventWith FurtherEvent)) (before : Option ℕ) (events : List (EventWith FurtherEvent)) (result : Result (Option (List ℕ)) Refusal) (after : Option ℕ)
       → chain.Returns None before events result after → Fit events → AllByRecursion IsQuiet events × (after ≡ before) × HoldsOf (λ found. FoundNew found (prior ++ events)) result
@@ -127,7 +207,7 @@ module _ (request : Request) where
       (result : Result (Option (List ℕ)) Refusal) (after : Option ℕ) → LooksOver id before events result after → Fit events
       → AllByRecursion IsQuiet events × (after ≡ before) × HoldsOf (λ found. FoundNew found (prior ++ events)) result
   looks_over_of id names prior before events result after parts.no_nonce fits = (tt, refl, tt)
-  looks_over_of id names prior before events result after (parts.given {nonce}) fits = (((λ hands. elim hands [ ]), tt), refl, given (names nonce refl) (has_right prior here))
+  looks_over_of id names prior before events result after (parts.given {nonce} can) fits = (((λ hands. elim hands [ ]), tt), refl, given (names nonce refl) (has_right prior here))
   looks_over_of id names prior before events result after parts.empty fits = (((λ hands. elim hands [ ]), tt), refl, tt)
   looks_over_of id names prior before events result after parts.stopping fits = (((λ hands. elim hands [ ]), tt), refl, tt)
   looks_over_of id names prior before events result after parts.no_memory fits = (((λ hands. elim hands [ ]), tt), refl, tt)

@@ -10,11 +10,11 @@ use Rattle.assuan_escape.specs.Escapes.{hex_text}
 use Rattle.session_client.specs.declared.code.Code.TheVariants as code
 use Rattle.cache_policy.specs.Turns.{Open}
 use Rattle.cache_policy.specs.declared.life.Life.TheVariants.{Default}
+use Rattle.cache_policy.specs.declared.mark.MarkStep.{MarkStep}
 use Rattle.cache_policy.specs.declared.mark.MarkStep.TheVariants.{Close, Put}
 use Rattle.cache_policy.specs.declared.mode.Mode.TheVariants.{Nonce}
 use Rattle.cache_policy.specs.declared.secret.TheConstants.{MAX_SECRET_LEN}
 use Rattle.secret_file.specs.Opens.{LockedKey, IsLocked}
-use Rattle.session_options.specs.OptionValues.{OptionValues}
 use Rattle.session_options.specs.declared.options.PinMode.{PinMode}
 use Rattle.session_options.specs.declared.options.PinMode.TheVariants as mode
 use Rattle.session_options.specs.declared.rules.Rules.{Rules}
@@ -24,15 +24,16 @@ use Rattle.agent_commands.specs.declared.request.Request.{Request}
 use Rattle.agent_ask.specs.PartExchanges as part_exchanges
 use Rattle.key_commands.specs.Exchanges.{KeyExchange, KeyReplies, HaveKeyReplies, KeyInfoReplies, ListKeysReplies, KeyWrapReplies, DeleteKeyReplies, wrap_key}
 use Rattle.key_commands.specs.Exchanges.{RewritesFile, ChangesOpened, StoresKey, FoundOrNew, ExportKeyReplies, PasswdReplies, VerifyReplies, ImportKeyReplies}
-use Rattle.key_commands.specs.KeyParts.{KeepsNew, ReceivesKey, IsFree, Consents}
+use Rattle.key_commands.specs.Lines.{max_key_data}
+use Rattle.key_commands.specs.KeyParts.{KeepsNew, ReceivesKey, NamesKey, IsFree, Consents}
 use Rattle.key_commands.specs.Parts.{Part, refusal_events}
 use Rattle.agent_ask.specs.ClientParts.{AsksClient}
 use Rattle.agent_ask.specs.TurnParts.{Asks, Changes, Closes}
-use Rattle.agent_ask.specs.Parts.{or_else}
+use Rattle.agent_ask.specs.Parts.{needed, or_else}
 use Rattle.assuan_server.specs.Written.{refusal_line, limit_line}
 use Rattle.agent_ask.specs.Parts as chain
 use Rattle.agent_ask.specs.TurnParts as turning
-use Rattle.key_commands.specs.Passphrases.{PromptsOld, PromptsNew, ClientOld, UncachedOld, OpensLocked, ClientNew, TakesSeat, TriesFound, Locks, ask_key, put_key, way_of}
+use Rattle.key_commands.specs.Passphrases.{OpensBy, PromptsOld, PromptsNew, ClientOld, UncachedOld, OpensLocked, ClientNew, TakesSeat, TriesFound, Locks, ask_key, put_key, way_of}
 use Rattle.key_commands.specs.Passphrases as passphrases
 use Rattle.session_client.specs.declared.refusal.Refusal.{Refusal}
 use Rattle.session_client.specs.declared.refusal.Refusal.TheVariants.{Agent}
@@ -44,15 +45,19 @@ use Rattle.key_commands.specs.declared.wrap_keys.WrapKeys.{WrapKeys}
 use Rattle.key_commands.proofs.EachEvent.{each_append, each_shown, IsStill, EachSo, each_bind, each_returned, each_refused, each_otherwise, each_wanted, each_seats}
 use Rattle.key_commands.proofs.EachEvent.{each_changes, finds, draws, reads_file, lists, told, has_one, removes, tells_info, writes_infos, agrees_to}
 use Rattle.agent_session.specs.Causes as causes
-use Rattle.agent_session.specs.Causes.{here, StandIn, on_keys, Unlocks, IsSent, IsDrawn, IsRead, IsReadLocked}
-use Rattle.agent_session.specs.OwnPassphrases.{IsAbout, named, brought, by_command, of_key, NamesNew, brings, changes, WantsTicket, by_key, by_seat, HasTicket, has_ticket, IsAccepted, any, opening, IsGivenNew, StoresOwn, HandsIn}
+use Rattle.agent_session.specs.Causes.{here, StandIn, on_keys, Unlocks, KeyDataSays, data_says, AsksAny, of_new, of_import, new_plan, IsSent, IsDrawn, IsRead, IsReadLocked}
+use Rattle.agent_session.specs.OwnPassphrases.{KeepsOld, exports, verifies, GivesBy, for_change, for_import, IsAbout, named, brought, by_command, of_key, NamesNew, brings, changes, WantsTicket, by_key, by_seat, HasTicket}
+use Rattle.agent_session.specs.OwnPassphrases.{has_ticket, IsAccepted, any, opening, IsGivenNew}
+use Rattle.agent_session.specs.OwnPassphrases.{StoresOwn, HandsIn}
 use Rattle.agent_session.specs.OwnPassphrases as whose
-use Rattle.agent_session.specs.Refusals.{imported}
-use Rattle.agent_session.proofs.OwnFacts.{sent_more, drawn_more, read_more, locked_more, ticket_more, accepted_more, given_more, FoundNew}
+use Rattle.agent_session.specs.Refusals.{imported, nonce_of}
+use Rattle.agent_origin.specs.declared.kept.Kept.{Kept}
+use Rattle.agent_session.proofs.OwnFacts.{sent_more, key_data_more, drawn_more, read_more, locked_more, about_more, ticket_more, accepted_more, given_more, FoundNew}
+use Rattle.agent_session.proofs.Prompted.{has_prompt}
 use Rattle.agent_session.proofs.OwnFacts as quiet
 use Rattle.agent_ask.proofs.Within.{HoldsOf}
 use Rattle.agent_session.proofs.OwnParts.{IsQuiet, kept_none, Fit, AreOwn, own_then, each_quiet, quiet_keeps, OwnSo, owns, own_bind}
-use Rattle.agent_session.proofs.OwnParts.{own_weaker, own_where, Stays, quiet_with, quietly, quiet_are_own, Anything, own_returned, own_refused, own_needed, own_wanted}
+use Rattle.agent_session.proofs.OwnParts.{own_weaker, own_there, own_where, Stays, quiet_with, quietly, quiet_are_own, Anything, own_returned, own_refused, own_needed, own_wanted}
 use Rattle.agent_session.proofs.AtOnce.{FitsTurn}
 use Rattle.agent_session.proofs.Standing.{has_right, each_left}
 use Rattle.agent_session.proofs.Works as work
@@ -74,7 +79,10 @@ Unheld prior held = held ≡ None
 pub stand_last : (prior shown : List (EventWith FurtherEvent)) → StandIn shown (prior ++ shown)
 stand_last prior shown = record { before = prior; after = []; is = ap (λ x. prior ++ x) (sym (append-nil shown)) }
 
-module _ (request : Request) where
+module _ (rules : Rules) (kept : Kept) (request : Request) where
+  abbrev Mine : List (EventWith FurtherEvent) → MarkStep → Type 0
+  Mine = StoresOwn rules kept request
+
   unheld_stays : Stays Unheld
   unheld_stays = record { of = λ prior more held none. none }
 
@@ -84,11 +92,11 @@ module _ (request : Request) where
   -- none is, or the request's own, where the client wants prompts
   data TicketAt (way : PinMode) (prior : List (EventWith FurtherEvent)) : Option ℕ → Type 0 where
     no_ticket : TicketAt way prior None
-    own_ticket : {ticket : ℕ} → way ≡ mode.Ask → HasTicket request prior ticket → TicketAt way prior (Some ticket)
+    own_ticket : {ticket : ℕ} → way ≡ mode.Ask → HasTicket rules kept request prior ticket → TicketAt way prior (Some ticket)
 
   ticket_stays_of : (way : PinMode) (prior more : List (EventWith FurtherEvent)) (held : Option ℕ) → TicketAt way prior held → TicketAt way (prior ++ more) held
   ticket_stays_of way prior more held no_ticket = no_ticket
-  ticket_stays_of way prior more held (own_ticket is has) = own_ticket is (ticket_more request more has)
+  ticket_stays_of way prior more held (own_ticket is has) = own_ticket is (ticket_more more has)
 
   ticket_stays : (way : PinMode) → Stays (TicketAt way)
   ticket_stays way = record { of = ticket_stays_of way }
@@ -102,32 +110,29 @@ module _ (request : Request) where
 
   -- the request's own is
   data Seated (prior : List (EventWith FurtherEvent)) : Option ℕ → Type 0 where
-    seated : {ticket : ℕ} → HasTicket request prior ticket → Seated prior (Some ticket)
+    seated : {ticket : ℕ} → HasTicket rules kept request prior ticket → Seated prior (Some ticket)
 
-  seat_of : {prior : List (EventWith FurtherEvent)} {ticket : ℕ} → Seated prior (Some ticket) → HasTicket request prior ticket
+  seat_of : {prior : List (EventWith FurtherEvent)} {ticket : ℕ} → Seated prior (Some ticket) → HasTicket rules kept request prior ticket
   seat_of (seated has) = has
 
   or_own : {A : Type 0} {Pre : List (EventWith FurtherEvent) → Option ℕ → Type 0} {Post : A → List (EventWith FurtherEvent) → Option ℕ → Type 0} {other : Part A} (value : Option A)
-      → ((some : A) → value ≡ Some some → (prior : List (EventWith FurtherEvent)) (held : Option ℕ) → Pre prior held → Post some prior held) → (value ≡ None → OwnSo request Pre other Post)
-      → OwnSo request Pre (or_else value other) Post
+      → ((some : A) → value ≡ Some some → (prior : List (EventWith FurtherEvent)) (held : Option ℕ) → Pre prior held → Post some prior held) → (value ≡ None → OwnSo Mine Pre other Post)
+      → OwnSo Mine Pre (or_else value other) Post
   or_own None some other = other refl
-  or_own (Some value) some other = own_returned request value (some value refl)
+  or_own (Some value) some other = own_returned Mine value (some value refl)
 
   asks_client : {Pre : List (EventWith FurtherEvent) → Option ℕ → Type 0} (word : List ℕ) (limit : ℕ) → Stays Pre
-      → OwnSo request Pre (AsksClient session_lines (limit_line limit) word limit) (λ pass prior held. Pre prior held × IsSent prior word limit pass)
-  asks_client word limit stays = own_bind request (quietly request stays (quiet_keeps (work.writes IsQuiet (λ text. tt) tt))) (λ told. quiet_with request stays (quiet.inquires_quiet word limit))
-
-  sent_stays : (word pass : List ℕ) (limit : ℕ) → Stays (λ prior held. Unheld prior held × IsSent prior word limit pass)
-  sent_stays word pass limit = record { of = λ prior more held so. (so.0, sent_more more so.1) }
+      → OwnSo Mine Pre (AsksClient session_lines (limit_line limit) word limit) (λ pass prior held. Pre prior held × IsSent prior word limit pass)
+  asks_client word limit stays = own_bind Mine (quietly Mine stays (quiet_keeps (work.writes IsQuiet (λ text. tt) tt))) (λ told. quiet_with Mine stays (quiet.inquires_quiet word limit))
 
   -- ---- the passphrase that opens a key
 
-  module _ (rules : Rules) (options : OptionValues) (grip : Grip) (unlocks : Unlocks request grip) where
+  module _ (grip : Grip) (unlocks : Unlocks request grip) where
     module _ (way : PinMode) where
       -- what was opened: where a ticket is held, a prompt accepted its passphrase
       data OpenedAt (by : Option (List ℕ)) (prior : List (EventWith FurtherEvent)) : Option ℕ → Type 0 where
         unheld : OpenedAt by prior None
-        by_prompt : {ticket : ℕ} → way ≡ mode.Ask → HasTicket request prior ticket → ((pass : List ℕ) → by ≡ Some pass → IsAccepted request prior pass) → OpenedAt by prior (Some ticket)
+        by_prompt : {ticket : ℕ} → way ≡ mode.Ask → HasTicket rules kept request prior ticket → ((pass : List ℕ) → by ≡ Some pass → KeepsOld request grip → IsAccepted rules kept.options request prior pass) → OpenedAt by prior (Some ticket)
 
       unheld_opened : (by : Option (List ℕ)) (prior : List (EventWith FurtherEvent)) (held : Option ℕ) → held ≡ None → OpenedAt by prior held
       unheld_opened by prior held none = subst (OpenedAt by prior) (sym none) unheld
@@ -154,43 +159,54 @@ module _ (request : Request) where
 
       -- a prompt's ticket
       takes_of : (prior : List (EventWith FurtherEvent)) (before : Option ℕ) (events : List (EventWith FurtherEvent)) (result : Result (Unit {0}) Refusal) (after : Option ℕ) → TakesSeat grip before events result after
-          → Fit events → Ready mode.Ask prior before → AreOwn request prior events × HoldsOf (λ done. IsReadLocked (prior ++ events) grip locked × Seated (prior ++ events) after) result
-      takes_of prior None events result after (turning.opened {ticket}) fits pre =
+          → Fit events → Ready mode.Ask prior before → AreOwn Mine prior events × HoldsOf (λ done. IsReadLocked (prior ++ events) grip locked × Seated (prior ++ events) after) result
+      takes_of prior None events result after (turning.opened {ticket} can) fits pre =
           (((λ hands. elim hands [ ]), tt), (locked_more _ pre.0, seated (has_ticket (by_seat (named unlocks)) (has_right prior here))))
-      takes_of prior None events result after (turning.interrupted why) fits pre = (((λ hands. elim hands [ ]), tt), tt)
+      takes_of prior None events result after (turning.interrupted can why) fits pre = (((λ hands. elim hands [ ]), tt), tt)
       takes_of prior (Some number) events result after chain.returns fits pre =
           (tt, subst (λ p. IsReadLocked p grip locked × Seated p (Some number)) (sym (append-nil prior)) (pre.0, seat_at pre.1))
         where
           seat_at : TicketAt mode.Ask prior (Some number) → Seated prior (Some number)
           seat_at (own_ticket is has) = seated has
 
-      old_of : (prior : List (EventWith FurtherEvent)) (before : Option ℕ) (events : List (EventWith FurtherEvent)) (result : Result _ Refusal) (after : Option ℕ) → PromptsOld rules options grip locked before events result after
-          → Fit events → IsReadLocked prior grip locked × Seated prior before → AreOwn request prior events × HoldsOf (λ opened. OpenedAt mode.Ask opened.by (prior ++ events) after) result
+      old_of : (prior : List (EventWith FurtherEvent)) (before : Option ℕ) (events : List (EventWith FurtherEvent)) (result : Result _ Refusal) (after : Option ℕ) → PromptsOld rules kept.options grip locked before events result after
+          → Fit events → IsReadLocked prior grip locked × Seated prior before → AreOwn Mine prior events × HoldsOf (λ opened. OpenedAt mode.Ask opened.by (prior ++ events) after) result
       old_of prior before events result after (passphrases.opens_by {shown} {pin} spec is prompt to) fits pre = (
-        quiet_are_own request prior shown (each_shown IsQuiet still_quiet (λ event. tt) prompt.in_session),
-        by_prompt refl (ticket_more request shown (seat_of pre.1))
-            (λ pass same. subst (IsAccepted request (prior ++ shown)) (cc same) (opening unlocks (locked_more shown pre.0) prompt.asks prompt.in_session (stand_last prior shown))),
+        quiet_are_own Mine prior shown (each_shown IsQuiet still_quiet (λ event. tt) prompt.in_session),
+        by_prompt refl (ticket_more shown (seat_of pre.1))
+            (λ pass same keeps. subst (IsAccepted rules kept.options request (prior ++ shown)) (cc same) (opening keeps (locked_more shown pre.0) (has_prompt prompt (stand_last prior shown)))),
       )
-      old_of prior before events result after (passphrases.refused {shown} spec is prompt refusal) fits pre = (quiet_are_own request prior shown (each_shown IsQuiet still_quiet (λ event. tt) prompt.in_session), tt)
+      old_of prior before events result after (passphrases.refused {shown} spec is prompt refusal) fits pre = (quiet_are_own Mine prior shown (each_shown IsQuiet still_quiet (λ event. tt) prompt.in_session), tt)
 
-      -- a passphrase that the client gave is kept
-      put_of : {word : List ℕ} {limit : ℕ} (pass : List ℕ) (prior : List (EventWith FurtherEvent)) (before : Option ℕ) (events : List (EventWith FurtherEvent)) (result : Result (Unit {0}) Refusal) (after : Option ℕ)
-          → Changes (put_key grip pass) before events result after → Fit events → Unheld prior before × IsSent prior word limit pass
-          → AreOwn request prior events × HoldsOf (λ done. Unheld (prior ++ events) after) result
-      put_of pass prior before events result after turning.done fits pre = (((λ hands. whose.sent (of_key (named unlocks)) pre.1), tt), pre.0)
-      put_of pass prior before events result after (turning.interrupted why) fits pre = (((λ hands. whose.sent (of_key (named unlocks)) pre.1), tt), tt)
+      -- a passphrase that the client gave, and that opens the key, is kept
+      abbrev GaveOld : List ℕ → List (EventWith FurtherEvent) → Option ℕ → Type 0
+      GaveOld pass prior held = Free prior held × IsSent prior (codes "PASSPHRASE") MAX_SECRET_LEN pass
 
-      client_old : (way : PinMode) → OwnSo request Unheld (ClientOld rules options grip locked) (λ opened. OpenedAt way opened.by)
+      gave_stays : (pass : List ℕ) → Stays (GaveOld pass)
+      gave_stays pass = record { of = λ prior more held so. (free_stays.of prior more held so.0, sent_more more so.1) }
+
+      put_of : (pass : List ℕ) (prior : List (EventWith FurtherEvent)) (before : Option ℕ) (events : List (EventWith FurtherEvent)) (result : Result (Unit {0}) Refusal) (after : Option ℕ)
+          → Changes (put_key grip pass) before events result after → Fit events → GaveOld pass prior before × OpensBy locked pass
+          → AreOwn Mine prior events × HoldsOf (λ done. Unheld (prior ++ events) after) result
+      put_of pass prior before events result after (turning.done can) fits pre = (((λ hands. whose.sent_old unlocks pre.0.0.0 pre.0.1 pre.1), tt), pre.0.0.1)
+      put_of pass prior before events result after (turning.interrupted can why) fits pre = (((λ hands. whose.sent_old unlocks pre.0.0.0 pre.0.1 pre.1), tt), tt)
+
+      opened_by_client : {A : Type 0} (pass : List ℕ) (tried : Option A) → OwnSo Mine (λ prior held. GaveOld pass prior held × ((opened : A) → tried ≡ Some opened → OpensBy locked pass)) (needed code.BadPass tried)
+          (λ opened prior held. GaveOld pass prior held × OpensBy locked pass)
+      opened_by_client pass tried = own_weaker Mine (own_there Mine code.BadPass tried) (λ opened prior held so. (so.0.0, so.0.1 opened so.1))
+
+      client_old : (way : PinMode) → OwnSo Mine Free (ClientOld rules kept.options grip locked) (λ opened. OpenedAt way opened.by)
       unfolding ClientOld
       client_old way =
-          own_bind request (asks_client (codes "PASSPHRASE") MAX_SECRET_LEN unheld_stays) (λ pass. own_bind request (quietly request (sent_stays _ pass _) (quiet_keeps (work.tries IsQuiet tt)))
-          (λ tried. own_bind request (own_needed request code.BadPass tried) (λ opened. own_bind request (owns request (put_of pass)) (λ kept. own_returned request opened (unheld_opened way opened.by)))))
+          own_bind Mine (asks_client (codes "PASSPHRASE") MAX_SECRET_LEN free_stays) (λ pass. own_bind Mine (quiet_with Mine (gave_stays pass) (quiet.tries_quiet locked pass))
+          (λ tried. own_bind Mine (opened_by_client pass tried)
+          (λ opened. own_bind Mine (owns Mine (put_of pass)) (λ kept_so. own_returned Mine opened (unheld_opened way opened.by)))))
 
-      uncached_old : (way : PinMode) → OwnSo request (Ready way) (UncachedOld rules options grip way locked) (λ opened. OpenedAt way opened.by)
-      uncached_old mode.Ask = own_bind request (owns request takes_of) (λ seated_so. owns request old_of)
-      uncached_old mode.Cancel = own_refused request (Agent code.Cancelled)
-      uncached_old mode.Error = own_refused request (Agent code.NoPinentry)
-      uncached_old mode.Loopback = own_where request (λ prior held ready. loopback_unheld prior held ready.1) (client_old mode.Loopback)
+      uncached_old : (way : PinMode) → OwnSo Mine (Ready way) (UncachedOld rules kept.options grip way locked) (λ opened. OpenedAt way opened.by)
+      uncached_old mode.Ask = own_bind Mine (owns Mine takes_of) (λ seated_so. owns Mine old_of)
+      uncached_old mode.Cancel = own_refused Mine (Agent code.Cancelled)
+      uncached_old mode.Error = own_refused Mine (Agent code.NoPinentry)
+      uncached_old mode.Loopback = own_where Mine (λ prior held ready. (ready.0, loopback_unheld prior held ready.1)) (client_old mode.Loopback)
 
       -- what the cache was asked, and what came of it: nothing, and perhaps a ticket, or something, and none
       data AskedAt (way : PinMode) {A : Type 0} (value : Option A) (prior : List (EventWith FurtherEvent)) (held : Option ℕ) : Type 0 where
@@ -209,39 +225,39 @@ module _ (request : Request) where
       asked_none way prior held (free so) = free so
       asked_none way prior held (missed none ready) = missed refl ready
 
-      wants_of : (way : PinMode) (ticket : ℕ) → Fit (cache_turn (ask_key grip (way_of way)) (Open ticket) ∷ []) → (way ≡ mode.Ask) × WantsTicket request (ask_key grip (way_of way))
-      wants_of mode.Ask ticket fits = (refl, by_key (named unlocks))
-      wants_of mode.Cancel ticket fits = absurd fits.0
-      wants_of mode.Error ticket fits = absurd fits.0
-      wants_of mode.Loopback ticket fits = absurd fits.0
+      wants_of : (prior : List (EventWith FurtherEvent)) (way : PinMode) (ticket : ℕ) → Fit (cache_turn (ask_key grip (way_of way)) (Open ticket) ∷ []) → (way ≡ mode.Ask) × WantsTicket rules kept request prior (ask_key grip (way_of way))
+      wants_of prior mode.Ask ticket fits = (refl, by_key (named unlocks))
+      wants_of prior mode.Cancel ticket fits = absurd fits.0
+      wants_of prior mode.Error ticket fits = absurd fits.0
+      wants_of prior mode.Loopback ticket fits = absurd fits.0
 
       asks_of : (way : PinMode) (prior : List (EventWith FurtherEvent)) (before : Option ℕ) (events : List (EventWith FurtherEvent)) (result : Result (Option (List ℕ)) Refusal) (after : Option ℕ)
-          → Asks (ask_key grip (way_of way)) before events result after → Fit events → Free prior before → AreOwn request prior events × HoldsOf (λ cached. AskedAt way cached (prior ++ events) after) result
-      asks_of way prior before events result after turning.given fits pre = (((λ hands. elim hands [ ]), tt), free (locked_more _ pre.0, pre.1))
-      asks_of way prior before events result after turning.empty fits pre = (((λ hands. elim hands [ ]), tt), free (locked_more _ pre.0, pre.1))
-      asks_of way prior before events result after (turning.opened {ticket}) fits pre =
-          let wants = wants_of way ticket fits in
+          → Asks (ask_key grip (way_of way)) before events result after → Fit events → Free prior before → AreOwn Mine prior events × HoldsOf (λ cached. AskedAt way cached (prior ++ events) after) result
+      asks_of way prior before events result after (turning.given can) fits pre = (((λ hands. elim hands [ ]), tt), free (locked_more _ pre.0, pre.1))
+      asks_of way prior before events result after (turning.empty can) fits pre = (((λ hands. elim hands [ ]), tt), free (locked_more _ pre.0, pre.1))
+      asks_of way prior before events result after (turning.opened {ticket} can) fits pre =
+          let wants = wants_of (prior ++ cache_turn (ask_key grip (way_of way)) (Open ticket) ∷ []) way ticket fits in
           (((λ hands. elim hands [ ]), tt), missed refl (locked_more _ pre.0, own_ticket wants.0 (has_ticket wants.1 (has_right prior here))))
-      asks_of way prior before events result after (turning.interrupted why) fits pre = (((λ hands. elim hands [ ]), tt), tt)
+      asks_of way prior before events result after (turning.interrupted can why) fits pre = (((λ hands. elim hands [ ]), tt), tt)
 
-      tries_free : (pass : Option (List ℕ)) → OwnSo request Free (TriesFound locked pass) (λ opened. Free)
-      tries_free None = own_returned request None (λ prior held so. so)
-      tries_free (Some pass) = quietly request free_stays (quiet_keeps (work.tries IsQuiet tt))
+      tries_free : (pass : Option (List ℕ)) → OwnSo Mine Free (TriesFound locked pass) (λ opened. Free)
+      tries_free None = own_returned Mine None (λ prior held so. so)
+      tries_free (Some pass) = quietly Mine free_stays (quiet_keeps (work.tries IsQuiet tt))
 
-      tries_asked : (way : PinMode) (cached : Option (List ℕ)) → OwnSo request (AskedAt way cached) (TriesFound locked cached) (λ opened. AskedAt way opened)
-      tries_asked way None = own_returned request None (asked_none way)
-      tries_asked way (Some pass) = own_weaker request (own_where request (asked_free way pass) (quietly request free_stays (quiet_keeps (work.tries IsQuiet tt)))) (λ opened prior held so. free so)
+      tries_asked : (way : PinMode) (cached : Option (List ℕ)) → OwnSo Mine (AskedAt way cached) (TriesFound locked cached) (λ opened. AskedAt way opened)
+      tries_asked way None = own_returned Mine None (asked_none way)
+      tries_asked way (Some pass) = own_weaker Mine (own_where Mine (asked_free way pass) (quietly Mine free_stays (quiet_keeps (work.tries IsQuiet tt)))) (λ opened prior held so. free so)
 
-      after_asked : (way : PinMode) (second : Option _) → OwnSo request (AskedAt way second) (or_else second (UncachedOld rules options grip way locked)) (λ opened. OpenedAt way opened.by)
-      after_asked way None = own_where request (asked_ready way) (uncached_old way)
-      after_asked way (Some opened) = own_returned request opened (λ prior held so. unheld_opened way opened.by prior held (asked_free way opened prior held so).1)
+      after_asked : (way : PinMode) (second : Option _) → OwnSo Mine (AskedAt way second) (or_else second (UncachedOld rules kept.options grip way locked)) (λ opened. OpenedAt way opened.by)
+      after_asked way None = own_where Mine (asked_ready way) (uncached_old way)
+      after_asked way (Some opened) = own_returned Mine opened (λ prior held so. unheld_opened way opened.by prior held (asked_free way opened prior held so).1)
 
-      opens_locked : (id : Option (List ℕ)) → OwnSo request Free (OpensLocked rules options grip id locked) (λ opened. OpenedAt options.mode opened.by)
+      opens_locked : (id : Option (List ℕ)) → OwnSo Mine Free (OpensLocked rules kept.options grip id locked) (λ opened. OpenedAt kept.options.mode opened.by)
       unfolding OpensLocked
       opens_locked id =
-          own_bind request (quietly request free_stays (quiet.looks_for_nonce_quiet id)) (λ by_nonce. own_bind request (tries_free by_nonce)
-          (λ first. or_own first (λ opened is prior held so. unheld_opened options.mode opened.by prior held so.1)
-          (λ none. own_bind request (owns request (asks_of options.mode)) (λ cached. own_bind request (tries_asked options.mode cached) (λ second. after_asked options.mode second)))))
+          own_bind Mine (quietly Mine free_stays (quiet.looks_for_nonce_quiet id)) (λ by_nonce. own_bind Mine (tries_free by_nonce)
+          (λ first. or_own first (λ opened is prior held so. unheld_opened kept.options.mode opened.by prior held so.1)
+          (λ none. own_bind Mine (owns Mine (asks_of kept.options.mode)) (λ cached. own_bind Mine (tries_asked kept.options.mode cached) (λ second. after_asked kept.options.mode second)))))
 
     -- a key's file was read, and no ticket is held
     abbrev ReadAt : Key → List (EventWith FurtherEvent) → Option ℕ → Type 0
@@ -253,260 +269,297 @@ module _ (request : Request) where
     locked_so : (key : Key) (locked : LockedKey) (prior : List (EventWith FurtherEvent)) (held : Option ℕ) → ReadAt key prior held × ((locked.key ≡ key) × IsLocked locked) → Free locked prior held
     locked_so key locked prior held so = (record { key = subst (λ k. IsRead prior grip (Ok k)) (sym so.1.0) so.0.1; protection = so.1.1 }, so.0.0)
 
-    locks_free : (key : Key) → OwnSo request (ReadAt key) (Locks key) (λ locked. Free locked)
-    locks_free key = own_weaker request (quiet_with request (read_stays key) (quiet.locks_quiet key)) (locked_so key)
+    locks_free : (key : Key) → OwnSo Mine (ReadAt key) (Locks key) (λ locked. Free locked)
+    locks_free key = own_weaker Mine (quiet_with Mine (read_stays key) (quiet.locks_quiet key)) (locked_so key)
 
-    old_here : (id : Option (List ℕ)) (key : Key) (clear : Bool) → OwnSo request (ReadAt key) (passphrases.old_by rules options grip id key clear) (λ opened. OpenedAt options.mode opened.by)
-    old_here id key true = own_returned request _ (λ prior held so. unheld_opened options.mode None prior held so.0)
-    old_here id key false = own_bind request (locks_free key) (λ locked. opens_locked locked id)
+    old_here : (id : Option (List ℕ)) (key : Key) (clear : Bool) → OwnSo Mine (ReadAt key) (passphrases.old_by rules kept.options grip id key clear) (λ opened. OpenedAt kept.options.mode opened.by)
+    old_here id key true = own_returned Mine _ (λ prior held so. unheld_opened kept.options.mode None prior held so.0)
+    old_here id key false = own_bind Mine (locks_free key) (λ locked. opens_locked locked id)
 
-    verified_here : (key : Key) (clear : Bool) → OwnSo request (ReadAt key) (passphrases.verified_by rules options grip key clear) (λ opened. OpenedAt options.mode opened.by)
-    verified_here key true = own_returned request _ (λ prior held so. unheld_opened options.mode None prior held so.0)
-    verified_here key false = own_bind request (locks_free key) (λ locked. own_where request (free_ready locked options.mode) (uncached_old locked options.mode))
+    verified_here : (key : Key) (clear : Bool) → OwnSo Mine (ReadAt key) (passphrases.verified_by rules kept.options grip key clear) (λ opened. OpenedAt kept.options.mode opened.by)
+    verified_here key true = own_returned Mine _ (λ prior held so. unheld_opened kept.options.mode None prior held so.0)
+    verified_here key false = own_bind Mine (locks_free key) (λ locked. own_where Mine (free_ready locked kept.options.mode) (uncached_old locked kept.options.mode))
 
     -- the ticket is given back with what opened the key
-    close_own : (by : Option (List ℕ)) (prior : List (EventWith FurtherEvent)) (ticket : ℕ) → HasTicket request prior ticket → ((pass : List ℕ) → by ≡ Some pass → IsAccepted request prior pass) → HandsIn (Close ticket by)
-        → StoresOwn request prior (Close ticket by)
-    close_own None prior ticket has accepted hands = absurd (kept_none ticket hands)
-    close_own (Some pass) prior ticket has accepted hands = whose.accepted has (accepted pass refl)
+    module _ (keeps : KeepsOld request grip) where
+      close_own : (by : Option (List ℕ)) (prior : List (EventWith FurtherEvent)) (ticket : ℕ) → HasTicket rules kept request prior ticket
+          → ((pass : List ℕ) → by ≡ Some pass → KeepsOld request grip → IsAccepted rules kept.options request prior pass) → HandsIn (Close ticket by) → StoresOwn rules kept request prior (Close ticket by)
+      close_own None prior ticket has accepted hands = absurd (kept_none ticket hands)
+      close_own (Some pass) prior ticket has accepted hands = whose.accepted has (accepted pass refl keeps)
 
-    opened_own : (way : PinMode) (by : Option (List ℕ)) (prior : List (EventWith FurtherEvent)) (ticket : ℕ) → OpenedAt way by prior (Some ticket) → HandsIn (Close ticket by) → StoresOwn request prior (Close ticket by)
-    opened_own way by prior ticket (by_prompt is has accepted) hands = close_own by prior ticket has accepted hands
+      opened_own : (way : PinMode) (by : Option (List ℕ)) (prior : List (EventWith FurtherEvent)) (ticket : ℕ) → OpenedAt way by prior (Some ticket) → HandsIn (Close ticket by)
+          → StoresOwn rules kept request prior (Close ticket by)
+      opened_own way by prior ticket (by_prompt is has accepted) hands = close_own by prior ticket has accepted hands
 
-    closes_of : (way : PinMode) (by : Option (List ℕ)) (prior : List (EventWith FurtherEvent)) (before : Option ℕ) (events : List (EventWith FurtherEvent)) (result : Result (Unit {0}) Refusal) (after : Option ℕ)
-        → Closes by before events result after → Fit events → OpenedAt way by prior before → AreOwn request prior events × HoldsOf (λ done. Anything (prior ++ events) after) result
-    closes_of way by prior before events result after turning.unheld fits pre = (tt, tt)
-    closes_of way by prior before events result after (turning.closed {ticket} turn) fits pre = (((λ hands. opened_own way by prior ticket pre hands), tt), tt)
+      closes_of : (way : PinMode) (by : Option (List ℕ)) (prior : List (EventWith FurtherEvent)) (before : Option ℕ) (events : List (EventWith FurtherEvent)) (result : Result (Unit {0}) Refusal) (after : Option ℕ)
+          → Closes by before events result after → Fit events → OpenedAt way by prior before → AreOwn Mine prior events × HoldsOf (λ done. Anything (prior ++ events) after) result
+      closes_of way by prior before events result after turning.unheld fits pre = (tt, tt)
+      closes_of way by prior before events result after (turning.closed {ticket} turn can) fits pre = (((λ hands. opened_own way by prior ticket pre hands), tt), tt)
 
-    closes_own : (way : PinMode) (by : Option (List ℕ)) → OwnSo request (OpenedAt way by) (Closes by) (λ done. Anything)
-    closes_own way by = owns request (closes_of way by)
+      closes_own : (way : PinMode) (by : Option (List ℕ)) → OwnSo Mine (OpenedAt way by) (Closes by) (λ done. Anything)
+      closes_own way by = owns Mine (closes_of way by)
 
   -- ---- a new passphrase
 
-  module _ (grip : Grip) (about : IsAbout request grip) where
-    -- what it is of, by whether the request's ticket is held
+  module _ (grip : Grip) (gives : GivesBy request (codes "NEW_PASSPHRASE")) (takes : AsksAny rules kept.options request (new_plan rules kept.options)) where
+    -- the key is the request's
+    abbrev IsMine : List (EventWith FurtherEvent) → Type 0
+    IsMine prior = IsAbout rules kept request prior grip
+
+    -- what a new passphrase is of, by whether the request's ticket is held
     data NewAt (pass : List ℕ) (prior : List (EventWith FurtherEvent)) : Option ℕ → Type 0 where
-      by_client : {word : List ℕ} {limit : ℕ} → IsSent prior word limit pass → NewAt pass prior None
-      by_cache : IsGivenNew request prior pass → NewAt pass prior None
-      at_prompt : {ticket : ℕ} → HasTicket request prior ticket → IsAccepted request prior pass → NewAt pass prior (Some ticket)
-      renewed : {ticket : ℕ} {other : Grip} {old new : Option (List ℕ)} → on_keys request ≡ Some (on.Passwd other old new false) → HasTicket request prior ticket → IsGivenNew request prior pass
+      by_client : IsSent prior (codes "NEW_PASSPHRASE") MAX_SECRET_LEN pass → NewAt pass prior None
+      by_cache : IsGivenNew rules kept request prior pass → NewAt pass prior None
+      at_prompt : {ticket : ℕ} → HasTicket rules kept request prior ticket → IsAccepted rules kept.options request prior pass → NewAt pass prior (Some ticket)
+      renewed : {ticket : ℕ} {other : Grip} {old new : Option (List ℕ)} → on_keys request ≡ Some (on.Passwd other old new false) → HasTicket rules kept request prior ticket → IsGivenNew rules kept request prior pass
           → NewAt pass prior (Some ticket)
+
+    abbrev MineAt : List ℕ → List (EventWith FurtherEvent) → Option ℕ → Type 0
+    MineAt pass prior held = IsMine prior × NewAt pass prior held
 
     new_stays_of : (pass : List ℕ) (prior more : List (EventWith FurtherEvent)) (held : Option ℕ) → NewAt pass prior held → NewAt pass (prior ++ more) held
     new_stays_of pass prior more held (by_client says) = by_client (sent_more more says)
-    new_stays_of pass prior more held (by_cache gave) = by_cache (given_more request more gave)
-    new_stays_of pass prior more held (at_prompt has accepted) = at_prompt (ticket_more request more has) (accepted_more request more accepted)
-    new_stays_of pass prior more held (renewed is has gave) = renewed is (ticket_more request more has) (given_more request more gave)
+    new_stays_of pass prior more held (by_cache gave) = by_cache (given_more more gave)
+    new_stays_of pass prior more held (at_prompt has accepted) = at_prompt (ticket_more more has) (accepted_more more accepted)
+    new_stays_of pass prior more held (renewed is has gave) = renewed is (ticket_more more has) (given_more more gave)
 
-    new_stays : (pass : List ℕ) → Stays (NewAt pass)
-    new_stays pass = record { of = new_stays_of pass }
+    mine_stays : {Pre : List (EventWith FurtherEvent) → Option ℕ → Type 0} → Stays Pre → Stays (λ prior held. IsMine prior × Pre prior held)
+    mine_stays stays = record { of = λ prior more held so. (about_more more so.0, stays.of prior more held so.1) }
 
-    put_new : (pass : List ℕ) (prior : List (EventWith FurtherEvent)) → NewAt pass prior None → StoresOwn request prior (put_key grip pass)
-    put_new pass prior (by_client says) = whose.sent (of_key about) says
-    put_new pass prior (by_cache gave) = whose.given_new (of_key about) gave
+    new_stays : (pass : List ℕ) → Stays (MineAt pass)
+    new_stays pass = mine_stays (record { of = new_stays_of pass })
 
-    close_new : (pass : List ℕ) (prior : List (EventWith FurtherEvent)) (ticket : ℕ) → NewAt pass prior (Some ticket) → StoresOwn request prior (Close ticket (Some pass))
-    close_new pass prior ticket (at_prompt has accepted) = whose.accepted has accepted
-    close_new pass prior ticket (renewed is has gave) = whose.changed is has gave
+    put_new : (pass : List ℕ) (prior : List (EventWith FurtherEvent)) → MineAt pass prior None → StoresOwn rules kept request prior (put_key grip pass)
+    put_new pass prior (mine, by_client says) = whose.sent (of_key mine) gives says
+    put_new pass prior (mine, by_cache gave) = whose.given_new (of_key mine) gave
+
+    close_new : (pass : List ℕ) (prior : List (EventWith FurtherEvent)) (ticket : ℕ) → MineAt pass prior (Some ticket) → StoresOwn rules kept request prior (Close ticket (Some pass))
+    close_new pass prior ticket (mine, at_prompt has accepted) = whose.accepted has accepted
+    close_new pass prior ticket (mine, renewed is has gave) = whose.changed is has gave
 
     keeps_of : (pass : List ℕ) (prior : List (EventWith FurtherEvent)) (before : Option ℕ) (events : List (EventWith FurtherEvent)) (result : Result (Unit {0}) Refusal) (after : Option ℕ) → KeepsNew grip pass before events result after
-        → Fit events → NewAt pass prior before → AreOwn request prior events × HoldsOf (λ done. Anything (prior ++ events) after) result
-    keeps_of pass prior None events result after turning.done fits pre = (((λ hands. put_new pass prior pre), tt), tt)
-    keeps_of pass prior None events result after (turning.interrupted why) fits pre = (((λ hands. put_new pass prior pre), tt), tt)
-    keeps_of pass prior (Some number) events result after (turning.closed turn) fits pre = (((λ hands. close_new pass prior number pre), tt), tt)
+        → Fit events → MineAt pass prior before → AreOwn Mine prior events × HoldsOf (λ done. Anything (prior ++ events) after) result
+    keeps_of pass prior None events result after (turning.done can) fits pre = (((λ hands. put_new pass prior pre), tt), tt)
+    keeps_of pass prior None events result after (turning.interrupted can why) fits pre = (((λ hands. put_new pass prior pre), tt), tt)
+    keeps_of pass prior (Some number) events result after (turning.closed turn can) fits pre = (((λ hands. close_new pass prior number pre), tt), tt)
 
-    keeps_new : (pass : List ℕ) → OwnSo request (NewAt pass) (KeepsNew grip pass) (λ done. Anything)
-    keeps_new pass = owns request (keeps_of pass)
+    keeps_new : (pass : List ℕ) → OwnSo Mine (MineAt pass) (KeepsNew grip pass) (λ done. Anything)
+    keeps_new pass = owns Mine (keeps_of pass)
 
     takes_new : (prior : List (EventWith FurtherEvent)) (before : Option ℕ) (events : List (EventWith FurtherEvent)) (result : Result (Unit {0}) Refusal) (after : Option ℕ) → TakesSeat grip before events result after
-        → Fit events → TicketAt mode.Ask prior before → AreOwn request prior events × HoldsOf (λ done. Seated (prior ++ events) after) result
-    takes_new prior None events result after turning.opened fits pre = (((λ hands. elim hands [ ]), tt), seated (has_ticket (by_seat about) (has_right prior here)))
-    takes_new prior None events result after (turning.interrupted why) fits pre = (((λ hands. elim hands [ ]), tt), tt)
-    takes_new prior (Some number) events result after chain.returns fits pre = (tt, subst (λ p. Seated p (Some number)) (sym (append-nil prior)) (seat_at pre))
+        → Fit events → IsMine prior × TicketAt mode.Ask prior before → AreOwn Mine prior events × HoldsOf (λ done. IsMine (prior ++ events) × Seated (prior ++ events) after) result
+    takes_new prior None events result after (turning.opened can) fits pre =
+        (((λ hands. elim hands [ ]), tt), (about_more _ pre.0, seated (has_ticket (by_seat (about_more _ pre.0)) (has_right prior here))))
+    takes_new prior None events result after (turning.interrupted can why) fits pre = (((λ hands. elim hands [ ]), tt), tt)
+    takes_new prior (Some number) events result after chain.returns fits pre = (tt, subst (λ p. IsMine p × Seated p (Some number)) (sym (append-nil prior)) (pre.0, seat_at pre.1))
       where
         seat_at : TicketAt mode.Ask prior (Some number) → Seated prior (Some number)
         seat_at (own_ticket is has) = seated has
 
-    module _ (rules : Rules) (options : OptionValues) where
-      prompts_new_of : (prior : List (EventWith FurtherEvent)) (before : Option ℕ) (events : List (EventWith FurtherEvent)) (result : Result (List ℕ) Refusal) (after : Option ℕ) → PromptsNew rules options grip before events result after
-          → Fit events → Seated prior before → AreOwn request prior events × HoldsOf (λ pass. NewAt pass (prior ++ events) after) result
-      prompts_new_of prior before events result after (passphrases.given {shown} spec is prompt) fits pre = (
-        quiet_are_own request prior shown (each_shown IsQuiet still_quiet (λ event. tt) prompt.in_session),
-        at_prompt (ticket_more request shown (seat_of pre)) (any prompt.asks prompt.in_session (stand_last prior shown)),
-      )
-      prompts_new_of prior before events result after (passphrases.refused {shown} spec is prompt refusal) fits pre = (quiet_are_own request prior shown (each_shown IsQuiet still_quiet (λ event. tt) prompt.in_session), tt)
+    prompts_new_of : (prior : List (EventWith FurtherEvent)) (before : Option ℕ) (events : List (EventWith FurtherEvent)) (result : Result (List ℕ) Refusal) (after : Option ℕ) → PromptsNew rules kept.options grip before events result after
+        → Fit events → IsMine prior × Seated prior before → AreOwn Mine prior events × HoldsOf (λ pass. MineAt pass (prior ++ events) after) result
+    prompts_new_of prior before events result after (passphrases.given {shown} spec is prompt) fits pre = (
+      quiet_are_own Mine prior shown (each_shown IsQuiet still_quiet (λ event. tt) prompt.in_session),
+      (about_more shown pre.0, at_prompt (ticket_more shown (seat_of pre.1)) (any takes (has_prompt prompt (stand_last prior shown)))),
+    )
+    prompts_new_of prior before events result after (passphrases.refused {shown} spec is prompt enough refusal) fits pre = (quiet_are_own Mine prior shown (each_shown IsQuiet still_quiet (λ event. tt) prompt.in_session), tt)
 
-      client_new : OwnSo request Unheld ClientNew (λ pass. NewAt pass)
-      unfolding ClientNew
-      client_new =
-          own_bind request (asks_client (codes "NEW_PASSPHRASE") MAX_SECRET_LEN unheld_stays) (λ pass. own_bind request (own_wanted request code.BadPass (not (length pass == 0)))
-          (λ some. own_returned request pass (λ prior held so. subst (NewAt pass prior) (sym so.0) (by_client so.1))))
+    client_new : OwnSo Mine (λ prior held. IsMine prior × Unheld prior held) ClientNew MineAt
+    unfolding ClientNew
+    client_new =
+        own_bind Mine (asks_client (codes "NEW_PASSPHRASE") MAX_SECRET_LEN (mine_stays unheld_stays)) (λ pass. own_bind Mine (own_wanted Mine code.BadPass (not (length pass == 0)))
+        (λ some. own_returned Mine pass (λ prior held so. (so.0.0, subst (NewAt pass prior) (sym so.0.1) (by_client so.1)))))
 
-      new_here : (way : PinMode) → OwnSo request (TicketAt way) (passphrases.new_by rules options grip way) (λ pass. NewAt pass)
-      new_here mode.Ask = own_bind request (owns request takes_new) (λ seated_so. owns request prompts_new_of)
-      new_here mode.Cancel = own_refused request (Agent code.Cancelled)
-      new_here mode.Error = own_refused request (Agent code.NoPinentry)
-      new_here mode.Loopback = own_where request loopback_unheld client_new
+    new_here : (way : PinMode) → OwnSo Mine (λ prior held. IsMine prior × TicketAt way prior held) (passphrases.new_by rules kept.options grip way) MineAt
+    new_here mode.Ask = own_bind Mine (owns Mine takes_new) (λ seated_so. owns Mine prompts_new_of)
+    new_here mode.Cancel = own_refused Mine (Agent code.Cancelled)
+    new_here mode.Error = own_refused Mine (Agent code.NoPinentry)
+    new_here mode.Loopback = own_where Mine (λ prior held so. (so.0, loopback_unheld prior held so.1)) client_new
 
-      -- ---- a key's new file
+    -- ---- a key's new file
 
-      rewrites_file : (file : List ℕ) (key : Key) (pass : List ℕ) → OwnSo request (NewAt pass) (RewritesFile rules options grip file key pass) (λ done. Anything)
-      unfolding RewritesFile
-      rewrites_file file key pass =
-          own_bind request (quietly request (new_stays pass) (quiet_keeps (work.draws IsQuiet tt (λ draw. tt)))) (λ drawn. own_bind request (quietly request (new_stays pass) (quiet_keeps (work.protects IsQuiet tt)))
-          (λ list. own_bind request (quietly request (new_stays pass) (quiet_keeps (work.rewrites IsQuiet tt)))
-          (λ new_file. own_bind request (quietly request (new_stays pass) (quiet_keeps (work.replaces IsQuiet tt (λ answer. tt)))) (λ replaced. keeps_new pass))))
+    rewrites_file : (file : List ℕ) (key : Key) (pass : List ℕ) → OwnSo Mine (MineAt pass) (RewritesFile rules kept.options grip file key pass) (λ done. Anything)
+    unfolding RewritesFile
+    rewrites_file file key pass =
+        own_bind Mine (quietly Mine (new_stays pass) (quiet_keeps (work.draws IsQuiet tt (λ draw. tt)))) (λ drawn. own_bind Mine (quietly Mine (new_stays pass) (quiet_keeps (work.protects IsQuiet tt)))
+        (λ list. own_bind Mine (quietly Mine (new_stays pass) (quiet_keeps (work.rewrites IsQuiet tt)))
+        (λ new_file. own_bind Mine (quietly Mine (new_stays pass) (quiet_keeps (work.replaces IsQuiet tt (λ answer. tt)))) (λ replaced. keeps_new pass))))
 
-      module _ {old new : Option (List ℕ)} (passwd : on_keys request ≡ Some (on.Passwd grip old new false)) where
-        renewed_at : (pass : List ℕ) (prior : List (EventWith FurtherEvent)) (held : Option ℕ) → TicketAt options.mode prior held → IsGivenNew request prior pass → NewAt pass prior held
-        renewed_at pass prior held no_ticket gave = by_cache gave
-        renewed_at pass prior held (own_ticket is has) gave = renewed passwd has gave
+    module _ {old new : Option (List ℕ)} (passwd : on_keys request ≡ Some (on.Passwd grip old new false)) where
+      renewed_at : (pass : List ℕ) (prior : List (EventWith FurtherEvent)) (held : Option ℕ) → TicketAt kept.options.mode prior held → IsGivenNew rules kept request prior pass → NewAt pass prior held
+      renewed_at pass prior held no_ticket gave = by_cache gave
+      renewed_at pass prior held (own_ticket is has) gave = renewed passwd has gave
 
-        after_new : (found : Option (List ℕ)) → OwnSo request (λ prior held. TicketAt options.mode prior held × FoundNew request found prior) (or_else found (passphrases.new_by rules options grip options.mode)) (λ pass. NewAt pass)
-        after_new None = own_where request (λ prior held so. so.0) (new_here options.mode)
-        after_new (Some pass) = own_returned request pass (λ prior held so. renewed_at pass prior held so.0 so.1)
+      abbrev ToRenew : List (EventWith FurtherEvent) → Option ℕ → Type 0
+      ToRenew prior held = IsMine prior × TicketAt kept.options.mode prior held
 
-        names_new : (nonce : List ℕ) → new ≡ Some nonce → NamesNew request nonce
-        names_new nonce is = changes (subst (λ n. on_keys request ≡ Some (on.Passwd grip old n false)) is passwd)
+      after_new : (found : Option (List ℕ)) → OwnSo Mine (λ prior held. ToRenew prior held × FoundNew rules kept request found prior) (or_else found (passphrases.new_by rules kept.options grip kept.options.mode)) MineAt
+      after_new None = own_where Mine (λ prior held so. so.0) (new_here kept.options.mode)
+      after_new (Some pass) = own_returned Mine pass (λ prior held so. (so.0.0, renewed_at pass prior held so.0.1 so.1))
 
-        changes_opened : (file : List ℕ) (key : Key) → OwnSo request (TicketAt options.mode) (ChangesOpened rules options grip new file key) (λ done. Anything)
-        changes_opened file key =
-            own_bind request (quietly request (ticket_stays options.mode) (quiet_keeps (work.is_short IsQuiet tt)))
-            (λ short. own_bind request (own_bind request (quiet_with request (ticket_stays options.mode) (quiet.new_nonce_quiet request new names_new)) after_new) (λ pass. rewrites_file file key pass))
+      names_new : (nonce : List ℕ) → new ≡ Some nonce → NamesNew request nonce
+      names_new nonce is = changes (subst (λ n. on_keys request ≡ Some (on.Passwd grip old n false)) is passwd)
 
-      module _ {force : Bool} {nonce : Option (List ℕ)} (brings_it : on_keys request ≡ Some (on.ImportKey force nonce)) where
-        names_brought : (named_so : List ℕ) → nonce ≡ Some named_so → NamesNew request named_so
-        names_brought named_so is = brings (subst (λ n. on_keys request ≡ Some (on.ImportKey force n)) is brings_it)
+      changes_opened : (file : List ℕ) (key : Key) → OwnSo Mine ToRenew (ChangesOpened rules kept.options grip new file key) (λ done. Anything)
+      changes_opened file key =
+          let stays : Stays ToRenew = mine_stays (ticket_stays kept.options.mode) in
+          own_bind Mine (quietly Mine stays (quiet_keeps (work.is_short IsQuiet tt)))
+          (λ short. own_bind Mine (own_bind Mine (quiet_with Mine stays (quiet.new_nonce_quiet rules kept request new names_new)) after_new) (λ pass. rewrites_file file key pass))
 
-        after_found : (found : Option (List ℕ)) → OwnSo request (λ prior held. Unheld prior held × FoundNew request found prior) (or_else found (passphrases.new_by rules options grip options.mode)) (λ pass. NewAt pass)
-        after_found None = own_where request (λ prior held so. unheld_ticket options.mode prior held so.0) (new_here options.mode)
-        after_found (Some pass) = own_returned request pass (λ prior held so. subst (NewAt pass prior) (sym so.0) (by_cache so.1))
+    module _ {force : Bool} {nonce : Option (List ℕ)} (brings_it : on_keys request ≡ Some (on.ImportKey force nonce)) where
+      abbrev ToProtect : List (EventWith FurtherEvent) → Option ℕ → Type 0
+      ToProtect prior held = IsMine prior × Unheld prior held
 
-        found_or_new : OwnSo request Unheld (FoundOrNew rules options nonce grip) (λ pass. NewAt pass)
-        found_or_new = own_bind request (quiet_with request unheld_stays (quiet.looks_over_quiet request nonce names_brought)) after_found
+      names_brought : (named_so : List ℕ) → nonce ≡ Some named_so → NamesNew request named_so
+      names_brought named_so is = brings (subst (λ n. on_keys request ≡ Some (on.ImportKey force n)) is brings_it)
 
-        nonce_own : (pass drawn : List ℕ) (prior : List (EventWith FurtherEvent)) (held : Option ℕ) → NewAt pass prior held → IsDrawn prior 32 drawn → StoresOwn request prior (Put (hex_text (drop 20 drawn)) Nonce Default pass)
-        nonce_own pass drawn prior held (by_client says) has = whose.sent (by_command (imported brings_it (drop 20 drawn))) says
-        nonce_own pass drawn prior held (by_cache gave) has = whose.given_new (by_command (imported brings_it (drop 20 drawn))) gave
-        nonce_own pass drawn prior held (at_prompt ticket accepted) has = whose.under_nonce brings_it has accepted
-        nonce_own pass drawn prior held (renewed is ticket gave) has = whose.given_new (by_command (imported brings_it (drop 20 drawn))) gave
+      after_found : (found : Option (List ℕ)) → OwnSo Mine (λ prior held. ToProtect prior held × FoundNew rules kept request found prior) (or_else found (passphrases.new_by rules kept.options grip kept.options.mode)) MineAt
+      after_found None = own_where Mine (λ prior held so. (so.0.0, unheld_ticket kept.options.mode prior held so.0.1)) (new_here kept.options.mode)
+      after_found (Some pass) = own_returned Mine pass (λ prior held so. (so.0.0, subst (NewAt pass prior) (sym so.0.1) (by_cache so.1)))
 
-        nonce_of : (pass drawn : List ℕ) (prior : List (EventWith FurtherEvent)) (before : Option ℕ) (events : List (EventWith FurtherEvent)) (result : Result (Unit {0}) Refusal) (after : Option ℕ)
-            → Changes (Put (hex_text (drop 20 drawn)) Nonce Default pass) before events result after → Fit events → NewAt pass prior before × IsDrawn prior 32 drawn
-            → AreOwn request prior events × HoldsOf (λ done. NewAt pass (prior ++ events) after) result
-        nonce_of pass drawn prior before events result after turning.done fits pre = (((λ hands. nonce_own pass drawn prior before pre.0 pre.1), tt), new_stays_of pass prior _ before pre.0)
-        nonce_of pass drawn prior before events result after (turning.interrupted why) fits pre = (((λ hands. nonce_own pass drawn prior before pre.0 pre.1), tt), tt)
+      found_or_new : OwnSo Mine ToProtect (FoundOrNew rules kept.options nonce grip) MineAt
+      found_or_new = own_bind Mine (quiet_with Mine (mine_stays unheld_stays) (quiet.looks_over_quiet rules kept request nonce names_brought)) after_found
 
-        drawn_stays : (pass drawn : List ℕ) → Stays (λ prior held. NewAt pass prior held × IsDrawn prior 32 drawn)
-        drawn_stays pass drawn = record { of = λ prior more held so. (new_stays_of pass prior more held so.0, drawn_more more so.1) }
+      nonce_own : (pass drawn : List ℕ) (prior : List (EventWith FurtherEvent)) (held : Option ℕ) → NewAt pass prior held → IsDrawn prior 32 drawn
+          → StoresOwn rules kept request prior (Put (hex_text (drop 20 drawn)) Nonce Default pass)
+      nonce_own pass drawn prior held (by_client says) has = whose.sent (by_command (imported brings_it (nonce_of has))) gives says
+      nonce_own pass drawn prior held (by_cache gave) has = whose.given_new (by_command (imported brings_it (nonce_of has))) gave
+      nonce_own pass drawn prior held (at_prompt ticket accepted) has = whose.under_nonce brings_it (nonce_of has) accepted
+      nonce_own pass drawn prior held (renewed is ticket gave) has = whose.given_new (by_command (imported brings_it (nonce_of has))) gave
 
-        stores_key : (count : ℕ) (key : Key) (pass : List ℕ) → OwnSo request (NewAt pass) (StoresKey count key grip pass) (λ done. Anything)
-        stores_key count key pass =
-            own_bind request (quiet_with request (new_stays pass) (quiet.draws_quiet 32)) (λ drawn. own_bind request (quietly request (drawn_stays pass drawn) (quiet_keeps (work.protects IsQuiet tt)))
-            (λ file. own_bind request (owns request (nonce_of pass drawn)) (λ cached. own_bind request (quietly request (new_stays pass) (quiet_keeps (work.replaces IsQuiet tt (λ answer. tt))))
-            (λ replaced. own_bind request (keeps_new pass) (λ kept. own_returned request (drop 20 drawn) (λ prior held so. tt))))))
+      put_drawn_of : (pass drawn : List ℕ) (prior : List (EventWith FurtherEvent)) (before : Option ℕ) (events : List (EventWith FurtherEvent)) (result : Result (Unit {0}) Refusal) (after : Option ℕ)
+          → Changes (Put (hex_text (drop 20 drawn)) Nonce Default pass) before events result after → Fit events → MineAt pass prior before × IsDrawn prior 32 drawn
+          → AreOwn Mine prior events × HoldsOf (λ done. MineAt pass (prior ++ events) after) result
+      put_drawn_of pass drawn prior before events result after (turning.done can) fits pre =
+          (((λ hands. nonce_own pass drawn prior before pre.0.1 pre.1), tt), (about_more _ pre.0.0, new_stays_of pass prior _ before pre.0.1))
+      put_drawn_of pass drawn prior before events result after (turning.interrupted can why) fits pre = (((λ hands. nonce_own pass drawn prior before pre.0.1 pre.1), tt), tt)
+
+      drawn_stays : (pass drawn : List ℕ) → Stays (λ prior held. MineAt pass prior held × IsDrawn prior 32 drawn)
+      drawn_stays pass drawn = record { of = λ prior more held so. ((new_stays pass).of prior more held so.0, drawn_more more so.1) }
+
+      stores_key : (count : ℕ) (key : Key) (pass : List ℕ) → OwnSo Mine (MineAt pass) (StoresKey count key grip pass) (λ done. Anything)
+      stores_key count key pass =
+          own_bind Mine (quiet_with Mine (new_stays pass) (quiet.draws_quiet 32)) (λ drawn. own_bind Mine (quietly Mine (drawn_stays pass drawn) (quiet_keeps (work.protects IsQuiet tt)))
+          (λ file. own_bind Mine (owns Mine (put_drawn_of pass drawn)) (λ cached. own_bind Mine (quietly Mine (new_stays pass) (quiet_keeps (work.replaces IsQuiet tt (λ answer. tt))))
+          (λ replaced. own_bind Mine (keeps_new pass) (λ kept_so. own_returned Mine (drop 20 drawn) (λ prior held so. tt))))))
 
   -- ---- requests
 
-  receives_key : (wrap : List ℕ) → OwnSo request Unheld (ReceivesKey wrap) (λ key. Unheld)
-  receives_key wrap =
-      own_bind request (quietly request unheld_stays (quiet_keeps (work.writes IsQuiet (λ text. tt) tt)))
-      (λ told. own_bind request (quietly request unheld_stays (quiet_keeps (work.asks_key_data IsQuiet (λ inquired. tt) tt))) (λ wrapped. quietly request unheld_stays (quiet_keeps (work.unwraps IsQuiet tt))))
+  -- the key that came in
+  abbrev Brought : Key → List (EventWith FurtherEvent) → Option ℕ → Type 0
+  Brought key prior held = Unheld prior held × KeyDataSays prior rules kept request (Ok key)
 
-  is_free : (force : Bool) (grip : Grip) → OwnSo request Unheld (IsFree force grip) (λ free. Unheld)
-  is_free true grip = own_returned request tt (λ prior held so. so)
-  is_free false grip = own_bind request (quietly request unheld_stays (quiet_keeps (work.finds IsQuiet tt (λ answer. tt)))) (λ there. own_wanted request code.FileExists (not there))
+  brought_stays : (key : Key) → Stays (Brought key)
+  brought_stays key = record { of = λ prior more held so. (so.0, key_data_more more so.1) }
 
-  module _ (rules : Rules) (options : OptionValues) (wraps : WrapKeys) where
-    export_key : (grip : Grip) → Unlocks request grip → (id : Option (List ℕ)) → OwnSo request Unheld (ExportKeyReplies rules options wraps grip id) (λ reply. Anything)
-    unfolding ExportKeyReplies
-    export_key grip unlocks id =
-        own_bind request (own_needed request code.Parameter wraps.export) (λ wrap. own_bind request (quiet_with request unheld_stays (quiet.reads_file_quiet grip))
-        (λ file. own_bind request (old_here rules options grip unlocks id file.key file.key.is_clear) (λ opened. own_bind request (closes_own rules options grip unlocks options.mode opened.by)
-        (λ closed. own_bind request (quietly request any_stays (quiet_keeps (work.wraps_key IsQuiet tt))) (λ wrapped. own_bind request (quietly request any_stays (quiet_keeps (work.told IsQuiet tt)))
-        (λ text. own_returned request _ (λ prior held so. tt)))))))
+  sent_stays : (wrapped : List ℕ) → Stays (λ prior held. Unheld prior held × IsSent prior (codes "KEYDATA") max_key_data wrapped)
+  sent_stays wrapped = record { of = λ prior more held so. (so.0, sent_more more so.1) }
 
-    verify : (grip : Grip) → Unlocks request grip → OwnSo request Unheld (VerifyReplies rules options wraps grip) (λ reply. Anything)
-    unfolding VerifyReplies
-    verify grip unlocks =
-        own_bind request (quiet_with request unheld_stays (quiet.reads_file_quiet grip)) (λ file. own_bind request (verified_here rules options grip unlocks file.key file.key.is_clear)
-        (λ opened. own_bind request (closes_own rules options grip unlocks options.mode opened.by) (λ closed. own_returned request _ (λ prior held so. tt))))
+  receives_key : (wrap : List ℕ) → kept.wraps.import ≡ Some wrap → OwnSo Mine Unheld (ReceivesKey wrap) Brought
+  receives_key wrap drawn =
+      own_bind Mine (quietly Mine unheld_stays (quiet_keeps (work.writes IsQuiet (λ text. tt) tt)))
+      (λ told. own_bind Mine (quiet_with Mine unheld_stays quiet.key_data_quiet)
+      (λ wrapped. own_weaker Mine (quiet_with Mine (sent_stays wrapped) (quiet.unwraps_quiet wrap wrapped)) (λ key prior held so. (so.0.0, data_says drawn so.0.1 so.1))))
 
-    passwd : (grip : Grip) {old new : Option (List ℕ)} → on_keys request ≡ Some (on.Passwd grip old new false) → OwnSo request Unheld (PasswdReplies rules options wraps grip old new) (λ reply. Anything)
-    unfolding PasswdReplies
-    passwd grip {old} {new} is =
-        let unlocks : Unlocks request grip = causes.changes is in
-        own_bind request (quiet_with request unheld_stays (quiet.reads_file_quiet grip)) (λ file. own_bind request (old_here rules options grip unlocks old file.key file.key.is_clear)
-        (λ opened. own_bind request (own_where request (opened_ticket rules options grip unlocks options.mode opened.by) (changes_opened grip (named unlocks) rules options is file.bytes opened.key))
-        (λ changed_so. own_returned request _ (λ prior held so. tt))))
+  is_free : {Pre : List (EventWith FurtherEvent) → Option ℕ → Type 0} → Stays Pre → (force : Bool) (grip : Grip) → OwnSo Mine Pre (IsFree force grip) (λ free. Pre)
+  is_free stays true grip = own_returned Mine tt (λ prior held so. so)
+  is_free stays false grip = own_bind Mine (quietly Mine stays (quiet_keeps (work.finds IsQuiet tt (λ answer. tt)))) (λ there. own_wanted Mine code.FileExists (not there))
 
-    import_key : (force : Bool) (nonce : Option (List ℕ)) → on_keys request ≡ Some (on.ImportKey force nonce) → OwnSo request Unheld (ImportKeyReplies rules options wraps force nonce) (λ reply. Anything)
-    unfolding ImportKeyReplies
-    import_key force nonce is =
-        own_bind request (own_needed request code.Parameter wraps.import) (λ wrap. own_bind request (receives_key wrap) (λ key. own_bind request (quietly request unheld_stays (quiet_keeps (work.names_key IsQuiet tt)))
-        (λ grip. own_bind request (is_free force grip) (λ free_so. own_bind request (found_or_new grip (brought is) rules options is)
-        (λ pass. own_bind request (stores_key grip (brought is) rules options is options.s2k_count key pass) (λ cache_nonce. own_returned request _ (λ prior held so. tt)))))))
+  export_key : (grip : Grip) → Unlocks request grip → KeepsOld request grip → (id : Option (List ℕ)) → OwnSo Mine Unheld (ExportKeyReplies rules kept.options kept.wraps grip id) (λ reply. Anything)
+  unfolding ExportKeyReplies
+  export_key grip unlocks keeps id =
+      own_bind Mine (own_needed Mine code.Parameter kept.wraps.export) (λ wrap. own_bind Mine (quiet_with Mine unheld_stays (quiet.reads_file_quiet grip))
+      (λ file. own_bind Mine (old_here grip unlocks id file.key file.key.is_clear) (λ opened. own_bind Mine (closes_own grip unlocks keeps kept.options.mode opened.by)
+      (λ closed. own_bind Mine (quietly Mine any_stays (quiet_keeps (work.wraps_key IsQuiet tt))) (λ wrapped. own_bind Mine (quietly Mine any_stays (quiet_keeps (work.told IsQuiet tt)))
+      (λ text. own_returned Mine _ (λ prior held so. tt)))))))
 
-    delete_agrees : (grip : Grip) (way : PinMode) (force : Bool) → EachSo IsQuiet (Consents rules (record options { mode = way }) force grip)
-    delete_agrees grip way true = each_returned IsQuiet tt
-    delete_agrees grip mode.Ask false = each_bind IsQuiet (each_seats IsQuiet (λ turn hands. elim hands [ ])) (λ seated_so. agrees_to IsQuiet still_quiet (λ event. tt) rules (record options { mode = mode.Ask }) _)
-    delete_agrees grip mode.Cancel false = each_refused IsQuiet (Agent code.Cancelled)
-    delete_agrees grip mode.Error false = each_refused IsQuiet (Agent code.NoPinentry)
-    delete_agrees grip mode.Loopback false = each_refused IsQuiet (Agent code.NoPinentry)
+  verify : (grip : Grip) → Unlocks request grip → KeepsOld request grip → OwnSo Mine Unheld (VerifyReplies rules kept.options kept.wraps grip) (λ reply. Anything)
+  unfolding VerifyReplies
+  verify grip unlocks keeps =
+      own_bind Mine (quiet_with Mine unheld_stays (quiet.reads_file_quiet grip)) (λ file. own_bind Mine (verified_here grip unlocks file.key file.key.is_clear)
+      (λ opened. own_bind Mine (closes_own grip unlocks keeps kept.options.mode opened.by) (λ closed. own_returned Mine _ (λ prior held so. tt))))
 
-    quiet_have : (grips : List Grip) → EachSo IsQuiet (HaveKeyReplies rules options wraps grips)
-    unfolding HaveKeyReplies
-    quiet_have grips = each_bind IsQuiet (has_one IsQuiet still_quiet grips) (λ one. each_returned IsQuiet _)
+  passwd : (grip : Grip) {old new : Option (List ℕ)} → on_keys request ≡ Some (on.Passwd grip old new false) → OwnSo Mine Unheld (PasswdReplies rules kept.options kept.wraps grip old new) (λ reply. Anything)
+  unfolding PasswdReplies
+  passwd grip {old} {new} is =
+      let unlocks : Unlocks request grip = causes.changes is in
+      own_bind Mine (quiet_with Mine unheld_stays (quiet.reads_file_quiet grip)) (λ file. own_bind Mine (old_here grip unlocks old file.key file.key.is_clear)
+      (λ opened. own_bind Mine (own_where Mine (λ prior held so. (named unlocks, opened_ticket grip unlocks kept.options.mode opened.by prior held so)) (changes_opened grip (for_change is) (of_new is) is file.bytes opened.key))
+      (λ changed_so. own_returned Mine _ (λ prior held so. tt))))
 
-    quiet_info : (grip : Grip) → EachSo IsQuiet (KeyInfoReplies rules options wraps grip)
-    unfolding KeyInfoReplies
-    quiet_info grip =
-        each_bind IsQuiet (reads_file IsQuiet still_quiet grip) (λ file. each_bind IsQuiet (tells_info IsQuiet still_quiet (λ key turn hands. elim hands [ ]) grip file.key) (λ line. each_returned IsQuiet _))
+  import_key : (force : Bool) (nonce : Option (List ℕ)) → on_keys request ≡ Some (on.ImportKey force nonce) → OwnSo Mine Unheld (ImportKeyReplies rules kept.options kept.wraps force nonce) (λ reply. Anything)
+  unfolding ImportKeyReplies
+  import_key force id is =
+      own_bind Mine (own_there Mine code.Parameter kept.wraps.import) (λ wrap. own_bind Mine (receives_at wrap) (λ key. own_bind Mine (names_mine key)
+      (λ grip. own_bind Mine (is_free (mine_stays grip (for_import is) (of_import is) unheld_stays) force grip) (λ free_so. own_bind Mine (found_or_new grip (for_import is) (of_import is) is)
+      (λ pass. own_bind Mine (stores_key grip (for_import is) (of_import is) is kept.options.s2k_count key pass) (λ cache_nonce. own_returned Mine _ (λ prior held so. tt)))))))
+    where
+      receives_at : (wrap : List ℕ) → OwnSo Mine (λ prior held. Unheld prior held × (kept.wraps.import ≡ Some wrap)) (ReceivesKey wrap) Brought
+      receives_at wrap = record { of = λ before events result after does. record { so = λ prior fits pre. ((receives_key wrap pre.1).of before events result after does).so prior fits pre.0 } }
 
-    quiet_list : EachSo IsQuiet (ListKeysReplies rules options wraps)
-    unfolding ListKeysReplies
-    quiet_list =
-        each_bind IsQuiet (lists IsQuiet still_quiet) (λ grips. each_bind IsQuiet (writes_infos IsQuiet still_quiet (λ key turn hands. elim hands [ ]) grips) (λ written. each_returned IsQuiet _))
+      names_mine : (key : Key) → OwnSo Mine (Brought key) (NamesKey key) (λ grip prior held. IsAbout rules kept request prior grip × Unheld prior held)
+      names_mine key = own_weaker Mine (quiet_with Mine (brought_stays key) (quiet.names_quiet key)) (λ grip prior held so. (brought is so.0.1 so.1, so.0.0))
 
-    quiet_wrap : (way : Direction) → EachSo IsQuiet (KeyWrapReplies rules options wraps way)
-    unfolding KeyWrapReplies
-    quiet_wrap way =
-        each_bind IsQuiet (each_otherwise IsQuiet (wrap_key way wraps) (draws IsQuiet still_quiet 16)) (λ key. each_bind IsQuiet (told IsQuiet still_quiet key) (λ text. each_returned IsQuiet _))
+  delete_agrees : (grip : Grip) (way : PinMode) (force : Bool) → EachSo IsQuiet (Consents rules (record kept.options { mode = way }) force grip)
+  delete_agrees grip way true = each_returned IsQuiet tt
+  delete_agrees grip mode.Ask false = each_bind IsQuiet (each_seats IsQuiet (λ turn hands. elim hands [ ])) (λ seated_so. agrees_to IsQuiet still_quiet (λ event. tt) rules (record kept.options { mode = mode.Ask }) _)
+  delete_agrees grip mode.Cancel false = each_refused IsQuiet (Agent code.Cancelled)
+  delete_agrees grip mode.Error false = each_refused IsQuiet (Agent code.NoPinentry)
+  delete_agrees grip mode.Loopback false = each_refused IsQuiet (Agent code.NoPinentry)
 
-    quiet_delete : (force : Bool) (grip : Grip) → EachSo IsQuiet (DeleteKeyReplies rules options wraps force grip)
-    unfolding DeleteKeyReplies
-    quiet_delete force grip =
-        each_bind IsQuiet (finds IsQuiet still_quiet grip) (λ there. each_bind IsQuiet (each_wanted IsQuiet code.NoSecKey there) (λ some. each_bind IsQuiet (delete_agrees grip options.mode force)
-        (λ agreed. each_bind IsQuiet (removes IsQuiet still_quiet grip) (λ removed. each_bind IsQuiet (each_changes IsQuiet (λ turn hands. elim hands [ ])) (λ cleared. each_returned IsQuiet _)))))
+  quiet_have : (grips : List Grip) → EachSo IsQuiet (HaveKeyReplies rules kept.options kept.wraps grips)
+  unfolding HaveKeyReplies
+  quiet_have grips = each_bind IsQuiet (has_one IsQuiet still_quiet grips) (λ one. each_returned IsQuiet _)
 
-    replies : (asked : KeyRequest) → on_keys request ≡ Some asked → OwnSo request Unheld (KeyReplies rules options wraps asked) (λ reply. Anything)
-    replies (on.HaveKey grips) is = each_quiet request (quiet_have grips)
-    replies (on.KeyInfo grip) is = each_quiet request (quiet_info grip)
-    replies on.ListKeys is = each_quiet request quiet_list
-    replies (on.KeyWrap way) is = each_quiet request (quiet_wrap way)
-    replies (on.ImportKey force nonce) is = import_key force nonce is
-    replies (on.ExportKey grip id) is = export_key grip (causes.exports is) id
-    replies (on.Passwd grip old new true) is = verify grip (causes.changes is)
-    replies (on.Passwd grip old new false) is = passwd grip is
-    replies (on.DeleteKey grip force) is = each_quiet request (quiet_delete force grip)
-    replies (on.Bad why) is = own_refused request (Agent why)
+  quiet_info : (grip : Grip) → EachSo IsQuiet (KeyInfoReplies rules kept.options kept.wraps grip)
+  unfolding KeyInfoReplies
+  quiet_info grip =
+      each_bind IsQuiet (reads_file IsQuiet still_quiet grip) (λ file. each_bind IsQuiet (tells_info IsQuiet still_quiet (λ key turn hands. elim hands [ ]) grip file.key) (λ line. each_returned IsQuiet _))
 
-    -- ---- exchanges
+  quiet_list : EachSo IsQuiet (ListKeysReplies rules kept.options kept.wraps)
+  unfolding ListKeysReplies
+  quiet_list =
+      each_bind IsQuiet (lists IsQuiet still_quiet) (λ grips. each_bind IsQuiet (writes_infos IsQuiet still_quiet (λ key turn hands. elim hands [ ]) grips) (λ written. each_returned IsQuiet _))
 
-    refusal_quiet : (line : Option (List ℕ)) → AllByRecursion IsQuiet (said_last {T = session_lines.Took} {O = session_lines.Outcome} {F = FurtherEvent} line)
-    refusal_quiet None = tt
-    refusal_quiet (Some line) = (tt, tt)
+  quiet_wrap : (way : Direction) → EachSo IsQuiet (KeyWrapReplies rules kept.options kept.wraps way)
+  unfolding KeyWrapReplies
+  quiet_wrap way =
+      each_bind IsQuiet (each_otherwise IsQuiet (wrap_key way kept.wraps) (draws IsQuiet still_quiet 16)) (λ key. each_bind IsQuiet (told IsQuiet still_quiet key) (λ text. each_returned IsQuiet _))
 
-    back_quiet : {held : Option ℕ} {back : List (EventWith FurtherEvent)} → Closes None held back (Ok tt) None → AllByRecursion IsQuiet back
-    back_quiet turning.unheld = tt
-    back_quiet (turning.closed turn) = (kept_none _, tt)
+  quiet_delete : (force : Bool) (grip : Grip) → EachSo IsQuiet (DeleteKeyReplies rules kept.options kept.wraps force grip)
+  unfolding DeleteKeyReplies
+  quiet_delete force grip =
+      each_bind IsQuiet (finds IsQuiet still_quiet grip) (λ there. each_bind IsQuiet (each_wanted IsQuiet code.NoSecKey there) (λ some. each_bind IsQuiet (delete_agrees grip kept.options.mode force)
+      (λ agreed. each_bind IsQuiet (removes IsQuiet still_quiet grip) (λ removed. each_bind IsQuiet (each_changes IsQuiet (λ turn hands. elim hands [ ])) (λ cleared. each_returned IsQuiet _)))))
 
-    ended_own : (events back last : List (EventWith FurtherEvent)) → AreOwn request [] events → AllByRecursion IsQuiet back → AllByRecursion IsQuiet last → AreOwn request [] (events ++ (back ++ last))
-    ended_own events back last own back_so last_so = own_then request [] events (back ++ last) own (quiet_are_own request events (back ++ last) (each_append IsQuiet back last back_so last_so))
+  replies : (asked : KeyRequest) → on_keys request ≡ Some asked → OwnSo Mine Unheld (KeyReplies rules kept.options kept.wraps asked) (λ reply. Anything)
+  replies (on.HaveKey grips) is = each_quiet Mine (quiet_have grips)
+  replies (on.KeyInfo grip) is = each_quiet Mine (quiet_info grip)
+  replies on.ListKeys is = each_quiet Mine quiet_list
+  replies (on.KeyWrap way) is = each_quiet Mine (quiet_wrap way)
+  replies (on.ImportKey force nonce) is = import_key force nonce is
+  replies (on.ExportKey grip id) is = export_key grip (causes.exports is) (exports is) id
+  replies (on.Passwd grip old new true) is = verify grip (causes.changes is) (verifies is)
+  replies (on.Passwd grip old new false) is = passwd grip is
+  replies (on.DeleteKey grip force) is = each_quiet Mine (quiet_delete force grip)
+  replies (on.Bad why) is = own_refused Mine (Agent why)
 
-    pub key_own : (asked : KeyRequest) → on_keys request ≡ Some asked → {events : List (EventWith FurtherEvent)} {after : WrapKeys} {went : KeyWent} → KeyExchange rules options wraps asked events after went → Fit events
-        → AreOwn request [] events
-    key_own asked is (part_exchanges.answered events held reply {back} does closes_so) fits =
-        ended_own events back (Sent reply.text ∷ []) (((replies asked is).of None events (Ok reply) held does).so [] (each_left FitsTurn events _ fits) refl).0 (back_quiet closes_so) (tt, tt)
-    key_own asked is (part_exchanges.refused events held why {back} does closes_so) fits =
-        ended_own events back (refusal_events why) (((replies asked is).of None events (Err why) held does).so [] (each_left FitsTurn events _ fits) refl).0 (back_quiet closes_so) (refusal_quiet (refusal_line why))
+  -- ---- exchanges
+
+  refusal_quiet : (line : Option (List ℕ)) → AllByRecursion IsQuiet (said_last {T = session_lines.Took} {O = session_lines.Outcome} {F = FurtherEvent} line)
+  refusal_quiet None = tt
+  refusal_quiet (Some line) = (tt, tt)
+
+  back_quiet : {held : Option ℕ} {back : List (EventWith FurtherEvent)} → Closes None held back (Ok tt) None → AllByRecursion IsQuiet back
+  back_quiet turning.unheld = tt
+  back_quiet (turning.closed turn can) = (kept_none _, tt)
+
+  ended_own : (events back last : List (EventWith FurtherEvent)) → AreOwn Mine [] events → AllByRecursion IsQuiet back → AllByRecursion IsQuiet last → AreOwn Mine [] (events ++ (back ++ last))
+  ended_own events back last own back_so last_so = own_then Mine [] events (back ++ last) own (quiet_are_own Mine events (back ++ last) (each_append IsQuiet back last back_so last_so))
+
+  pub key_own : (asked : KeyRequest) → on_keys request ≡ Some asked → {events : List (EventWith FurtherEvent)} {after : WrapKeys} {went : KeyWent} → KeyExchange rules kept.options kept.wraps asked events after went → Fit events
+      → AreOwn Mine [] events
+  key_own asked is (part_exchanges.answered events held reply {back} does closes_so) fits =
+      ended_own events back (Sent reply.text ∷ []) (((replies asked is).of None events (Ok reply) held does).so [] (each_left FitsTurn events _ fits) refl).0 (back_quiet closes_so) (tt, tt)
+  key_own asked is (part_exchanges.refused events held why {back} does closes_so) fits =
+      ended_own events back (refusal_events why) (((replies asked is).of None events (Err why) held does).so [] (each_left FitsTurn events _ fits) refl).0 (back_quiet closes_so) (refusal_quiet (refusal_line why))

@@ -17,6 +17,7 @@ use Rattle.session_client.specs.Refusals.{refusal_code}
 use Rattle.session_client.specs.declared.code.Code.{Code}
 use Rattle.session_client.specs.declared.refusal.Refusal.{Refusal}
 use Rattle.session_client.specs.declared.refusal.Refusal.TheVariants.{Agent, Pinentry, Client}
+use Rattle.session_options.specs.OptionValues.{OptionValues}
 use Rattle.session_options.specs.declared.rules.Rules.{Rules}
 use Rattle.agent_commands.specs.Events.{EventWith}
 use Rattle.agent_commands.specs.declared.request.Request.{Request}
@@ -84,22 +85,23 @@ module _ (rules : Rules) where
 
   pub back_plain : {held : Option ℕ} {back : List (EventWith FurtherEvent)} → Closes None held back (Ok tt) None → Plain back
   back_plain turning.unheld = tt
-  back_plain (turning.closed turn) = ((kept_none _, tt), tt)
+  back_plain (turning.closed turn can) = ((kept_none _, tt), tt)
 
   -- ---- whose they are
 
-  pub open_are_own : (request : Request) (events : List (EventWith FurtherEvent)) → Open events → SaysOwnAlone rules request events
-  open_are_own request events each front later text is = public ((each_right IsOpen front (Sent text ∷ later) (subst Open is each)).0)
+  pub open_are_own : (options : OptionValues) (request : Request) (events : List (EventWith FurtherEvent)) → Open events → SaysOwnAlone rules options request events
+  open_are_own options request events each front later text is = public ((each_right IsOpen front (Sent text ∷ later) (subst Open is each)).0)
 
   -- the last one may have a passphrase in it
-  pub said_last_own : (request : Request) (first : List (EventWith FurtherEvent)) (text : List ℕ) → Open first → SaysOwn request first rules text → SaysOwnAlone rules request (first ++ Sent text ∷ [])
-  said_last_own request first text each own front later said is =
+  pub said_last_own : (options : OptionValues) (request : Request) (first : List (EventWith FurtherEvent)) (text : List ℕ) → Open first → SaysOwn rules options request first text
+      → SaysOwnAlone rules options request (first ++ Sent text ∷ [])
+  said_last_own options request first text each own front later said is =
       elim (in_either first (Sent text ∷ []) front (Sent said) later is) [
-        | in_first rest here ↦ open_are_own request first each front rest said here
-        | in_second rest there here ↦ subst (λ f. SaysOwn request f rules said) (sym there) (at_last rest here)
+        | in_first rest here ↦ open_are_own options request first each front rest said here
+        | in_second rest there here ↦ subst (λ f. SaysOwn rules options request f said) (sym there) (at_last rest here)
       ]
     where
-      at_last : (rest : List (EventWith FurtherEvent)) → Sent text ∷ [] ≡ rest ++ Sent said ∷ later → SaysOwn request (first ++ rest) rules said
-      at_last [] here = let same : text ≡ said = cc here in subst (λ f. SaysOwn request f rules said) (sym (append-nil first)) (subst (SaysOwn request first rules) same own)
+      at_last : (rest : List (EventWith FurtherEvent)) → Sent text ∷ [] ≡ rest ++ Sent said ∷ later → SaysOwn rules options request (first ++ rest) said
+      at_last [] here = let same : text ≡ said = cc here in subst (λ f. SaysOwn rules options request f said) (sym (append-nil first)) (subst (SaysOwn rules options request first) same own)
       at_last (event ∷ []) here = cc here
       at_last (event ∷ second ∷ rest) here = cc here

@@ -1,14 +1,13 @@
 -- Parts of a request on keys, by which nothing is handed to the cache but the request's own: how they follow one another.
 use Rattle.std.specs.List.{AllByRecursion}
 use Rattle.std.specs.Prelude.{⊤}
-use Rattle.std.proofs.Common.{◌≡◌, ℕ, Bool, true, false, List, [], ◌∷◌, ◌++◌, Option, Some, None, Result, Ok, Err, sym, subst, append_assoc, append-nil}
+use Rattle.std.proofs.Common.{◌≡◌, ℕ, Bool, true, false, List, [], ◌∷◌, ◌++◌, Option, Some, None, Result, Ok, Err, refl, sym, subst, append_assoc, append-nil}
 use Rattle.agent_ask.specs.Further.{FurtherEvent}
 use Rattle.agent_ask.specs.SessionEvents.{Received, Sent, Cut, Inquiry, CacheTurn, Further, cache_turn}
 use Rattle.cache_policy.specs.Turns.{Turn}
 use Rattle.cache_policy.specs.declared.mark.MarkStep.{MarkStep}
 use Rattle.cache_policy.specs.declared.mark.MarkStep.TheVariants.{Close}
 use Rattle.agent_commands.specs.Events.{EventWith}
-use Rattle.agent_commands.specs.declared.request.Request.{Request}
 use Rattle.session_client.specs.declared.code.Code.{Code}
 use Rattle.key_commands.specs.Parts.{Part}
 use Rattle.agent_ask.specs.Parts.{◌>>=◌, Returns, Refuses, needed, wanted}
@@ -17,7 +16,7 @@ use Rattle.session_client.specs.declared.refusal.Refusal.{Refusal}
 use Rattle.session_client.specs.declared.refusal.Refusal.TheVariants.{Agent}
 use Rattle.key_commands.proofs.EachEvent.{EachSo}
 use Rattle.agent_session.specs.Imports.{HandsNothing}
-use Rattle.agent_session.specs.OwnPassphrases.{StoresOwn, HandsIn}
+use Rattle.agent_session.specs.OwnPassphrases.{HandsIn}
 use Rattle.agent_session.proofs.AtOnce.{FitsTurn}
 use Rattle.agent_session.proofs.Standing.{each_left, each_right}
 use Rattle.agent_session.proofs.Works.{Keeps, each_fits}
@@ -70,12 +69,13 @@ with_both Extra (Err why) is extra = tt
 abbrev pub Anything : Fact
 Anything prior held = ⊤
 
-module _ (request : Request) where
+-- `Stores` is what is so of a step by which something is handed in, behind what was done before
+module _ (Stores : List (EventWith FurtherEvent) → MarkStep → Type 0) where
   -- ---- events behind others
 
   -- what it hands to the cache is the request's own, by what was done before
   abbrev pub IsOwn : List (EventWith FurtherEvent) → EventWith FurtherEvent → Type 0
-  IsOwn before (CacheTurn taken) = HandsIn taken.asked → StoresOwn request before taken.asked
+  IsOwn before (CacheTurn taken) = HandsIn taken.asked → Stores before taken.asked
   IsOwn before _ = ⊤
 
   abbrev pub AreOwn : List (EventWith FurtherEvent) → List (EventWith FurtherEvent) → Type 0
@@ -105,17 +105,17 @@ module _ (request : Request) where
 
   -- the event at this place
   pub own_at : (before events front : List (EventWith FurtherEvent)) (asked : MarkStep) (turn : Turn) (back : List (EventWith FurtherEvent)) → AreOwn before events → events ≡ front ++ cache_turn asked turn ∷ back → HandsIn asked
-      → StoresOwn request (before ++ front) asked
+      → Stores (before ++ front) asked
   own_at before [] [] asked turn back own is hands = cc is
   own_at before [] (first ∷ front) asked turn back own is hands = cc is
   own_at before (event ∷ more) [] asked turn back own is hands =
       let same : event ≡ cache_turn asked turn = cc is in
-      let there : HandsIn asked → StoresOwn request before asked = subst (IsOwn before) same own.0 in
-      subst (λ b. StoresOwn request b asked) (sym (append-nil before)) (there hands)
+      let there : HandsIn asked → Stores before asked = subst (IsOwn before) same own.0 in
+      subst (λ b. Stores b asked) (sym (append-nil before)) (there hands)
   own_at before (event ∷ more) (first ∷ front) asked turn back own is hands =
       let same : event ≡ first = cc is in
       let rest : more ≡ front ++ cache_turn asked turn ∷ back = cc is in
-      subst (λ b. StoresOwn request b asked) (append_assoc before (first ∷ []) front)
+      subst (λ b. Stores b asked) (append_assoc before (first ∷ []) front)
       (own_at (before ++ first ∷ []) more front asked turn back (subst (λ e. AreOwn (before ++ e ∷ []) more) same own.1) rest hands)
 
   -- ---- parts
@@ -187,6 +187,11 @@ module _ (request : Request) where
     pub own_needed : {A : Type 0} (why : Code) (value : Option A) → OwnSo Pre (needed why value) (λ value. Pre)
     own_needed why None = own_refused (Agent why)
     own_needed why (Some value) = own_returned value (λ prior held pre. pre)
+
+    -- and what was needed is there
+    pub own_there : {A : Type 0} (why : Code) (value : Option A) → OwnSo Pre (needed why value) (λ found prior held. Pre prior held × (value ≡ Some found))
+    own_there why None = own_refused (Agent why)
+    own_there why (Some value) = own_returned value (λ prior held pre. (pre, refl))
 
     pub own_wanted : (why : Code) (so : Bool) → OwnSo Pre (wanted why so) (λ value. Pre)
     own_wanted why true = own_returned tt (λ prior held pre. pre)

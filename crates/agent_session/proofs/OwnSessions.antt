@@ -27,7 +27,11 @@ use Rattle.agent_origin.specs.TrustRequests.{trust_request_of}
 use Rattle.agent_origin.specs.SessionExchanges.{SessionExchange}
 use Rattle.agent_origin.specs.declared.door.Door.{Door}
 use Rattle.agent_origin.specs.declared.kept.Kept.{Kept}
-use Rattle.agent_session.specs.OwnPassphrases.{HandsIn, IsUnreceived, StoresOwnIn, StoresOwnThroughout}
+use Rattle.agent_session.specs.Completeness.{Exchanges}
+use Rattle.agent_session.specs.OwnPassphrases.{StoresOwn, HandsIn, IsUnreceived, Served, none, one_more, StoresOwnIn, StoresOwnThroughout}
+use Rattle.agent_commands.specs.declared.went.Went.TheVariants.{On}
+use Rattle.assuan_server.specs.Written.{greeting}
+use Rattle.assuan_text.specs.LineEnds.{line_of}
 use Rattle.agent_session.proofs.OwnCache.{request_own}
 use Rattle.agent_session.proofs.OwnLines.{each_first, each_second, in_first, in_second, in_either}
 use Rattle.agent_session.proofs.OwnParts.{IsQuiet, Fit, AreOwn, own_at, own_left, own_then, quiet_are_own}
@@ -49,25 +53,25 @@ abbrev Unreceived : List (EventWith FurtherEvent) → Type 0
 Unreceived events = AllByRecursion IsUnreceived events
 
 -- what they hand in is the line's own, and no other line is read
-abbrev LineOwn : List ℕ → List (EventWith FurtherEvent) → Type 0
-LineOwn line events = AreOwn (request_of line) [] events × Unreceived events
+abbrev LineOwn : Rules → Kept → List ℕ → List (EventWith FurtherEvent) → Type 0
+LineOwn rules kept line events = AreOwn (StoresOwn rules kept (request_of line)) [] events × Unreceived events
 
-pub exchange_own : {rules : Rules} {kept now : Kept} (line : List ℕ) {events : List (EventWith FurtherEvent)} {went : Went} → SessionExchange rules kept line events now went → Fit events → LineOwn line events
+pub exchange_own : {rules : Rules} {kept now : Kept} (line : List ℕ) {events : List (EventWith FurtherEvent)} {went : Went} → SessionExchange rules kept line events now went → Fit events → LineOwn rules kept line events
 exchange_own line exchange fits = (request_own (request_of line) exchange fits, each_request IsUnreceived beside_unreceived (request_of line) exchange)
 
-idle_own : (line : List ℕ) (events : List (EventWith FurtherEvent)) → AllByRecursion IsIdle events → LineOwn line events
-idle_own line events each =
-    (quiet_are_own (request_of line) [] events (each_first IsQuiet IsUnreceived events each), each_second IsQuiet IsUnreceived events each)
+idle_own : (rules : Rules) (kept : Kept) (line : List ℕ) (events : List (EventWith FurtherEvent)) → AllByRecursion IsIdle events → LineOwn rules kept line events
+idle_own rules kept line events each =
+    (quiet_are_own (StoresOwn rules kept (request_of line)) [] events (each_first IsQuiet IsUnreceived events each), each_second IsQuiet IsUnreceived events each)
 
 module _ {rules : Rules} {before : Kept} (line : List ℕ) where
-  allowed_own : {command : _} {events : List (EventWith FurtherEvent)} {after : Kept} {went : Went} → AllowedExchange rules before line command events after went → Fit events → LineOwn line events
-  allowed_own doors.helped fits = idle_own line (Sent door_help ∷ []) ((tt, tt), tt)
-  allowed_own doors.unset fits = idle_own line (Sent ok ∷ []) ((tt, tt), tt)
-  allowed_own (doors.trusts {events} exchanged) fits = idle_own line events (trust_idle rules before.options (trust_request_of line) exchanged)
+  allowed_own : {command : _} {events : List (EventWith FurtherEvent)} {after : Kept} {went : Went} → AllowedExchange rules before line command events after went → Fit events → LineOwn rules before line events
+  allowed_own doors.helped fits = idle_own rules before line (Sent door_help ∷ []) ((tt, tt), tt)
+  allowed_own doors.unset fits = idle_own rules before line (Sent ok ∷ []) ((tt, tt), tt)
+  allowed_own (doors.trusts {events} exchanged) fits = idle_own rules before line events (trust_idle rules before.options (trust_request_of line) exchanged)
   allowed_own (doors.any exchanged) fits = exchange_own line exchanged fits
 
-  pub door_own : {door : Door} {events : List (EventWith FurtherEvent)} {after : Kept} {went : Went} → DoorExchange door rules before line events after went → Fit events → LineOwn line events
-  door_own (doors.forbidden refuses) fits = idle_own line (Sent (failed Forbidden) ∷ []) ((tt, tt), tt)
+  pub door_own : {door : Door} {events : List (EventWith FurtherEvent)} {after : Kept} {went : Went} → DoorExchange door rules before line events after went → Fit events → LineOwn rules before line events
+  door_own (doors.forbidden refuses) fits = idle_own rules before line (Sent (failed Forbidden) ∷ []) ((tt, tt), tt)
   door_own (doors.is_allowed allows exchanged) fits = allowed_own exchanged fits
 
 -- ---- events without a turn
@@ -76,8 +80,10 @@ abbrev IsTurnless : EventWith FurtherEvent → Type 0
 IsTurnless (CacheTurn taken) = ⊥
 IsTurnless _ = ⊤
 
-none_handed : (events : List (EventWith FurtherEvent)) → AllByRecursion IsTurnless events → StoresOwnThroughout events
-none_handed events each front back asked turn is hands = absurd ((each_right IsTurnless front (cache_turn asked turn ∷ back) (subst (AllByRecursion IsTurnless) is each)).0)
+module _ (Is : List (EventWith FurtherEvent) → MarkStep → Type 0) where
+  none_handed : (events : List (EventWith FurtherEvent)) → AllByRecursion IsTurnless events → (before later : List (EventWith FurtherEvent)) (step : MarkStep) (turn : Turn) → events ≡ before ++ cache_turn step turn ∷ later → HandsIn step
+      → Is before step
+  none_handed events each front back asked turn is hands = absurd ((each_right IsTurnless front (cache_turn asked turn ∷ back) (subst (AllByRecursion IsTurnless) is each)).0)
 
 cut_one : (before : List (EventWith FurtherEvent)) (sent unsent : List ℕ) {text : List ℕ} {done : List (EventWith FurtherEvent)} → Sent text ∷ [] ≡ before ++ Sent (sent ++ unsent) ∷ [] → done ≡ before ++ Cut sent ∷ []
     → AllByRecursion IsTurnless done
@@ -90,68 +96,104 @@ cut_turnless last = cut_one last.before last.sent last.unsent last.whole last.do
 
 -- ---- sessions
 
-module _ (exchange : Kept → List ℕ → List (EventWith FurtherEvent) → Kept → Went → Type 0)
-    (own : (before : Kept) (line : List ℕ) (events : List (EventWith FurtherEvent)) (after : Kept) (went : Went) → exchange before line events after went → Fit events → LineOwn line events) where
+module _ (rules : Rules) (exchange : Exchanges)
+    (own : (before : Kept) (line : List ℕ) (events : List (EventWith FurtherEvent)) (after : Kept) (went : Went) → exchange before line events after went → Fit events → LineOwn rules before line events) where
   -- a line's events, of which a write of the last may have failed
-  line_own : {before after : Kept} (line : List ℕ) {events : List (EventWith FurtherEvent)} {went : Went} → WholeOrCut went_after (exchange before line) events after went → Fit events → LineOwn line events
+  line_own : {before after : Kept} (line : List ℕ) {events : List (EventWith FurtherEvent)} {went : Went} → WholeOrCut went_after (exchange before line) events after went → Fit events → LineOwn rules before line events
   line_own {before} {after} line {events} {went} (whole exchanged) fits = own before line events after went exchanged fits
   line_own {before} line {events = done} (cut {events} {kept = after} {went} exchanged last) fits =
+      let Mine : List (EventWith FurtherEvent) → MarkStep → Type 0 = StoresOwn rules before (request_of line) in
       let kept : Fit last.before = each_left FitsTurn last.before (Cut last.sent ∷ []) (subst Fit last.done_is fits) in
       let fit : Fit events = subst Fit (sym last.whole) (each_append FitsTurn last.before (Sent (last.sent ++ last.unsent) ∷ []) kept (tt, tt)) in
       let so = own before line events after went exchanged fit in
-      let front = own_left (request_of line) [] last.before (Sent (last.sent ++ last.unsent) ∷ []) (subst (AreOwn (request_of line) []) last.whole so.0) in
+      let front = own_left Mine [] last.before (Sent (last.sent ++ last.unsent) ∷ []) (subst (AreOwn Mine []) last.whole so.0) in
       let unread = each_left IsUnreceived last.before (Sent (last.sent ++ last.unsent) ∷ []) (subst Unreceived last.whole so.1) in
-      subst (LineOwn line) (sym last.done_is) (own_then (request_of line) [] last.before (Cut last.sent ∷ []) front (tt, tt), each_append IsUnreceived last.before (Cut last.sent ∷ []) unread (tt, tt))
+      subst (LineOwn rules before line) (sym last.done_is) (own_then Mine [] last.before (Cut last.sent ∷ []) front (tt, tt), each_append IsUnreceived last.before (Cut last.sent ∷ []) unread (tt, tt))
+
+  -- behind some lines that were answered, the greeting aside
+  record OwnIn (start : Kept) (before : List (EventWith FurtherEvent)) (step : MarkStep) : Type 0 where
+    front : List (EventWith FurtherEvent)
+    kept : Kept
+    served : Served rules exchange start front kept
+    line : List ℕ
+    own_events : List (EventWith FurtherEvent)
+    before_is : before ≡ front ++ Received (took.Line line) ∷ own_events
+    alone : AllByRecursion IsUnreceived own_events
+    stores : StoresOwn rules kept (request_of line) own_events step
 
   -- at a place among a line's events
-  own_there : (line : List ℕ) (events front : List (EventWith FurtherEvent)) (asked : MarkStep) (turn : Turn) (back : List (EventWith FurtherEvent)) → LineOwn line events → events ≡ front ++ cache_turn asked turn ∷ back
-      → HandsIn asked → StoresOwnIn (Received (took.Line line) ∷ front) asked
-  own_there line events front asked turn back so is hands = record {
+  own_there : (start : Kept) (line : List ℕ) (events front : List (EventWith FurtherEvent)) (asked : MarkStep) (turn : Turn) (back : List (EventWith FurtherEvent)) → LineOwn rules start line events
+      → events ≡ front ++ cache_turn asked turn ∷ back → HandsIn asked → OwnIn start (Received (took.Line line) ∷ front) asked
+  own_there start line events front asked turn back so is hands = record {
     front = [];
+    kept = start;
+    served = none;
     line = line;
-    own = front;
+    own_events = front;
     before_is = refl;
     alone = each_left IsUnreceived front (cache_turn asked turn ∷ back) (subst Unreceived is so.1);
-    stores = own_at (request_of line) [] events front asked turn back so.0 is hands;
+    stores = own_at (StoresOwn rules start (request_of line)) [] events front asked turn back so.0 is hands;
   }
 
-  -- behind what the session did before
-  further_in : (first : List (EventWith FurtherEvent)) {before : List (EventWith FurtherEvent)} {asked : MarkStep} → StoresOwnIn before asked → StoresOwnIn (first ++ before) asked
-  further_in first stores = record {
-    front = first ++ stores.front;
+  -- the exchange behind which the session goes on is whole
+  whole_one : {before after : Kept} {line : List ℕ} {events : List (EventWith FurtherEvent)} {went : Went} → WholeOrCut went_after (exchange before line) events after went → went ≡ On → exchange before line events after On
+  whole_one {before} {after} {line} {events} (whole exchanged) is = subst (λ w. exchange before line events after w) is exchanged
+  whole_one (cut exchanged last) is = absurd (cc is)
+
+  -- behind one line more
+  further_in : {start mid : Kept} (line : List ℕ) {events : List (EventWith FurtherEvent)} → exchange start line events mid On → {before : List (EventWith FurtherEvent)} {asked : MarkStep} → OwnIn mid before asked
+      → OwnIn start (Received (took.Line line) ∷ (events ++ before)) asked
+  further_in line {events} exchanged stores = record {
+    front = Received (took.Line line) ∷ (events ++ stores.front);
+    kept = stores.kept;
+    served = one_more line exchanged stores.served;
     line = stores.line;
-    own = stores.own;
-    before_is = ap (λ e. first ++ e) stores.before_is ∙ sym (append_assoc first stores.front (Received (took.Line stores.line) ∷ stores.own));
+    own_events = stores.own_events;
+    before_is = ap (λ e. Received (took.Line line) ∷ (events ++ e)) stores.before_is ∙ ap (λ e. Received (took.Line line) ∷ e) (sym (append_assoc events stores.front (Received (took.Line stores.line) ∷ stores.own_events)));
     alone = stores.alone;
     stores = stores.stores;
   }
 
-  talk_own : {prior : Kept} {events : List (EventWith FurtherEvent)} {end : SessionEnd} → Talk exchange prior events end → Fit events → StoresOwnThroughout events
+  talk_own : {prior : Kept} {events : List (EventWith FurtherEvent)} {end : SessionEnd} → Talk exchange prior events end → Fit events
+      → (before later : List (EventWith FurtherEvent)) (step : MarkStep) (turn : Turn) → events ≡ before ++ cache_turn step turn ∷ later → HandsIn step → OwnIn prior before step
   talk_own (talks.Talk.goes_on {events} {more} line exchanged later) fits [] back asked turn is hands = cc is
-  talk_own (talks.Talk.goes_on {events} {more} line exchanged later) fits (first ∷ front) back asked turn is hands =
+  talk_own {prior} (talks.Talk.goes_on {events} {more} line exchanged later) fits (first ∷ front) back asked turn is hands =
       let begins : first ≡ Received (took.Line line) = cc is in
       let rest : events ++ more ≡ front ++ cache_turn asked turn ∷ back = cc is in
-      subst (λ e. StoresOwnIn (e ∷ front) asked) (sym begins)
+      subst (λ e. OwnIn prior (e ∷ front) asked) (sym begins)
       (elim (in_either events more front (cache_turn asked turn) back rest) [
-        | in_first left here ↦ own_there line events front asked turn left (line_own line exchanged (each_left FitsTurn events more fits.1)) here hands
+        | in_first left here ↦ own_there prior line events front asked turn left (line_own line exchanged (each_left FitsTurn events more fits.1)) here hands
         | in_second left there here ↦
-            subst (λ f. StoresOwnIn (Received (took.Line line) ∷ f) asked) (sym there)
-            (further_in (Received (took.Line line) ∷ events) (talk_own later (each_right FitsTurn events more fits.1) left back asked turn here hands))
+            subst (λ f. OwnIn prior (Received (took.Line line) ∷ f) asked) (sym there)
+            (further_in line (whole_one exchanged refl) (talk_own later (each_right FitsTurn events more fits.1) left back asked turn here hands))
       ])
   talk_own (talks.Talk.over line exchanged) fits [] back asked turn is hands = cc is
-  talk_own (talks.Talk.over {events} line exchanged) fits (first ∷ front) back asked turn is hands =
+  talk_own {prior} (talks.Talk.over {events} line exchanged) fits (first ∷ front) back asked turn is hands =
       let begins : first ≡ Received (took.Line line) = cc is in
       let rest : events ≡ front ++ cache_turn asked turn ∷ back = cc is in
-      subst (λ e. StoresOwnIn (e ∷ front) asked) (sym begins) (own_there line events front asked turn back (line_own line exchanged fits.1) rest hands)
-  talk_own talks.Talk.ended fits front back asked turn is hands = none_handed (Received took.End ∷ []) (tt, tt) front back asked turn is hands
-  talk_own talks.Talk.spent fits front back asked turn is hands = none_handed (Received took.Spent ∷ []) (tt, tt) front back asked turn is hands
-  talk_own talks.Talk.read_fault fits front back asked turn is hands = none_handed (Received took.ReadFault ∷ []) (tt, tt) front back asked turn is hands
-  talk_own talks.Talk.too_long fits front back asked turn is hands = none_handed (Received took.TooLong ∷ Sent (failed LineTooLong) ∷ []) (tt, (tt, tt)) front back asked turn is hands
-  talk_own (talks.Talk.cut_too_long {done} last) fits front back asked turn is hands = none_handed (Received took.TooLong ∷ done) (tt, cut_turnless last) front back asked turn is hands
+      subst (λ e. OwnIn prior (e ∷ front) asked) (sym begins) (own_there prior line events front asked turn back (line_own line exchanged fits.1) rest hands)
+  talk_own {prior} talks.Talk.ended fits front back asked turn is hands = none_handed (OwnIn prior) (Received took.End ∷ []) (tt, tt) front back asked turn is hands
+  talk_own {prior} talks.Talk.spent fits front back asked turn is hands = none_handed (OwnIn prior) (Received took.Spent ∷ []) (tt, tt) front back asked turn is hands
+  talk_own {prior} talks.Talk.read_fault fits front back asked turn is hands = none_handed (OwnIn prior) (Received took.ReadFault ∷ []) (tt, tt) front back asked turn is hands
+  talk_own {prior} talks.Talk.too_long fits front back asked turn is hands = none_handed (OwnIn prior) (Received took.TooLong ∷ Sent (failed LineTooLong) ∷ []) (tt, (tt, tt)) front back asked turn is hands
+  talk_own {prior} (talks.Talk.cut_too_long {done} last) fits front back asked turn is hands = none_handed (OwnIn prior) (Received took.TooLong ∷ done) (tt, cut_turnless last) front back asked turn is hands
 
-  pub session_own : {start : Kept} {events : List (EventWith FurtherEvent)} {end : SessionEnd} → Session exchange start events end → Fit events → StoresOwnThroughout events
+  greeted_own : {start : Kept} {before : List (EventWith FurtherEvent)} {asked : MarkStep} → OwnIn start before asked → StoresOwnIn rules exchange start (Sent (line_of greeting) ∷ before) asked
+  greeted_own stores = record {
+    front = stores.front;
+    kept = stores.kept;
+    served = stores.served;
+    line = stores.line;
+    own = stores.own_events;
+    before_is = ap (λ e. Sent (line_of greeting) ∷ e) stores.before_is;
+    alone = stores.alone;
+    stores = stores.stores;
+  }
+
+  pub session_own : {start : Kept} {events : List (EventWith FurtherEvent)} {end : SessionEnd} → Session exchange start events end → Fit events → StoresOwnThroughout rules exchange start events
   session_own (talks.Session.greeted {events} talk) fits [] back asked turn is hands = cc is
-  session_own (talks.Session.greeted {events} talk) fits (first ∷ front) back asked turn is hands =
+  session_own {start} (talks.Session.greeted {events} talk) fits (first ∷ front) back asked turn is hands =
+      let begins : first ≡ Sent (line_of greeting) = cc is in
       let rest : events ≡ front ++ cache_turn asked turn ∷ back = cc is in
-      further_in (first ∷ []) (talk_own talk fits.1 front back asked turn rest hands)
-  session_own (talks.Session.cut_greeting {done} last) fits front back asked turn is hands = none_handed done (cut_turnless last) front back asked turn is hands
+      subst (λ e. StoresOwnIn rules exchange start (e ∷ front) asked) (sym begins) (greeted_own (talk_own talk fits.1 front back asked turn rest hands))
+  session_own {start} (talks.Session.cut_greeting {done} last) fits front back asked turn is hands = none_handed (StoresOwnIn rules exchange start) done (cut_turnless last) front back asked turn is hands

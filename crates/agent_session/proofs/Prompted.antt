@@ -27,8 +27,14 @@ use Rattle.assuan_server.specs.Clients.{session_lines}
 use Rattle.session_client.specs.Asking.{said_by, without_data}
 use Rattle.session_client.specs.declared.unheard.Unheard.{Unheard}
 use Rattle.agent_commands.specs.Events.{EventWith, Inquired}
-use Rattle.agent_session.specs.Causes.{Has, here, later, is_cancelled, is_timed_out, is_disagreed, is_broken}
+use Rattle.agent_ask.specs.PinParts.{PromptsPin}
+use Rattle.agent_session.specs.Causes.{Has, here, later, HasPrompt, StandIn, is_cancelled, is_timed_out, is_disagreed, is_broken}
 use Rattle.agent_session.proofs.Standing.{has_left, has_right}
+
+-- it is among the events of its request
+pub has_prompt : {spec : PromptSpec} {plan : AskPlan} {Rule : List ℕ → Type 0} {shown whole : List (EventWith FurtherEvent)} {answer : Asked} → PromptsPin session_lines spec plan Rule shown answer → StandIn shown whole
+    → HasPrompt whole plan Rule answer
+has_prompt {spec} {shown} prompts_so stands = record { spec = spec; prompt = prompts_so.prompt; shown = shown; asks = prompts_so.asks; in_session = prompts_so.in_session; stands = stands }
 
 -- a call was answered so
 pub data HasCalled (is : Call → Bool) (events : List PromptEvent) : Type 0 where

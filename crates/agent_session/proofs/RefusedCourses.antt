@@ -27,7 +27,7 @@ use Rattle.key_commands.specs.Lines.{grip_text}
 use Rattle.key_commands.specs.Passphrases.{put_key}
 use Rattle.agent_session.specs.Causes.{Has, here, later, HasOne, one, WantsMemory, FailsAtKeysOrDice, IsCaused}
 use Rattle.agent_session.specs.Refusals as course
-use Rattle.agent_session.specs.Refusals.{refuses, turn_refuses, AreWork, IsWork, IsEnd, Course, GivesBack, Settles, IsLast, RefusedEnd, at_work, at_answer, at_store, at_clear, RefusedCourse, IsOwnCode, memory, fault, shuts}
+use Rattle.agent_session.specs.Refusals.{IsNonceOf, refuses, turn_refuses, AreWork, IsWork, IsEnd, Course, GivesBack, Settles, IsLast, RefusedEnd, at_work, at_answer, at_store, at_clear, RefusedCourse, IsOwnCode, memory, fault, shuts}
 use Rattle.agent_origin.specs.declared.kept.Kept.{Kept}
 use Rattle.agent_session.proofs.AtOnce.{FitsTurn}
 use Rattle.agent_session.proofs.Explained.{has_split}
@@ -164,31 +164,36 @@ stored_events grip file pass = Further (Keys (Replaced grip file key_done.Done))
 abbrev cleared_events : Grip → List (EventWith FurtherEvent) → List (EventWith FurtherEvent)
 cleared_events grip ending = Further (Keys (Removed grip key_done.Done)) ∷ cache_turn (Clear (grip_text grip) Normal) Refused ∷ ending
 
-module _ (request : Request) where
-  refused_end : {why : Code} {last : List (EventWith FurtherEvent)} → IsEnd request last → HasRefusal why last → RefusedEnd request why last
+module _ (request : Request) (IsNonce : List ℕ → Type 0) where
+  refused_end : {why : Code} {last : List (EventWith FurtherEvent)} → IsEnd request IsNonce last → HasRefusal why last → RefusedEnd request IsNonce why last
   refused_end (course.answered is) has = absurd (none_refuses _ (last_goes is) has)
   refused_end (course.given_back turn is) has = absurd (none_refuses _ (refl, last_goes is) has)
-  refused_end (course.unanswered {ticket} {keep} turn) has = subst (λ c. RefusedEnd request c (unanswered_events ticket keep turn)) (cc (only_first _ (refl, tt) (not_first refl has))) (at_answer turn)
+  refused_end (course.unanswered {ticket} {keep} turn) has = subst (λ c. RefusedEnd request IsNonce c (unanswered_events ticket keep turn)) (cc (only_first _ (refl, tt) (not_first refl has))) (at_answer turn)
   refused_end (course.refused {event} {why = given} {ending} allowed is back) has =
       let same : given ≡ _ = cc (is, only_first _ (shut_goes event ending (back_goes back)) has) in
-      subst (λ c. RefusedEnd request c (event ∷ (shuts event ++ ending))) same (at_work allowed is back)
+      subst (λ c. RefusedEnd request IsNonce c (event ∷ (shuts event ++ ending))) same (at_work allowed is back)
   refused_end (course.kept turn ok) has = absurd (none_refuses _ (refl, (refl, (refl, tt))) has)
   refused_end (course.stored (course.settled ok)) has = absurd (none_refuses _ (refl, (refl, (refl, tt))) has)
-  refused_end (course.stored {grip} {file} {pass} (course.interrupted turns.refused)) has = subst (λ c. RefusedEnd request c (stored_events grip file pass)) (cc (only_first _ (refl, tt) (not_first refl has))) at_store
+  refused_end (course.stored {grip} {file} {pass} (course.interrupted turns.refused)) has = subst (λ c. RefusedEnd request IsNonce c (stored_events grip file pass)) (cc (only_first _ (refl, tt) (not_first refl has))) at_store
   refused_end (course.stored (course.interrupted turns.stopping)) has = absurd (none_refuses _ (refl, (refl, (refl, tt))) has)
   refused_end (course.stored (course.interrupted turns.late)) has = absurd (none_refuses _ (refl, (refl, (refl, tt))) has)
   refused_end (course.cleared (course.settled ok) back) has = absurd (none_refuses _ (refl, (refl, back_goes back)) has)
   refused_end (course.cleared {grip} {ending} (course.interrupted turns.refused) back) has =
-      subst (λ c. RefusedEnd request c (cleared_events grip ending)) (cc (only_first _ (back_goes back) (not_first refl has))) (at_clear back)
+      subst (λ c. RefusedEnd request IsNonce c (cleared_events grip ending)) (cc (only_first _ (back_goes back) (not_first refl has))) (at_clear back)
   refused_end (course.cleared (course.interrupted turns.stopping) back) has = absurd (none_refuses _ (refl, (refl, back_goes back)) has)
   refused_end (course.cleared (course.interrupted turns.late) back) has = absurd (none_refuses _ (refl, (refl, back_goes back)) has)
 
-  in_last : {why : Code} (work : List (EventWith FurtherEvent)) {last : List (EventWith FurtherEvent)} → AreWork request work → HasRefusal why (work ++ last) → HasRefusal why last
+  in_last : {why : Code} (work : List (EventWith FurtherEvent)) {last : List (EventWith FurtherEvent)} → AreWork request IsNonce work → HasRefusal why (work ++ last) → HasRefusal why last
   in_last work each (has_refusal event is has) = elim (has_split work _ has) [
-    | inl first ↦ absurd (cc (is, (each_has (IsWork request) work each first).1))
+    | inl first ↦ absurd (cc (is, (each_has (IsWork request IsNonce) work each first).1))
     | inr behind ↦ has_refusal event is behind
   ]
 
-  pub refused_course : {events : List (EventWith FurtherEvent)} {why : Code} → Course request events → HasRefusal why events → RefusedCourse request why events
-  refused_course {why} goes has =
-      record { work = goes.work; last = goes.last; is = goes.is; each = goes.each; end = refused_end goes.end (in_last goes.work goes.each (subst (HasRefusal why) goes.is has)) }
+pub refused_course : (request : Request) {events : List (EventWith FurtherEvent)} {why : Code} → Course request events → HasRefusal why events → RefusedCourse request why events
+refused_course request {events} {why} goes has = record {
+  work = goes.work;
+  last = goes.last;
+  is = goes.is;
+  each = goes.each;
+  end = refused_end request (IsNonceOf events) goes.end (in_last request (IsNonceOf events) goes.work goes.each (subst (HasRefusal why) goes.is has));
+}

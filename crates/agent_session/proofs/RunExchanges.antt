@@ -30,6 +30,7 @@ use Rattle.key_commands.specs.Events.{Event as SessionEvent}
 use Rattle.session_options.specs.declared.rules.Rules.{Rules}
 use Rattle.agent_session.specs.Completeness.{Exchanges as Relations, Causes, IsAnsweredBy}
 use Rattle.agent_session.specs.Exactly.{EndsTooLong}
+use Rattle.agent_session.specs.OwnPassphrases.{StoresOwn}
 use Rattle.agent_session.specs.RunExchanges.{Between, LinkBytes, with_link, Saying, ExchangeBetween, LawfulRequest, LawfulExchange, LawfulSession}
 use Rattle.agent_session.proofs.Answering.{Judging}
 use Rattle.agent_session.proofs.AtOnce.{all_fit, at_once, each_calm}
@@ -143,7 +144,7 @@ module _ {D P : Type 0} (turned : D → MarkStep → Turn → D → Type 0) (pro
             (caused_refuses fits rules kept (request_of line) own ((exchange_caused rules kept line (never_absent possible) exchange).caused why Agent has));
         own = request_says_own (request_of line) exchange;
         of_keys = λ asked is. request_told rules kept (request_of line) is exchange;
-        stores = λ front back asked turn is hands. own_at (request_of line) [] events front asked turn back (request_own (request_of line) exchange fits) is hands;
+        stores = λ front back asked turn is hands. own_at (StoresOwn rules kept (request_of line)) [] events front asked turn back (request_own (request_of line) exchange fits) is hands;
       }
 
   module _ {relation caused : Relations} {cause : Causes} {unprompted : Kept → List ℕ → List SessionEvent → Type 0} (judging : Judging relation caused cause unprompted)

@@ -200,7 +200,7 @@ none_said (Some line) (read_trust is (later has)) = elim has [ ]
 none_behind : {held : Option ℕ} {back : List Event} (events : List Event) (line : Option (List ℕ)) {file : List ℕ} → Closes None held back (Ok tt) None → IsReadTrust (events ++ (back ++ said_last line)) file
     → IsReadTrust events file
 none_behind events line taken.unheld is_read = elim (split_read events _ is_read) [ inl before ↦ before | inr said ↦ absurd (none_said line said) ]
-none_behind events line (taken.closed turn) is_read =
+none_behind events line (taken.closed turn can) is_read =
     elim (split_read events _ is_read) [ inl before ↦ before | inr (read_trust is (later has)) ↦ absurd (none_said line (read_trust is has)) ]
 
 module _ (rules : Rules) (options : OptionValues) where

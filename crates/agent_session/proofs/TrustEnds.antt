@@ -166,10 +166,10 @@ carried rules options = carried_so (end_laws NoBack no_back options) rules
 -- a ticket that is still held is given back
 with_back : {held : Option ℕ} {events back : List Event} {result : _} → Come NoBack {A = Unit {0}} events result → Closes None held back (Ok tt) None → Come IsBack {A = Unit {0}} (events ++ back) result
 with_back {events} (goes each) taken.unheld = goes (both_undecided events [] each tt)
-with_back {events} (goes each) (taken.closed turn) = goes (both_undecided events _ each (refl, tt))
+with_back {events} (goes each) (taken.closed turn can) = goes (both_undecided events _ each (refl, tt))
 with_back {result} (decided work event each is no_back answers) taken.unheld =
     subst (λ e. Come IsBack {A = Unit {0}} e result) (sym (append_assoc work (event ∷ []) [])) (decided work event each is unheld answers)
-with_back {result} (decided work event each is no_back answers) (taken.closed {ticket} turn) =
+with_back {result} (decided work event each is no_back answers) (taken.closed {ticket} turn can) =
     subst (λ e. Come IsBack {A = Unit {0}} e result) (sym (append_assoc work (event ∷ []) (cache_turn (Close ticket None) turn ∷ []))) (decided work event each is (returned turn) answers)
 
 -- ---- the answer

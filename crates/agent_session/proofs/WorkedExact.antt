@@ -13,6 +13,7 @@ use Rattle.agent_commands.specs.Passphrases.{ask}
 use Rattle.agent_commands.specs.Requests.{GetFields, get_passphrase, request_of}
 use Rattle.agent_commands.specs.Talks as talks
 use Rattle.agent_commands.specs.declared.request.CacheCommand.TheVariants.{PresetPassphrase}
+use Rattle.agent_commands.specs.declared.request.Request.{Request}
 use Rattle.agent_commands.specs.declared.request.Request.TheVariants.{Cache, Key as OnKeys}
 use Rattle.agent_commands.specs.declared.went.SessionEnd.TheVariants as ends
 use Rattle.agent_commands.specs.declared.went.Went.{Went}
@@ -28,7 +29,7 @@ use Rattle.session_client.specs.declared.code.Code.TheVariants as code
 use Rattle.assuan_server.specs.declared.errors.Origin.TheVariants.{Agent}
 use Rattle.assuan_text.specs.LineEnds.{line_of}
 use Rattle.assuan_text.specs.Words.{command_of}
-use Rattle.cache_policy.specs.Turns.{Empty, Given}
+use Rattle.cache_policy.specs.Turns.{Empty, Given, FitsStep}
 use Rattle.cache_policy.specs.declared.grant.Grant.{Grant}
 use Rattle.cache_policy.specs.declared.life.Life.{Life}
 use Rattle.cache_policy.specs.declared.secret.TheConstants.{MAX_SECRET_LEN}
@@ -111,7 +112,7 @@ module _ (one_canon : (file : List ℕ) (a b : Option (List ℕ)) → Canon file
 
   quiet_exchange : CacheExchange rules kept.options (Cache (get_passphrase quietly)) nothing_cached kept.options On
   quiet_exchange =
-      exchanges.refused (cache_turn (ask (codes "k")) Empty ∷ []) None (refusals.Agent code.NoData) (chain.stops (chain.goes_on (record { asks = turning.empty; keeps = refl }) chain.refuses)) turning.unheld
+      exchanges.refused (cache_turn (ask (codes "k")) Empty ∷ []) None (refusals.Agent code.NoData) (chain.stops (chain.goes_on (turning.empty tt) chain.refuses)) turning.unheld
 
   no_data : HasError code.NoData Agent nothing_cached
   no_data =
@@ -174,9 +175,9 @@ module _ (one_canon : (file : List ℕ) (a b : Option (List ℕ)) → Canon file
         let one : Ok other ≡ Ok key = one_says one_canon file (Ok other) (Ok key) (subst (λ b. FileSays b (Ok other)) (same_bytes _ found_too has) says_too) says in
         cc one
 
-    opens_alone : {other : Key} → OpensRead events grip other → other ≡ key
+    opens_alone : {request : Request} {other : Key} → OpensRead events rules kept.options request grip other → other ≡ key
     opens_alone (causes.is_clear is_read clear_too) = same_key is_read
-    opens_alone (opens {locked} is_locked to) =
+    opens_alone (opens {locked} is_locked comes to) =
         let shut = is_locked.protection.protected in
         let open_key : locked.key.is_clear ≡ true = ap (λ (k : Key). k.is_clear) (same_key is_locked.key) ∙ clear_one in
         absurd (cc (shut, open_key))
@@ -197,7 +198,7 @@ module _ (one_canon : (file : List ℕ) (a b : Option (List ℕ)) → Canon file
     same_answer : (other : KeyRead) → Has (read grip other) too_long_key → other ≡ answer
     same_answer other has = elim (one_of_two has) [ inl same ↦ cc same | inr same ↦ absurd (cc same) ]
 
-    all_long : HasLongList too_long_key grip
+    all_long : HasLongList too_long_key rules kept (OnKeys line) grip
     all_long other opened = subst (λ k. MAX_LIST_LEN < length (key_list_of k)) (sym (opens_alone grip answer file found key says clear_one too_long_key same_answer opened)) much
 
     bad_secret_key : HasError code.BadSecKey Agent too_long_key
@@ -209,7 +210,7 @@ module _ (one_canon : (file : List ℕ) (a b : Option (List ℕ)) → Canon file
 
   -- PASSWD of a clear key in an extended file, which is too long with the list of that key, whatever passphrase that is under
   module _ (line : ArrayVec ℕ) (grip : Grip) (old : Option (List ℕ)) (fresh : List ℕ) (is : key_request_of line.items ≡ on.Passwd grip old (Some fresh) false) (answer : KeyRead) (file : List ℕ) (found : file_in answer ≡ Some file)
-      (key : Key) (says : FileSays file (Ok key)) (clear_one : key.is_clear ≡ true) (within : length (key_list_of key) ≤ MAX_LIST_LEN) (entry : Grant) (bytes : List ℕ) (twenty : length bytes ≡ 20) (extended : is_canonical file ≡ false)
+      (key : Key) (says : FileSays file (Ok key)) (clear_one : key.is_clear ≡ true) (within : length (key_list_of key) ≤ MAX_LIST_LEN) (entry : Grant) (of_fresh : FitsStep (ask_nonce fresh) (Given entry)) (bytes : List ℕ) (twenty : length bytes ≡ 20) (extended : is_canonical file ≡ false)
       (much : (pass changed : List ℕ) → IsWithList file (list_under key bytes kept.options.s2k_count pass) changed → most_bytes < length changed)
       (made_file : List ℕ) (with_list : IsWithList file (list_under key bytes kept.options.s2k_count entry.entry.secret) made_file) where
     abbrev too_long_file : List Event
@@ -223,7 +224,7 @@ module _ (one_canon : (file : List ℕ) (a b : Option (List ℕ)) → Canon file
         (chain.goes_on {first = []} (open_clear grip old key key.is_clear clear_one)
         (chain.stops
         (chain.goes_on {first = []} {value = tt} {mid = None} (key_parts.short within)
-        (chain.goes_on {first = cache_turn (ask_nonce fresh) (Given entry) ∷ []} (chain.goes_on turning.given chain.returns)
+        (chain.goes_on {first = cache_turn (ask_nonce fresh) (Given entry) ∷ []} (chain.goes_on (turning.given of_fresh) chain.returns)
         (chain.goes_on (small.drawn twenty)
         (chain.goes_on key_parts.made
         (chain.stops (files.too_long made_file extended with_list (much entry.entry.secret made_file with_list)))))))))) turning.unheld
@@ -234,7 +235,7 @@ module _ (one_canon : (file : List ℕ) (a b : Option (List ℕ)) → Canon file
     same_draw : {other : List ℕ} → Has (drew other) too_long_file → other ≡ bytes
     same_draw has = elim (one_of_four has) [ inl same ↦ absurd (cc same) | inr (inl same) ↦ absurd (cc same) | inr (inr (inl same)) ↦ cc same | inr (inr (inr same)) ↦ absurd (cc same) ]
 
-    all_long_files : HasLongFile too_long_file grip kept.options.s2k_count
+    all_long_files : HasLongFile too_long_file rules kept (OnKeys line) grip
     all_long_files other another pass list is_read opened (protected {drawn} is_drawn list_is) =
         let file_is = same_file grip answer file found key says clear_one too_long_file same_read is_read in
         let key_is = opens_alone grip answer file found key says clear_one too_long_file same_read opened in

@@ -27,7 +27,7 @@ use Rattle.assuan_server.specs.Written.{failed, greeting, ok_text}
 use Rattle.session_client.specs.declared.code.Code.TheVariants as code
 use Rattle.assuan_server.specs.declared.errors.Origin.TheVariants.{Agent as OfAgent}
 use Rattle.assuan_text.specs.LineEnds.{line_of}
-use Rattle.cache_policy.specs.Turns.{Given, Open, Done, Refused}
+use Rattle.cache_policy.specs.Turns.{Given, Open, Done, Refused, FitsStep}
 use Rattle.cache_policy.specs.declared.grant.Grant.{Grant}
 use Rattle.cache_policy.specs.declared.life.Life.{Life}
 use Rattle.cache_policy.specs.declared.mark.MarkStep.TheVariants.{Close}
@@ -125,7 +125,7 @@ module _ (rules : Rules) (kept : Kept) (id pin : List ℕ) (texts : Texts) (spec
   events = before_close ++ cache_turn (Close ticket (Some pin)) Done ∷ Sent (line_of (ok_text (hex_text pin))) ∷ []
 
   asked_by : ByUser rules kept.options texts false false 0 (Some id) None (before_close ++ cache_turn (Close ticket (Some pin)) Done ∷ []) (Ok pin) None
-  asked_by = goes_on turning.opened (goes_on (passphrases.given spec is_spec (record { prompt = prompt; asks = asks; in_session = in_session })) (goes_on (turning.closed Done) returns))
+  asked_by = goes_on (turning.opened tt) (goes_on (passphrases.given spec is_spec (record { prompt = prompt; asks = asks; in_session = in_session })) (goes_on (turning.closed Done tt) returns))
 
   asked_so : CacheExchange rules kept.options request events kept.options On
   asked_so =
@@ -140,12 +140,12 @@ module _ (rules : Rules) (kept : Kept) (id pin : List ℕ) (texts : Texts) (spec
   fits = (tt, (tt, (tt, (tt, (tt, (tt, tt))))))
 
   -- it enters the cache by the return of its own ticket
-  typed_is_own : StoresOwn request before_close (Close ticket (Some pin))
-  typed_is_own = own_at request [] events before_close (Close ticket (Some pin)) Done (Sent (line_of (ok_text (hex_text pin))) ∷ []) (request_own request exchange fits) refl keeps
+  typed_is_own : StoresOwn rules kept request before_close (Close ticket (Some pin))
+  typed_is_own = own_at (StoresOwn rules kept request) [] events before_close (Close ticket (Some pin)) Done (Sent (line_of (ok_text (hex_text pin))) ∷ []) (request_own request exchange fits) refl keeps
 
   -- and is answered to the request that asked for it
-  typed_is_answered : SaysOwn request (before_close ++ cache_turn (Close ticket (Some pin)) Done ∷ []) rules (line_of (ok_text (hex_text pin)))
-  typed_is_answered = (cache_own rules kept.options request events kept.options On asked_so).1 (before_close ++ cache_turn (Close ticket (Some pin)) Done ∷ []) [] (line_of (ok_text (hex_text pin))) refl
+  typed_is_answered : SaysOwn rules kept.options request (before_close ++ cache_turn (Close ticket (Some pin)) Done ∷ []) (line_of (ok_text (hex_text pin)))
+  typed_is_answered = (cache_own rules kept request events kept.options On asked_so).1 (before_close ++ cache_turn (Close ticket (Some pin)) Done ∷ []) [] (line_of (ok_text (hex_text pin))) refl
 
   -- and in a session by that of the line that was read last
   module _ (line : List ℕ) (says : request_of line ≡ request) where
@@ -158,9 +158,9 @@ module _ (rules : Rules) (kept : Kept) (id pin : List ℕ) (texts : Texts) (spec
     session : Session (SessionExchange rules) kept all Ended
     session = greeted (talks.Talk.goes_on line (whole line_exchange) talks.Talk.ended)
 
-    typed_is_its_lines : StoresOwnIn (Sent (line_of greeting) ∷ Received (took.Line line) ∷ before_close) (Close ticket (Some pin))
+    typed_is_its_lines : StoresOwnIn rules (SessionExchange rules) kept (Sent (line_of greeting) ∷ Received (took.Line line) ∷ before_close) (Close ticket (Some pin))
     typed_is_its_lines =
-        session_own (SessionExchange rules) (λ prior other events now went exchanged fits. exchange_own other exchanged fits) session (tt, (tt, (tt, (tt, (tt, (tt, (tt, (tt, (tt, tt)))))))))
+        session_own rules (SessionExchange rules) (λ prior other events now went exchanged fits. exchange_own other exchanged fits) session (tt, (tt, (tt, (tt, (tt, (tt, (tt, (tt, (tt, tt)))))))))
         (Sent (line_of greeting) ∷ Received (took.Line line) ∷ before_close) (Sent (line_of (ok_text (hex_text pin))) ∷ Received took.End ∷ []) (Close ticket (Some pin)) Done refl keeps
 
 -- ---- a preset finds no memory, and the session goes on
@@ -170,7 +170,7 @@ module _ (rules : Rules) (kept : Kept) (allowed : rules.allow_preset ≡ true) (
   refused = cache_turn (put id life pass) Refused ∷ Sent (failed code.NoMemory) ∷ []
 
   refused_so : Presets rules id life (Some pass) None (cache_turn (put id life pass) Refused ∷ []) (Err (Agent code.NoMemory)) None
-  refused_so = goes_on {first = []} (subst (λ so. wanted {E = EventWith FurtherEvent} code.NotSupported so None [] (Ok tt) None) (sym allowed) returns) (goes_on returns (turning.interrupted interrupts.refused))
+  refused_so = goes_on {first = []} (subst (λ so. wanted {E = EventWith FurtherEvent} code.NotSupported so None [] (Ok tt) None) (sym allowed) returns) (goes_on returns (turning.interrupted tt interrupts.refused))
 
   refused_exchange : SessionExchange rules kept line refused kept On
   refused_exchange =
@@ -186,6 +186,7 @@ module _ (rules : Rules) (kept : Kept) (allowed : rules.allow_preset ≡ true) (
 -- ---- a key comes in, and its file can't be replaced
 
 module _ (rules : Rules) (options : OptionValues) (wrap wrapped : List ℕ) (key : Key) (says : WrappedSays wrap wrapped (Ok key)) (grip : Grip) (named : grip.0 ≡ grip_of key) (nonce : List ℕ) (grant : Grant)
+    (of_nonce : FitsStep (ask_nonce nonce) (Given grant))
     (drawn : List ℕ) (long : length drawn ≡ 32) where
   abbrev wraps : WrapKeys
   wraps = record { import = Some wrap; export = None }
@@ -202,7 +203,7 @@ module _ (rules : Rules) (options : OptionValues) (wrap wrapped : List ℕ) (key
   unfolding ImportKeyReplies
   import_fails =
       goes_on returns (goes_on (goes_on client_parts.written (goes_on (parts.asked (client_parts.given refl)) (parts.is_key says))) (goes_on (parts.named named) (goes_on returns
-      (goes_on (goes_on parts.given returns) (stops (goes_on (small.drawn long) (goes_on parts.made (goes_on turning.done (stops (parts.not_done refl))))))))))
+      (goes_on (goes_on (parts.given of_nonce) returns) (stops (goes_on (small.drawn long) (goes_on parts.made (goes_on (turning.done tt) (stops (parts.not_done refl))))))))))
 
   -- the passphrase stays under the nonce, and nothing is kept for the key
   import_stores : ImportCourse (imports ++ Sent (failed code.General) ∷ [])
@@ -223,7 +224,7 @@ module _ (rules : Rules) (kept : Kept) (way : Direction) (line : ArrayVec ℕ) (
   wrap_exchange = part_exchange.answered (drew key ∷ []) None (key_reply wraps_now text) draws turning.unheld
 
   -- it is all that is written for the request
-  wrap_is_told : TellsOfKeys kept.wraps (drew key ∷ []) (on.KeyWrap way) text
+  wrap_is_told : TellsOfKeys rules kept (OnKeys line) (drew key ∷ []) text
   wrap_is_told =
       request_told rules kept (OnKeys line) (ap Some says) (keys (subst (λ asked. KeyExchange rules kept.options kept.wraps asked (drew key ∷ Sent text ∷ []) wraps_now key_went.On) (sym says) wrap_exchange))
       (drew key ∷ []) [] text refl

@@ -224,28 +224,28 @@ module _ (Fits : Event → Type 0) where
     interrupted_turn turns.late = goes_turn _ refl
 
     asks_of : (before : Option ℕ) (events : List Event) (result : Result (Option (List ℕ)) Refusal) (after : Option ℕ) → Asks step before events result after → WorksTo events result
-    asks_of _ _ _ _ taken.given = goes_turn _ refl
-    asks_of _ _ _ _ taken.empty = goes_turn _ refl
-    asks_of _ _ _ _ taken.opened = goes_turn _ refl
-    asks_of _ _ _ _ (taken.interrupted why) = interrupted_turn why
+    asks_of _ _ _ _ (taken.given can) = goes_turn _ refl
+    asks_of _ _ _ _ (taken.empty can) = goes_turn _ refl
+    asks_of _ _ _ _ (taken.opened can) = goes_turn _ refl
+    asks_of _ _ _ _ (taken.interrupted can why) = interrupted_turn why
 
     pub asks : WorksSo (Asks step)
     asks = record { of = asks_of }
 
     seats_of : (before : Option ℕ) (events : List Event) (result : Result (Unit {0}) Refusal) (after : Option ℕ) → Seats step before events result after → WorksTo events result
-    seats_of _ _ _ _ taken.opened = goes_turn _ refl
-    seats_of _ _ _ _ (taken.interrupted why) = interrupted_turn why
+    seats_of _ _ _ _ (taken.opened can) = goes_turn _ refl
+    seats_of _ _ _ _ (taken.interrupted can why) = interrupted_turn why
 
     pub seats : WorksSo (Seats step)
     seats = record { of = seats_of }
 
     pub changes : Keeps (Changes step)
-    changes _ _ _ _ taken.done = (goes_turn _ refl, refl)
-    changes _ _ _ _ (taken.interrupted why) = (interrupted_turn why, refl)
+    changes _ _ _ _ (taken.done can) = (goes_turn _ refl, refl)
+    changes _ _ _ _ (taken.interrupted can why) = (interrupted_turn why, refl)
 
   pub peeks : {id : List ℕ} {mode : Mode} → Turns (Peek id mode) → Keeps (Peeks id mode)
   peeks each _ _ _ _ taken.peeked = (goes_turn each _ refl, refl)
-  peeks each _ _ _ _ (taken.interrupted why) = (interrupted_turn each why, refl)
+  peeks each _ _ _ _ (taken.interrupted can why) = (interrupted_turn each why, refl)
 
   module _ (each : (id : List ℕ) → Turns (ask_nonce id)) where
     pub looks_for_nonce : (id : Option (List ℕ)) → WorksSo (LooksForNonce id)
@@ -254,7 +254,7 @@ module _ (Fits : Event → Type 0) where
 
     pub looks_over : {id : Option (List ℕ)} → Keeps (LooksOver id)
     looks_over _ _ _ _ parts.no_nonce = (works tt, refl)
-    looks_over _ _ _ _ (parts.given {nonce}) = (goes_turn (each nonce) _ refl, refl)
+    looks_over _ _ _ _ (parts.given {nonce} can) = (goes_turn (each nonce) _ refl, refl)
     looks_over _ _ _ _ (parts.empty {nonce}) = (goes_turn (each nonce) _ refl, refl)
     looks_over _ _ _ _ (parts.stopping {nonce}) = (goes_turn (each nonce) _ refl, refl)
     looks_over _ _ _ _ (parts.no_memory {nonce}) = (interrupted_turn (each nonce) turns.refused, refl)
@@ -269,7 +269,7 @@ module _ (Fits : Event → Type 0) where
   closes_of : {keep : Option (List ℕ)} → ((ticket : ℕ) (turn : Turn) → Fits (cache_turn (Close ticket keep) turn)) → (before : Option ℕ) (events : List Event) (result : Result (Unit {0}) Refusal) (after : Option ℕ)
       → Closes keep before events result after → WorksTo events result
   closes_of fits _ _ _ _ taken.unheld = works tt
-  closes_of fits _ _ _ _ (taken.closed turn) = one_works (fits _ turn) refl refl
+  closes_of fits _ _ _ _ (taken.closed turn can) = one_works (fits _ turn) refl refl
 
   pub closes_ticket : {keep : Option (List ℕ)} → ((ticket : ℕ) (turn : Turn) → Fits (cache_turn (Close ticket keep) turn)) → WorksSo (Closes keep)
   closes_ticket fits = record { of = closes_of fits }
@@ -407,7 +407,7 @@ module _ (Fits : Event → Type 0) where
     rewrites _ _ _ _ (files.canonical_file is) = (works tt, refl)
     rewrites _ _ _ _ (files.extended_file other with_list few) = (works tt, refl)
     rewrites _ _ _ _ (files.too_long new_file other with_list many) = (works tt, refl)
-    rewrites _ _ _ _ files.no_memory = (no_memory, refl)
+    rewrites _ _ _ _ (files.no_memory other) = (no_memory, refl)
 
     pub names_key : {key : Key} → Keeps (NamesKey key)
     names_key _ _ _ _ (parts.named is) = (works tt, refl)

@@ -5,11 +5,14 @@ use Rattle.arrayvec.specs.ArrayVec.{ArrayVec}
 use Rattle.agent_ask.specs.Events.{Call, GetPin, Confirm, Start, Called, OutOfMemory, PromptEvent}
 use Rattle.agent_ask.specs.Further.{FurtherEvent, KeyCall, Read, Listed, Replaced, Removed, Drew, NotDrawn, Prompt, Keys, Dice, Trust, NoMemory}
 use Rattle.agent_ask.specs.Prompters.{is_failed}
+use Rattle.agent_ask.specs.Plans.{plan_of}
+use Rattle.agent_ask.specs.Plans as plans
 use Rattle.agent_ask.specs.Prompts.{AsksPin}
 use Rattle.agent_ask.specs.SessionEvents.{Inquiry, CacheTurn, Further, cache_turn}
 use Rattle.agent_ask.specs.TrustCalls.{TrustCall}
 use Rattle.agent_ask.specs.TrustCalls as trust_call
 use Rattle.agent_ask.specs.SessionPrompts.{AnyInSession}
+use Rattle.agent_ask.specs.declared.ask.Asked.{Asked}
 use Rattle.agent_ask.specs.declared.ask.Asked.TheVariants as asked
 use Rattle.agent_ask.specs.declared.prompter.Consent.TheVariants as consent
 use Rattle.agent_ask.specs.declared.prompter.Opened.TheVariants as opened
@@ -41,7 +44,7 @@ use Rattle.session_client.specs.Asking.{said_by}
 use Rattle.session_client.specs.declared.unheard.Gone.TheVariants as gone
 use Rattle.session_client.specs.declared.unheard.Unheard.{Unheard}
 use Rattle.session_client.specs.declared.unheard.Unheard.TheVariants as unheard
-use Rattle.session_options.specs.OptionValues.{applied}
+use Rattle.session_options.specs.OptionValues.{OptionValues, applied}
 use Rattle.session_options.specs.declared.options.OptionAnswer.{OptionAnswer}
 use Rattle.session_options.specs.declared.options.OptionAnswer.TheVariants as option_answer
 use Rattle.session_options.specs.declared.options.PinMode.TheVariants as mode
@@ -57,6 +60,7 @@ use Rattle.agent_commands.specs.Requests.{GetFields, get_passphrase}
 use Rattle.agent_commands.specs.declared.request.CacheCommand.TheVariants.{SetOption, PresetPassphrase, GetConfirmation}
 use Rattle.agent_commands.specs.declared.request.Request.{Request}
 use Rattle.agent_commands.specs.declared.request.Request.TheVariants.{Cache, Key as OnKeys, Bad}
+use Rattle.agent_commands.specs.declared.request.Texts.{Texts}
 use Rattle.key_commands.specs.Lines.{max_key_data}
 use Rattle.key_commands.specs.Faults.{fault_code}
 use Rattle.key_commands.specs.Files.{FileSays, IsWithList}
@@ -172,6 +176,25 @@ pub data Unlocks (request : Request) (grip : Grip) : Type 0 where
   exports : {nonce : Option (List ℕ)} → on_keys request ≡ Some (on.ExportKey grip nonce) → Unlocks request grip
   changes : {old new : Option (List ℕ)} {verify : Bool} → on_keys request ≡ Some (on.Passwd grip old new verify) → Unlocks request grip
 
+-- the nonce under which it looks first for the passphrase of the key that it wants opened
+pub data NamesOld (request : Request) (grip : Grip) (nonce : List ℕ) : Type 0 where
+  of_export : on_keys request ≡ Some (on.ExportKey grip (Some nonce)) → NamesOld request grip nonce
+  of_change : {new : Option (List ℕ)} → on_keys request ≡ Some (on.Passwd grip (Some nonce) new false) → NamesOld request grip nonce
+
+-- how the user is asked for the old passphrase of a key, and for a new one
+abbrev pub old_plan : Rules → OptionValues → AskPlan
+old_plan rules options = plan_of rules options (plans.text []) false 0
+
+abbrev pub new_plan : Rules → OptionValues → AskPlan
+new_plan rules options = plan_of rules options (plans.text []) true 1
+
+-- it asks the user so for a passphrase, where every one is right
+pub data AsksAny (rules : Rules) (options : OptionValues) (request : Request) : AskPlan → Type 0 where
+  wanted : (fields : GetFields) {texts : Texts} → request ≡ Cache (get_passphrase fields) → fields.texts ≡ Some texts
+      → AsksAny rules options request (plan_of rules options texts.error fields.check fields.repeat)
+  of_new : {grip : Grip} {old new : Option (List ℕ)} → on_keys request ≡ Some (on.Passwd grip old new false) → AsksAny rules options request (new_plan rules options)
+  of_import : {force : Bool} {nonce : Option (List ℕ)} → on_keys request ≡ Some (on.ImportKey force nonce) → AsksAny rules options request (new_plan rules options)
+
 -- it wants to know what the file of this key says, and ends by a fault of it
 pub data Judges (request : Request) (grip : Grip) : Type 0 where
   tells : on_keys request ≡ Some (on.KeyInfo grip) → Judges request grip
@@ -240,10 +263,32 @@ module _ (events : List (EventWith FurtherEvent)) where
     pub key : IsRead grip (Ok locked.key)
     pub protection : IsLocked locked
 
-  -- it is this one and clear, or it opens to this one
-  pub data OpensRead (grip : Grip) (key : Key) : Type 0 where
-    is_clear : IsRead grip (Ok key) → key.is_clear ≡ true → OpensRead grip key
-    opens : {locked : LockedKey} {pass : List ℕ} → IsReadLocked grip locked → OpensTo locked pass key → OpensRead grip key
+  -- one prompt in it came to this answer, with this plan, where a passphrase is right by this rule
+  pub record HasPrompt (plan : AskPlan) (Rule : List ℕ → Type 0) (answer : Asked) : Type 0 where
+    pub spec : PromptSpec
+    pub prompt : List PromptEvent
+    pub shown : List (EventWith FurtherEvent)
+    pub asks : AsksPin spec plan Rule prompt answer
+    pub in_session : AnyInSession session_lines prompt shown
+    pub stands : StandIn shown events
+
+  module _ (rules : Rules) (options : OptionValues) (request : Request) where
+    -- how the request comes by a passphrase of this key: it is cached under its nonce, or under the key; its client gave it; or its prompt accepted it
+    pub data ComesBy (grip : Grip) (locked : LockedKey) : List ℕ → Type 0 where
+      cached_by_nonce : {nonce : List ℕ} {grant : Grant} → NamesOld request grip nonce → Has (cache_turn (ask_nonce nonce) (Given grant)) events → ComesBy grip locked grant.entry.secret
+      cached_by_key : {grant : Grant} (way : Way) → Has (cache_turn (ask_key grip way) (Given grant)) events → ComesBy grip locked grant.entry.secret
+      sent_by_client : {pass : List ℕ} → options.mode ≡ mode.Loopback → IsSent (codes "PASSPHRASE") MAX_SECRET_LEN pass → ComesBy grip locked pass
+      typed_by_user : {pin : List ℕ} → HasPrompt (old_plan rules options) (OpensBy locked) (asked.Pin pin) → ComesBy grip locked pin
+
+    -- the key is this one and clear, or the request opened it to this one
+    pub data OpensRead (grip : Grip) (key : Key) : Type 0 where
+      is_clear : IsRead grip (Ok key) → key.is_clear ≡ true → OpensRead grip key
+      opens : {locked : LockedKey} {pass : List ℕ} → IsReadLocked grip locked → ComesBy grip locked pass → OpensTo locked pass key → OpensRead grip key
+
+    -- a prompt of the request's came to three tries that failed, at which every passphrase was right, or one that opens its key
+    pub data IsBadPrompt : Type 0 where
+      any : {plan : AskPlan} → AsksAny rules options request plan → HasPrompt plan (λ pin. ⊤) asked.Bad → IsBadPrompt
+      opening : {grip : Grip} {locked : LockedKey} → Unlocks request grip → IsReadLocked grip locked → HasPrompt (old_plan rules options) (OpensBy locked) asked.Bad → IsBadPrompt
 
   -- no entry that is of use to the request was given: for its passphrase; for the old one of a key, or a new one; and consent is in no cache
   pub data HasNoEntry (request : Request) : Type 0 where
@@ -278,13 +323,6 @@ module _ (events : List (EventWith FurtherEvent)) where
   LacksKeys (Some (on.Passwd grip old new verify)) = IsUnread grip
   LacksKeys (Some (on.DeleteKey grip force)) = IsUnread grip ⊎ IsUnremoved grip
   LacksKeys _ = ⊥
-
-  -- a prompt came to three tries that failed, at which every passphrase was right, or one that opens the request's key
-  pub data IsBadPrompt (request : Request) : Type 0 where
-    any : {spec : PromptSpec} {plan : AskPlan} {prompt : List PromptEvent} {shown : List (EventWith FurtherEvent)} → AsksPin spec plan (λ pin. ⊤) prompt asked.Bad
-        → AnyInSession session_lines prompt shown → StandIn shown events → IsBadPrompt request
-    opening : {grip : Grip} {locked : LockedKey} {spec : PromptSpec} {plan : AskPlan} {prompt : List PromptEvent} {shown : List (EventWith FurtherEvent)} → Unlocks request grip
-        → IsReadLocked grip locked → AsksPin spec plan (OpensBy locked) prompt asked.Bad → AnyInSession session_lines prompt shown → StandIn shown events → IsBadPrompt request
 
   module _ (rules : Rules) (kept : Kept) (request : Request) where
     -- ---- the causes of each code
@@ -323,7 +361,7 @@ module _ (events : List (EventWith FurtherEvent)) where
 
     -- no passphrase was right: at a prompt; or the client was to give one by itself, and its own doesn't open the key, or is an empty new one
     pub data HasBadPassphrase : Type 0 where
-      at_prompt : IsBadPrompt request → HasBadPassphrase
+      at_prompt : IsBadPrompt rules kept.options request → HasBadPassphrase
       stays : {grip : Grip} {locked : LockedKey} {pass : List ℕ} → kept.options.mode ≡ mode.Loopback → Unlocks request grip → IsReadLocked grip locked
           → IsSent (codes "PASSPHRASE") MAX_SECRET_LEN pass → ¬ OpensBy locked pass → HasBadPassphrase
       empty : kept.options.mode ≡ mode.Loopback → IsSent (codes "NEW_PASSPHRASE") MAX_SECRET_LEN [] → HasBadPassphrase
@@ -345,10 +383,10 @@ module _ (events : List (EventWith FurtherEvent)) where
     -- a key that isn't one, or whose list is too long to be written again, or the new file with it, which is in the extended format
     pub data IsBadKey : Type 0 where
       faulty : IsFaulty code.BadSecKey → IsBadKey
-      long : {grip : Grip} {old new : Option (List ℕ)} {key : Key} → on_keys request ≡ Some (on.Passwd grip old new false) → OpensRead grip key
-          → MAX_LIST_LEN < length (key_list_of key) → IsBadKey
+      long : {grip : Grip} {old new : Option (List ℕ)} {key : Key} → on_keys request ≡ Some (on.Passwd grip old new false)
+          → OpensRead rules kept.options request grip key → MAX_LIST_LEN < length (key_list_of key) → IsBadKey
       long_file : {grip : Grip} {old new : Option (List ℕ)} {file list changed : List ℕ} {key : Key} (pass : List ℕ) → on_keys request ≡ Some (on.Passwd grip old new false) → IsReadOf grip file
-          → is_canonical file ≡ false → OpensRead grip key → IsListOf key pass kept.options.s2k_count list → IsWithList file list changed → most_bytes < length changed → IsBadKey
+          → is_canonical file ≡ false → OpensRead rules kept.options request grip key → IsListOf key pass kept.options.s2k_count list → IsWithList file list changed → most_bytes < length changed → IsBadKey
 
     -- the file of the key that the client sent is there, and isn't to be replaced
     pub data IsThere : Type 0 where

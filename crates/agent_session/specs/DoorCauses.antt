@@ -1,6 +1,6 @@
 -- Why a request is answered by an error line in a session that came in by a door: that it isn't allowed there, or what must have happened in its
 -- exchange, for each code of a request on the trust list. The codes and their causes are this project's own.
-use Rattle.std.specs.Prelude.{◌≡◌, ◌<◌, ◌⊎◌, ℕ, Bool, true, false, List, length, Option, Some, None}
+use Rattle.std.specs.Prelude.{◌≡◌, ◌<◌, ◌⊎◌, ℕ, Bool, true, false, List, ◌∷◌, length, Option, Some, None}
 use Rattle.agent_ask.specs.Prompters.{is_failed}
 use Rattle.agent_ask.specs.TrustCalls.{Read}
 use Rattle.agent_commands.specs.Requests.{request_of}
@@ -41,19 +41,24 @@ module _ (events : List Event) where
   pub data IsReadTrust (file : List ℕ) : Type 0 where
     read_trust : {answer : TrustRead} → file_in answer ≡ Some file → Has (trust_called (Read answer)) events → IsReadTrust file
 
+-- it was read again, behind the first event, and has these bytes
+pub data IsReadAgain (file : List ℕ) : List Event → Type 0 where
+  read_again : {first : Event} {more : List Event} → IsReadTrust more file → IsReadAgain file (first ∷ more)
+
+module _ (events : List Event) where
   module _ (request : TrustRequest) where
     -- ISTRUSTED of this certificate, and what a file that was read says of it
     pub record IsAsked (fingerprint : Grip) (says : Option Bool) : Type 0 where
       pub file : List ℕ
       pub request_is : request ≡ IsTrusted fingerprint
-      pub is_read : IsReadTrust file
+      pub is_read : IsReadTrust events file
       pub says_so : trust file fingerprint.0 ≡ says
 
     -- MARKTRUSTED of this certificate, and what this file says of it, which was read
     pub record IsMarked (fingerprint : Grip) (purpose : TrustPurpose) (file : List ℕ) (says : Option Bool) : Type 0 where
       pub name : ArrayVec ℕ
       pub request_is : request ≡ MarkTrusted fingerprint purpose name
-      pub is_read : IsReadTrust file
+      pub is_read : IsReadTrust events file
       pub says_so : trust file fingerprint.0 ≡ says
 
     -- ---- the causes of each code
@@ -64,11 +69,11 @@ module _ (events : List Event) where
       denied : {fingerprint : Grip} → IsAsked fingerprint (Some false) → IsNotTrusted
       denied_mark : {fingerprint : Grip} {purpose : TrustPurpose} {file : List ℕ} → IsMarked fingerprint purpose file (Some false) → IsNotTrusted
 
-    -- the client sent too much by an inquiry, or the file that was read is too long with one entry more
+    -- the client sent too much by an inquiry; or MARKTRUSTED's file says nothing once the user consented, and is too long with one entry more
     pub data IsTooMuch : Type 0 where
       inquired : IsSaid events unheard.TooMuch → IsTooMuch
-      too_long : {fingerprint : Grip} {purpose : TrustPurpose} {file : List ℕ} → IsMarked fingerprint purpose file None
-          → MAX_TRUST_FILE_LEN < length (with_entry file fingerprint.0 (flag_of purpose)) → IsTooMuch
+      too_long : {fingerprint : Grip} {purpose : TrustPurpose} {name : ArrayVec ℕ} {file : List ℕ} → request ≡ MarkTrusted fingerprint purpose name → IsReadAgain file events
+          → trust file fingerprint.0 ≡ None → MAX_TRUST_FILE_LEN < length (with_entry file fingerprint.0 (flag_of purpose)) → IsTooMuch
 
     module _ (options : OptionValues) where
       -- the client wants no prompt, and the file that was read says nothing; the client cancelled an inquiry; or the agent ends

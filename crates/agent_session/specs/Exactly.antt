@@ -1,5 +1,5 @@
 -- The codes that a request is answered by exactly where their cause stands. The codes and their causes are this project's own.
-use Rattle.std.specs.Prelude.{◌≡◌, ◌<◌, ◌⊎◌, ℕ, true, false, List, ◌∷◌, length, Option, Some, None, Ok}
+use Rattle.std.specs.Prelude.{◌≡◌, ◌<◌, ◌⊎◌, ℕ, true, false, List, length, Option, Some, None, Ok}
 use Rattle.agent_ask.specs.Events.{Called, GetPin}
 use Rattle.agent_ask.specs.Further.{Prompt}
 use Rattle.agent_ask.specs.declared.prompter.Outcome.TheVariants.{Pin}
@@ -9,7 +9,6 @@ use Rattle.agent_commands.specs.declared.request.Request.{Request}
 use Rattle.agent_commands.specs.declared.went.SessionEnd.{SessionEnd}
 use Rattle.agent_commands.specs.declared.went.SessionEnd.TheVariants.{TooLong, WriteFault}
 use Rattle.agent_ports.specs.declared.grip.Grip.{Grip}
-use Rattle.arrayvec.specs.ArrayVec.{ArrayVec}
 use Rattle.session_client.specs.declared.code.Code.{Code}
 use Rattle.session_client.specs.declared.code.Code.TheVariants as code
 use Rattle.assuan_line.specs.declared.reader.Took.TheVariants as took
@@ -31,22 +30,18 @@ use Rattle.sexp_keys.specs.Lists.{key_list_of}
 use Rattle.session_client.specs.declared.unheard.Gone.TheVariants as gone
 use Rattle.session_client.specs.declared.unheard.Unheard.TheVariants as unheard
 use Rattle.session_options.specs.declared.rules.Rules.{Rules}
-use Rattle.trust_list.specs.Trust.{trust, with_entry}
-use Rattle.trust_list.specs.declared.TheConstants.{MAX_TRUST_FILE_LEN}
 use Rattle.agent_origin.specs.Doors.{allowed}
-use Rattle.agent_origin.specs.TrustExchanges.{flag_of}
 use Rattle.agent_origin.specs.TrustNames.{trust_command_named}
 use Rattle.agent_origin.specs.DoorSessions.{door_command}
 use Rattle.agent_origin.specs.TrustRequests.{trust_request_of}
 use Rattle.agent_origin.specs.declared.door.Door.{Door}
 use Rattle.agent_origin.specs.declared.kept.Kept.{Kept}
 use Rattle.agent_origin.specs.declared.trust.names.TrustCommandName.{TrustCommandName}
-use Rattle.agent_origin.specs.declared.trust.request.TrustPurpose.{TrustPurpose}
 use Rattle.agent_origin.specs.declared.trust.request.TrustRequest.{TrustRequest}
-use Rattle.agent_origin.specs.declared.trust.request.TrustRequest.TheVariants.{MarkTrusted, Bad}
+use Rattle.agent_origin.specs.declared.trust.request.TrustRequest.TheVariants.{Bad}
 use Rattle.agent_session.specs.Causes.{Has, IsCaused, IsFaulty, IsSaid, IsRead, IsReadOf, IsReadLocked, IsDrawn, IsListOf, OpensRead, on_keys}
 use Rattle.agent_session.specs.Completeness.{HasError}
-use Rattle.agent_session.specs.DoorCauses.{IsReadTrust, IsNotTrusted}
+use Rattle.agent_session.specs.DoorCauses.{IsNotTrusted, IsTooMuch}
 
 -- ---- a request of any session
 
@@ -64,28 +59,28 @@ module _ (events : List Event) (grip : Grip) where
     typed : {error pin : List ℕ} → OpensIt pin → Has (Further (Prompt (Called (GetPin error (Pin pin))))) events → IsOpened nonce
     given : {pass : List ℕ} → OpensIt pass → Has (cache_turn (put_key grip pass) Done) events → IsOpened nonce
 
-  -- the list of the key that it opens to is too long
-  abbrev pub HasLongList : Type 0
-  HasLongList = (key : Key) → OpensRead events grip key → MAX_LIST_LEN < length (key_list_of key)
+module _ (events : List Event) (rules : Rules) (kept : Kept) (request : Request) where
+  -- the list of the key that the request opened is too long
+  abbrev pub HasLongList : Grip → Type 0
+  HasLongList grip = (key : Key) → OpensRead events rules kept.options request grip key → MAX_LIST_LEN < length (key_list_of key)
 
-  -- the file is in the extended format, and too long with the list of that key in it, which is protected by this count
-  abbrev pub HasLongFile : ℕ → Type 0
-  HasLongFile count = (file : List ℕ) (key : Key) (pass list : List ℕ) → IsReadOf events grip file → OpensRead events grip key → IsListOf events key pass count list
+  -- the file is in the extended format, and too long with the list of that key in it
+  abbrev pub HasLongFile : Grip → Type 0
+  HasLongFile grip = (file : List ℕ) (key : Key) (pass list : List ℕ) → IsReadOf events grip file → OpensRead events rules kept.options request grip key → IsListOf events key pass kept.options.s2k_count list
       → (is_canonical file ≡ false) × ((changed : List ℕ) → IsWithList file list changed → most_bytes < length changed)
 
-module _ (events : List Event) (rules : Rules) (kept : Kept) (request : Request) where
   -- PASSWD, whose key was opened and has too long a list; or whose new file is too long, once the bytes for it were drawn
   pub data IsLong : Type 0 where
-    long : {grip : Grip} {old new : Option (List ℕ)} → on_keys request ≡ Some (on.Passwd grip old new false) → IsOpened events grip old → HasLongList events grip → IsLong
+    long : {grip : Grip} {old new : Option (List ℕ)} → on_keys request ≡ Some (on.Passwd grip old new false) → IsOpened events grip old → HasLongList grip → IsLong
     long_file : {grip : Grip} {old new : Option (List ℕ)} {drawn : List ℕ} → on_keys request ≡ Some (on.Passwd grip old new false) → IsDrawn events 20 drawn
-        → HasLongFile events grip kept.options.s2k_count → IsLong
+        → HasLongFile grip → IsLong
 
   -- what an error line with this code is caused by
   abbrev CausedBy : Code → Type 0
   CausedBy why = IsCaused events rules kept request why Agent
 
   -- The cause of each of these codes: it is what causes the error line, and wherever it stands in the exchange the answer is that line. Of a bad key it is a
-  -- fault of the key; or a length, which each key to which the file opens has, where the cause of the error line names one.
+  -- fault of the key; or a length, which each key has to which the request opened its file, where the cause of the error line names one.
   abbrev pub ExactCause : Code → Type 0
   ExactCause code.NoData = CausedBy code.NoData
   ExactCause code.NoSecKey = CausedBy code.NoSecKey
@@ -103,21 +98,12 @@ module _ (events : List Event) (rules : Rules) (kept : Kept) (request : Request)
 
 -- ---- a request at a door
 
--- the trust file was read again, behind the first event, and has these bytes
-pub data IsReadAgain (file : List ℕ) : List Event → Type 0 where
-  read_again : {first : Event} {more : List Event} → IsReadTrust more file → IsReadAgain file (first ∷ more)
-
 module _ (events : List Event) (request : TrustRequest) where
-  -- MARKTRUSTED, whose file says nothing once the user consented, and is too long with one entry more
-  pub data IsTooLong : Type 0 where
-    too_long : {fingerprint : Grip} {purpose : TrustPurpose} {name : ArrayVec ℕ} {file : List ℕ} → request ≡ MarkTrusted fingerprint purpose name → IsReadAgain file events
-        → trust file fingerprint.0 ≡ None → MAX_TRUST_FILE_LEN < length (with_entry file fingerprint.0 (flag_of purpose)) → IsTooLong
-
   -- the same causes of a request on the trust list
   abbrev pub ExactTrustCause : Code → Type 0
   ExactTrustCause code.NotTrusted = IsNotTrusted events request
   ExactTrustCause code.Parameter = request ≡ Bad code.Parameter
-  ExactTrustCause code.TooMuch = IsSaid events unheard.TooMuch ⊎ IsTooLong
+  ExactTrustCause code.TooMuch = IsTooMuch events request
   ExactTrustCause code.Unexpected = IsSaid events unheard.Unexpected
   ExactTrustCause code.LineTooLong = IsSaid events (unheard.Gone gone.TooLong)
   ExactTrustCause _ = ⊥

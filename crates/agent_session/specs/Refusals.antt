@@ -1,7 +1,7 @@
 -- What stands after a refusal: how each request is carried out, as far as what it stores, clears, replaces and gives back goes, and what an event that refuses
 -- it leaves to be done. This is the project's own.
 use Rattle.std.specs.List.{AllByRecursion}
-use Rattle.std.specs.Prelude.{◌≡◌, ◌≢◌, ◌⊎◌, ◌++◌, ℕ, Bool, true, false, List, [], ◌∷◌, Option, Some, None, ⊤}
+use Rattle.std.specs.Prelude.{◌≡◌, ◌≢◌, ◌⊎◌, ◌++◌, ℕ, Bool, true, false, List, [], ◌∷◌, drop, Option, Some, None, ⊤}
 use Rattle.agent_ask.specs.Events.{Call, GetPin, Confirm, Start, Shut, Called, OutOfMemory}
 use Rattle.agent_ask.specs.Further.{FurtherEvent, KeyCall, Read, Listed, Replaced, Removed, NotDrawn, Prompt, Keys, Dice, NoMemory, Trust}
 use Rattle.agent_ask.specs.SessionEvents.{Received, Sent, CacheTurn, Further, cache_turn}
@@ -43,7 +43,7 @@ use Rattle.key_commands.specs.Lines.{IsNotice, grip_text}
 use Rattle.agent_ask.specs.Interrupts.{Interrupts}
 use Rattle.key_commands.specs.Passphrases.{put_key}
 use Rattle.key_commands.specs.declared.request.KeyRequest.TheVariants as on
-use Rattle.agent_session.specs.Causes.{on_keys}
+use Rattle.agent_session.specs.Causes.{on_keys, IsDrawn}
 use Rattle.agent_session.specs.Completeness.{AnswersFromCache, AnswersDone, EndsInOk, IsAnswer}
 
 -- ---- events that refuse their request
@@ -103,41 +103,46 @@ refuses _ = None
 
 -- ---- the work of a request
 
--- which requests store a passphrase by a turn of their own, and under which id and mode
-pub data MayStore (request : Request) : List ℕ → Mode → Type 0 where
-  preset : {id : List ℕ} {life : Life} {secret : Option (List ℕ)} → request ≡ Cache (PresetPassphrase id life secret) → MayStore request id Any
-  -- what the client gave in place of a prompt
-  given : {id : List ℕ} (fields : GetFields) → request ≡ Cache (get_passphrase fields) → fields.id ≡ Some id → MayStore request id User
-  exported : {grip : Grip} {nonce : Option (List ℕ)} → on_keys request ≡ Some (on.ExportKey grip nonce) → MayStore request (grip_text grip) Normal
-  changed : {grip : Grip} {old new : Option (List ℕ)} {verify : Bool} → on_keys request ≡ Some (on.Passwd grip old new verify) → MayStore request (grip_text grip) Normal
-  -- under a nonce that is drawn for it alone
-  imported : {force : Bool} {nonce : Option (List ℕ)} → on_keys request ≡ Some (on.ImportKey force nonce) → (drawn : List ℕ) → MayStore request (hex_text drawn) Nonce
+-- the nonce of a key that comes in: the hexadecimal text of the last 12 of 32 bytes that were drawn among these events
+pub data IsNonceOf (events : List (EventWith FurtherEvent)) : List ℕ → Type 0 where
+  nonce_of : {drawn : List ℕ} → IsDrawn events 32 drawn → IsNonceOf events (hex_text (drop 20 drawn))
 
--- the turns that are its work: the cache is asked, or the prompt is wanted; and what is stored, cleared or stopped, by its own commands alone
-abbrev pub IsWorkStep : Request → MarkStep → Type 0
-IsWorkStep request (Put id mode life secret) = MayStore request id mode
-IsWorkStep request (Clear id mode) = request ≡ Cache (ClearPassphrase id mode)
-IsWorkStep request Flush = request ≡ Cache ReloadAgent
-IsWorkStep request Stop = request ≡ Cache KillAgent
-IsWorkStep request (Close ticket keep) = ⊥
-IsWorkStep request _ = ⊤
+-- `IsNonce` is what is so of a nonce that is new
+module _ (request : Request) (IsNonce : List ℕ → Type 0) where
+  -- which requests store a passphrase by a turn of their own, and under which id and mode
+  pub data MayStore : List ℕ → Mode → Type 0 where
+    preset : {id : List ℕ} {life : Life} {secret : Option (List ℕ)} → request ≡ Cache (PresetPassphrase id life secret) → MayStore id Any
+    -- what the client gave in place of a prompt
+    given : {id : List ℕ} (fields : GetFields) → request ≡ Cache (get_passphrase fields) → fields.id ≡ Some id → MayStore id User
+    exported : {grip : Grip} {nonce : Option (List ℕ)} → on_keys request ≡ Some (on.ExportKey grip nonce) → MayStore (grip_text grip) Normal
+    changed : {grip : Grip} {old new : Option (List ℕ)} {verify : Bool} → on_keys request ≡ Some (on.Passwd grip old new verify) → MayStore (grip_text grip) Normal
+    imported : {force : Bool} {nonce : Option (List ℕ)} {id : List ℕ} → on_keys request ≡ Some (on.ImportKey force nonce) → IsNonce id → MayStore id Nonce
 
--- what is done of a request: no key's file is changed by it, the trust file isn't called, and no ticket is given back
-abbrev pub IsAllowed : Request → EventWith FurtherEvent → Type 0
-IsAllowed request (Received took) = ⊥
-IsAllowed request (Sent text) = IsNotice text
-IsAllowed request (CacheTurn taken) = IsWorkStep request taken.asked
-IsAllowed request (Further (Keys (Replaced grip file answer))) = answer ≢ key_done.Done
-IsAllowed request (Further (Keys (Removed grip answer))) = answer ≢ key_done.Done
-IsAllowed request (Further (Trust call)) = ⊥
-IsAllowed request _ = ⊤
+  -- the turns that are its work: the cache is asked, or the prompt is wanted; and what is stored, cleared or stopped, by its own commands alone
+  abbrev pub IsWorkStep : MarkStep → Type 0
+  IsWorkStep (Put id mode life secret) = MayStore id mode
+  IsWorkStep (Clear id mode) = request ≡ Cache (ClearPassphrase id mode)
+  IsWorkStep Flush = request ≡ Cache ReloadAgent
+  IsWorkStep Stop = request ≡ Cache KillAgent
+  IsWorkStep (Close ticket keep) = ⊥
+  IsWorkStep _ = ⊤
 
--- and it isn't refused by it
-abbrev pub IsWork : Request → EventWith FurtherEvent → Type 0
-IsWork request event = IsAllowed request event × (refuses event ≡ None)
+  -- what is done of a request: no key's file is changed by it, the trust file isn't called, and no ticket is given back
+  abbrev pub IsAllowed : EventWith FurtherEvent → Type 0
+  IsAllowed (Received took) = ⊥
+  IsAllowed (Sent text) = IsNotice text
+  IsAllowed (CacheTurn taken) = IsWorkStep taken.asked
+  IsAllowed (Further (Keys (Replaced grip file answer))) = answer ≢ key_done.Done
+  IsAllowed (Further (Keys (Removed grip answer))) = answer ≢ key_done.Done
+  IsAllowed (Further (Trust call)) = ⊥
+  IsAllowed _ = ⊤
 
-abbrev pub AreWork : Request → List (EventWith FurtherEvent) → Type 0
-AreWork request events = AllByRecursion (IsWork request) events
+  -- and it isn't refused by it
+  abbrev pub IsWork : EventWith FurtherEvent → Type 0
+  IsWork event = IsAllowed event × (refuses event ≡ None)
+
+  abbrev pub AreWork : List (EventWith FurtherEvent) → Type 0
+  AreWork events = AllByRecursion IsWork events
 
 -- ---- its end
 
@@ -162,55 +167,59 @@ pub data Settles : Turn → List ℕ → Type 0 where
   interrupted : {turn : Turn} {why : Code} → Interrupts turn why → Settles turn (failed why)
 
 -- How a request ends, once its work is done.
-pub data IsEnd (request : Request) : List (EventWith FurtherEvent) → Type 0 where
-  answered : {last : List (EventWith FurtherEvent)} → IsLast last → IsEnd request last
+pub data IsEnd (request : Request) (IsNonce : List ℕ → Type 0) : List (EventWith FurtherEvent) → Type 0 where
+  answered : {last : List (EventWith FurtherEvent)} → IsLast last → IsEnd request IsNonce last
   -- a prompt's ticket is given back, and its passphrase may be kept
-  given_back : {ticket : ℕ} {keep : Option (List ℕ)} {last : List (EventWith FurtherEvent)} (turn : Turn) → IsLast last → IsEnd request (cache_turn (Close ticket keep) turn ∷ last)
+  given_back : {ticket : ℕ} {keep : Option (List ℕ)} {last : List (EventWith FurtherEvent)} (turn : Turn) → IsLast last → IsEnd request IsNonce (cache_turn (Close ticket keep) turn ∷ last)
   -- it is, and then there is no memory for the answer: what was kept stays
-  unanswered : {ticket : ℕ} {keep : Option (List ℕ)} (turn : Turn) → IsEnd request (cache_turn (Close ticket keep) turn ∷ Further NoMemory ∷ Sent (failed code.NoMemory) ∷ [])
+  unanswered : {ticket : ℕ} {keep : Option (List ℕ)} (turn : Turn) → IsEnd request IsNonce (cache_turn (Close ticket keep) turn ∷ Further NoMemory ∷ Sent (failed code.NoMemory) ∷ [])
   -- an event refuses it: nothing is done behind it but to shut the prompt, to give the ticket back and to answer
-  refused : {event : EventWith FurtherEvent} {why : Code} {ending : List (EventWith FurtherEvent)} → IsAllowed request event → refuses event ≡ Some why → GivesBack (Sent (failed why) ∷ []) ending
-      → IsEnd request (event ∷ (shuts event ++ ending))
+  refused : {event : EventWith FurtherEvent} {why : Code} {ending : List (EventWith FurtherEvent)} → IsAllowed request IsNonce event → refuses event ≡ Some why → GivesBack (Sent (failed why) ∷ []) ending
+      → IsEnd request IsNonce (event ∷ (shuts event ++ ending))
   -- a key's file is replaced, and the passphrase kept by the return of the ticket, or by a turn
   kept : {grip : Grip} {file : List ℕ} {ticket : ℕ} {pass text : List ℕ} (turn : Turn) → EndsInOk text
-      → IsEnd request (Further (Keys (Replaced grip file key_done.Done)) ∷ cache_turn (Close ticket (Some pass)) turn ∷ Sent text ∷ [])
+      → IsEnd request IsNonce (Further (Keys (Replaced grip file key_done.Done)) ∷ cache_turn (Close ticket (Some pass)) turn ∷ Sent text ∷ [])
   stored : {grip : Grip} {file pass text : List ℕ} {turn : Turn} → Settles turn text
-      → IsEnd request (Further (Keys (Replaced grip file key_done.Done)) ∷ cache_turn (put_key grip pass) turn ∷ Sent text ∷ [])
+      → IsEnd request IsNonce (Further (Keys (Replaced grip file key_done.Done)) ∷ cache_turn (put_key grip pass) turn ∷ Sent text ∷ [])
   -- a key's file is removed, and its passphrase cleared
   cleared : {grip : Grip} {text : List ℕ} {turn : Turn} {ending : List (EventWith FurtherEvent)} → Settles turn text → GivesBack (Sent text ∷ []) ending
-      → IsEnd request (Further (Keys (Removed grip key_done.Done)) ∷ cache_turn (Clear (grip_text grip) Normal) turn ∷ ending)
+      → IsEnd request IsNonce (Further (Keys (Removed grip key_done.Done)) ∷ cache_turn (Clear (grip_text grip) Normal) turn ∷ ending)
 
 -- What is done for a request, from its first event to its last: its work, and its end. A failed write of its answer ends the whole session, and is no part
 -- of this.
-pub record Course (request : Request) (events : List (EventWith FurtherEvent)) : Type 0 where
+pub record CourseBy (request : Request) (IsNonce : List ℕ → Type 0) (events : List (EventWith FurtherEvent)) : Type 0 where
   pub work : List (EventWith FurtherEvent)
   pub last : List (EventWith FurtherEvent)
   pub is : events ≡ work ++ last
-  pub each : AreWork request work
-  pub end : IsEnd request last
+  pub each : AreWork request IsNonce work
+  pub end : IsEnd request IsNonce last
+
+-- and what it stores under a nonce is stored under one that was drawn for it
+abbrev pub Course : Request → List (EventWith FurtherEvent) → Type 0
+Course request events = CourseBy request (IsNonceOf events) events
 
 -- ---- requests that are refused so
 
 -- how a request ends that an event of its own refuses by this code
-pub data RefusedEnd (request : Request) : Code → List (EventWith FurtherEvent) → Type 0 where
+pub data RefusedEnd (request : Request) (IsNonce : List ℕ → Type 0) : Code → List (EventWith FurtherEvent) → Type 0 where
   -- at its work: nothing more is done for it
-  at_work : {event : EventWith FurtherEvent} {why : Code} {ending : List (EventWith FurtherEvent)} → IsAllowed request event → refuses event ≡ Some why → GivesBack (Sent (failed why) ∷ []) ending
-      → RefusedEnd request why (event ∷ (shuts event ++ ending))
+  at_work : {event : EventWith FurtherEvent} {why : Code} {ending : List (EventWith FurtherEvent)} → IsAllowed request IsNonce event → refuses event ≡ Some why → GivesBack (Sent (failed why) ∷ []) ending
+      → RefusedEnd request IsNonce why (event ∷ (shuts event ++ ending))
   -- behind the return of its ticket, by which a passphrase may have been kept
   at_answer : {ticket : ℕ} {keep : Option (List ℕ)} (turn : Turn)
-      → RefusedEnd request code.NoMemory (cache_turn (Close ticket keep) turn ∷ Further NoMemory ∷ Sent (failed code.NoMemory) ∷ [])
+      → RefusedEnd request IsNonce code.NoMemory (cache_turn (Close ticket keep) turn ∷ Further NoMemory ∷ Sent (failed code.NoMemory) ∷ [])
   -- behind a key's file that was replaced, whose passphrase found no memory to be stored; or that was removed, whose passphrase found none to be cleared
   at_store : {grip : Grip} {file pass : List ℕ}
-      → RefusedEnd request code.NoMemory (Further (Keys (Replaced grip file key_done.Done)) ∷ cache_turn (put_key grip pass) Refused ∷ Sent (failed code.NoMemory) ∷ [])
+      → RefusedEnd request IsNonce code.NoMemory (Further (Keys (Replaced grip file key_done.Done)) ∷ cache_turn (put_key grip pass) Refused ∷ Sent (failed code.NoMemory) ∷ [])
   at_clear : {grip : Grip} {ending : List (EventWith FurtherEvent)} → GivesBack (Sent (failed code.NoMemory) ∷ []) ending
-      → RefusedEnd request code.NoMemory (Further (Keys (Removed grip key_done.Done)) ∷ cache_turn (Clear (grip_text grip) Normal) Refused ∷ ending)
+      → RefusedEnd request IsNonce code.NoMemory (Further (Keys (Removed grip key_done.Done)) ∷ cache_turn (Clear (grip_text grip) Normal) Refused ∷ ending)
 
 pub record RefusedCourse (request : Request) (why : Code) (events : List (EventWith FurtherEvent)) : Type 0 where
   pub work : List (EventWith FurtherEvent)
   pub last : List (EventWith FurtherEvent)
   pub is : events ≡ work ++ last
-  pub each : AreWork request work
-  pub end : RefusedEnd request why last
+  pub each : AreWork request (IsNonceOf events) work
+  pub end : RefusedEnd request (IsNonceOf events) why last
 
 -- the codes that are answered for such events alone
 pub data IsOwnCode : Code → Type 0 where

@@ -77,10 +77,10 @@ pub record LawfulRequest (rules : Rules) (kept : Kept) (Spares : Type 0) (line :
   -- one that was refused did nothing more
   pub refused : (why : Code) → IsOwnCode why → HasError why Agent events → RefusedCourse (request_of line) why events
   -- a passphrase is written to the request that asked for it, and none to one on keys
-  pub own : on_keys (request_of line) ≡ None → SaysOwnAlone rules (request_of line) events
-  pub of_keys : (asked : KeyRequest) → on_keys (request_of line) ≡ Some asked → TellsOfKeysAlone kept.wraps asked events
+  pub own : on_keys (request_of line) ≡ None → SaysOwnAlone rules kept.options (request_of line) events
+  pub of_keys : (asked : KeyRequest) → on_keys (request_of line) ≡ Some asked → TellsOfKeysAlone rules kept (request_of line) events
   -- what it hands to the cache is its own
-  pub stores : StoresOwnAlone (request_of line) events
+  pub stores : StoresOwnAlone rules kept (request_of line) events
 
 -- What they say of the exchange of a line, which may be one of every session.
 pub record LawfulExchange {D P : Type 0} (turned : D → MarkStep → Turn → D → Type 0) (prompted : P → Call → P → Type 0) (at : P → AtPrompter) (rules : Rules) (cause : Causes)

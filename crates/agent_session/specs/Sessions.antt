@@ -14,7 +14,7 @@ use Rattle.agent_origin.specs.Sessions.{Surroundings, ServesSession}
 
 -- the trust file where there is none: nothing is known of it, and it has no faults
 abbrev pub no_trust : TrustState
-no_trust = record { file = None; faults = 0 }
+no_trust = record { file = None; folder = None; faults = 0 }
 
 module _ {D P : Type 0} (turned : D → MarkStep → Turn → D → Type 0) (prompted : P → Call → P → Type 0) where
   -- what a session has to do with, where that is a prompter, the keys and the dice

@@ -10,9 +10,9 @@ ghost use Rattle.key_commands.specs.Events.{Event};
 ghost use Rattle.key_commands.specs.declared.request.KeyRequest.{KeyRequest};
 ghost use Rattle.session_options.specs.OptionValues.{OptionValues};
 ghost use Rattle.session_options.specs.declared.rules.Rules.{Rules};
-ghost use Rattle.agent_origin.specs.DoorSessions.{ServesDoor};
+ghost use Rattle.agent_origin.specs.DoorSessions.{DoorExchange, ServesDoor};
 ghost use Rattle.agent_origin.specs.FurtherStates.{FurtherWorld};
-ghost use Rattle.agent_origin.specs.SessionExchanges.{SessionExchange};
+ghost use Rattle.agent_origin.specs.SessionExchanges.{SessionExchange, kept_at_start};
 ghost use Rattle.agent_origin.specs.Sessions.{Surroundings};
 ghost use Rattle.agent_origin.specs.declared.door.Door.{Door};
 ghost use Rattle.agent_origin.specs.declared.kept.Kept.{Kept};
@@ -33,7 +33,7 @@ pub fn each_request_stores_its_own<D: Desk, P: Prompter>()
         (supply : Supply) (before after : Outside (FurtherWorld D.turned P.prompted))
         → SessionExchange rules kept line events now went
         → Leads (Does (FurtherWorld D.turned P.prompted) supply) before events after
-        → StoresOwnAlone (request_of line) events }
+        → StoresOwnAlone rules kept (request_of line) events }
 {}
 
 /// To whom a passphrase is written. A line of a request on the cache or on the session has no
@@ -42,27 +42,30 @@ pub fn each_request_stores_its_own<D: Desk, P: Prompter>()
 pub fn each_passphrase_is_written_to_its_request()
     ensures { (rules : Rules) (kept now : OptionValues) (line : List ℕ) (events : List Event)
         (went : Went) → LineExchange rules kept line events now went
-        → SaysOwnAlone rules (request_of line) events }
+        → SaysOwnAlone rules kept (request_of line) events }
 {}
 
-/// No line of a request on keys has a passphrase in it: each is an error, OK, how much the client may
-/// send, what is known of a key, a nonce that the request drew, the session's wrapping key, or the key
-/// that it asked for, which this one wrapped.
+/// No line of a request on keys has a passphrase in it: each is an error, OK, how much the client
+/// may send, what is known of a key, a nonce that the request drew, the session's wrapping key, or
+/// the key that it asked for, as it opened it itself, which this one wrapped.
 pub fn no_passphrase_is_written_for_a_request_on_keys()
     ensures { (rules : Rules) (kept now : Kept) (line : List ℕ) (asked : KeyRequest)
         (events : List Event) (went : Went) → SessionExchange rules kept line events now went
-        → on_keys (request_of line) ≡ Some asked → TellsOfKeysAlone kept.wraps asked events }
+        → on_keys (request_of line) ≡ Some asked
+        → TellsOfKeysAlone rules kept (request_of line) events }
 {}
 
 /// Over a session, also over one that came in by a door, what is handed to the cache is of the last
-/// line that was read before, and of nothing that was done for another.
+/// line that was read before, with what the lines before it left, and of nothing that was done for
+/// another.
 pub fn a_session_stores_its_requests_own<D: Desk, P: Prompter>()
     ensures session { (rules : Rules)
         (before after : Surroundings (FurtherWorld D.turned P.prompted)) (end : Ends)
         → (served : ServesRules D.turned P.prompted rules before end after)
-        → StoresOwnThroughout served.events }
+        → StoresOwnThroughout rules (SessionExchange rules) (kept_at_start rules) served.events }
     ensures door { (door : Door) (rules : Rules)
         (before after : Surroundings (FurtherWorld D.turned P.prompted)) (end : Ends)
         → (served : ServesDoor D.turned P.prompted door rules before end after)
-        → StoresOwnThroughout served.events }
+        → StoresOwnThroughout rules (DoorExchange door rules) (kept_at_start rules)
+        served.events }
 {}

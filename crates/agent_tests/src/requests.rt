@@ -1,5 +1,5 @@
 use agent_commands::{
-    CacheCommand, Request, Texts, commands_are_as_defined, read_quiet, read_request,
+    CacheCommand, LineRequest, Request, Texts, commands_are_as_defined, read_request,
 };
 use arrayvec::ArrayVec;
 use assuan_line::Line;
@@ -97,7 +97,7 @@ fn told_texts(alloc: Global, texts: &Option<Texts>) -> Result<String, AllocError
 
 /// What a line asks of the cache alone, or that it asks for something else.
 fn told_quiet(alloc: Global, line: &Line) -> Result<String, AllocError> {
-    match read_quiet(line) {
+    match LineRequest::of(line).quiet() {
         Some(request) => {
             let data = flag(request.plain, 'd');
             format!(in alloc; "quiet {} {data}", told_id(&request.id))

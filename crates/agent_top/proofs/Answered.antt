@@ -1,6 +1,6 @@
 -- Runs of the agent, and sessions of its daemon: each error line has its cause, and where no count rose each request is answered.
 use Rattle.std.specs.List.{AllByRecursion}
-use Rattle.std.proofs.Common.{◌+◌, ◌-◌, ◌^◌, ℕ, min, arith}
+use Rattle.std.proofs.Common.{◌+◌, ◌-◌, ◌^◌, ℕ, List, min, arith}
 use Rattle.agent_ask.specs.Events.{Call}
 use Rattle.agent_ask.specs.Prompters.{IsCall}
 use Rattle.agent_commands.specs.Talks.{Session}
@@ -9,7 +9,7 @@ use Rattle.agent_core.specs.Solos.{TurnsSolo}
 use Rattle.agent_origin.specs.SessionExchanges.{kept_at_start}
 use Rattle.agent_origin.specs.declared.door.Door.{Door}
 use Rattle.agent_ports.specs.Counts.{Rose}
-use Rattle.agent_ports.specs.HostParts.{Views, InFolder}
+use Rattle.agent_ports.specs.HostParts.{Views}
 use Rattle.agent_ports.specs.Readings.{Readings}
 use Rattle.agent_ports.specs.TrustFiles.{TrustState}
 use Rattle.agent_ports.specs.declared.session.SessionId.{SessionId}
@@ -50,7 +50,7 @@ module _ (promise : (before : AtPinentry) (call : Call) (after : AtPinentry) →
   server_caused {rules} (ran run) = each_caused (in_session rules) TurnsSolo PinentryDoes at_prompter promise rules _ _ run.end run.served
   server_caused top.no_memory = tt
 
-  module _ {La C R K T : Type 0} {views : Views La C R K} {trusts : T → TrustState} {folder : InFolder K T} {rules : Rules} {door : Door} {session : SessionId} {before after : LinkSides} {pass now : AtPass} {end : SessionEnd}
+  module _ {La C R K T : Type 0} {views : Views La C R K} {trusts : T → TrustState} {folder : List ℕ} {rules : Rules} {door : Door} {session : SessionId} {before after : LinkSides} {pass now : AtPass} {end : SessionEnd}
       (one : ServesOne views trusts folder rules door session before pass end after now) where
     pub daemon_answered : NoFaultOfOne one → AllByRecursion Remembers one.served.events → AnswersAll (FaultlessAtDoor door rules) rules one.served.events end
     daemon_answered still remembers =

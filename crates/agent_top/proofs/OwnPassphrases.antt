@@ -6,7 +6,7 @@ use Rattle.agent_ask.specs.SessionEvents.{Received, Sent, Cut, Inquiry, CacheTur
 use Rattle.agent_commands.specs.declared.went.SessionEnd.{SessionEnd}
 use Rattle.agent_origin.specs.DoorSessions.{DoorExchange}
 use Rattle.agent_origin.specs.declared.door.Door.{Door}
-use Rattle.agent_ports.specs.HostParts.{Views, InFolder}
+use Rattle.agent_ports.specs.HostParts.{Views}
 use Rattle.agent_ports.specs.Readings.{Readings}
 use Rattle.agent_ports.specs.Sides.{Side}
 use Rattle.agent_ports.specs.TrustFiles.{TrustState}
@@ -134,9 +134,9 @@ turn_event (CacheTurn other ∷ more) here = here
 turn_event (CacheTurn other ∷ more) (later has) = later (turn_event more has)
 turn_event (Further what ∷ more) has = later (turn_event more has)
 
-module _ {La C R K T : Type 0} {views : Views La C R K} {trusts : T → TrustState} {folder : InFolder K T} {rules : Rules} {door : Door} {session : SessionId} {before after : LinkSides} {pass now : AtPass} {end : SessionEnd}
+module _ {La C R K T : Type 0} {views : Views La C R K} {trusts : T → TrustState} {folder : List ℕ} {rules : Rules} {door : Door} {session : SessionId} {before after : LinkSides} {pass now : AtPass} {end : SessionEnd}
     (one : ServesOne views trusts folder rules door session before pass end after now) where
-  pub own_turn : (mark : Mark) → Has mark one.own → HandsIn mark.step → IsOwnTurn one.served.events mark
+  pub own_turn : (mark : Mark) → Has mark one.own → HandsIn mark.step → IsOwnTurn door rules one.served.events mark
   own_turn mark has hands =
       let taken = turn_of one.turns has hands in
       let there = place (turn_event one.served.events taken.has) in
@@ -148,7 +148,7 @@ module _ {La C R K T : Type 0} {views : Views La C R K} {trusts : T → TrustSta
         later = there.behind;
         events_are = there.is;
         stores =
-            session_own (DoorExchange door rules) (λ prior line events then went exchange fits. door_own line exchange fits) one.served.session fits there.before there.behind mark.step taken.turn there.is hands;
+            session_own rules (DoorExchange door rules) (λ prior line events then went exchange fits. door_own line exchange fits) one.served.session fits there.before there.behind mark.step taken.turn there.is hands;
       }
 
 -- ---- the run

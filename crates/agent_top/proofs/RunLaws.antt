@@ -21,7 +21,7 @@ use Rattle.agent_origin.specs.DoorSessions.{door_command}
 use Rattle.agent_origin.specs.SessionExchanges.{SessionExchange}
 use Rattle.agent_origin.specs.declared.door.Door.{Door}
 use Rattle.agent_origin.specs.declared.kept.Kept.{Kept}
-use Rattle.agent_ports.specs.HostParts.{Views, InFolder}
+use Rattle.agent_ports.specs.HostParts.{Views}
 use Rattle.agent_ports.specs.Leads.{Leads}
 use Rattle.agent_ports.specs.Readings.{Readings}
 use Rattle.agent_ports.specs.TrustFiles.{TrustState}
@@ -148,7 +148,7 @@ module _ (promise : (before : AtPinentry) (call : Call) (after : AtPinentry) →
       (long_session (session_long rules) (server_caused promise (ran run))) run.served.leads
   server_lawful top.no_memory = tt
 
-  module _ {La C R K T : Type 0} {views : Views La C R K} {trusts : T → TrustState} {folder : InFolder K T} {rules : Rules} {door : Door} {session : SessionId} {before after : LinkSides} {pass now : AtPass} {end : SessionEnd}
+  module _ {La C R K T : Type 0} {views : Views La C R K} {trusts : T → TrustState} {folder : List ℕ} {rules : Rules} {door : Door} {session : SessionId} {before after : LinkSides} {pass now : AtPass} {end : SessionEnd}
       (one : ServesOne views trusts folder rules door session before pass end after now) where
     pub daemon_lawful : IsLawfulSession one
     daemon_lawful =

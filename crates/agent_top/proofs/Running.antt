@@ -16,7 +16,7 @@ use Rattle.agent_top.proofs.Stopping.{stays_stopped}
 use Rattle.agent_serve.specs.Working.{HostViews}
 use Rattle.agent_top.specs.Load.{RunsLoad, no_memory as no_memory_for_load}
 use Rattle.agent_top.specs.Daemon.{RunsDaemon, no_memory as no_memory_for_it, IsFirstStopped}
-use Rattle.agent_top.specs.Top.{IfServer, IfDaemon, IfLoad, UsesParts, AreSettledIn, HadNoMemory, RunsServer, no_memory, machine, with_pid, exit_number}
+use Rattle.agent_top.specs.Top.{IfServer, IfDaemon, IfLoad, UsesParts, KeepsParts, HadNoMemory, RunsServer, RunsInFolder, settled, unread, Machine, machine, in_folder, with_pid, exit_number}
 use Rattle.agent_top.specs.declared.status.Status.TheVariants as status
 
 pub if_server : (run : RunMode) {P : Type 0} → P → IfServer run P
@@ -25,33 +25,35 @@ if_server Daemon p = tt
 if_server (Load number) p = tt
 
 module _ {La C R K : Type 0} (views : Views La C R K) where
-  -- the server runs with these parts of a host, and leaves those
-  abbrev pub RunsWith : Rules → (input output : Side) → ℕ → (input_now output_now : Side) → Parts La C R K → Parts La C R K → Type 0
-  RunsWith rules input output number input_now output_now had has =
-      RunsServer rules (machine input output (views.readings had.clock) (views.launches had.launcher) (views.keys had.keys) (views.draws had.dice)) number
+  -- the server does this with these parts of a host, and leaves those
+  abbrev pub DoesWith : (Machine → ℕ → Machine → Type 0) → (input output : Side) → ℕ → (input_now output_now : Side) → Parts La C R K → Parts La C R K → Type 0
+  DoesWith Runs input output number input_now output_now had has =
+      Runs (machine input output (views.readings had.clock) (views.launches had.launcher) (views.keys had.keys) (views.draws had.dice)) number
       (machine input_now output_now (views.readings has.clock) (views.launches has.launcher) (views.keys has.keys) (views.draws has.dice))
 
-  -- and so with those that it had before it was settled
-  pub uses_settled : (rules : Rules) (input output : Side) (number : ℕ) (input_now output_now : Side) (before mid after : Option (Parts La C R K)) → IsSome before → AreSettled views before mid
-      → UsesParts (RunsWith rules input output number input_now output_now) mid after → UsesParts (RunsWith rules input output number input_now output_now) before after
+  -- what it does with parts that were settled, it does in the folder with those that they were before
+  pub uses_settled : (rules : Rules) (input output : Side) (number : ℕ) (input_now output_now : Side) (before mid after : Option (Parts La C R K)) → IsSome before
+      → AreSettled views rules.homedir.items before mid → UsesParts (DoesWith (RunsServer rules) input output number input_now output_now) mid after
+      → UsesParts (DoesWith (RunsInFolder rules) input output number input_now output_now) before after
   uses_settled rules input output number input_now output_now (Some had) (Some has) after there alike uses = record {
     had = had;
     has = uses.has;
     had_is = refl;
     has_is = uses.has_is;
-    goes_on = rw (sym alike.clock, sym alike.launcher, sym alike.keys, sym alike.dice)
-        (subst (λ parts. RunsWith rules input output number input_now output_now parts uses.has) (sym (some_is uses.had_is)) uses.goes_on);
+    goes_on = settled (subst (λ around. RunsServer rules around number (left uses.has)) same
+        (subst (λ parts. DoesWith (RunsServer rules) input output number input_now output_now parts uses.has) (sym (some_is uses.had_is)) uses.goes_on));
   } where
     some_is : {x y : Parts La C R K} → Some x ≡ Some y → x ≡ y
     some_is e = cc e
+
+    left : Parts La C R K → Machine
+    left parts = machine input_now output_now (views.readings parts.clock) (views.launches parts.launcher) (views.keys parts.keys) (views.draws parts.dice)
+
+    same : machine input output (views.readings has.clock) (views.launches has.launcher) (views.keys has.keys) (views.draws has.dice)
+        ≡ in_folder rules (machine input output (views.readings had.clock) (views.launches had.launcher) (views.keys had.keys) (views.draws had.dice))
+    same = rw (alike.clock, alike.launcher, alike.keys, alike.dice) refl
   uses_settled rules input output number input_now output_now (Some had) None after there alike uses = absurd alike
   uses_settled rules input output number input_now output_now None mid after there alike uses = absurd (cc there)
-
-  -- and its parts were settled in the folder
-  pub settled_in : (keys_of_folder : K → Type 0) (before mid : Option (Parts La C R K)) → AreSettled views before mid → IfSome mid (λ parts. keys_of_folder parts.keys) → IfSome before (AreSettledIn views keys_of_folder)
-  settled_in keys_of_folder (Some had) (Some settled) alike folder = record { settled = settled; alike = alike; in_folder = folder }
-  settled_in keys_of_folder (Some had) None alike folder = absurd alike
-  settled_in keys_of_folder None mid alike folder = tt
 
 if_daemon : (run : RunMode) {P : Type 0} → P → IfDaemon run P
 if_daemon Server p = tt
@@ -67,39 +69,31 @@ any_rules : (rules : Option Rules) {P : Rules → Type 0} → ((given : Rules) �
 any_rules None p = tt
 any_rules (Some given) p = p given
 
-settled_already : {La C R K : Type 0} (views : Views La C R K) (parts : Option (Parts La C R K)) → AreSettled views parts parts
-settled_already views None = tt
-settled_already views (Some parts) = record { launcher = refl; clock = refl; dice = refl; keys = refl }
-
 parts_of : {La C R K : Type 0} (parts : Option (Parts La C R K)) → IsSome parts → (had : Parts La C R K) × (parts ≡ Some had)
 parts_of None some = absurd (cc some)
 parts_of (Some had) some = (had, refl)
 
 -- where there was no memory for the words, a load didn't run
 pub no_words_for_load : {La C R K : Type 0} (views : Views La C R K) (rules : Option Rules) (number : ℕ) (input output : Side) (parts : Option (Parts La C R K)) → number ≡ exit_number status.NoMemory
-    → IfSome rules (λ given. IfLoad given.run (λ load. RunsLoad load output number output × (input ≡ input) × AreSettled views parts parts))
-no_words_for_load views rules number input output parts is =
-    any_rules rules (λ given. if_load given.run _ (λ load. (rw is no_memory_for_load, refl, settled_already views parts)))
+    → IfSome rules (λ given. IfLoad given.run (λ load. RunsLoad load output number output × (input ≡ input) × KeepsParts views given.homedir.items parts parts))
+no_words_for_load views rules number input output parts is = any_rules rules (λ given. if_load given.run _ (λ load. (rw is no_memory_for_load, refl, inl refl)))
 
 -- where there was no memory for the words, the server didn't run
 pub no_words_served : {La C R K : Type 0} (views : Views La C R K) (rules : Option Rules) (pid number : ℕ) (input output : Side) (parts : Option (Parts La C R K)) → IsSome parts → number ≡ exit_number status.NoMemory
-    → IfSome rules (λ given. IfServer given.run (UsesParts (RunsWith views (with_pid pid given) input output number input output) parts parts))
+    → IfSome rules (λ given. IfServer given.run (UsesParts (DoesWith views (RunsInFolder (with_pid pid given)) input output number input output) parts parts))
 no_words_served views rules pid number input output parts some is =
     let had = parts_of parts some in
-    any_rules rules (λ given. if_server given.run (record { had = had.0; has = had.0; had_is = had.1; has_is = had.1; goes_on = rw is no_memory }))
+    any_rules rules (λ given. if_server given.run (record { had = had.0; has = had.0; had_is = had.1; has_is = had.1; goes_on = rw is unread }))
 
 -- nor the daemon
 pub no_words_for_daemon : {Ls E Li La C R K T : Type 0} (host : Rules → HostViews Ls E Li La C R K T) (rules : Option Rules) (pid number listens : ℕ) (input output : Side) (parts : Option (Parts La C R K))
-    → number ≡ exit_number status.NoMemory → IfSome rules (λ given. IfDaemon given.run (RunsDaemon (host given) (with_pid pid given) listens output number listens output × (input ≡ input) × AreSettled (host given).parts parts parts))
-no_words_for_daemon host rules pid number listens input output parts is =
-    any_rules rules (λ given. if_daemon given.run (rw is no_memory_for_it, refl, settled_already (host given).parts parts))
+    → number ≡ exit_number status.NoMemory
+    → IfSome rules (λ given. IfDaemon given.run (RunsDaemon (host given) (with_pid pid given) listens output number listens output × (input ≡ input) × KeepsParts (host given).parts given.homedir.items parts parts))
+no_words_for_daemon host rules pid number listens input output parts is = any_rules rules (λ given. if_daemon given.run (rw is no_memory_for_it, refl, inl refl))
 
 -- nor was the host settled: it is as it was
 pub no_words_to_settle : {H : Type 0} (rules : Option Rules) (number : ℕ) (host : H) (path : List ℕ) → HadNoMemory number → IfSome rules (λ given. (path ≡ given.homedir.items) ⊎ (HadNoMemory number × (host ≡ host)))
 no_words_to_settle rules number host path is = any_rules rules (λ given. inr (is, refl))
-
-pub no_words_in_folder : (rules : Option Rules) (number : ℕ) (InFolder : Rules → Type 0) → HadNoMemory number → IfSome rules (λ given. IfServer given.run (HadNoMemory number ⊎ InFolder given))
-no_words_in_folder rules number InFolder is = any_rules rules (λ given. if_server given.run (inl is))
 
 -- a pass that has seen a stop stands in a run that is stopped
 stopped_tally : (counted : AtCounted) (passes : List AtPass) (tally : Tally) → IsClosed counted passes tally → IsFirstStopped passes → tally.stopped ≡ true

@@ -83,7 +83,7 @@ abbrev pub launches : Launches
 launches = record { coming = Some []; launched = Some []; finished = Some []; faults = 0 }
 
 abbrev pub keys : KeyFiles
-keys = record { files = None; faults = 0 }
+keys = record { files = None; folder = None; faults = 0 }
 
 abbrev pub dice : Side
 dice = record { bytes = None; faults = 0 }
@@ -278,18 +278,18 @@ module _ (rules : Rules) where
   pub is_empty : SessionExchange rules kept get (cache_turn (ask id) Empty ∷ Sent (failed code.NoData) ∷ []) kept On
   is_empty =
       subst (λ (r : Request). RequestExchange rules kept r (cache_turn (ask id) Empty ∷ Sent (failed code.NoData) ∷ []) kept On) (sym get_is)
-      (cache (exchanges.refused (cache_turn (ask id) Empty ∷ []) None (Agent code.NoData) (stops (goes_on (record { asks = turning.empty; keeps = refl }) refuses)) turning.unheld))
+      (cache (exchanges.refused (cache_turn (ask id) Empty ∷ []) None (Agent code.NoData) (stops (goes_on (turning.empty tt) refuses)) turning.unheld))
 
-  pub is_given : (grant : Grant) → grant.entry.secret ≡ pass → SessionExchange rules kept get (cache_turn (ask id) (Given grant) ∷ Sent told ∷ []) kept On
-  is_given grant secret_is =
+  pub is_given : (grant : Grant) → grant.entry.secret ≡ pass → FitsStep (ask id) (Given grant) → SessionExchange rules kept get (cache_turn (ask id) (Given grant) ∷ Sent told ∷ []) kept On
+  is_given grant secret_is fits =
       subst (λ (r : Request). RequestExchange rules kept r (cache_turn (ask id) (Given grant) ∷ Sent told ∷ []) kept On) (sym get_is)
       (cache (exchanges.answered (cache_turn (ask id) (Given grant) ∷ []) None (reply kept.options told)
-      (goes_on (goes_on (record { asks = turning.given; keeps = refl }) returns) (goes_on (tells (ap (λ s. line_of (ok_text (hex_text s))) (sym secret_is))) returns)) turning.unheld))
+      (goes_on (goes_on (turning.given fits) returns) (goes_on (tells (ap (λ s. line_of (ok_text (hex_text s))) (sym secret_is))) returns)) turning.unheld))
 
   pub is_cleared : SessionExchange rules kept clear (cache_turn (Clear id User) Done ∷ Sent ok ∷ []) kept On
   is_cleared =
       subst (λ (r : Request). RequestExchange rules kept r (cache_turn (Clear id User) Done ∷ Sent ok ∷ []) kept On) (sym clear_is)
-      (cache (exchanges.answered (cache_turn (Clear id User) Done ∷ []) None (reply kept.options ok) (goes_on turning.done returns) turning.unheld))
+      (cache (exchanges.answered (cache_turn (Clear id User) Done ∷ []) None (reply kept.options ok) (goes_on (turning.done tt) returns) turning.unheld))
 
   pub is_left : SessionExchange rules kept bye (Sent closing ∷ []) kept (End ends.Bye)
   is_left =
@@ -299,7 +299,7 @@ module _ (rules : Rules) where
   pub is_stopped : SessionExchange rules kept kill (cache_turn Stop Done ∷ Sent closing ∷ []) kept (End ends.Killed)
   is_stopped =
       subst (λ (r : Request). RequestExchange rules kept r (cache_turn Stop Done ∷ Sent closing ∷ []) kept (End ends.Killed)) (sym kill_is)
-      (cache (exchanges.answered (cache_turn Stop Done ∷ []) None (last_reply kept.options ends.Killed) (goes_on turning.done returns) turning.unheld))
+      (cache (exchanges.answered (cache_turn Stop Done ∷ []) None (last_reply kept.options ends.Killed) (goes_on (turning.done tt) returns) turning.unheld))
 
 -- where presets are allowed
 module _ (some : Rules) where
@@ -309,4 +309,4 @@ module _ (some : Rules) where
   pub is_stored : SessionExchange allowing (kept allowing) preset (cache_turn (put id Endless pass) Done ∷ Sent ok ∷ []) (kept allowing) On
   is_stored =
       subst (λ (r : Request). RequestExchange allowing (kept allowing) r (cache_turn (put id Endless pass) Done ∷ Sent ok ∷ []) (kept allowing) On) (sym preset_is)
-      (cache (exchanges.answered (cache_turn (put id Endless pass) Done ∷ []) None (reply (kept allowing).options ok) (goes_on (goes_on returns (goes_on returns turning.done)) returns) turning.unheld))
+      (cache (exchanges.answered (cache_turn (put id Endless pass) Done ∷ []) None (reply (kept allowing).options ok) (goes_on (goes_on returns (goes_on returns (turning.done tt))) returns) turning.unheld))

@@ -34,6 +34,7 @@ use Rattle.agent_ports.specs.Sides.{Side}
 use Rattle.agent_ports.specs.TrustFiles.{TrustState}
 use Rattle.agent_ports.specs.declared.host.Parts.{Parts}
 use Rattle.agent_ports.specs.declared.link.Sent.TheVariants as sent
+use Rattle.agent_ports.specs.declared.listener.Next.TheVariants.{Stopped}
 use Rattle.agent_ports.specs.declared.session.SessionId.{SessionId}
 use Rattle.agent_serve.proofs.PromptedLines.{door_prompted}
 use Rattle.agent_serve.proofs.PromptedSessions.{session_prompted, have_prompts}
@@ -163,7 +164,7 @@ own_way line named_none {events} {went} exchange = is_allowed refl (subst (λ c.
 -- ---- the host
 
 abbrev trust_file : TrustState
-trust_file = record { file = None; faults = 0 }
+trust_file = record { file = None; folder = None; faults = 0 }
 
 abbrev parts : Parts Launches Readings Side KeyFiles
 parts = record { launcher = launches; clock = clock_at 0; dice = dice; keys = keys }
@@ -183,7 +184,7 @@ host = record {
   output = λ link. link.output;
   parts = record { launches = λ launcher. launcher; readings = λ clock. clock; draws = λ draws. draws; keys = λ files. files };
   trust = λ file. file;
-  folder = record { keys = λ files. ⊤; trust = λ file. ⊤ };
+  folder = rules.homedir.items;
 }
 
 bye_kills_nothing : Bye ≡ Killed → ⊥
@@ -361,7 +362,7 @@ module _ (some : AtCounted) where
   second_talk : Session (DoorExchange Home rules) (kept rules) second_events Killed
   unfolding door_command_named
   second_talk =
-      talks.greeted (talks.goes_on get (whole (own_way get refl (is_given rules grant refl))) (talks.goes_on get (whole (own_way get refl (is_empty rules)))
+      talks.greeted (talks.goes_on get (whole (own_way get refl (is_given rules grant refl (refl, refl)))) (talks.goes_on get (whole (own_way get refl (is_empty rules)))
       (talks.over kill (whole (own_way kill refl (is_stopped rules))))))
 
   abbrev second_link : LinkSides
@@ -575,11 +576,11 @@ module _ (some : AtCounted) where
   gets_want_no_memory =
       subst (λ (r : Request). AnswersAlone r (cache_turn (ask id) (Given grant) ∷ Sent told ∷ [])) get_is
       (daemon_alone {supply = supply_of (Some [])} {before = ends_with (Some []) (at_pass rules second second_link (pass_at 1 1 []) (clock_at 0) launches keys dice trust_file)}
-      (own_way get refl (is_given rules grant refl)) refl refl (one (worlds.turned gets) (one worlds.sent none)) ((λ is. cc is), ((λ never. never), tt))) refl
+      (own_way get refl (is_given rules grant refl (refl, refl))) refl refl (one (worlds.turned gets) (one worlds.sent none)) ((λ is. cc is), ((λ never. never), tt))) refl
 
   -- ---- what agent_serve says of its workers and sessions
 
-  was_told_to_stop : host.is_told 0
+  was_told_to_stop : (last : ℕ) × host.answers 0 last Stopped 0 × host.is_told 0
   was_told_to_stop = told_where_nothing_failed host rules (home_post 0 None) (pass_at 0 0 []) 0 (pass_at 0 1 (stored ∷ got ∷ cleared ∷ [])) 0 first_works (λ rose. omega (arith, rose)) (lit< tt)
 
   -- there was no prompt, and no child

@@ -156,7 +156,7 @@ unconfirmed = cache_turn (Seat None None) (Open 0) ∷ (shown ++ cache_turn (Clo
 pub is_unconfirmed : SessionExchange rules (kept rules) confirm unconfirmed (kept rules) On
 is_unconfirmed =
     subst (λ (r : Request). RequestExchange rules (kept rules) r unconfirmed (kept rules) On) (sym confirm_is)
-    (cache (whole.refused (cache_turn (Seat None None) (Open 0) ∷ shown) (Some 0) (Agent code.NoPinentry) (stops (goes_on taken.opened disagrees)) (taken.closed Done)))
+    (cache (whole.refused (cache_turn (Seat None None) (Open 0) ∷ shown) (Some 0) (Agent code.NoPinentry) (stops (goes_on (taken.opened tt) disagrees)) (taken.closed Done tt)))
 
 abbrev events : List Event
 events = Sent (line_of greeting) ∷ Received (took.Line confirm) ∷ (unconfirmed ++ Received (took.Line bye) ∷ Sent closing ∷ [])

@@ -30,7 +30,7 @@ use Rattle.agent_origin.specs.OuterTurns.{LeavesCache}
 use Rattle.agent_origin.specs.SessionExchanges.{SessionExchange}
 use Rattle.agent_origin.specs.Sessions.{ends_with, supply_of}
 use Rattle.agent_origin.specs.declared.door.Door.TheVariants.{Outer}
-use Rattle.agent_ports.specs.HostParts.{Views, InFolder}
+use Rattle.agent_ports.specs.HostParts.{Views}
 use Rattle.agent_ports.specs.KeyFiles.{KeyFiles}
 use Rattle.agent_ports.specs.Launches.{Launches}
 use Rattle.agent_ports.specs.Leads.{Leads, none, one}
@@ -126,11 +126,11 @@ talk =
 abbrev views : Views Launches Readings Side KeyFiles
 views = record { launches = λ launcher. launcher; readings = λ clock. clock; draws = λ draws. draws; keys = λ files. files }
 
-abbrev folder : InFolder KeyFiles TrustState
-folder = record { keys = λ files. ⊤; trust = λ file. ⊤ }
+abbrev folder : List ℕ
+folder = rules.homedir.items
 
 abbrev trust_file : TrustState
-trust_file = record { file = None; faults = 0 }
+trust_file = record { file = None; folder = None; faults = 0 }
 
 abbrev link : LinkSides
 link = link_of (side (lines (terminal ∷ get ∷ confirm ∷ bye ∷ []))) (side [])

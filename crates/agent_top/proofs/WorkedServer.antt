@@ -123,7 +123,7 @@ events =
 talk : Session (SessionExchange rules) (kept rules) events Bye
 talk =
     talks.greeted (talks.goes_on get (whole (is_empty rules)) (talks.goes_on preset (whole (is_stored default_rules))
-    (talks.goes_on get (whole (is_given rules grant refl)) (talks.over bye (whole (is_left rules))))))
+    (talks.goes_on get (whole (is_given rules grant refl (refl, refl))) (talks.over bye (whole (is_left rules))))))
 
 -- ---- what it has to do with
 

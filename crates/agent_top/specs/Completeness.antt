@@ -1,10 +1,10 @@
 -- Runs in which nothing failed: their statuses, and that their requests are answered. This is the project's own.
 use Rattle.std.specs.List.{AllByRecursion}
-use Rattle.std.specs.Prelude.{ℕ, ⊤}
+use Rattle.std.specs.Prelude.{ℕ, List, ⊤}
 use Rattle.agent_commands.specs.Talks.{Session}
 use Rattle.agent_commands.specs.declared.went.SessionEnd.{SessionEnd}
 use Rattle.agent_ports.specs.Counts.{Rose}
-use Rattle.agent_ports.specs.HostParts.{Views, InFolder}
+use Rattle.agent_ports.specs.HostParts.{Views}
 use Rattle.agent_ports.specs.TrustFiles.{TrustState}
 use Rattle.agent_ports.specs.declared.session.SessionId.{SessionId}
 use Rattle.agent_serve.specs.Serves.{LinkSides, ServesOne}
@@ -54,7 +54,7 @@ IsCausedRun top.no_memory = ⊤
 
 -- No count that a session of a daemon has to do with has risen: of neither side of its link, nor of its launcher, its key files, its random bytes and its
 -- trust file.
-pub record NoFaultOfOne {La C R K T : Type 0} {views : Views La C R K} {trusts : T → TrustState} {folder : InFolder K T} {rules : Rules} {door : Door} {session : SessionId} {before after : LinkSides}
+pub record NoFaultOfOne {La C R K T : Type 0} {views : Views La C R K} {trusts : T → TrustState} {folder : List ℕ} {rules : Rules} {door : Door} {session : SessionId} {before after : LinkSides}
     {pass now : AtPass} {end : SessionEnd} (one : ServesOne views trusts folder rules door session before pass end after now) : Type 0 where
   pub input : ¬ Rose before.input.faults after.input.faults
   pub output : ¬ Rose before.output.faults after.output.faults

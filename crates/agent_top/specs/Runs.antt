@@ -10,7 +10,7 @@ use Rattle.agent_origin.specs.DoorSessions.{door_command}
 use Rattle.agent_origin.specs.SessionExchanges.{SessionExchange, kept_at_start}
 use Rattle.agent_origin.specs.Sessions.{Surroundings, supply_of}
 use Rattle.agent_origin.specs.declared.door.Door.{Door}
-use Rattle.agent_ports.specs.HostParts.{Views, InFolder}
+use Rattle.agent_ports.specs.HostParts.{Views}
 use Rattle.agent_ports.specs.Readings.{Readings}
 use Rattle.agent_ports.specs.TrustFiles.{TrustState}
 use Rattle.agent_ports.specs.declared.session.SessionId.{SessionId}
@@ -60,7 +60,7 @@ RunHasPrompts {rules} {before} {after} (ran run) = HavePrompts rules.pinentry.it
 RunHasPrompts top.no_memory = ⊤
 
 -- What the laws say holds of a session of a daemon, and of each of its exchanges.
-abbrev pub IsLawfulSession : {La C R K T : Type 0} {views : Views La C R K} {trusts : T → TrustState} {folder : InFolder K T} {rules : Rules} {door : Door} {session : SessionId} {before after : LinkSides}
+abbrev pub IsLawfulSession : {La C R K T : Type 0} {views : Views La C R K} {trusts : T → TrustState} {folder : List ℕ} {rules : Rules} {door : Door} {session : SessionId} {before after : LinkSides}
     {pass now : AtPass} {end : SessionEnd} → ServesOne views trusts folder rules door session before pass end after now → Type 0
 IsLawfulSession {views} {trusts} {rules} {door} {session} {before} {after} {pass} {now} {end} one =
     let start =

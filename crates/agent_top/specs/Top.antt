@@ -2,7 +2,7 @@
 use Rattle.std.specs.Prelude.{◌≡◌, ◌⊎◌, ℕ, List, [], ◌∷◌, Option, None, Some, ⊤}
 use Rattle.std.specs.List.{AllByRecursion}
 use Rattle.agent_core.specs.Solos.{AtSolo, TurnsSolo}
-use Rattle.agent_ports.specs.HostParts.{Views, AreAlike}
+use Rattle.agent_ports.specs.HostParts.{Views, AreSettled, settled_at}
 use Rattle.agent_ports.specs.KeyFiles.{KeyFiles}
 use Rattle.agent_ports.specs.Readings.{Readings, HasGiven}
 use Rattle.agent_ports.specs.Sides.{Side}
@@ -102,6 +102,15 @@ pub data RunsServer (rules : Rules) (before : Machine) : ℕ → Machine → Typ
   ran : {number : ℕ} {after : Machine} → RunsSession rules before number after → RunsServer rules before number after
   no_memory : RunsServer rules before (exit_number status.NoMemory) before
 
+-- the machine with its key files in the rules' folder
+abbrev pub in_folder : Rules → Machine → Machine
+in_folder rules around = record around { keys = settled_at rules.homedir.items around.keys }
+
+-- That was done with the key files of the rules' folder, or there was no memory to read the words: then nothing is read or written, and no folder settled.
+pub data RunsInFolder (rules : Rules) (before : Machine) : ℕ → Machine → Type 0 where
+  settled : {number : ℕ} {after : Machine} → RunsServer rules (in_folder rules before) number after → RunsInFolder rules before number after
+  unread : RunsInFolder rules before (exit_number status.NoMemory) before
+
 -- the rules with the number of the process
 abbrev pub with_pid : ℕ → Rules → Rules
 with_pid pid rules = record rules { pid = pid }
@@ -114,11 +123,9 @@ pub record UsesParts {La C R K : Type 0} (GoesOn : Parts La C R K → Parts La C
   pub has_is : after ≡ Some has
   pub goes_on : GoesOn had has
 
--- The host's parts were settled: what shows of them is as it was, and their key files are those of the folder.
-pub record AreSettledIn {La C R K : Type 0} (views : Views La C R K) (keys_of_folder : K → Type 0) (had : Parts La C R K) : Type 0 where
-  pub settled : Parts La C R K
-  pub alike : AreAlike views had settled
-  pub in_folder : keys_of_folder settled.keys
+-- the host keeps its parts, settled at the folder of this path, unless nothing was done to them
+abbrev pub KeepsParts : {La C R K : Type 0} → Views La C R K → List ℕ → Option (Parts La C R K) → Option (Parts La C R K) → Type 0
+KeepsParts views path before after = (after ≡ before) ⊎ AreSettled views path before after
 
 -- there was no memory for the words or the session
 abbrev pub HadNoMemory : ℕ → Type 0

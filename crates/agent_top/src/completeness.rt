@@ -35,7 +35,7 @@ ghost use Rattle.pinentry_client.specs.Dialogues.{PinentryDoes};
 ghost use Rattle.session_options.specs.declared.rules.Rules.{Rules};
 
 use agent_ports::Host;
-use agent_serve::{ListeningHost, ViewedHost};
+use agent_serve::ViewedHost;
 use pinentry_client::a_pinentry_is_a_prompter;
 
 /// Where no count of its link's faults rose, a session on standard input and output ends with
@@ -67,7 +67,7 @@ pub fn each_error_of_a_server_has_its_cause()
 
 /// Where no call for a link and no write failed, a daemon that ends does so with status 0, or with
 /// 1 for want of memory.
-pub fn a_daemon_without_faults_ends_well<H: ListeningHost>()
+pub fn a_daemon_without_faults_ends_well<H: Host>()
     ensures { (path : List ℕ)
         (rules : Rules) (listens listens_now : ℕ) (before after : Side) (number : ℕ)
         → RunsDaemon (⟦<H as ViewedHost>⟧.views path) rules listens before number listens_now after
@@ -84,7 +84,7 @@ pub fn a_session_of_a_daemon_without_faults_is_answered<H: Host>()
           readings = H.Clock.readings;
           draws = H.Dice.draws;
           keys = H.Keys.keys;
-        }) H.Trust.trust (H.of_folder path) rules door session before pass end after now)
+        }) H.Trust.trust path rules door session before pass end after now)
         → NoFaultOfOne one → AllByRecursion Remembers one.served.events
         → AnswersAll (FaultlessAtDoor door rules) rules one.served.events end }
 {
@@ -100,7 +100,7 @@ pub fn each_error_of_a_daemon_has_its_cause<H: Host>()
           readings = H.Clock.readings;
           draws = H.Dice.draws;
           keys = H.Keys.keys;
-        }) H.Trust.trust (H.of_folder path) rules door session before pass end after now)
+        }) H.Trust.trust path rules door session before pass end after now)
         → Session (CausedAtDoor door rules) (kept_at_start rules) one.served.events end }
 {
     a_pinentry_is_a_prompter();

@@ -12,8 +12,8 @@ ghost use Rattle.agent_top.specs.Daemon.{status_after, IsFirstStopped, workers_w
 
 use crate::Status;
 use crate::top::limits_of;
-use agent_ports::{Ear, Host, Launcher, Link, Sent, Sink};
-use agent_serve::{ListeningHost, ViewedHost, run_workers};
+use agent_ports::{Ear, Host, Launcher, Link, Listener, Sent, Sink};
+use agent_serve::{ViewedHost, run_workers};
 use arrayvec::ArrayVec;
 use cache_policy::Tally;
 use counted_lock::{Counted, CountedPass};
@@ -36,7 +36,7 @@ pub(crate) const SUMMARY_ROOM: usize = 256;
 /// no memory for the workers, 4 where the line can't be written, and 5 where a listener is wanting,
 /// or where one failed before the agent was stopped. Sessions that are being served when the agent
 /// is stopped go on until their clients end them.
-pub fn run_daemon<W: Threads + Wait + rt::Clock + Sync, S: Link, H: ListeningHost + Sync>(
+pub fn run_daemon<W: Threads + Wait + rt::Clock + Sync, S: Link, H: Host + Sync>(
     rt: &W,
     alloc: Global,
     rules: &Rules,
@@ -118,7 +118,7 @@ where
 }
 
 /// An ear for each of so many workers, and then one of the extra listener for its worker.
-fn with_ears<H: ListeningHost>(
+fn with_ears<H: Host>(
     listener: &H::Listener,
     extra: Option<&H::Listener>,
     mut room: Vec<H::Ear>,
@@ -127,21 +127,21 @@ fn with_ears<H: ListeningHost>(
     requires empty { vec_len room ≡ 0 }
     requires fits { workers_with (is_some extra) workers ≤ vec_capacity room }
     ensures all { vec_len result ≡ workers_with (is_some extra.entry) workers }
-    ensures own { AreEarsOf H.hears listener.now (option_copied extra.entry) result.items }
+    ensures own { AreEarsOf H.Listener.hears listener.now (option_copied extra.entry) result.items }
     ensures new { NoneFailed H.Ear.faults result.items }
 {
     for _ in 0..workers {
-        room.push_reserved(H::new_ear(listener));
+        room.push_reserved(listener.ear());
     }
     if let Some(extra) = extra {
-        room.push_reserved(H::new_ear(extra));
+        room.push_reserved(extra.ear());
     }
     room
 }
 
 /// Has the workers serve links until the agent is stopped, or a listener failed. Where they came
 /// back for another reason they begin again.
-fn serve_rounds<W: Threads + Wait + rt::Clock + Sync, H: ListeningHost + Sync>(
+fn serve_rounds<W: Threads + Wait + rt::Clock + Sync, H: Host + Sync>(
     rt: &W,
     alloc: Global,
     rules: &Rules,

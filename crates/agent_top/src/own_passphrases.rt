@@ -13,7 +13,7 @@ ghost use Rattle.counted_lock.specs.Passes.{AtPass};
 ghost use Rattle.session_options.specs.declared.rules.Rules.{Rules};
 
 use agent_ports::Host;
-use agent_serve::{ListeningHost, ViewedHost};
+use agent_serve::ViewedHost;
 
 /// A session of a daemon hands to the cache only what is its own line's: each of its marks in the
 /// run that does so is a turn of it, and the passphrase is of the last line that it had read.
@@ -24,15 +24,15 @@ pub fn a_session_of_a_daemon_stores_its_own<H: Host>()
           readings = H.Clock.readings;
           draws = H.Dice.draws;
           keys = H.Keys.keys;
-        }) H.Trust.trust (H.of_folder path) rules door session before pass end after now)
+        }) H.Trust.trust path rules door session before pass end after now)
         → (mark : Mark) → Has mark one.own → HandsIn mark.step
-        → IsOwnTurn one.served.events mark }
+        → IsOwnTurn door rules one.served.events mark }
 {}
 
 /// So in the one run of a daemon: each mark by which a passphrase is handed to the cache was made
 /// by one of its sessions, which the mark names, and the passphrase is of that session's own line.
 /// What `run_daemon` says of a run that came to its end is supposed here.
-pub fn a_daemon_stores_its_sessions_own<H: ListeningHost>()
+pub fn a_daemon_stores_its_sessions_own<H: Host>()
     ensures { (path : List ℕ)
         (rules : Rules) (listens listens_now : ℕ) (before after : Side) (number : ℕ)
         → (sums : SumsUp (⟦<H as ViewedHost>⟧.views path) rules listens before number listens_now

@@ -35,7 +35,7 @@ pub fn each_request_of_a_daemon_is_lawful<H: Host>()
           readings = H.Clock.readings;
           draws = H.Dice.draws;
           keys = H.Keys.keys;
-        }) H.Trust.trust (H.of_folder path) rules door session before pass end after now)
+        }) H.Trust.trust path rules door session before pass end after now)
         → IsLawfulSession one }
 {
     a_pinentry_is_a_prompter();

@@ -3,7 +3,7 @@ ghost use Rattle.std.specs.Prelude.{◌≡◌};
 use agent_commands::SessionEnd;
 
 /// With what status the agent's process ends.
-#[derive(Clone, Copy, Debug, PartialEq, Eq)]
+#[derive(Clone, Copy, PartialEq, Eq)]
 pub enum Status {
     /// The client said BYE or stopped the agent, or its input ended. A daemon was stopped.
     Success,

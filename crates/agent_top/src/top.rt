@@ -8,8 +8,8 @@ ghost use Rattle.agent_ports.specs.HostParts.{AreSettled};
 ghost use Rattle.agent_top.specs.Daemon.{RunsDaemon};
 ghost use Rattle.agent_top.specs.Load.{RunsLoad};
 ghost use Rattle.agent_top.specs.Top.{exit_number, machine, with_pid, IsRefusal, no_child};
-ghost use Rattle.agent_top.specs.Top.{UsesParts, RunsServer, AreSettledIn, HadNoMemory, IfServer};
-ghost use Rattle.agent_top.specs.Top.{IfDaemon, IfLoad};
+ghost use Rattle.agent_top.specs.Top.{UsesParts, KeepsParts, RunsServer, RunsInFolder, HadNoMemory};
+ghost use Rattle.agent_top.specs.Top.{IfServer, IfDaemon, IfLoad};
 
 use crate::Status;
 use crate::daemon::run_daemon;
@@ -17,7 +17,7 @@ use crate::load::run_load;
 use crate::words::{WordsFault, read_words};
 use agent_core::{KnownCore, Solo};
 use agent_ports::{Clock, Dice, Host, Keys, Launcher, Link, SessionId};
-use agent_serve::{ListeningHost, ViewedHost};
+use agent_serve::ViewedHost;
 use agent_session::serve_session;
 use cache_policy::Limits;
 use pinentry_client::Pinentry;
@@ -40,7 +40,7 @@ pub(crate) const SESSION: SessionId = SessionId { pass: 0, count: 0 };
 /// With `--daemon` it is as `run_daemon` says, and with `--load` as `run_load` does.
 /// `--extra-socket` beside `--daemon` has restricted sessions served too, at a listener of their
 /// own.
-pub fn run_agent<W: Threads + Wait + rt::Clock + Sync, S: Link, H: ListeningHost + Sync>(
+pub fn run_agent<W: Threads + Wait + rt::Clock + Sync, S: Link, H: Host + Sync>(
     rt: &W,
     alloc: Global,
     words: &[String],
@@ -63,10 +63,10 @@ where
     ensures refused { IfNone (rules_of (map string_bytes words.now))
         (IsRefusal result × (S.input stdio.new ≡ S.input stdio.old)
         × (S.output stdio.new ≡ S.output stdio.old) × (host.new ≡ host.old)) }
-    // Words for standard input and output: a session was served, or there was no memory and nothing
-    // was read or written. The host has its parts again.
+    // Words for standard input and output: a session was served with the key files of the words'
+    // folder, or there was no memory and nothing was read or written. The host has its parts again.
     ensures served { IfSome (rules_of (map string_bytes words.now)) (λ rules.
-        IfServer rules.run (UsesParts (λ had has. RunsServer (with_pid (H.process host.old) rules)
+        IfServer rules.run (UsesParts (λ had has. RunsInFolder (with_pid (H.process host.old) rules)
         (machine (S.input stdio.old) (S.output stdio.old) (H.Clock.readings had.clock)
         (H.Launcher.launches had.launcher) (H.Keys.keys had.keys) (H.Dice.draws had.dice)) result
         (machine (S.input stdio.new) (S.output stdio.new) (H.Clock.readings has.clock)
@@ -79,33 +79,25 @@ where
         (⟦<H as ViewedHost>⟧.views rules.homedir.items) (with_pid (H.process host.old) rules)
         (H.listens host.old) (S.output stdio.old) result
         (H.listens host.new) (S.output stdio.new) × (S.input stdio.new ≡ S.input stdio.old)
-        × AreSettled (record {
+        × KeepsParts (record {
           launches = H.Launcher.launches;
           readings = H.Clock.readings;
           draws = H.Dice.draws;
           keys = H.Keys.keys;
-        }) (H.server host.old) (H.server host.new))) }
+        }) rules.homedir.items (H.server host.old) (H.server host.new))) }
     // Words for a load: it was served, and its line was written, unless there was no memory.
     // Nothing is read, and the host keeps its parts.
     ensures load { IfSome (rules_of (map string_bytes words.now))
         (λ rules. IfLoad rules.run (λ number. RunsLoad number (S.output stdio.old) result
-        (S.output stdio.new) × (S.input stdio.new ≡ S.input stdio.old) × AreSettled (record {
+        (S.output stdio.new) × (S.input stdio.new ≡ S.input stdio.old) × KeepsParts (record {
           launches = H.Launcher.launches;
           readings = H.Clock.readings;
           draws = H.Dice.draws;
           keys = H.Keys.keys;
-        }) (H.server host.old) (H.server host.new))) }
-    // The folder is that of the words: the host stays settled there, and a session on standard
-    // input and output has its key files, as each session of a daemon has.
+        }) rules.homedir.items (H.server host.old) (H.server host.new))) }
+    // The host stays settled at the folder of the words.
     ensures homedir { IfSome (rules_of (map string_bytes words.now)) (λ rules.
         (H.homedir host.new ≡ rules.homedir.items) ⊎ (HadNoMemory result × (host.new ≡ host.old))) }
-    ensures folder { IfSome (rules_of (map string_bytes words.now)) (λ rules.
-        IfServer rules.run (HadNoMemory result ⊎ IfSome (H.server host.old) (AreSettledIn (record {
-          launches = H.Launcher.launches;
-          readings = H.Clock.readings;
-          draws = H.Dice.draws;
-          keys = H.Keys.keys;
-        }) (H.of_folder rules.homedir.items).keys))) }
     ensures process { H.process host.new ≡ H.process host.old }
 {
     match read_words(alloc, words) {
@@ -128,14 +120,12 @@ where
 /// Settles the host at the folder of the rules.
 fn settle<H: Host>(rules: &Rules, host: &mut H)
     ensures homedir { H.homedir host.new ≡ rules.now.homedir.items }
-    ensures folder { IfSome (H.server host.new)
-        (λ parts. (H.of_folder rules.now.homedir.items).keys parts.keys) }
     ensures parts { AreSettled (record {
       launches = H.Launcher.launches;
       readings = H.Clock.readings;
       draws = H.Dice.draws;
       keys = H.Keys.keys;
-    }) (H.server host.old) (H.server host.new) }
+    }) rules.now.homedir.items (H.server host.old) (H.server host.new) }
     ensures process { H.process host.new ≡ H.process host.old }
     ensures listens { H.listens host.new ≡ H.listens host.old }
 {

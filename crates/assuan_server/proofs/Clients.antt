@@ -1,5 +1,5 @@
 -- A connection as that of a session's client: what is done with it, and what its client has said.
-use Rattle.std.proofs.Common.{◌≡◌, ℕ, true, List, [], ◌++◌, ◌⊎◌, inl, inr, Option, None, Some, Result, Ok, Err, refl, ap, sym, ◌∙◌, subst, arith}
+use Rattle.std.proofs.Common.{◌≡◌, ◌≢◌, ℕ, true, List, [], ◌++◌, ◌⊎◌, inl, inr, Option, None, Some, Result, Ok, Err, refl, ap, sym, ◌∙◌, subst, arith}
 use Rattle.std.specs.Prelude.{codes, decimal}
 use Rattle.std.specs.Option.{option_map}
 use Rattle.agent_ports.specs.Counts.{Rose}
@@ -12,17 +12,18 @@ use Rattle.assuan_line.specs.declared.reader.Took.TheVariants as took
 use Rattle.assuan_line.proofs.ReadingOn.{fewer_are_held, fault_count_rose}
 use Rattle.assuan_text.specs.Forms.{is_ignored}
 use Rattle.cache_policy.specs.declared.secret.TheConstants.{MAX_SECRET_LEN}
-use Rattle.session_client.specs.Asking.{Asked, NotAsked, LeavesInput, HasSaid, SaysLine, HasReceived, HasInquired, LeftBy, Inquires, TellsClient, AsksClient, without_data, is_unread}
+use Rattle.session_client.specs.Asking.{Asked, NotAsked, LeavesInput, HasSaid, SaysLine, HasInquired, LeftBy, Inquires, TellsClient, AsksClient, without_data, is_unread}
 use Rattle.session_client.specs.Lines.{TakesNeeded}
+use Rattle.session_client.proofs.Received.{HasReceived}
 use Rattle.session_client.specs.declared.client.TheConstants.{MAX_NOTE_LEN}
 use Rattle.session_client.specs.declared.unheard.Gone.TheVariants as gone
 use Rattle.session_client.specs.declared.unheard.Unheard.{Unheard}
 use Rattle.session_client.specs.declared.unheard.Unheard.TheVariants as unheard
 use Rattle.assuan_server.specs.Asking.{Gather, Inquire, IsNotAsked}
-use Rattle.assuan_server.specs.Clients.{HasSupply, connection_views, is_read_fault, outcome_says, secret_said, drop_said, note_text, HearsNote, HearsWish, asked, unsaid, Wishes}
+use Rattle.assuan_server.specs.Clients.{HasSupply, connection_views, is_read_fault, outcome_says, secret_said, drop_said, asked, unsaid, Wishes}
 use Rattle.assuan_server.specs.Connections.{Connection, IsOpen}
 use Rattle.assuan_server.specs.Inquiries as outcome
-use Rattle.assuan_server.specs.Inquiries.{Outcome, Inquiry as Comes, IsData, AnswersDropped, ended_of, inquire_text, is_skipped}
+use Rattle.assuan_server.specs.Inquiries.{Outcome, Inquiry as Comes, IsData, Answers, AnswersDropped, outcome_of_dropped, outcome_of_secret, ended_of, inquire_text, is_skipped}
 use Rattle.assuan_server.specs.Reading.{Supply, ReadsRequest, ReadsInquiry, IsSupply, unread}
 use Rattle.assuan_server.specs.Requests.{NextRequest}
 use Rattle.assuan_server.specs.Written.{WritesText, WritesLine}
@@ -30,6 +31,7 @@ use Rattle.assuan_server.specs.declared.inquiry.Dropped.{Dropped}
 use Rattle.assuan_server.specs.declared.inquiry.Dropped.TheVariants as dropped
 use Rattle.assuan_server.specs.declared.inquiry.InquiredSecret.{InquiredSecret}
 use Rattle.assuan_server.specs.declared.inquiry.InquiredSecret.TheVariants as inquired
+use Rattle.assuan_server.proofs.NoteLines.{note_text}
 use Rattle.assuan_server.proofs.Reading.{read_known, reads_past, here_going}
 
 -- a connection that was left alone but for its output has the same bytes to come
@@ -213,6 +215,16 @@ module _ (word params : List ℕ) (limit : ℕ) (start now : Connection) where
       )
 
 -- the client was told of a prompt
+pub record HearsNote (pid : ℕ) (before : Connection) (what : Dropped) (after : Connection) : Type 0 where
+  pub inquiry : what ≢ dropped.WriteFault → Inquire MAX_NOTE_LEN (note_text pid) (AnswersDropped (outcome_of_dropped what)) before after
+  pub cut : what ≡ dropped.WriteFault → IsNotAsked (note_text pid) before after
+
+-- it was asked for a passphrase
+pub record HearsWish (word : List ℕ) (before : Connection) (what : InquiredSecret) (after : Connection) : Type 0 where
+  pub inquiry : what ≢ inquired.WriteFault → Inquire MAX_SECRET_LEN (inquire_text word []) (Answers (outcome_of_secret what)) before after
+  pub cut : what ≡ inquired.WriteFault → IsNotAsked (inquire_text word []) before after
+
+-- it was told of a prompt, as its session sees that
 module _ {pid : ℕ} {start now : Connection} (going : IsOpen start) where
   told_as : (what : Outcome) → Inquire MAX_NOTE_LEN (note_text pid) (λ outcome. what ≡ outcome) start now
       → TellsClient connection_views pid (without_data (outcome_says what)) start now

@@ -12,7 +12,10 @@ use Rattle.assuan_line.specs.Lines.{IsLine}
 use Rattle.assuan_server.specs.Inquiries.{inquire_text}
 use Rattle.assuan_server.specs.Written.{status_text}
 use Rattle.assuan_text.specs.LineEnds.{is_lf, has_lf}
-use Rattle.assuan_server.specs.Clients.{note_text}
+
+-- the text that tells the client of a prompt in the process of this number
+abbrev pub note_text : ℕ → List ℕ
+note_text pid = inquire_text (codes "PINENTRY_LAUNCHED") (decimal pid)
 
 digit_no_lf : (byte : ℕ) (feed : Bool) → is_lf byte ≡ feed → is_ascii_digit byte ≡ true → is_lf byte ≡ false
 digit_no_lf byte false is digit = is

@@ -1,7 +1,6 @@
 -- A connection as that of a session's client: the lines that its server reads, what is seen of it, and what the client has said by an
 -- inquiry (Assuan manual, "server responses").
-use Rattle.std.specs.Prelude.{◌≡◌, ◌≢◌, ℕ, Bool, true, false, List, [], codes, decimal, Option, Some, None, Result, Ok, Err, IfSome}
-use Rattle.std.specs.Option.{option_map}
+use Rattle.std.specs.Prelude.{ℕ, Bool, true, false, List, [], Option, Some, None, Result, Ok, Err, IfSome}
 use Rattle.assuan_line.specs.Lines.{IsLine}
 use Rattle.assuan_line.specs.Next.{WereNeeded, held}
 use Rattle.assuan_line.specs.Skipping.{IsUndecided}
@@ -12,21 +11,16 @@ use Rattle.assuan_text.specs.LineEnds.{line_of}
 use Rattle.cache_policy.specs.declared.secret.TheConstants.{MAX_SECRET_LEN}
 use Rattle.session_client.specs.Asking.{AsksClient, LeftBy, without_data}
 use Rattle.session_client.specs.Lines.{Lines, Views}
-use Rattle.session_client.specs.Refusals.{refusal_code}
-use Rattle.session_client.specs.declared.client.TheConstants.{MAX_NOTE_LEN}
 use Rattle.session_client.specs.declared.unheard.Gone.{Gone}
 use Rattle.session_client.specs.declared.unheard.Gone.TheVariants as gone
 use Rattle.session_client.specs.declared.unheard.Unheard.{Unheard}
 use Rattle.session_client.specs.declared.unheard.Unheard.TheVariants as unheard
-use Rattle.assuan_server.specs.Asking.{Inquire, IsNotAsked}
 use Rattle.assuan_server.specs.Connections.{Connection}
-use Rattle.assuan_server.specs.Inquiries.{Outcome, Data, Cancelled, TooMuch, Unexpected, Ended, TooLong, Spent, ReadFault, Answers, AnswersDropped, inquire_text, is_skipped, outcome_of_dropped, outcome_of_secret}
+use Rattle.assuan_server.specs.Inquiries.{Outcome, Data, Cancelled, TooMuch, Unexpected, Ended, TooLong, Spent, ReadFault, inquire_text, is_skipped, outcome_of_dropped, outcome_of_secret}
 use Rattle.assuan_server.specs.Reading.{Supply, ReadsRequest, ReadsInquiry, IsSupply, unread}
-use Rattle.assuan_server.specs.Written.{failed}
 use Rattle.assuan_server.specs.declared.inquiry.Dropped.{Dropped}
 use Rattle.assuan_server.specs.declared.inquiry.Dropped.TheVariants as dropped
 use Rattle.assuan_server.specs.declared.inquiry.InquiredSecret.{InquiredSecret}
-use Rattle.assuan_server.specs.declared.inquiry.InquiredSecret.TheVariants as inquired
 
 -- what the client has said by an inquiry that came to this
 abbrev pub outcome_says : Outcome → Result (List ℕ) Unheard
@@ -78,7 +72,6 @@ session_lines = record {
   needs_answer = WereNeeded (IsUndecided (λ lines line. is_skipped line) []);
   says = outcome_says;
   ended_by = answer_of;
-  refusal = λ why. option_map failed (refusal_code why);
 }
 
 -- it began with this supply, where its bytes are known
@@ -96,20 +89,6 @@ connection_views = record {
   ended = λ conn. conn.reader.ended;
   held = λ conn. held conn.reader;
 }
-
--- the text that tells the client of a prompt in the process of this number
-abbrev pub note_text : ℕ → List ℕ
-note_text pid = inquire_text (codes "PINENTRY_LAUNCHED") (decimal pid)
-
--- it was told of a prompt
-pub record HearsNote (pid : ℕ) (before : Connection) (what : Dropped) (after : Connection) : Type 0 where
-  pub inquiry : what ≢ dropped.WriteFault → Inquire MAX_NOTE_LEN (note_text pid) (AnswersDropped (outcome_of_dropped what)) before after
-  pub cut : what ≡ dropped.WriteFault → IsNotAsked (note_text pid) before after
-
--- it was asked for a passphrase
-pub record HearsWish (word : List ℕ) (before : Connection) (what : InquiredSecret) (after : Connection) : Type 0 where
-  pub inquiry : what ≢ inquired.WriteFault → Inquire MAX_SECRET_LEN (inquire_text word []) (Answers (outcome_of_secret what)) before after
-  pub cut : what ≡ inquired.WriteFault → IsNotAsked (inquire_text word []) before after
 
 -- it was asked for a passphrase by a word, or the word fits no line, and nothing is asked
 pub data Wished (before : Connection) (word : List ℕ) : Result (List ℕ) Unheard → Connection → Type 0 where

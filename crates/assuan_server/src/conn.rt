@@ -67,12 +67,13 @@ impl<'a, L: Link> Conn<'a, L> {
 
     /// A connection over this link as `new` makes it where it finds no memory.
     pub fn without_memory(link: &'a mut L, budget: u64) -> Self
+        ensures link { result.link ≡ link.entry.ghost_name }
+        ensures input { result.input ≡ L.input link.old }
+        ensures output { result.output ≡ L.output link.old }
         ensures reader { result.reader ≡ record { ahead = []; left = budget; ended = None } }
     {
-        Conn {
-            link,
-            reader: LineReader::without_memory(budget),
-        }
+        let reader = LineReader::without_memory(budget);
+        Conn { link, reader }
     }
 
     /// Gives the link back. A caller whose own contract speaks of the link ends a connection so:

@@ -8,7 +8,7 @@ use itoa::Buffer;
 use session_client::Code;
 
 /// Where an error comes from.
-#[derive(Clone, Copy, Debug, PartialEq, Eq)]
+#[derive(Clone, Copy, PartialEq, Eq)]
 pub enum Origin {
     /// The agent itself.
     Agent,

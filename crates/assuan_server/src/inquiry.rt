@@ -77,7 +77,7 @@ pub enum InquiredSecret {
 }
 
 /// What an inquiry came to whose bytes are dropped, as `Inquired`.
-#[derive(Clone, Copy, Debug, PartialEq, Eq)]
+#[derive(Clone, Copy, PartialEq, Eq)]
 pub enum Dropped {
     /// The client sent `END` behind no more bytes than the limit.
     Done,

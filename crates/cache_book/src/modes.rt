@@ -4,7 +4,7 @@ ghost use Rattle.cache_policy.specs.Mode.{covers};
 use cache_policy::Mode;
 
 /// A set of modes.
-#[derive(Clone, Copy, Debug, PartialEq, Eq, Hash)]
+#[derive(Clone, Copy, PartialEq, Eq, Hash)]
 pub struct Modes {
     /// Whether the mode `Normal` is in it.
     pub normal: bool,

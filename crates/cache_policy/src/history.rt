@@ -3,7 +3,7 @@ ghost use Rattle.std.specs.Prelude.{◌≡◌};
 use crate::{Mark, Under};
 
 /// A ticket that is out, by its number, and what its passphrase is kept under.
-#[derive(Debug, PartialEq, Eq, Drop)]
+#[derive(PartialEq, Eq, Drop)]
 pub struct Held {
     /// The number of the ticket.
     pub ticket: u64,

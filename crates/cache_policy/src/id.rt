@@ -7,7 +7,7 @@ use std::marker::Model;
 pub const MAX_ID_LEN: usize = 50;
 
 /// The name of a passphrase in the cache: 1 to 50 bytes.
-#[derive(Debug, PartialEq, Eq, Drop)]
+#[derive(PartialEq, Eq, Drop)]
 pub struct CacheId {
     bytes: ArrayVec<u8, MAX_ID_LEN>,
 }

@@ -17,7 +17,7 @@ pub enum Life {
 }
 
 /// The agent's lifetimes, in seconds. A ttl starts again at each use, a maximum age never.
-#[derive(Clone, Copy, Debug, PartialEq, Eq, Hash)]
+#[derive(Clone, Copy, PartialEq, Eq, Hash)]
 pub struct Limits {
     /// `default-cache-ttl`.
     pub ttl: u32,

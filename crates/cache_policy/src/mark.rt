@@ -4,7 +4,7 @@ use crate::{CacheId, Life, Mode, Secret};
 use agent_ports::SessionId;
 
 /// What the passphrase of a prompt is kept under.
-#[derive(Debug, PartialEq, Eq, Drop)]
+#[derive(PartialEq, Eq, Drop)]
 pub struct Under {
     /// The id of the entry that it becomes.
     pub id: CacheId,
@@ -25,7 +25,7 @@ impl Under {
 }
 
 /// Whether a request may open a prompt.
-#[derive(Clone, Copy, Debug, PartialEq, Eq, Hash)]
+#[derive(Clone, Copy, PartialEq, Eq, Hash)]
 pub enum Way {
     /// It is answered from the cache alone.
     Quiet,

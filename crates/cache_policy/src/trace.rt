@@ -9,7 +9,7 @@ use agent_ports::SessionId;
 
 /// One step of a session, with the number of its ticket in place of a ticket, the moment of its
 /// first try in place of a wait, and without the bytes of a secret.
-#[derive(Debug, PartialEq, Eq, Drop)]
+#[derive(PartialEq, Eq, Drop)]
 pub enum TraceStep {
     /// Asks for a passphrase.
     Ask {
@@ -103,7 +103,7 @@ impl TraceStep {
 }
 
 /// A mark without the bytes of its secret.
-#[derive(Debug, PartialEq, Eq, Drop)]
+#[derive(PartialEq, Eq, Drop)]
 pub struct Trace {
     /// The session that took the step.
     pub session: SessionId,

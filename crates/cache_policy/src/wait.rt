@@ -7,7 +7,7 @@ use agent_ports::SessionId;
 /// is tried again with it. The core believes whoever makes one.
 ///
 /// It has no Clone: each try gives out the one for the next.
-#[derive(Debug, PartialEq, Eq, Drop)]
+#[derive(PartialEq, Eq, Drop)]
 pub struct Wait {
     session: SessionId,
     // The moment of the first try, in seconds.

@@ -6,3 +6,4 @@ pub mod Settling
 pub mod Taking
 pub mod Passing
 pub mod Desks
+pub mod Waking

@@ -9,3 +9,4 @@ pub mod Passes
 pub mod Keeping
 pub mod Turns
 pub mod Trying
+pub mod Waking

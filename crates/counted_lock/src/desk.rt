@@ -1,8 +1,12 @@
-ghost use Rattle.std.specs.Prelude.{◌≡◌, ◌+◌, ◌<◌, ◌≤◌, ◌^◌, ◌-◌, None, Some, IfErr};
+ghost use Rattle.std.specs.Prelude.{◌≡◌, ◌+◌, ◌<◌, ◌≤◌, ◌^◌, ◌-◌, true, None, Some, IfErr};
 ghost use Rattle.std.specs.Option.{is_some};
 ghost use Rattle.cache_policy.specs.declared.mark.MarkStep.{MarkStep as AskedStep};
 ghost use Rattle.cache_policy.specs.Turns.{asked_step, mark_step, turn_of, closes, out_after};
-ghost use Rattle.cache_policy.specs.Turns.{with_since};
+ghost use Rattle.cache_policy.specs.Turns.{since_of, with_since};
+ghost use Rattle.cache_policy.specs.Histories.{History};
+ghost use Rattle.cache_policy.specs.declared.life.Limits.{Limits};
+ghost use Rattle.cache_policy.specs.declared.mark.Mark.{Mark};
+ghost use Rattle.counted_lock.specs.Waking.{EndsStand};
 ghost use Rattle.agent_core.specs.Openings.{opening_step};
 ghost use Rattle.counted_lock.specs.Turns.{CountedTurn, at_counted};
 ghost use Rattle.counted_lock.specs.Trying.{TriesAt};
@@ -129,7 +133,11 @@ fn is_close(step: &Step) -> bool
 
 /// Whether a step may let another go on that stands: it frees the seat, ends the agent, or stores
 /// what is asked for.
-fn may_end_stands(step: &Step) -> bool {
+fn may_end_stands(step: &Step) -> bool
+    ensures { (limits : Limits) (history : History) (mark : Mark)
+        → mark.step ≡ with_since (since_of mark.step) (asked_step step.now)
+        → EndsStand limits history mark → result ≡ true }
+{
     matches!(step, Step::Close { .. } | Step::Stop | Step::Put { .. })
 }
 

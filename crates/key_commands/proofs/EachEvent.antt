@@ -114,24 +114,24 @@ module _ (Is : Event → Type 0) where
   -- ---- turns, each of whose outcomes is so
   module _ {step : MarkStep} (turns : (turn : Turn) → Is (cache_turn step turn)) where
     looks_of : (before : Option ℕ) (events : List Event) (result : Result (Option (List ℕ)) Refusal) (after : Option ℕ) → Asks step before events result after → All events
-    looks_of before events result after taken.given = (turns _, tt)
-    looks_of before events result after taken.empty = (turns _, tt)
-    looks_of before events result after taken.opened = (turns _, tt)
-    looks_of before events result after (taken.interrupted why) = (turns _, tt)
+    looks_of before events result after (taken.given can) = (turns _, tt)
+    looks_of before events result after (taken.empty can) = (turns _, tt)
+    looks_of before events result after (taken.opened can) = (turns _, tt)
+    looks_of before events result after (taken.interrupted can why) = (turns _, tt)
 
     pub each_looks : EachSo (Asks step)
     each_looks = record { of = looks_of }
 
     seats_of : (before : Option ℕ) (events : List Event) (result : Result (Unit {0}) Refusal) (after : Option ℕ) → Seats step before events result after → All events
-    seats_of before events result after taken.opened = (turns _, tt)
-    seats_of before events result after (taken.interrupted why) = (turns _, tt)
+    seats_of before events result after (taken.opened can) = (turns _, tt)
+    seats_of before events result after (taken.interrupted can why) = (turns _, tt)
 
     pub each_seats : EachSo (Seats step)
     each_seats = record { of = seats_of }
 
     changes_of : (before : Option ℕ) (events : List Event) (result : Result (Unit {0}) Refusal) (after : Option ℕ) → Changes step before events result after → All events
-    changes_of before events result after taken.done = (turns _, tt)
-    changes_of before events result after (taken.interrupted why) = (turns _, tt)
+    changes_of before events result after (taken.done can) = (turns _, tt)
+    changes_of before events result after (taken.interrupted can why) = (turns _, tt)
 
     pub each_changes : EachSo (Changes step)
     each_changes = record { of = changes_of }
@@ -139,7 +139,7 @@ module _ (Is : Event → Type 0) where
   peeks_of : (grip : Grip) → ((turn : Turn) → Is (cache_turn (Peek (grip_text grip) Normal) turn))
       → (before : Option ℕ) (events : List Event) (result : Result Bool Refusal) (after : Option ℕ) → Peeks (grip_text grip) Normal before events result after → All events
   peeks_of grip turns before events result after taken.peeked = (turns _, tt)
-  peeks_of grip turns before events result after (taken.interrupted why) = (turns _, tt)
+  peeks_of grip turns before events result after (taken.interrupted can why) = (turns _, tt)
 
   pub looks_nonce : (id : Option (List ℕ)) → ((named : List ℕ) (turn : Turn) → Is (cache_turn (ask_nonce named) turn)) → EachSo (LooksForNonce id)
   looks_nonce None turns = each_returned None
@@ -148,7 +148,7 @@ module _ (Is : Event → Type 0) where
   looks_over_of : (id : Option (List ℕ)) → ((named : List ℕ) (turn : Turn) → Is (cache_turn (ask_nonce named) turn)) → (before : Option ℕ) (events : List Event) (result : Result (Option (List ℕ)) Refusal)
       (after : Option ℕ) → LooksOver id before events result after → All events
   looks_over_of id turns before events result after parts.no_nonce = tt
-  looks_over_of id turns before events result after parts.given = (turns _ _, tt)
+  looks_over_of id turns before events result after (parts.given can) = (turns _ _, tt)
   looks_over_of id turns before events result after parts.empty = (turns _ _, tt)
   looks_over_of id turns before events result after parts.stopping = (turns _ _, tt)
   looks_over_of id turns before events result after parts.no_memory = (turns _ _, tt)
@@ -167,7 +167,7 @@ module _ (Is : Event → Type 0) where
   closes_of : (keep : Option (List ℕ)) → ((number : ℕ) (turn : Turn) → Is (cache_turn (Close number keep) turn)) → (before : Option ℕ) (events : List Event) (result : Result (Unit {0}) Refusal)
       (after : Option ℕ) → Closes keep before events result after → All events
   closes_of keep turns before events result after taken.unheld = tt
-  closes_of keep turns before events result after (taken.closed turn) = (turns _ turn, tt)
+  closes_of keep turns before events result after (taken.closed turn can) = (turns _ turn, tt)
 
   pub each_closes : (keep : Option (List ℕ)) → ((number : ℕ) (turn : Turn) → Is (cache_turn (Close number keep) turn)) → EachSo (Closes keep)
   each_closes keep turns = record { of = closes_of keep turns }
@@ -250,7 +250,7 @@ module _ (Is : Event → Type 0) where
     rewrites_of file list before events result after (files.canonical_file is) = tt
     rewrites_of file list before events result after (files.extended_file other with_list few) = tt
     rewrites_of file list before events result after (files.too_long new_file other with_list many) = tt
-    rewrites_of file list before events result after files.no_memory = one _ tt
+    rewrites_of file list before events result after (files.no_memory extended) = one _ tt
 
     names_key_of : (key : Key) (before : Option ℕ) (events : List Event) (result : Result Grip Refusal) (after : Option ℕ) → NamesKey key before events result after → All events
     names_key_of key before events result after (parts.named is) = tt
@@ -378,7 +378,7 @@ module _ (Is : Event → Type 0) where
 
         prompts_new_of : (before : Option ℕ) (events : List Event) (result : Result (List ℕ) Refusal) (after : Option ℕ) → PromptsNew rules options grip before events result after → All events
         prompts_new_of before events result after (passphrases.given spec is prompt) = each_shown prompt.in_session
-        prompts_new_of before events result after (passphrases.refused spec is prompt refusal) = each_shown prompt.in_session
+        prompts_new_of before events result after (passphrases.refused spec is prompt enough refusal) = each_shown prompt.in_session
 
         pub prompts_new : EachSo (PromptsNew rules options grip)
         prompts_new = record { of = prompts_new_of }
@@ -397,7 +397,7 @@ module _ (Is : Event → Type 0) where
     -- a ticket that is held then is given back
     pub each_behind : {held : Option ℕ} {back : List Event} (last : List Event) → Closes None held back (Ok tt) None → All last → All (back ++ last)
     each_behind last taken.unheld each = each
-    each_behind last (taken.closed turn) each = (gives_back _ turn, each)
+    each_behind last (taken.closed turn can) each = (gives_back _ turn, each)
 
     module _ (said : (text : List ℕ) → Is (Sent text)) where
       -- and the request is answered, where it is

@@ -127,7 +127,7 @@ module _ {env : EnvWords} {Is : Event → Type 0} {So : List Event → Type 0} (
 
     prompts_new_of : (grip : Grip) (before : Option ℕ) (events : List Event) (result : Result (List ℕ) Refusal) (after : Option ℕ) → PromptsNew rules options grip before events result after → So events
     prompts_new_of grip before events result after (passphrases.given spec is prompt) = law.pins (is.env ∙ same) prompt
-    prompts_new_of grip before events result after (passphrases.refused spec is prompt refusal) = law.pins (is.env ∙ same) prompt
+    prompts_new_of grip before events result after (passphrases.refused spec is prompt enough refusal) = law.pins (is.env ∙ same) prompt
 
     agrees_of : (question : List ℕ) (before : Option ℕ) (events : List Event) (result : Result (Unit {0}) Refusal) (after : Option ℕ) → AgreesTo session_lines rules options question before events result after → So events
     agrees_of question before events result after (consent.consents spec is prompt) = law.consents (is.env ∙ same) prompt

@@ -15,3 +15,4 @@ pub mod Unwrapping
 mod WorkedExamples
 mod WorkedExchanges
 mod WorkedFiles
+mod WorkedPrompts

@@ -47,7 +47,7 @@ module _ {D : Type 0} {turned : D → MarkStep → Turn → D → Type 0} (grip 
 
 -- a request that has taken its seat holds a ticket
 holds_ticket : (grip : Grip) (before after : Option ℕ) (events : List Event) → TakesSeat grip before events (Ok tt) after → is_some after ≡ true
-holds_ticket grip None after events opened = refl
+holds_ticket grip None after events (opened can) = refl
 holds_ticket grip (Some ticket) after events returns = refl
 
 pub seated : {D : Type 0} {turned : D → MarkStep → Turn → D → Type 0} (grip : Grip) {before after : Option ℕ} {desk now : D} → TakesTurns turned (TakesSeat grip) before desk (Ok tt) after now

@@ -1,5 +1,5 @@
 -- Requests on keys and what is done for them, as the GnuPG manual has them ("Agent's Assuan protocol"). The codes, the texts and the order of
--- what is done are this project's own.
+-- what is done are this project's own. A row of each stands in proofs/WorkedExchanges, or where it prompts in proofs/WorkedPrompts.
 use Rattle.std.specs.Prelude.{◌++◌, ℕ, Bool, true, false, List, take, drop, Option, Some}
 use Rattle.agent_ask.specs.PartExchanges.{AnyReply, AnyExchange}
 use Rattle.agent_ports.specs.declared.grip.Grip.{Grip}

@@ -42,10 +42,10 @@ pub record IsWithList (file list new : List ℕ) : Type 0 where
   pub parts : new ≡ with_key old tree
 
 -- A key's canonical list is written over a file: as it is over a canonical file, and as the key between the other lines of an extended one. A new file
--- that is longer than files may be is refused.
+-- that is longer than files may be is refused. Only an extended one wants memory.
 pub data Rewrites (file list : List ℕ) (held : Option ℕ) : List Event → Result (List ℕ) Refusal → Option ℕ → Type 0 where
   canonical_file : is_canonical file ≡ true → Rewrites file list held [] (Ok list) held
   extended_file : {new : List ℕ} → is_canonical file ≡ false → IsWithList file list new → length new ≤ most_bytes → Rewrites file list held [] (Ok new) held
   too_long : (new : List ℕ) → is_canonical file ≡ false → IsWithList file list new → most_bytes < length new
       → Rewrites file list held [] (Err (Agent code.BadSecKey)) held
-  no_memory : Rewrites file list held (out_of_memory ∷ []) (Err (Agent code.NoMemory)) held
+  no_memory : is_canonical file ≡ false → Rewrites file list held (out_of_memory ∷ []) (Err (Agent code.NoMemory)) held

@@ -17,7 +17,7 @@ use Rattle.session_client.specs.declared.code.Code.TheVariants as code
 use Rattle.cache_policy.specs.declared.grant.Grant.{Grant}
 use Rattle.cache_policy.specs.declared.mark.MarkStep.TheVariants.{Seat}
 use Rattle.cache_policy.specs.declared.mode.Mode.TheVariants.{Normal}
-use Rattle.cache_policy.specs.Turns.{Given, Empty, Stopping, Refused}
+use Rattle.cache_policy.specs.Turns.{Given, Empty, Stopping, Refused, FitsStep}
 use Rattle.secret_file.specs.Protects.{ocb_protection, protected_file}
 use Rattle.session_client.specs.Asking.{Asked}
 use Rattle.session_options.specs.OptionValues.{OptionValues}
@@ -183,7 +183,7 @@ IsFree false grip = do
 -- what is cached under a nonce, where there is one. A look that is replied Stopping finds nothing here.
 pub data LooksOver : Option (List ℕ) → Option ℕ → List Event → Result (Option (List ℕ)) Refusal → Option ℕ → Type 0 where
   no_nonce : {held : Option ℕ} → LooksOver None held [] (Ok None) held
-  given : {nonce : List ℕ} {held : Option ℕ} {grant : Grant} → LooksOver (Some nonce) held (cache_turn (ask_nonce nonce) (Given grant) ∷ []) (Ok (Some grant.entry.secret)) held
+  given : {nonce : List ℕ} {held : Option ℕ} {grant : Grant} → FitsStep (ask_nonce nonce) (Given grant) → LooksOver (Some nonce) held (cache_turn (ask_nonce nonce) (Given grant) ∷ []) (Ok (Some grant.entry.secret)) held
   empty : {nonce : List ℕ} {held : Option ℕ} → LooksOver (Some nonce) held (cache_turn (ask_nonce nonce) Empty ∷ []) (Ok None) held
   stopping : {nonce : List ℕ} {held : Option ℕ} → LooksOver (Some nonce) held (cache_turn (ask_nonce nonce) Stopping ∷ []) (Ok None) held
   no_memory : {nonce : List ℕ} {held : Option ℕ} → LooksOver (Some nonce) held (cache_turn (ask_nonce nonce) Refused ∷ []) (Err (Agent code.NoMemory)) held

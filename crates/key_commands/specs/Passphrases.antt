@@ -1,6 +1,6 @@
 -- How a request comes by the passphrase of a key, old or new (GnuPG manual, "Agent EXPORT", "Agent PASSWD"). Where it is looked for, in which order, and what
 -- is kept of it, is this project's own.
-use Rattle.std.specs.Prelude.{◌≡◌, ◌==◌, ℕ, Bool, true, false, List, [], ◌∷◌, length, codes, Option, Some, None, Result, Ok, Err, not, ⊤}
+use Rattle.std.specs.Prelude.{◌≡◌, ◌≢◌, ◌==◌, ℕ, Bool, true, false, List, [], ◌∷◌, length, codes, Option, Some, None, Result, Ok, Err, not, ⊤}
 use Rattle.agent_ask.specs.ClientParts.{AsksClient}
 use Rattle.agent_ask.specs.PinParts.{PromptsPin, pin_refusal}
 use Rattle.agent_ask.specs.Plans.{IsSpec, plan_of, text}
@@ -172,15 +172,15 @@ module _ (rules : Rules) (options : OptionValues) (grip : Grip) where
 
   -- ---- a new passphrase
 
-  -- One prompt under the ticket that the request holds, for a passphrase that meets the check and is repeated once. It says so in words of its own, whatever
-  -- the client set for the request: these are about the key as it is.
+  -- One prompt under the ticket that the request holds, for a passphrase that meets the check and is repeated once, and whose test wants no memory. It says so in
+  -- words of its own, whatever description the client set for the request: that one is about the key as it is.
   pub data PromptsNew : Option ℕ → List Event → Result (List ℕ) Refusal → Option ℕ → Type 0 where
     given : {ticket : ℕ} {shown : List Event} {pin : List ℕ} (spec : PromptSpec) → IsSpec rules options (text (new_description grip)) (text field_text) true spec
         → PromptsPin session_lines spec (plan_of rules options (text []) true 1) (λ pin. ⊤) shown (asked.Pin pin)
         → PromptsNew (Some ticket) shown (Ok pin) (Some ticket)
     refused : {ticket : ℕ} {shown : List Event} {answer : Asked} {why : Refusal} (spec : PromptSpec)
         → IsSpec rules options (text (new_description grip)) (text field_text) true spec
-        → PromptsPin session_lines spec (plan_of rules options (text []) true 1) (λ pin. ⊤) shown answer → pin_refusal answer ≡ Some why
+        → PromptsPin session_lines spec (plan_of rules options (text []) true 1) (λ pin. ⊤) shown answer → answer ≢ asked.NoMemory → pin_refusal answer ≡ Some why
         → PromptsNew (Some ticket) shown (Err why) (Some ticket)
 
   abbrev pub new_by : PinMode → Part (List ℕ)

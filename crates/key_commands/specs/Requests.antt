@@ -127,14 +127,14 @@ key_request_by None line = Bad UnknownCommand
 unfoldable pub key_request_of : List ℕ → KeyRequest
 key_request_of line = key_request_by (key_command_named (command_of line)) line
 
--- the commands whose prompts a client may describe (SETKEYDESC of gpg-agent). The others ask nobody.
-abbrev pub is_described : Option KeyCommandName → Bool
-is_described (Some name.ImportKey) = true
-is_described (Some name.ExportKey) = true
-is_described (Some name.Passwd) = true
-is_described (Some name.DeleteKey) = true
-is_described _ = false
+-- The commands that may prompt, each of which ends what its client described for prompts (SETKEYDESC of gpg-agent). The others ask nobody.
+abbrev pub may_prompt : Option KeyCommandName → Bool
+may_prompt (Some name.ImportKey) = true
+may_prompt (Some name.ExportKey) = true
+may_prompt (Some name.Passwd) = true
+may_prompt (Some name.DeleteKey) = true
+may_prompt _ = false
 
 -- a line with such a command, in form or not, ends the description
 unfoldable pub ends_description : List ℕ → Bool
-ends_description line = is_described (key_command_named (command_of line))
+ends_description line = may_prompt (key_command_named (command_of line))

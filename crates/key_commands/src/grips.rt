@@ -10,7 +10,7 @@ pub const MAX_GRIPS: usize = 24;
 
 /// The keys that a request names, in its order. Contracts see them as a list.
 // Their bytes, since a `Grip` has no default.
-#[derive(Debug, Drop)]
+#[derive(Drop)]
 pub struct Grips {
     bytes: ArrayVec<[u8; 20], MAX_GRIPS>,
 }

@@ -41,7 +41,7 @@ mod wrapping;
 pub use drawing::Drawn;
 pub use grips::{Grips, MAX_GRIPS};
 pub use names::{KEY_COMMANDS, KeyCommandName, key_commands_are_as_defined};
-pub use read::{ends_description, is_described, read_key, read_key_cut};
+pub use read::{may_prompt, read_key, read_key_cut};
 pub use request::{Direction, KeyRequest};
 pub use run::run_key;
 pub use went::KeyWent;

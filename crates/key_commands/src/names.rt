@@ -5,7 +5,7 @@ ghost use Rattle.key_commands.specs.declared.names.TheConstants.{KEY_COMMANDS};
 use assuan_text::found_in_any_case;
 
 /// The commands on keys that are known.
-#[derive(Clone, Copy, Debug, PartialEq, Eq)]
+#[derive(Clone, Copy, PartialEq, Eq)]
 pub enum KeyCommandName {
     /// HAVEKEY, which looks whether one of some keys is there.
     HaveKey,

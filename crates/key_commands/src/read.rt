@@ -7,7 +7,7 @@ ghost use Rattle.key_commands.specs.Requests.{grip, first_grip, some_grips, nonc
 ghost use Rattle.session_client.specs.Fields.{in_form};
 ghost use Rattle.key_commands.specs.Requests.{key_info_of, wrap_of, import_of, export_of, passwd_of};
 ghost use Rattle.key_commands.specs.Requests.{delete_of, key_asked_by, key_request_of};
-ghost use Rattle.key_commands.specs.Requests.{ends_description, is_described};
+ghost use Rattle.key_commands.specs.Requests.{may_prompt};
 
 use crate::names::{KeyCommandName, command_named};
 use crate::{Direction, Grips, KeyRequest};
@@ -42,19 +42,10 @@ pub fn read_key_cut(word: &[u8], rest: &[u8]) -> KeyRequest
     }
 }
 
-/// Whether a line's command ends what its client described for prompts (SETKEYDESC of gpg-agent),
-/// whatever it is answered: one whose prompts may be described, in form or not.
-#[tactic(auto, unfolding(crate::specs::Requests::ends_description))]
-pub fn ends_description(line: &[u8]) -> bool
-    ensures { result ≡ ends_description line.now }
-{
-    let (word, _) = command_and_rest(line);
-    is_described(word)
-}
-
-/// The same of the line's first word.
-pub fn is_described(word: &[u8]) -> bool
-    ensures { result ≡ is_described (key_command_named word.now) }
+/// Whether a line's first word is a command that may prompt, in form or not. Such a line ends what
+/// its client described for prompts (SETKEYDESC of gpg-agent), whatever it is answered.
+pub fn may_prompt(word: &[u8]) -> bool
+    ensures { result ≡ may_prompt (key_command_named word.now) }
 {
     matches!(
         command_named(word),

@@ -52,7 +52,7 @@ pub enum KeyRequest {
 }
 
 /// Which way a wrapped key goes.
-#[derive(Clone, Copy, Debug, PartialEq, Eq)]
+#[derive(Clone, Copy, PartialEq, Eq)]
 pub enum Direction {
     /// Into the agent.
     Import,

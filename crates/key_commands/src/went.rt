@@ -1,7 +1,7 @@
 use session_client::Gone;
 
 /// How a session goes on after a request on keys.
-#[derive(Clone, Copy, Debug, PartialEq, Eq)]
+#[derive(Clone, Copy, PartialEq, Eq)]
 pub enum KeyWent {
     /// It goes on with the next line.
     On,

@@ -31,7 +31,7 @@ impl<'a, R: Files<File = File> + Clock> FolderKeys<'a, R> {
     /// directory must be there by then.
     pub fn new(rt: &'a R, alloc: Global, homedir: &str) -> Result<Self, AllocError>
         ensures { IfOk result (λ keys. ⟦<FolderKeys<'a, R> as Keys>⟧.keys keys
-            ≡ record { files = None; faults = 0 }) }
+            ≡ record { files = None; folder = None; faults = 0 }) }
     {
         Ok(FolderKeys {
             rt,
@@ -107,7 +107,7 @@ impl<'a, R: Files<File = File> + Clock> FolderKeys<'a, R> {
 }
 
 impl<R: Files<File = File> + Clock> Keys for FolderKeys<'_, R> {
-    ghost keys = { λ k. record { files = None; faults = k.faults } };
+    ghost keys = { λ k. record { files = None; folder = None; faults = k.faults } };
 
     fn read(&mut self, alloc: Global, grip: &Grip) -> KeyRead {
         match self.read_key(alloc, grip) {

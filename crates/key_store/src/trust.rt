@@ -41,7 +41,7 @@ impl<'a, R: Files<File = File> + Clock> FolderTrust<'a, R> {
     /// The trust list of a home directory, which must be there by the first `replace`.
     pub fn new(rt: &'a R, alloc: Global, homedir: &str) -> Result<Self, AllocError>
         ensures { IfOk result (λ trust. ⟦<FolderTrust<'a, R> as TrustFile>⟧.trust trust
-            ≡ record { file = None; faults = 0 }) }
+            ≡ record { file = None; folder = None; faults = 0 }) }
     {
         FolderTrust::found_before(rt, alloc, homedir, TrustFound::unread())
     }
@@ -54,7 +54,7 @@ impl<'a, R: Files<File = File> + Clock> FolderTrust<'a, R> {
         found: TrustFound,
     ) -> Result<Self, AllocError>
         ensures { IfOk result (λ trust. ⟦<FolderTrust<'a, R> as TrustFile>⟧.trust trust
-            ≡ record { file = None; faults = 0 }) }
+            ≡ record { file = None; folder = None; faults = 0 }) }
     {
         Ok(FolderTrust {
             rt,
@@ -113,7 +113,7 @@ impl<'a, R: Files<File = File> + Clock> FolderTrust<'a, R> {
 impl<'a, R: Files<File = File> + Clock> TrustFile for FolderTrust<'a, R> {
     ghost use Rattle.agent_ports.specs.TrustFiles.{ReadsTrust, ReplacesTrust};
 
-    ghost trust = { λ t. record { file = None; faults = t.faults } };
+    ghost trust = { λ t. record { file = None; folder = None; faults = t.faults } };
 
     fn read(&mut self, alloc: Global) -> TrustRead
         ensures reads { ReadsTrust (⟦<FolderTrust<'a, R> as TrustFile>⟧.trust self.old) result

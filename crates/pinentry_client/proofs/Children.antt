@@ -37,7 +37,7 @@ calls_keep (one step leads) = calls_keep leads ∙ call_keeps step
 -- one prompt more, in front
 one_more : {program : List ℕ} {prompt : List Call} {prompts : List (List Call)} {before mid after : Launches} → HasItsChild program prompt before mid → HaveTheirChildren program prompts mid after
     → HaveTheirChildren program (prompt ∷ prompts) before after
-one_more {program} {prompts} (HasItsChild.none is coming launched finished) rest = record {
+one_more {program} {prompts} (HasItsChild.none is rose coming launched finished) rest = record {
   children = rest.children;
   have = subst (λ (p : List Call). HaveChildren (p ∷ prompts) rest.children) (sym is) (unlaunched rest.have);
   coming = sym coming ∙ rest.coming;

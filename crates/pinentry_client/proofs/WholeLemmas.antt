@@ -1,6 +1,6 @@
 -- A prompt's calls are one dialogue.
-use Rattle.std.proofs.Common.{◌≡◌, ℕ, Bool, List, is_ok, refl, ap, ◌∙◌}
-use Rattle.agent_ask.specs.Events.{Call}
+use Rattle.std.proofs.Common.{◌≡◌, ℕ, Bool, List, [], ◌∷◌, is_ok, refl, ap, ◌∙◌}
+use Rattle.agent_ask.specs.Events.{Call, Shut}
 use Rattle.agent_ports.specs.Leads.{Leads, none, one}
 use Rattle.agent_ports.specs.Launches.{Launches, then_finished}
 use Rattle.agent_ports.specs.Sides.{Side}
@@ -27,18 +27,17 @@ its_questions launches conn ready after (AreQuestions.consent are) (one (consent
 its_questions launches conn ready after AreQuestions.shut (one (shut {output} says has) none) =
     record { input = conn.input; output = output; asks = Questions.shut says; has = has }
 
--- none is asked that isn't there
+-- none is asked that isn't there: the prompt is shut
 left_alone : {program : List ℕ} (launches : Launches) {more : List Call} (after : AtPinentry) → AreQuestions more
-    → Leads PinentryDoes (idle program launches) more after → after.launches ≡ launches
+    → Leads PinentryDoes (idle program launches) more after → (after.launches ≡ launches) × (more ≡ Shut ∷ [])
 left_alone launches after (AreQuestions.pin are) (one does leads) = elim does [ ]
 left_alone launches after (AreQuestions.consent are) (one does leads) = elim does [ ]
-left_alone launches after AreQuestions.shut (one shut_alone none) = refl
+left_alone launches after AreQuestions.shut (one shut_alone none) = (refl, refl)
 
 pub its_child : {before after : AtPinentry} {calls : List Call} → IsOnePrompt calls → Leads PinentryDoes before calls after → HasItsChild before.program calls before.launches after.launches
 its_child {after} (IsOnePrompt.start are) (one (unlaunched {launches} has) leads) =
-    let same = left_alone launches after are leads in
-    HasItsChild.none refl (ap (λ (l : Launches). l.coming) same ∙ has.coming) (ap (λ (l : Launches). l.launched) same ∙ has.launched)
-    (ap (λ (l : Launches). l.finished) same ∙ has.finished)
+    let alone = left_alone launches after are leads in
+    rw (alone.0, alone.1) (HasItsChild.none refl has.rose has.coming has.launched has.finished)
 its_child {after} (IsOnePrompt.start are) (one (started {before} {launches} {spec} {fresh} {conn} end has talk) leads) =
     let asks = its_questions launches conn (is_ok end) after are leads in
     HasItsChild.one fresh.input.bytes asks.input.bytes asks.output.bytes

@@ -9,7 +9,6 @@ use Rattle.assuan_client.specs.declared.answer.Answer.{Answer}
 use Rattle.assuan_client.specs.declared.answer.Answer.TheVariants as answer
 use Rattle.assuan_line.specs.declared.breach.Breach.TheVariants as breach
 use Rattle.assuan_text.specs.Numbers.{number_of}
-use Rattle.pinentry_client.specs.declared.answers.TheConstants.{CODES, TIMEOUT, CANCELED, NOT_CONFIRMED, FULLY_CANCELED}
 use Rattle.pinentry_client.specs.declared.answers.Trouble.{Trouble}
 use Rattle.pinentry_client.specs.declared.answers.Trouble.TheVariants.{Failed, Broken}
 use Rattle.pinentry_client.specs.declared.settings.Setting.{Setting}
@@ -54,12 +53,16 @@ abbrev pub pid_after : Setting → ℕ → Answer → Result ℕ Trouble
 pid_after setting pid (answer.Got bytes) = data_of setting bytes
 pid_after setting pid other = keeping_pid pid (accepted other)
 
--- an error of this number
+-- An error's number has its code in its 16 low bits: GPG_ERR_TIMEOUT is 62, GPG_ERR_CANCELED 99, GPG_ERR_NOT_CONFIRMED 114 and GPG_ERR_FULLY_CANCELED 198.
+abbrev pub error_code : ℕ → ℕ
+error_code number = number % 2 ^ 16
+
+-- an error of this number, as the answer to GETPIN
 abbrev pub pin_error : ℕ → Outcome
 pin_error number =
-    if number % CODES == CANCELED then outcome.Cancelled
-    else if number % CODES == FULLY_CANCELED then outcome.Cancelled
-    else if number % CODES == TIMEOUT then outcome.TimedOut
+    if error_code number == 99 then outcome.Cancelled
+    else if error_code number == 198 then outcome.Cancelled
+    else if error_code number == 62 then outcome.TimedOut
     else outcome.Broken (breach.Code number)
 
 -- the answer to GETPIN; an inquiry is none
@@ -72,13 +75,13 @@ pin_outcome (answer.Broken why) = outcome.Broken why
 pin_outcome answer.ReadFault = outcome.Failed
 pin_outcome answer.WriteFault = outcome.Failed
 
--- an error of this number
+-- and to CONFIRM
 abbrev pub consent_error : ℕ → Consent
 consent_error number =
-    if number % CODES == CANCELED then consent.Cancelled
-    else if number % CODES == FULLY_CANCELED then consent.Cancelled
-    else if number % CODES == TIMEOUT then consent.TimedOut
-    else if number % CODES == NOT_CONFIRMED then consent.No
+    if error_code number == 99 then consent.Cancelled
+    else if error_code number == 198 then consent.Cancelled
+    else if error_code number == 62 then consent.TimedOut
+    else if error_code number == 114 then consent.No
     else consent.Broken (breach.Code number)
 
 -- the answer to CONFIRM; an inquiry is none

@@ -1,6 +1,6 @@
 -- Prompts one after another, and the children that they have (pinentry manual, "protocol"). Which prompts have one is this project's own.
 use Rattle.std.specs.Prelude.{◌≡◌, ℕ, List, [], ◌∷◌, ◌++◌, Option}
-use Rattle.agent_ask.specs.Events.{Call, Start}
+use Rattle.agent_ask.specs.Events.{Call, Start, Shut}
 use Rattle.agent_ask.specs.declared.prompter.Opened.TheVariants as opened
 use Rattle.agent_ask.specs.declared.spec.PromptSpec.{PromptSpec}
 use Rattle.agent_ports.specs.Launches.{Launches, Finished, child_then, then_launched, then_finished}
@@ -18,11 +18,11 @@ pub record Child : Type 0 where
   pub left : Option (List ℕ)
   pub written : Option (List ℕ)
 
--- The prompts' children, in order: each prompt has one, with which its calls are a dialogue, but for a prompt whose launch failed.
+-- The prompts' children, in order: each prompt has one, with which its calls are a dialogue, but for a prompt whose launch failed, which is shut at once.
 pub data HaveChildren : List (List Call) → List Child → Type 0 where
   none : HaveChildren [] []
-  unlaunched : {spec : PromptSpec} {more : List Call} {prompts : List (List Call)} {children : List Child} → HaveChildren prompts children
-      → HaveChildren ((Start spec opened.Failed ∷ more) ∷ prompts) children
+  unlaunched : {spec : PromptSpec} {prompts : List (List Call)} {children : List Child} → HaveChildren prompts children
+      → HaveChildren ((Start spec opened.Failed ∷ Shut ∷ []) ∷ prompts) children
   one : {prompt : List Call} {prompts : List (List Call)} {children : List Child} (child : Child) → Dialogue prompt child.given child.left child.written
       → HaveChildren prompts children → HaveChildren (prompt ∷ prompts) (child ∷ children)
 

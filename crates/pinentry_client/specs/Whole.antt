@@ -9,6 +9,7 @@ use Rattle.agent_ask.specs.declared.prompter.Opened.TheVariants as opened
 use Rattle.agent_ask.specs.declared.prompter.Outcome.{Outcome}
 use Rattle.agent_ask.specs.declared.prompter.Outcome.TheVariants as outcome
 use Rattle.agent_ask.specs.declared.spec.PromptSpec.{PromptSpec}
+use Rattle.agent_ports.specs.Counts.{Rose}
 use Rattle.agent_ports.specs.Launches.{Launches, IsFresh, child_then, then_launched, then_finished}
 use Rattle.agent_ports.specs.Sides.{Side}
 use Rattle.assuan_client.specs.Connections.{Connection}
@@ -60,10 +61,10 @@ pub record Dialogue (calls : List Call) (given left written : Option (List ℕ))
   pub written_are : output.bytes ≡ written
 
 -- A prompt has one child of the launcher, which runs this program, is the next to come and then the last of those that were finished,
--- and they have a dialogue. Where the launch failed there is none.
+-- and they have a dialogue. Where the launch failed, which the launcher counts, there is none, and the prompt is shut.
 pub data HasItsChild (program : List ℕ) (calls : List Call) (before after : Launches) : Type 0 where
-  none : {spec : PromptSpec} {more : List Call} → calls ≡ Start spec opened.Failed ∷ more → after.coming ≡ before.coming → after.launched ≡ before.launched
-      → after.finished ≡ before.finished → HasItsChild program calls before after
+  none : {spec : PromptSpec} → calls ≡ Start spec opened.Failed ∷ Shut ∷ [] → Rose before.faults after.faults → after.coming ≡ before.coming
+      → after.launched ≡ before.launched → after.finished ≡ before.finished → HasItsChild program calls before after
   one : (given left written : Option (List ℕ)) → Dialogue calls given left written → before.coming ≡ child_then given after.coming
       → after.launched ≡ then_launched before.launched program → after.finished ≡ then_finished before.finished left written
       → HasItsChild program calls before after

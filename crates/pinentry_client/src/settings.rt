@@ -13,7 +13,7 @@ use assuan_text::Text;
 use itoa::Buffer;
 
 /// What a pinentry is told, and asked, before a prompt.
-#[derive(Clone, Copy, Debug, PartialEq, Eq)]
+#[derive(Clone, Copy, PartialEq, Eq)]
 pub(crate) enum Setting {
     TtyName,
     TtyType,

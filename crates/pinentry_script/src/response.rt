@@ -11,7 +11,7 @@ use agent_ports::{Link, WriteFault};
 use assuan_line::write_text;
 
 /// A line that is always the same.
-#[derive(Clone, Copy, Debug, PartialEq, Eq)]
+#[derive(Clone, Copy, PartialEq, Eq)]
 pub(crate) enum Phrase {
     Greeting,
     Done,

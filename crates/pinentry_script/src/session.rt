@@ -15,7 +15,7 @@ use crate::response::{Phrase, Response};
 use assuan_text::{arguments, command_and_rest, found_in_any_case, is_ignored, next_word};
 
 /// What a command is to do.
-#[derive(Clone, Copy, Debug, PartialEq, Eq)]
+#[derive(Clone, Copy, PartialEq, Eq)]
 pub(crate) enum Command {
     Set,
     GetInfo,
@@ -33,7 +33,7 @@ const COMMANDS: [(&[u8], Command); 5] = [
 ];
 
 /// What a session waits for.
-#[derive(Clone, Copy, Debug, PartialEq, Eq)]
+#[derive(Clone, Copy, PartialEq, Eq)]
 pub(crate) enum Stage {
     Request,
     /// The end of an inquiry.

@@ -6,7 +6,7 @@ use std::marker::Model;
 
 /// Where a prompt is made, for one session at a time. Contracts see the number of the ticket that
 /// is out.
-#[derive(Debug, Drop)]
+#[derive(Drop)]
 pub struct Seat {
     holder: Option<u64>,
 }

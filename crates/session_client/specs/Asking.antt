@@ -72,10 +72,6 @@ module _ {lines : Lines} {C : Type 0} (views : Views lines C) where
     pub output_faults : (views.output start).faults ≤ (views.output now).faults
     pub link : views.link now ≡ views.link start
 
-  -- the next request was read, or this came in its place
-  abbrev pub HasReceived : lines.Took → C → C → Type 0
-  HasReceived took start now = HasRead (λ supply bytes rest. lines.reads_request supply bytes took rest) lines.needs_request (lines.is_failed took) (views.output start).bytes start now
-
   -- the write of a text stopped after these bytes of it, and nothing else was done
   pub record HasStopped (text sent : List ℕ) (start now : C) : Type 0 where
     pub leaves : LeavesInput start now

@@ -26,8 +26,6 @@ pub record Lines : Type 1 where
   pub says : Outcome → Result (List ℕ) Unheard
   -- the answer that ended a reader whose client is gone so, but where a write failed
   pub ended_by : Gone → Option Took
-  -- the line that a request is answered by whose client has said this, where there is one
-  pub refusal : Unheard → Option (List ℕ)
 
 -- A read takes nothing from the link, or bytes that it needs, and of its last piece at most so many more: what was there before that
 -- piece decided nothing.

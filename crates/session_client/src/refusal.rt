@@ -4,7 +4,7 @@ ghost use Rattle.session_client.specs.Refusals.{gone_by};
 use crate::{Code, Gone, Unheard};
 
 /// Why a request isn't carried out further, once it was read.
-#[derive(Clone, Copy, Debug, PartialEq, Eq)]
+#[derive(Clone, Copy, PartialEq, Eq)]
 pub enum Refusal {
     /// By an error of the agent's own.
     Agent(Code),

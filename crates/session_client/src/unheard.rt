@@ -1,5 +1,5 @@
 /// How the client's connection was lost.
-#[derive(Clone, Copy, Debug, PartialEq, Eq)]
+#[derive(Clone, Copy, PartialEq, Eq)]
 pub enum Gone {
     /// The source ended.
     Ended,
@@ -14,7 +14,7 @@ pub enum Gone {
 }
 
 /// What came of a question to the client in place of what was wanted.
-#[derive(Clone, Copy, Debug, PartialEq, Eq)]
+#[derive(Clone, Copy, PartialEq, Eq)]
 pub enum Unheard {
     /// It cancelled.
     Cancelled,

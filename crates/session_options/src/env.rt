@@ -6,7 +6,7 @@ use crate::text::copied;
 
 /// Where a pinentry is to ask: the terminal and the locale of the client. An empty word means none,
 /// and no word holds an end of a line.
-#[derive(Debug, Drop)]
+#[derive(Drop)]
 pub struct Env {
     /// The path of the terminal.
     pub ttyname: Word,

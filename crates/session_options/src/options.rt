@@ -39,7 +39,7 @@ pub enum OptionAnswer {
 }
 
 /// The option values of a session.
-#[derive(Debug, Drop)]
+#[derive(Drop)]
 pub struct Options {
     env: Env,
     notify: bool,

@@ -53,7 +53,7 @@ pub enum RunMode {
 }
 
 /// What the agent was started with. Lifetimes and the timeout are in seconds.
-#[derive(Debug, Drop)]
+#[derive(Drop)]
 pub struct Rules {
     /// How long an entry may go unused: `default-cache-ttl` of the GnuPG manual.
     pub default_ttl: u32,

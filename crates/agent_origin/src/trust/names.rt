@@ -5,7 +5,7 @@ ghost use Rattle.agent_origin.specs.declared.trust.names.TheConstants.{TRUST_COM
 use assuan_text::found_in_any_case;
 
 /// The commands on the trust list that are known (GnuPG manual, "Agent's Assuan protocol").
-#[derive(Clone, Copy, Debug, PartialEq, Eq)]
+#[derive(Clone, Copy, PartialEq, Eq)]
 pub enum TrustCommandName {
     /// ISTRUSTED, which asks whether a root certificate is trusted. The user isn't asked.
     IsTrusted,

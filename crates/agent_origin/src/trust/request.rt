@@ -31,7 +31,7 @@ pub enum TrustRequest {
 
 /// What a certificate is trusted for, by the flag of its entry (GnuPG manual, "Agent
 /// Configuration", `trustlist.txt`).
-#[derive(Clone, Copy, Debug, PartialEq, Eq)]
+#[derive(Clone, Copy, PartialEq, Eq)]
 pub enum TrustPurpose {
     /// `S`: as the root of a chain of X.509 certificates.
     X509,

@@ -55,7 +55,7 @@ impl<B: Buffer + Drop> LineFilter for InquiryLines<B> {
 }
 
 /// Why bytes of an inquiry aren't kept. Further ones are dropped.
-#[derive(Clone, Copy, Debug, PartialEq, Eq)]
+#[derive(Clone, Copy, PartialEq, Eq)]
 pub(crate) enum Overflow {
     /// They are all kept.
     None,

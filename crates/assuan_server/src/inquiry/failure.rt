@@ -7,7 +7,7 @@ use assuan_line::Took;
 use assuan_text::first_word;
 
 /// Why an inquiry has no bytes for its caller.
-#[derive(Clone, Copy, Debug, PartialEq, Eq)]
+#[derive(Clone, Copy, PartialEq, Eq)]
 pub(crate) enum Failure {
     Cancelled,
     Unexpected,

@@ -7,11 +7,12 @@ use Rattle.agent_commands.proofs.passphrase.ask_or_open.Goals as goal
 
 pub returns-in-Ok-Given-clause-turn : goal.returns-in-Ok-Given-clause-turn
 returns-in-Ok-Given-clause-turn g c =
+    let turned = rw (c.in-Ok-Given.field-0-is, c.copy.ensures) at c.in-Ok-Given.ensures.turned in
     rw c.cached.ensures (record {
       step = ask_or_open c.args.id.now;
       turn = Given c.in-Ok-Given.grant;
-      turned_so = rw (c.in-Ok-Given.field-0-is, c.copy.ensures) at c.in-Ok-Given.ensures.turned;
-      does = given;
+      turned_so = turned;
+      does = given ((g.met.D.Desk.promise _ _ _ _ turned).fits);
       on = refl;
     })
 
@@ -21,7 +22,7 @@ returns-in-Ok-Open-clause-turn g c =
       step = ask_or_open c.args.id.now;
       turn = Open c.in-Ok-Open.ticket;
       turned_so = rw (c.in-Ok-Open.field-0-is, c.copy.ensures) at c.in-Ok-Open.ensures.turned;
-      does = opened;
+      does = opened tt;
       on = refl;
     })
 
@@ -30,7 +31,7 @@ returns-in-Ok-Stopping-clause-turn g c = record {
   step = ask_or_open c.args.id.now;
   turn = Stopping;
   turned_so = rw (c.in-Ok-Stopping.field-0-is, c.copy.ensures) at c.in-Ok-Stopping.ensures.turned;
-  does = interrupted stopping;
+  does = interrupted tt stopping;
   on = refl;
 }
 
@@ -39,7 +40,7 @@ returns-in-Ok-Late-clause-turn g c = record {
   step = ask_or_open c.args.id.now;
   turn = Late;
   turned_so = rw (c.in-Ok-Late.field-0-is, c.copy.ensures) at c.in-Ok-Late.ensures.turned;
-  does = interrupted late;
+  does = interrupted refl late;
   on = refl;
 }
 
@@ -49,6 +50,6 @@ returns-in-Err-clause-turn g c =
       step = ask_or_open c.args.id.now;
       turn = Refused;
       turned_so = rw c.copy.ensures at c.in-Err.ensures.turned;
-      does = interrupted refused;
+      does = interrupted tt refused;
       on = refl;
     })

@@ -12,11 +12,12 @@ returns-in_default-clause-turn g c = rw c.in_default.is (still returns refl)
 
 pub returns-in-Ok-Given-clause-turn : goal.returns-in-Ok-Given-clause-turn
 returns-in-Ok-Given-clause-turn g c =
+    let turned = rw (c.in-Ok-Given.field-0-is, c.copy.ensures) at c.in-Ok-Given.ensures.turned in
     rw (c.in-Some.is, c.cached.ensures) (one (record {
       step = ask c.in-Some.id;
       turn = Given c.in-Ok-Given.grant;
-      turned_so = rw (c.in-Ok-Given.field-0-is, c.copy.ensures) at c.in-Ok-Given.ensures.turned;
-      does = record { asks = given; keeps = refl };
+      turned_so = turned;
+      does = given ((g.met.D.Desk.promise _ _ _ _ turned).fits);
       on = refl;
     }))
 
@@ -26,7 +27,7 @@ returns-in-Ok-Empty-clause-turn g c =
       step = ask c.in-Some.id;
       turn = Empty;
       turned_so = rw (c.in-Ok-Empty.field-0-is, c.copy.ensures) at c.in-Ok-Empty.ensures.turned;
-      does = record { asks = empty; keeps = refl };
+      does = empty tt;
       on = refl;
     }))
 
@@ -36,7 +37,7 @@ returns-in-Ok-Stopping-clause-turn g c =
       step = ask c.in-Some.id;
       turn = Stopping;
       turned_so = rw (c.in-Ok-Stopping.field-0-is, c.copy.ensures) at c.in-Ok-Stopping.ensures.turned;
-      does = record { asks = interrupted stopping; keeps = refl };
+      does = interrupted tt stopping;
       on = refl;
     }))
 
@@ -46,6 +47,6 @@ returns-in-Err-clause-turn g c =
       step = ask c.in-Some.id;
       turn = Refused;
       turned_so = rw c.copy.ensures at c.in-Err.ensures.turned;
-      does = record { asks = interrupted refused; keeps = refl };
+      does = interrupted tt refused;
       on = refl;
     }))

@@ -6,10 +6,10 @@ use Rattle.agent_origin.proofs.Turning.{turns_lead}
 use Rattle.counted_lock.specs.Turns.{AtCountedDesk, CountedTurn, at_counted}
 use Rattle.agent_serve.proofs.laws.a_restricted_session_leaves_the_run.Goals as goal
 
-pub returns-clause-cache : goal.returns-clause-cache
-returns-clause-cache g c = λ path rules session before after pass now end serves. outer_leaves rules serves.served.session
-
-pub returns-clause-run : goal.returns-clause-run
-returns-clause-run g c = λ path rules session before after pass now end serves.
-    leaves_desk (λ (d : AtCountedDesk Readings). at_counted d.pass d.session d.out) (CountedTurn (λ (readings : Readings). readings)) (λ before asked turn after does. does.is) _ _
-    (turns_in serves.served.events) (outer_leaves rules serves.served.session) (turns_lead serves.served.leads)
+pub returns : goal.returns
+returns g c = λ path rules session before after pass now end serves.
+    let leaves = outer_leaves rules serves.served.session in (
+      leaves,
+      leaves_desk (λ (d : AtCountedDesk Readings). at_counted d.pass d.session d.out) (CountedTurn (λ (readings : Readings). readings)) (λ before asked turn after does. does.is) _ _
+          (turns_in serves.served.events) leaves (turns_lead serves.served.leads),
+    )

@@ -5,7 +5,7 @@ use Rattle.agent_serve.proofs.serving.serve_with.Goals as goal
 pub returns : goal.returns
 returns g c =
     rw c.into_pass.ensures
-    (one_is_served _ g.H.Trust.TrustFile.trust (g.H.Host.of_folder (g.H.Host.homedir c.args.host.now))
+    (one_is_served _ g.H.Trust.TrustFile.trust (g.H.Host.homedir c.args.host.now)
     c.args.rules.now c.args.door c.args.session _ _ c.args.pass c.args.parts c.args.trust c.new-desk.result c.serve_door-end.new.desk
     c.new-prompter.result c.serve_door-end.new.prompter (g.H.Keys.Keys.keys c.serve_door-end.new.keys) (g.H.Dice.Dice.draws c.serve_door-end.new.dice) (g.H.Trust.TrustFile.trust c.serve_door-end.new.trust)
     c.serve_door-end.result c.new-desk.ensures

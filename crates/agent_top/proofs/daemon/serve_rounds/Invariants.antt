@@ -12,10 +12,10 @@ invariant-loop g l = record {
   ears : vec_len l.ears ≡ vec_len l.fn.ears;
   rounds : NewOrGoOn g.H.Ear.Ear.faults (WorkEach (record {
     gives = g.H.Listener.Listener.gives;
-    answers = g.H.ListeningHost.answers;
-    is_told = g.H.ListeningHost.is_told;
-    tells = g.H.ListeningHost.tells;
-    hears = g.H.ListeningHost.hears;
+    answers = g.H.Listener.Listener.answers;
+    is_told = g.H.Listener.Listener.is_told;
+    tells = g.H.Listener.Listener.tells;
+    hears = g.H.Listener.Listener.hears;
     faults = g.H.Ear.Ear.faults;
     is_home = g.H.Host.is_home;
     is_extra = g.H.Host.is_extra;
@@ -23,6 +23,6 @@ invariant-loop g l = record {
     output = g.H.Link.Sink.output;
     parts = record { launches = g.H.Launcher.Launcher.launches; readings = g.H.Clock.Clock.readings; draws = g.H.Dice.Dice.draws; keys = g.H.Keys.Keys.keys };
     trust = g.H.Trust.TrustFile.trust;
-    folder = g.H.Host.of_folder (g.H.Host.homedir l.host);
+    folder = g.H.Host.homedir l.host;
   }) l.rules l.listener (option_copied l.extra)) l.fn.passes.items l.fn.ears.items l.passes.items l.ears.items;
 }

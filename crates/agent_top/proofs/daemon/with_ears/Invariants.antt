@@ -7,6 +7,6 @@ abbrev pub invariant-loop : goal.invariant-loop
 invariant-loop g l = record {
   many : vec_len l.room ≡ l.counter;
   room : vec_capacity l.room ≡ vec_capacity l.fn.room;
-  own : AllByRecursion (g.H.ListeningHost.hears l.listener) l.room.items;
+  own : AllByRecursion (g.H.Listener.Listener.hears l.listener) l.room.items;
   fresh : NoneFailed g.H.Ear.Ear.faults l.room.items;
 }

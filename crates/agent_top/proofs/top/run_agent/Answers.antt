@@ -1,5 +1,5 @@
 use Rattle.std.proofs.Common.{inl, inr, ◌∙◌}
-use Rattle.agent_top.proofs.Running.{if_server, uses_settled, settled_in, no_words_served, no_words_for_daemon, no_words_for_load, no_words_to_settle, no_words_in_folder}
+use Rattle.agent_top.proofs.Running.{if_server, uses_settled, no_words_served, no_words_for_daemon, no_words_for_load, no_words_to_settle}
 use Rattle.agent_top.proofs.top.run_agent.Goals as goal
 
 pub returns-in_default-clause-served : goal.returns-in_default-clause-served
@@ -12,17 +12,8 @@ pub returns-in_default-clause-homedir : goal.returns-in_default-clause-homedir
 returns-in_default-clause-homedir g c =
     rw c.in-Ok.ensures.rules (inl (c.run_server.ensures.homedir ∙ (rw c.with_pid-rules.ensures at c.settle.ensures.homedir)))
 
-pub returns-in_default-clause-folder : goal.returns-in_default-clause-folder
-returns-in_default-clause-folder g c =
-    rw c.in-Ok.ensures.rules (if_server _ (inr (rw c.with_pid-rules.ensures
-    at (settled_in (record { launches = g.H.Launcher.Launcher.launches; readings = g.H.Clock.Clock.readings; draws = g.H.Dice.Dice.draws; keys = g.H.Keys.Keys.keys })
-    (g.H.Host.of_folder c.with_pid-rules.result.homedir.items).keys _ _ c.settle.ensures.parts c.settle.ensures.folder))))
-
 pub returns-in-Err-NoMemory-clause-homedir : goal.returns-in-Err-NoMemory-clause-homedir
 returns-in-Err-NoMemory-clause-homedir g c = no_words_to_settle _ _ _ _ c.number-in-Err-NoMemory.ensures
-
-pub returns-in-Err-NoMemory-clause-folder : goal.returns-in-Err-NoMemory-clause-folder
-returns-in-Err-NoMemory-clause-folder g c = no_words_in_folder _ _ _ c.number-in-Err-NoMemory.ensures
 
 pub returns-in-Err-NoMemory-clause-served : goal.returns-in-Err-NoMemory-clause-served
 returns-in-Err-NoMemory-clause-served g c =
@@ -33,10 +24,10 @@ pub returns-in-Err-NoMemory-clause-daemon : goal.returns-in-Err-NoMemory-clause-
 returns-in-Err-NoMemory-clause-daemon g c =
     no_words_for_daemon (λ given. record {
       gives = g.H.Listener.Listener.gives;
-      answers = g.H.ListeningHost.answers;
-      is_told = g.H.ListeningHost.is_told;
-      tells = g.H.ListeningHost.tells;
-      hears = g.H.ListeningHost.hears;
+      answers = g.H.Listener.Listener.answers;
+      is_told = g.H.Listener.Listener.is_told;
+      tells = g.H.Listener.Listener.tells;
+      hears = g.H.Listener.Listener.hears;
       faults = g.H.Ear.Ear.faults;
       is_home = g.H.Host.is_home;
       is_extra = g.H.Host.is_extra;
@@ -44,7 +35,7 @@ returns-in-Err-NoMemory-clause-daemon g c =
       output = g.H.Link.Sink.output;
       parts = record { launches = g.H.Launcher.Launcher.launches; readings = g.H.Clock.Clock.readings; draws = g.H.Dice.Dice.draws; keys = g.H.Keys.Keys.keys };
       trust = g.H.Trust.TrustFile.trust;
-      folder = g.H.Host.of_folder given.homedir.items;
+      folder = given.homedir.items;
     }) _ _ _ _ _ _ _ c.number-in-Err-NoMemory.ensures
 
 pub returns-in-Err-NoMemory-clause-load : goal.returns-in-Err-NoMemory-clause-load

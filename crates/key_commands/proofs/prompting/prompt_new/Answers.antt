@@ -23,4 +23,4 @@ returns-in_default-ask_user-clause-prompts g c =
     let plan = plan_says c.args.asking.now.rules.now c.args.asking.now.options.now true 1 c.ask_plan-plan.ensures c.new.ensures in
     rw (← c.ticket.ensures, c.in-Some.is)
     (prompt_refused connection_views (DoesBesideKeys g.P.Prompter.prompted) (λ same. same) each_prompted c.ask_user.ensures.asked c.pin_refusal.ensures c.ask_user.ensures.left
-    (λ events prompts. refused c.prompt_spec-spec.result spec (planned plan prompts) c.pin_refusal.ensures))
+    (λ events prompts. refused c.prompt_spec-spec.result spec (planned plan prompts) (λ is. let out = c.ask_user.ensures.no_memory is in cc out.1.last) c.pin_refusal.ensures))

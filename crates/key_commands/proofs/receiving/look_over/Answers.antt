@@ -10,11 +10,12 @@ returns-in_default-clause-turn g c = rw c.in_default.is (still no_nonce refl)
 
 pub returns-in-Ok-Given-clause-turn : goal.returns-in-Ok-Given-clause-turn
 returns-in-Ok-Given-clause-turn g c =
+    let turned = rw (c.in-Ok-Given.field-0-is, c.copy.ensures) at c.in-Ok-Given.ensures.turned in
     rw (c.in-Some.is, c.copy-in-Ok-Given.ensures, c.secret.ensures) (one (record {
       step = ask_nonce c.in-Some.nonce;
       turn = Given c.in-Ok-Given.grant;
-      turned_so = rw (c.in-Ok-Given.field-0-is, c.copy.ensures) at c.in-Ok-Given.ensures.turned;
-      does = given;
+      turned_so = turned;
+      does = given ((g.met.D.Desk.promise _ _ _ _ turned).fits);
       on = refl;
     }))
 

@@ -8,22 +8,19 @@ use Rattle.key_commands.proofs.turns.ask_cache.Goals as goal
 
 pub returns-in-Ok-Given-clause-turn : goal.returns-in-Ok-Given-clause-turn
 returns-in-Ok-Given-clause-turn g c =
+    let turned = rw c.in-Ok-Given.field-0-is at c.in-Ok-Given.ensures.turned in
     rw (c.copy.ensures, c.secret.ensures) (record {
       step = Ask c.args.id c.args.mode c.args.way None;
       turn = Given c.in-Ok-Given.grant;
-      turned_so = rw c.in-Ok-Given.field-0-is at c.in-Ok-Given.ensures.turned;
-      does = given;
+      turned_so = turned;
+      does = given ((g.met.D.Desk.promise _ _ _ _ turned).fits);
       on = refl;
     })
 
 pub returns-in-Ok-Empty-clause-turn : goal.returns-in-Ok-Empty-clause-turn
-returns-in-Ok-Empty-clause-turn g c = record {
-  step = Ask c.args.id c.args.mode c.args.way None;
-  turn = Empty;
-  turned_so = rw c.in-Ok-Empty.field-0-is at c.in-Ok-Empty.ensures.turned;
-  does = empty;
-  on = refl;
-}
+returns-in-Ok-Empty-clause-turn g c =
+    let turned = rw c.in-Ok-Empty.field-0-is at c.in-Ok-Empty.ensures.turned in
+    record { step = Ask c.args.id c.args.mode c.args.way None; turn = Empty; turned_so = turned; does = empty ((g.met.D.Desk.promise _ _ _ _ turned).fits); on = refl }
 
 pub returns-in-Ok-Open-clause-turn : goal.returns-in-Ok-Open-clause-turn
 returns-in-Ok-Open-clause-turn g c =
@@ -34,7 +31,7 @@ returns-in-Ok-Open-clause-turn g c =
       step = Ask c.args.id c.args.mode c.args.way None;
       turn = Open c.in-Ok-Open.ticket;
       turned_so = turned;
-      does = opened;
+      does = opened fits;
       on = refl;
     })
 
@@ -43,18 +40,14 @@ returns-in-Ok-Stopping-clause-turn g c = record {
   step = Ask c.args.id c.args.mode c.args.way None;
   turn = Stopping;
   turned_so = rw c.in-Ok-Stopping.field-0-is at c.in-Ok-Stopping.ensures.turned;
-  does = interrupted stopping;
+  does = interrupted tt stopping;
   on = refl;
 }
 
 pub returns-in-Ok-Late-clause-turn : goal.returns-in-Ok-Late-clause-turn
-returns-in-Ok-Late-clause-turn g c = record {
-  step = Ask c.args.id c.args.mode c.args.way None;
-  turn = Late;
-  turned_so = rw c.in-Ok-Late.field-0-is at c.in-Ok-Late.ensures.turned;
-  does = interrupted late;
-  on = refl;
-}
+returns-in-Ok-Late-clause-turn g c =
+    let turned = rw c.in-Ok-Late.field-0-is at c.in-Ok-Late.ensures.turned in
+    record { step = Ask c.args.id c.args.mode c.args.way None; turn = Late; turned_so = turned; does = interrupted ((g.met.D.Desk.promise _ _ _ _ turned).fits) late; on = refl }
 
 pub returns-in-Err-clause-turn : goal.returns-in-Err-clause-turn
 returns-in-Err-clause-turn g c =
@@ -62,6 +55,6 @@ returns-in-Err-clause-turn g c =
       step = Ask c.args.id c.args.mode c.args.way None;
       turn = Refused;
       turned_so = c.in-Err.ensures.turned;
-      does = interrupted refused;
+      does = interrupted tt refused;
       on = refl;
     })

@@ -13,7 +13,7 @@ returns-in-Ok-Done-clause-turn g c = record {
   step = Put (hex_text c.args.nonce.now) Nonce Default c.args.pass.now;
   turn = Done;
   turned_so = rw (c.in-Ok-Done.field-0-is, c.nonce_id.ensures, c.copy.ensures) at c.in-Ok-Done.ensures.turned;
-  does = done;
+  does = done tt;
   on = refl;
 }
 
@@ -22,7 +22,7 @@ returns-in-Ok-Stopping-clause-turn g c = record {
   step = Put (hex_text c.args.nonce.now) Nonce Default c.args.pass.now;
   turn = Stopping;
   turned_so = rw (c.in-Ok-Stopping.field-0-is, c.nonce_id.ensures, c.copy.ensures) at c.in-Ok-Stopping.ensures.turned;
-  does = interrupted stopping;
+  does = interrupted tt stopping;
   on = refl;
 }
 
@@ -32,6 +32,6 @@ returns-in-Err-clause-turn g c =
       step = Put (hex_text c.args.nonce.now) Nonce Default c.args.pass.now;
       turn = Refused;
       turned_so = rw (c.nonce_id.ensures, c.copy.ensures) at c.in-Err.ensures.turned;
-      does = interrupted refused;
+      does = interrupted tt refused;
       on = refl;
     })

@@ -10,7 +10,7 @@ returns-in-Ok-Done-clause-turn g c = record {
   step = put_key c.args.grip.now c.args.pass.now;
   turn = Done;
   turned_so = rw (c.in-Ok-Done.field-0-is, c.key_id.ensures, c.copy.ensures) at c.in-Ok-Done.ensures.turned;
-  does = done;
+  does = done tt;
   on = refl;
 }
 
@@ -19,7 +19,7 @@ returns-in-Ok-Stopping-clause-turn g c = record {
   step = put_key c.args.grip.now c.args.pass.now;
   turn = Stopping;
   turned_so = rw (c.in-Ok-Stopping.field-0-is, c.key_id.ensures, c.copy.ensures) at c.in-Ok-Stopping.ensures.turned;
-  does = interrupted stopping;
+  does = interrupted tt stopping;
   on = refl;
 }
 
@@ -29,6 +29,6 @@ returns-in-Err-clause-turn g c =
       step = put_key c.args.grip.now c.args.pass.now;
       turn = Refused;
       turned_so = rw (c.key_id.ensures, c.copy.ensures) at c.in-Err.ensures.turned;
-      does = interrupted refused;
+      does = interrupted tt refused;
       on = refl;
     })

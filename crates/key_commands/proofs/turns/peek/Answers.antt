@@ -21,7 +21,7 @@ returns-in-Ok-Stopping-clause-turn g c = record {
   step = Peek (grip_text c.args.grip.now) Normal;
   turn = Stopping;
   turned_so = rw (c.in-Ok-Stopping.field-0-is, c.key_id.ensures) at c.in-Ok-Stopping.ensures.turned;
-  does = interrupted stopping;
+  does = interrupted tt stopping;
   on = refl;
 }
 
@@ -31,6 +31,6 @@ returns-in-Err-clause-turn g c =
       step = Peek (grip_text c.args.grip.now) Normal;
       turn = Refused;
       turned_so = rw c.key_id.ensures at c.in-Err.ensures.turned;
-      does = interrupted refused;
+      does = interrupted tt refused;
       on = refl;
     })

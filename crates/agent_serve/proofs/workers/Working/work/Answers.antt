@@ -28,8 +28,8 @@ pub returns-in-Failed : goal.returns-in-Failed
 returns-in-Failed g c = record {
   last = c.loop.ear;
   serves = c.loop.invariant.serves;
-  ends = ends_without_link _ c.args.self.now.rules.now (post_at c.args.self.now.door c.args.self.now.listener.now (option_copied c.args.self.now.other)) c.args.ear c.loop.ear c.loop.pass c.next_link.new.ear
-      c.next_link.result c.in-Failed.is c.next_link.ensures.answers c.next_link.ensures.stopped c.next_link.ensures.failed c.loop.invariant.faults;
-  unfallen = omega (arith, c.loop.invariant.faults, c.next_link.ensures.faults);
-  own_ear = λ own. c.next_link.ensures.own (c.loop.invariant.own_ear own);
+  ends = ends_without_link _ c.args.self.now.rules.now (post_at c.args.self.now.door c.args.self.now.listener.now (option_copied c.args.self.now.other)) c.args.ear c.loop.ear c.loop.pass c.next.new.ear
+      c.next.result c.in-Failed.is c.next.ensures.answers c.next.ensures.stopped c.next.ensures.failed c.loop.invariant.faults;
+  unfallen = omega (arith, c.loop.invariant.faults, c.next.ensures.faults);
+  own_ear = λ own. c.next.ensures.own (c.loop.invariant.own_ear own);
 }

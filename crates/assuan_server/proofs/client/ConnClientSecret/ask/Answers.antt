@@ -1,7 +1,6 @@
 use Rattle.std.proofs.Common.{sym, ◌∙◌}
 use Rattle.std.proofs.lemmas.Bool.{false≢true}
-use Rattle.assuan_server.specs.Clients.{HearsWish}
-use Rattle.assuan_server.proofs.Clients.{wishes, wishes_unsaid}
+use Rattle.assuan_server.proofs.Clients.{HearsWish, wishes, wishes_unsaid}
 use Rattle.assuan_server.proofs.NoteLines.{wish_no_line, wish_unfit}
 use Rattle.assuan_server.proofs.client.ConnClientSecret.ask.Goals as goal
 use Rattle.assuan_server.proofs.client.ConnClientSecret.ask.Goals.{then-word-via-then-word, then-word-via-else-word+then-is_none}

@@ -2,9 +2,8 @@ use Rattle.std.proofs.Common.{sym, ◌∙◌, subst, arith}
 use Rattle.std.specs.Prelude.{codes}
 use Rattle.std.proofs.lemmas.Fmt.{decimal_nonempty}
 use Rattle.assuan_line.specs.Lines.{IsLine}
-use Rattle.assuan_server.specs.Clients.{HearsNote}
 use Rattle.assuan_server.specs.Inquiries.{inquire_text}
-use Rattle.assuan_server.proofs.Clients.{told}
+use Rattle.assuan_server.proofs.Clients.{HearsNote, told}
 use Rattle.assuan_server.proofs.NoteLines.{note_is_line}
 use Rattle.assuan_server.proofs.client.ConnClientSecret.tell.Goals as goal
 
