@@ -40,7 +40,6 @@ use Rattle.agent_session.specs.DoorCauses.{IsCausedAtDoor}
 use Rattle.agent_session.specs.Refusals.{AnswersAlone}
 use Rattle.agent_session.specs.RunExchanges.{LawfulExchange}
 use Rattle.assuan_server.specs.Reading.{Supply}
-use Rattle.assuan_text.specs.Words.{command_of}
 use Rattle.cache_policy.specs.declared.entry.Entry.{Entry}
 use Rattle.cache_policy.specs.Histories.{History}
 use Rattle.cache_policy.specs.Policy.{Reply, ask_ruling}

@@ -2,7 +2,7 @@
 -- and stops the agent. The laws on a daemon and on its sessions hold of it.
 use Rattle.std.specs.Fmt.{digits}
 use Rattle.std.specs.List.{AllByRecursion}
-use Rattle.std.specs.Prelude.{◌≡◌, ◌≤◌, ◌<◌, ℕ, zero, suc, nat_eq, List, [], ◌∷◌, ◌++◌, length, codes, true, false, Some, None, refl, ⊤}
+use Rattle.std.specs.Prelude.{◌≡◌, ◌≤◌, ◌<◌, ℕ, zero, suc, nat_eq, List, [], ◌∷◌, ◌++◌, length, codes, true, false, Some, None, refl}
 use Rattle.std.proofs.Common.{inl, inr, lit<, lit≤, sym, subst, arith}
 use Rattle.std.proofs.lemmas.Bool.Decides.{nat_tests}
 use Rattle.agent_ask.specs.Answering.{whole}
@@ -52,7 +52,6 @@ use Rattle.assuan_line.specs.Next.{next_of}
 use Rattle.assuan_line.specs.declared.reader.Took.TheVariants as took
 use Rattle.assuan_server.specs.Written.{failed, greeting}
 use Rattle.assuan_text.specs.LineEnds.{line_of}
-use Rattle.assuan_text.specs.Words.{command_of}
 use Rattle.cache_policy.proofs.GrowingRuns.{legal_run_with_mark}
 use Rattle.cache_policy.specs.Desks.{marked}
 use Rattle.cache_policy.specs.Histories.{History}
@@ -540,7 +539,7 @@ module _ (some : AtCounted) where
 
   -- ---- and on its sessions
 
-  first_stores_its_own : IsOwnTurn first_events stored
+  first_stores_its_own : IsOwnTurn Home rules first_events stored
   first_stores_its_own = own_turn first_served stored here puts
 
   each_request_of_the_first_is_lawful : IsLawfulSession first_served

@@ -1,6 +1,6 @@
 -- A worked restricted session of a daemon: it asks for a cached passphrase, which is Forbidden, and for the user's consent, for which the pinentry can't be started. What agent_serve says of
 -- such sessions, and the laws on a daemon's sessions, hold of it.
-use Rattle.std.specs.Prelude.{◌≡◌, ℕ, List, [], ◌∷◌, ◌++◌, true, false, codes, Some, None, refl, ⊤}
+use Rattle.std.specs.Prelude.{◌≡◌, ℕ, List, [], ◌∷◌, ◌++◌, true, false, codes, Some, None, refl}
 use Rattle.std.proofs.Common.{inl, lit<, lit≤, sym, subst}
 use Rattle.agent_ask.specs.Answering.{whole}
 use Rattle.agent_ask.specs.Doing.{called}
@@ -48,7 +48,6 @@ use Rattle.assuan_line.specs.Next.{next_of}
 use Rattle.assuan_line.specs.declared.reader.Took.TheVariants as took
 use Rattle.assuan_server.specs.Written.{failed, greeting, ok}
 use Rattle.assuan_text.specs.LineEnds.{line_of}
-use Rattle.assuan_text.specs.Words.{command_of}
 use Rattle.cache_policy.proofs.GrowingRuns.{legal_run_with_mark}
 use Rattle.cache_policy.specs.Desks.{marked}
 use Rattle.cache_policy.specs.Histories.{History}

@@ -20,7 +20,6 @@ use Rattle.agent_session.specs.Completeness.{SessionCauses}
 use Rattle.agent_session.specs.DoorCauses.{IsCausedAtDoor}
 use Rattle.agent_session.specs.RunExchanges.{Between, ExchangeBetween, LawfulExchange, LawfulSession}
 use Rattle.agent_commands.specs.Outside.{World}
-use Rattle.assuan_text.specs.Words.{command_of}
 use Rattle.cache_policy.specs.Runs.{last_history}
 use Rattle.cache_policy.specs.declared.bounds.TheConstants.{MAX_MARKS}
 use Rattle.counted_lock.specs.Passes.{AtPass}

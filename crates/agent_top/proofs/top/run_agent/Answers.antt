@@ -1,4 +1,4 @@
-use Rattle.std.proofs.Common.{inl, inr, ◌∙◌}
+use Rattle.std.proofs.Common.{inl, ◌∙◌}
 use Rattle.agent_top.proofs.Running.{if_server, uses_settled, no_words_served, no_words_for_daemon, no_words_for_load, no_words_to_settle}
 use Rattle.agent_top.proofs.top.run_agent.Goals as goal
 
