@@ -111,3 +111,76 @@ impl<R: Eprint, P: OpenProcess> PipedChild<'_, R, P> {
         self.terminal = Terminal::Refused;
     }
 }
+
+#[cfg(test)]
+mod tests {
+    use super::*;
+    use crate::PipeLauncher;
+    use crate::scripts::script;
+    use crate::told::said;
+    use agent_ports::Launcher;
+    use std::fs;
+    use std::test::Fail;
+    use std::time::Instant;
+
+    #[test]
+    fn a_child_is_told_terminals_alone(rt: HostRuntime) -> Result<(), Fail> {
+        let rows = [
+            (b"OPTION ttyname=/dev/pts/3\n".as_slice(), true),
+            (b"OPTION ttyname=/dev/tty1\n", true),
+            (b"OPTION ttyname=/home/alice/.bashrc\n", false),
+            (b"OPTION ttyname=/dev/shm/x\n", false),
+            (b"OPTION ttyname=/dev/pts/../x\n", false),
+            (b"OPTION ttyname=not a tty\n", false),
+            (b"OPTION ttyname=\n", false),
+            (b"OPTION ttyname= /dev/pts/3\n", false),
+            (b"OPTION ttyname=/dev/pts/3 \n", false),
+            // Two lines in one are none that the agent writes.
+            (b"OPTION ttyname=/dev/pts/3\nOPTION ttyname=x\n", false),
+            (b"OPTION ttytype=/home/alice/.bashrc\n", true),
+            (b"SETDESC OPTION ttyname=x\n", true),
+        ];
+        let mut launcher = PipeLauncher::new(&rt, rt.alloc());
+        for (line, passes) in rows {
+            let Some(mut child) = launcher.launch(b"/bin/cat") else {
+                return Err(Fail::new("not started"));
+            };
+            let sent = child.put(line);
+            let mut buf = [0u8; 64];
+            let got = child.read(&mut buf);
+            launcher.finish(child);
+            let wanted = if passes { line } else { b"NOP\n" };
+            assert_eq!(rt; (sent, got), (Sent::All, Got::Bytes(wanted.len())));
+            assert!(rt; buf.starts_with(wanted));
+        }
+        Ok(())
+    }
+
+    #[test]
+    fn a_child_that_doesnt_answer_in_time_is_ended(rt: HostRuntime) -> Result<(), Fail> {
+        let mut launcher = PipeLauncher::new(&rt, rt.alloc());
+        let start = Instant::now(&rt)?;
+        // One that is silent, and one that gives lines without end.
+        for lines in ["exec sleep 600\n", "exec yes\n"] {
+            let path = script(&rt, "late", lines)?;
+            let Some(mut child) = launcher.launch(path.as_bytes()) else {
+                return Err(Fail::new("not started"));
+            };
+            child.patience = Patience::for_millis(&rt, 300);
+            let mut got = Got::Bytes(1);
+            for _ in 0..100_000_000u32 {
+                got = child.read(&mut [0u8; 4096]);
+                if !matches!(got, Got::Bytes(_)) {
+                    break;
+                }
+            }
+            let shown = said(rt.alloc(), &child.last_error);
+            launcher.finish(child);
+            fs::remove_file(&rt, &path)?;
+            assert!(rt; !matches!(got, Got::Bytes(_)));
+            assert_eq!(rt; shown?.as_str(), "didn't answer in time, and is ended");
+        }
+        assert!(rt; start.elapsed(&rt)? < Duration::from_secs(20));
+        Ok(())
+    }
+}

@@ -43,3 +43,22 @@ impl<R: Files<File = File>> Dice for SystemDice<'_, R> {
 fn read_random<R: Files<File = File>>(rt: &R, out: &mut [u8]) -> io::Result<()> {
     File::open(rt, SOURCE)?.read_exact(out)
 }
+
+#[cfg(test)]
+mod tests {
+    use super::*;
+
+    #[test]
+    fn each_draw_has_bytes_of_its_own(rt: HostRuntime) {
+        let mut dice = SystemDice::new(&rt);
+        let mut first = [0u8; 32];
+        let mut second = [0u8; 32];
+        assert!(rt; dice.fill(&mut first));
+        assert!(rt; dice.fill(&mut second));
+        // That 32 random bytes are zeros, or those of another draw, doesn't happen.
+        assert!(rt; first != [0u8; 32]);
+        assert!(rt; second != [0u8; 32]);
+        assert!(rt; first != second);
+        assert_eq!(rt; dice.faults, 0);
+    }
+}

@@ -64,3 +64,79 @@ pub(crate) fn hand_on<E: Env>(env: &E, alloc: Global, command: &mut Command) -> 
     }
     Ok(())
 }
+
+#[cfg(test)]
+mod tests {
+    use super::*;
+    use std::env::FillError;
+    use std::str;
+    use std::test::Fail;
+
+    /// An environment of these entries.
+    #[derive(Drop)]
+    struct Entries<'a>(&'a [&'a str]);
+
+    /// Puts a text at the front of the buffer.
+    fn fill(text: &str, buf: &mut [u8]) -> Result<usize, FillError>
+        ensures { WritesAtMost result buf.new }
+    {
+        match buf.get_mut(..text.len()) {
+            Some(front) => {
+                front.copy_from_slice(text.as_bytes());
+                Ok(text.len())
+            }
+            None => Err(FillError::TooLong),
+        }
+    }
+
+    impl Env for Entries<'_> {
+        fn arg(&self, _i: usize, _buf: &mut [u8]) -> Result<usize, FillError> {
+            Err(FillError::NotPresent)
+        }
+
+        fn var(&self, name: &str, buf: &mut [u8]) -> Result<usize, FillError> {
+            for entry in self.0 {
+                if let Some((key, value)) = entry.split_once('=') {
+                    if key == name {
+                        return fill(value, buf);
+                    }
+                }
+            }
+            Err(FillError::NotPresent)
+        }
+
+        fn var_at(&self, i: usize, buf: &mut [u8]) -> Result<usize, FillError> {
+            match self.0.get(i) {
+                Some(entry) => fill(entry, buf),
+                None => Err(FillError::NotPresent),
+            }
+        }
+    }
+
+    #[test]
+    fn a_child_sees_what_is_handed_on_alone(rt: HostRuntime) -> Result<(), Fail> {
+        let entries = Entries(&[
+            "RESTIC_PASSWORD=secret",
+            "PATH=/usr/bin:/bin",
+            "HOME=/home/alice",
+            "LD_PRELOAD=/tmp/x.so",
+            "LC_CTYPE=C.UTF-8",
+            "LC_X=x",
+            "DISPLAY=",
+            "GTK_MODULES=x",
+            "HOMES=x",
+            "GPG_TTY=/dev/pts/3",
+            "PINENTRY_USER_DATA=USE_CURSES=1",
+        ]);
+        let mut command = Command::new(rt.alloc(), "/usr/bin/env")?;
+        hand_on(&entries, rt.alloc(), &mut command)?;
+        let output = command.output(&rt)?;
+        assert_eq!(rt;
+            str::from_utf8(output.stdout.as_slice()).ok(),
+            Some(
+                "DISPLAY=\nGPG_TTY=/dev/pts/3\nHOME=/home/alice\nLC_CTYPE=C.UTF-8\nPATH=/usr/bin:/bin\nPINENTRY_USER_DATA=USE_CURSES=1\n"
+            )
+        );
+        Ok(())
+    }
+}

@@ -63,3 +63,22 @@ fn begins_well<R: Files<File = File>>(rt: &R, path: &str) -> io::Result<bool> {
     File::open(rt, path)?.read(&mut front)?;
     Ok(front.starts_with(b"#!") || front.starts_with(b"\x7fELF"))
 }
+
+#[cfg(test)]
+mod tests {
+    use super::*;
+
+    #[test]
+    fn what_can_be_started(rt: HostRuntime) {
+        for (path, wanted) in [
+            ("/bin/sh", true),
+            ("/etc/passwd", false),
+            ("/etc", false),
+            ("/no/such/program", false),
+            ("sh", false),
+            ("", false),
+        ] {
+            assert_eq!(rt; (path, can_start(&rt, path)), (path, wanted));
+        }
+    }
+}

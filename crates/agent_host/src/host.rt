@@ -205,3 +205,37 @@ impl<'a, R: rt::Clock + rt::Env + Processes + Files<File = File> + Net + Eprint>
         &self.gate
     }
 }
+
+#[cfg(test)]
+mod tests {
+    use super::*;
+    use agent_ports::{KeyNames, TrustRead};
+
+    /// What the workers of a daemon want of its host, each on a thread of its own.
+    fn serves_threads<H: Host + Sync>(_host: &H)
+    where
+        H::Link: Send + Sync,
+        H::Ear: Send + Sync + Drop,
+        H::Listener: Send + Sync + Drop,
+        H::Launcher: Send + Sync + Drop,
+        <H::Launcher as Launcher>::Child: Send + Sync,
+        H::Clock: Send + Sync + Drop,
+        H::Dice: Send + Sync + Drop,
+        H::Keys: Send + Sync + Drop,
+        H::Trust: Send + Sync + Drop,
+        H::Gate: Send + Sync,
+    {}
+
+    #[test]
+    fn a_host_without_a_folder_has_no_socket_and_no_files(rt: HostRuntime) {
+        let mut host = SystemHost::new(&rt, rt.alloc(), 4711);
+        serves_threads(&host);
+        assert_eq!(rt; host.pid(), 4711);
+        assert!(rt; host.listen().is_none());
+        assert!(rt; host.listen_extra().is_none());
+        assert_eq!(rt; host.listens, 2);
+        let mut keys = host.session_parts().keys;
+        assert!(rt; matches!(keys.list(rt.alloc()), KeyNames::Failed));
+        assert!(rt; matches!(host.trust().read(rt.alloc()), TrustRead::Failed));
+    }
+}

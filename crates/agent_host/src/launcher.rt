@@ -150,3 +150,138 @@ fn end<P: OpenProcess>(rt: &impl rt::Clock, process: &mut Child<P>) -> io::Resul
     process.wait()?;
     Ok(())
 }
+
+#[cfg(test)]
+mod tests {
+    use super::*;
+    use crate::scripts::script;
+    use crate::told::said;
+    use agent_ports::{Got, Sent};
+    use std::fs;
+    use std::test::Fail;
+    use std::time::Instant;
+
+    #[test]
+    fn a_child_gives_what_it_was_written_up_to_its_end(rt: HostRuntime) -> Result<(), Fail> {
+        let mut launcher = PipeLauncher::new(&rt, rt.alloc());
+        // `cat` writes what it reads, and `true` ends at once.
+        for (program, sent, got) in [
+            (
+                b"/bin/cat".as_slice(),
+                b"GETPIN\n".as_slice(),
+                Got::Bytes(7),
+            ),
+            (b"/bin/true", b"", Got::End),
+        ] {
+            let Some(mut child) = launcher.launch(program) else {
+                return Err(Fail::new("not started"));
+            };
+            let written = child.put(sent);
+            let mut buf = [0u8; 16];
+            let read = child.read(&mut buf);
+            launcher.finish(child);
+            assert_eq!(rt; written, Sent::All);
+            assert_eq!(rt; read, got);
+            assert!(rt; buf.starts_with(sent));
+        }
+        assert_eq!(rt; launcher.faults, 0);
+        Ok(())
+    }
+
+    #[test]
+    fn a_program_that_cant_be_started_is_a_fault(rt: HostRuntime) {
+        let mut launcher = PipeLauncher::new(&rt, rt.alloc());
+        for (program, faults) in [
+            (b"/no/such/program".as_slice(), 1u64),
+            (b"/", 2),
+            (b"\xff", 3),
+        ] {
+            let failed = match launcher.launch(program) {
+                Some(child) => {
+                    launcher.finish(child);
+                    false
+                }
+                None => true,
+            };
+            assert!(rt; failed);
+            assert_eq!(rt; launcher.faults, faults);
+        }
+    }
+
+    #[test]
+    fn what_a_child_failed_by_is_what_it_gave(rt: HostRuntime) -> Result<(), Fail> {
+        let mut launcher = PipeLauncher::new(&rt, rt.alloc());
+        for (lines, wanted) in [
+            ("printf 'OK\\nERR 98 no\\n'\ncat\n", "answered ERR 98 no"),
+            ("printf 'OK\\nD correct horse\\nOK\\n'\ncat\n", ""),
+            ("true\n", "ended before it answered"),
+        ] {
+            let path = script(&rt, "failing", lines)?;
+            let Some(mut child) = launcher.launch(path.as_bytes()) else {
+                return Err(Fail::new("not started"));
+            };
+            let _ = child.read(&mut [0u8; 64]);
+            let shown = said(rt.alloc(), &child.last_error);
+            launcher.finish(child);
+            fs::remove_file(&rt, &path)?;
+            assert_eq!(rt; shown?.as_str(), wanted);
+        }
+        assert_eq!(rt; launcher.faults, 0);
+        Ok(())
+    }
+
+    #[test]
+    fn a_child_that_heeds_nothing_is_killed_within_seconds(rt: HostRuntime) -> Result<(), Fail> {
+        // It reads nothing, and what is written for it goes nowhere.
+        let path = script(
+            &rt,
+            "stubborn",
+            "trap '' HUP INT PIPE TERM\nexec sleep 600\n",
+        )?;
+        let mut launcher = PipeLauncher::new(&rt, rt.alloc());
+        let start = Instant::now(&rt)?;
+        let Some(child) = launcher.launch(path.as_bytes()) else {
+            return Err(Fail::new("not started"));
+        };
+        launcher.finish(child);
+        let took = start.elapsed(&rt)?;
+        fs::remove_file(&rt, &path)?;
+        assert_eq!(rt; launcher.faults, 0);
+        assert!(rt; took >= Duration::from_secs(1) && took < Duration::from_secs(10));
+        Ok(())
+    }
+
+    #[test]
+    fn a_child_may_take_its_time_to_end(rt: HostRuntime) -> Result<(), Fail> {
+        // Once its input has ended it works on, and leaves a file when it is done.
+        let done = script(&rt, "done", "")?;
+        let lines = format!(in rt.alloc(); "cat\nsleep 0.3\nrm {done}\n")?;
+        let path = script(&rt, "slow", &lines)?;
+        let mut launcher = PipeLauncher::new(&rt, rt.alloc());
+        let Some(child) = launcher.launch(path.as_bytes()) else {
+            return Err(Fail::new("not started"));
+        };
+        launcher.finish(child);
+        fs::remove_file(&rt, &path)?;
+        assert_eq!(rt; launcher.faults, 0);
+        assert!(rt; !fs::exists(&rt, &done)?);
+        Ok(())
+    }
+
+    #[test]
+    fn a_child_gains_no_privileges_where_setpriv_is_there(rt: HostRuntime) -> Result<(), Fail> {
+        let path = script(&rt, "guarded", "exec grep NoNewPrivs /proc/self/status\n")?;
+        let mut launcher = PipeLauncher::new(&rt, rt.alloc());
+        let Some(mut child) = launcher.launch(path.as_bytes()) else {
+            return Err(Fail::new("not started"));
+        };
+        let mut buf = [0u8; 64];
+        let got = child.read(&mut buf);
+        launcher.finish(child);
+        fs::remove_file(&rt, &path)?;
+        let guarded = can_guard(&rt, rt.alloc());
+        assert_eq!(rt; got, Got::Bytes(b"NoNewPrivs:\t1\n".len()));
+        assert_eq!(rt; buf.starts_with(b"NoNewPrivs:\t1"), guarded);
+        Ok(())
+    }
+}

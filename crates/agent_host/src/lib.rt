@@ -2,8 +2,8 @@
 //! and trust list, and its two sockets.
 //!
 //! Begin with [`SystemHost::new`]. Each part keeps the promise of its trait in `agent_ports`, and
-//! leaves its contents unknown: faults are counted, by clauses; the rest is shown by tests, in
-//! `host_tests` and of the built program (`tools/statuses`, `tools/with-gnupg`). The definitions are those of
+//! leaves its contents unknown: faults are counted, by clauses; the rest is shown by tests, here
+//! and of the built program (`tools/statuses`, `tools/with-gnupg`). The definitions are those of
 //! `agent_ports` (`specs/HostParts`, `Launches`, `Counts`).
 #![tactic(auto)]
 
@@ -18,6 +18,8 @@ mod keys;
 mod launcher;
 mod no_folder;
 mod patience;
+#[cfg(test)]
+mod scripts;
 mod terminal;
 mod told;
 mod trust;

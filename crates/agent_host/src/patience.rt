@@ -36,6 +36,19 @@ impl Patience {
         }
     }
 
+    /// That of a child whose answer is awaited so long.
+    #[cfg(test)]
+    pub(crate) fn for_millis(rt: &impl Clock, millis: u64) -> Self {
+        let until = match Instant::now(rt) {
+            Ok(now) => now.checked_add(Duration::from_millis(millis)),
+            Err(_) => None,
+        };
+        Patience {
+            timeout: None,
+            until,
+        }
+    }
+
     /// The child is written this line.
     pub(crate) fn put(&mut self, rt: &impl Clock, line: &[u8]) {
         if let Some(seconds) = told_timeout(line) {
@@ -83,4 +96,69 @@ fn whom_for(line: &[u8]) -> Awaited {
         return Awaited::AsBefore;
     }
     Awaited::Child
+}
+
+#[cfg(test)]
+mod tests {
+    use super::*;
+    use std::cell::Cell;
+    use std::io;
+
+    /// A clock that reads the seconds that it is set to.
+    #[derive(Drop)]
+    struct SetClock(Cell<u64>);
+
+    impl Clock for SetClock {
+        fn monotonic(&self) -> io::Result<Duration> {
+            Ok(Duration::from_secs(self.0.get()))
+        }
+
+        fn since_1970(&self) -> io::Result<Duration> {
+            Ok(Duration::from_secs(0))
+        }
+    }
+
+    #[test]
+    fn an_answer_is_awaited_a_minute_behind_the_timeout(rt: HostRuntime) {
+        // The moment, the line that is put then, and how many seconds are left.
+        let with_timeout = [
+            (1000, b"OPTION lc-ctype=C\n".as_slice(), Some(60)),
+            (1010, b"SETTIMEOUT 300\n", Some(60)),
+            (1020, b"SETDESC GETPIN\n", Some(60)),
+            (1030, b"GETPIN\n", Some(360)),
+            (1130, b"D 50\n", Some(260)),
+            (1140, b"END\n", Some(250)),
+            (1390, b"CAN\n", Some(0)),
+            (9999, b"END\n", Some(0)),
+            (1400, b"SETERROR Try again\n", Some(60)),
+            (1401, b"CONFIRM\n", Some(360)),
+            (1402, b"BYE\n", Some(60)),
+        ];
+        let without = [
+            (1000, b"SETDESC SETTIMEOUT 5\n".as_slice(), Some(60)),
+            (1000, b"GETPIN\n", None),
+            (9999, b"END\n", None),
+            (9999, b"SETERROR Try again\n", Some(60)),
+            (9999, b"CONFIRM\n", None),
+        ];
+        let greatest = [
+            (1000, b"SETTIMEOUT 2147483647\n".as_slice(), Some(60)),
+            (1000, b"GETPIN\n", Some(2_147_483_707)),
+        ];
+        for rows in [
+            with_timeout.as_slice(),
+            without.as_slice(),
+            greatest.as_slice(),
+        ] {
+            let clock = SetClock(Cell::new(940));
+            let mut patience = Patience::new(&clock);
+            assert_eq!(rt; patience.left(&clock), Some(Duration::from_secs(60)));
+            for (now, line, wanted) in rows {
+                clock.0.set(*now);
+                patience.put(&clock, line);
+                let left = patience.left(&clock);
+                assert_eq!(rt; left.map(|left| left.as_secs()), *wanted);
+            }
+        }
+    }
 }

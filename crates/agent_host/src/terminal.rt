@@ -64,3 +64,65 @@ pub(crate) fn is_terminal(name: &[u8]) -> bool {
         None => false,
     }
 }
+
+#[cfg(test)]
+mod tests {
+    use super::*;
+    use std::test::Fail;
+
+    #[test]
+    fn a_name_that_only_terminals_have(rt: HostRuntime) {
+        let rows = [
+            (b"/dev/pts/3".as_slice(), true),
+            (b"/dev/pts/1048575", true),
+            (b"/dev/tty1", true),
+            (b"/dev/ttyS0", true),
+            (b"/dev/ttyACM12", true),
+            (b"", false),
+            (b"not a tty", false),
+            (b"/home/alice/.bashrc", false),
+            (b".bashrc", false),
+            (b"/dev/shm/x", false),
+            (b"/dev/shm/pts/3", false),
+            (b"/dev/pts/", false),
+            (b"/dev/pts/ptmx", false),
+            (b"/dev/pts/../shm/x", false),
+            (b"/dev/pts/3/../../shm/x", false),
+            (b"/dev/pts/3 ", false),
+            (b"/dev/pts/3\0", false),
+            (b" /dev/pts/3", false),
+            (b"/dev/pts//3", false),
+            (b"/dev/pts/-3", false),
+            (b"/DEV/PTS/3", false),
+            (b"dev/pts/3", false),
+            (b"/dev/tty", false),
+            (b"/dev/tty/", false),
+            (b"/dev/tty/../shm/x", false),
+            (b"/dev/tty1\n", false),
+            (b"/dev/tty\xc3\xa9", false),
+            (b"/dev/mem", false),
+            (b"/dev/null", false),
+        ];
+        for (name, wanted) in rows {
+            assert_eq!(rt; (name, is_terminal(name)), (name, wanted));
+        }
+    }
+
+    #[test]
+    fn what_is_said_of_a_child_names_its_terminal(rt: HostRuntime) -> Result<(), Fail> {
+        let rows = [
+            (Terminal::Untold, ""),
+            (Terminal::Refused, ""),
+            (
+                Terminal::told(b"/dev/pts/3"),
+                " (at the terminal /dev/pts/3)",
+            ),
+        ];
+        for (terminal, wanted) in rows {
+            assert_eq!(rt; format!(in rt.alloc(); "{terminal}")?.as_str(), wanted);
+        }
+        let long = format!(in rt.alloc(); "{}", Terminal::told(&[b'x'; 900]))?;
+        assert_eq!(rt; long.len(), 200 + " (at the terminal )".len());
+        Ok(())
+    }
+}

@@ -1,6 +1,8 @@
 ghost use Rattle.std.specs.Prelude.{◌≡◌, ◌⊎◌, []};
 
 use arrayvec::ArrayVec;
+#[cfg(test)]
+use std::alloc::{AllocError, Global};
 use std::fmt::{Display, Formatter};
 use std::{fmt, str};
 
@@ -155,6 +157,75 @@ impl Display for Printable<'_> {
             };
             f.write_char(char::from(shown))?;
         }
+        Ok(())
+    }
+}
+
+/// What is said of a child's failure, or nothing.
+#[cfg(test)]
+pub(crate) fn said(alloc: Global, last_error: &LastError) -> Result<String, AllocError> {
+    match last_error.failure() {
+        Some(failure) => format!(in alloc; "{failure}"),
+        None => Ok(String::new(alloc)),
+    }
+}
+
+#[cfg(test)]
+mod tests {
+    use super::*;
+    use std::test::Fail;
+
+    #[test]
+    fn a_failure_is_the_last_response_where_that_is_an_error(rt: HostRuntime) -> Result<(), Fail> {
+        let rows = [
+            (
+                b"OK\nS ERROR curses.isatty 83918950\nERR 83918950 Inappropriate ioctl for device <Pinentry>\n".as_slice(),
+                "answered ERR 83918950 Inappropriate ioctl for device <Pinentry>",
+            ),
+            (b"OK\nERR 83886179 Operation cancelled <Pinentry>\n", ""),
+            (b"OK\nERR 83886142 Timeout <Pinentry>\n", ""),
+            (b"OK\nERR 83886194 Not confirmed <Pinentry>\n", ""),
+            (b"OK\nERR 83886278 Fully cancelled <Pinentry>\n", ""),
+            (b"ERR 99\n", ""),
+            (b"ERR 98\n", "answered ERR 98"),
+            (
+                b"OK\nERR 536871187 Unknown IPC command\nOK\nD correct horse\n",
+                "",
+            ),
+            (b"OK\nD ERR 98 correct horse\nD correct\n# ERR 98\n", ""),
+            (b"OK\nERR 98 a\nD correct horse\n", "answered ERR 98 a"),
+            (b"ERR x\x1b[2J\xc3\xa9\t.\r\n", "answered ERR x?[2J???.?"),
+            (b"ERROR 98\nEND\n", ""),
+            (b"", ""),
+        ];
+        for (bytes, wanted) in rows {
+            for piece in [1, 7, bytes.len()] {
+                let mut last_error = LastError::new();
+                for some in bytes.chunks(piece.max(1)) {
+                    last_error.read(some);
+                }
+                assert_eq!(rt; said(rt.alloc(), &last_error)?.as_str(), wanted);
+            }
+        }
+        Ok(())
+    }
+
+    #[test]
+    fn a_long_error_is_cut_and_an_end_is_told(rt: HostRuntime) -> Result<(), Fail> {
+        let mut last_error = LastError::new();
+        last_error.read(b"ERR 98 ");
+        last_error.read(&[b'x'; 1000]);
+        assert_eq!(rt; said(rt.alloc(), &last_error)?.len(), 209);
+        last_error.read_end();
+        assert_eq!(rt;
+            said(rt.alloc(), &last_error)?.as_str(),
+            "ended before it answered"
+        );
+        last_error.read_late();
+        assert_eq!(rt;
+            said(rt.alloc(), &last_error)?.as_str(),
+            "didn't answer in time, and is ended"
+        );
         Ok(())
     }
 }

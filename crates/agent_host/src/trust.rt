@@ -73,3 +73,36 @@ impl<R: rt::Clock + Files<File = File>> TrustFile for SystemTrust<'_, R> {
         answer
     }
 }
+
+#[cfg(test)]
+mod tests {
+    use super::*;
+    use std::os::unix::fs::DirBuilderExt;
+    use std::test::Fail;
+    use std::{env, fs, process};
+
+    #[test]
+    fn a_list_that_changed_since_it_was_read_stays(rt: HostRuntime) -> Result<(), Fail> {
+        let temporary = env::temp_dir(&rt)?;
+        let temporary = temporary.as_path().to_str().ok_or("no text")?;
+        let number = process::id(rt.process());
+        let folder = format!(in rt.alloc(); "{temporary}/trusting{number}")?;
+        let list = format!(in rt.alloc(); "{folder}/trustlist.txt")?;
+        fs::DirBuilder::new().mode(0o700).create(&rt, &folder)?;
+        let mut homedir = Homedir::new();
+        homedir.settle(folder.as_bytes());
+        let mut trust = SystemTrust::new(&rt, &homedir);
+        assert!(rt; matches!(trust.read(rt.alloc()), TrustRead::Absent));
+        // An editor makes it.
+        fs::write(&rt, &list, b"one")?;
+        for (answer, faults) in [(TrustDone::Failed, 1u64), (TrustDone::Done, 1)] {
+            assert_eq!(rt; trust.replace(rt.alloc(), b"two"), answer);
+            assert_eq!(rt; trust.faults, faults);
+            assert!(rt; matches!(trust.read(rt.alloc()), TrustRead::Found(_)));
+        }
+        let left = fs::read(&rt, &list)?;
+        assert_eq!(rt; left.as_slice(), b"two".as_slice());
+        fs::remove_dir_all(&rt, &folder)?;
+        Ok(())
+    }
+}

@@ -142,3 +142,31 @@ impl<R: Files + Clock> Listener for SocketListener<'_, R> {
         self.stop();
     }
 }
+
+#[cfg(test)]
+mod tests {
+    use super::*;
+    use std::test::Fail;
+    use std::{env, process};
+
+    #[test]
+    fn a_listener_that_fails_for_good_isnt_a_stopped_one(rt: HostRuntime) -> Result<(), Fail> {
+        let temporary = env::temp_dir(&rt)?;
+        let number = process::id(rt.process());
+        let temporary = temporary.as_path().to_str().ok_or("no text")?;
+        let folder = format!(in rt.alloc(); "{temporary}/us_six{number}")?;
+        let listener = SocketListener::bind(&rt, rt.alloc(), &folder, SocketName::Standard)?;
+        let mut ear = listener.ear();
+        assert!(rt; !ear.failed());
+        // Nobody has stopped it, and accept fails with EINVAL from now on.
+        listener.bound.waker.shutdown(Shutdown::Both)?;
+        for faults in 1..3u64 {
+            assert!(rt; matches!(listener.next(&mut ear), Next::Failed));
+            assert_eq!(rt; ear.faults(), faults);
+        }
+        assert!(rt; ear.failed());
+        drop(listener);
+        fs::remove_dir(&rt, &folder)?;
+        Ok(())
+    }
+}
