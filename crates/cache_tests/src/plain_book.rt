@@ -1,5 +1,4 @@
 use cache_policy::{CacheId, Life, Limits, ListBook, Mode, Secret};
-use std::alloc::Global;
 use std::test::Fail;
 
 /// The manual's lifetimes.
@@ -40,56 +39,36 @@ fn found_until_the_last_second(rt: HostRuntime) -> Result<(), Fail> {
     Ok(())
 }
 
-/// What an id is asked for, and the number and the passphrase of the entry that is found.
-#[derive(Clone, Copy)]
-struct Row<'a> {
-    moment: u64,
-    id: &'a [u8],
-    mode: Mode,
-    found: Option<(u64, &'a [u8])>,
-}
-
-/// Whether the book, with an old entry of any mode and a new one of ten seconds, finds what the row
-/// says.
-fn finds(alloc: Global, row: Row) -> Result<bool, Fail> {
-    let mut book = ListBook::new(alloc);
-    for (moment, mode, life, bytes) in [
-        (0, Mode::Any, Life::Endless, b"old"),
-        (5, Mode::User, Life::Seconds(10), b"new"),
-    ] {
-        book.put(moment, id(b"id1")?, mode, life, secret(bytes)?, &LIMITS)?;
-    }
-    let found = book.find(row.moment, &id(row.id)?, row.mode);
-    Ok(match (&found, row.found) {
-        (Some(grant), Some((number, bytes))) => {
-            grant.number() == number && grant.secret().bytes() == bytes
-        }
-        (found, wanted) => found.is_none() && wanted.is_none(),
-    })
-}
-
 #[test]
 fn a_shorter_life_hides_a_longer_one(rt: HostRuntime) -> Result<(), Fail> {
-    let row = |moment, id, mode, found| Row {
-        moment,
-        id,
-        mode,
-        found,
-    };
-    let rows = [
-        row(
-            15,
-            b"id1".as_slice(),
-            Mode::User,
-            Some((1, b"new".as_slice())),
-        ),
-        row(16, b"id1", Mode::User, None),
-        row(20, b"id1", Mode::Normal, Some((0, b"old"))),
-        row(20, b"id2", Mode::Normal, None),
-    ];
-    for (number, row) in rows.into_iter().enumerate() {
-        assert!(rt; finds(rt.alloc(), row)?, "{number}");
-    }
+    let limits = LIMITS;
+    let mut book = ListBook::new(rt.alloc());
+    book.put(
+        0,
+        id(b"id1")?,
+        Mode::Any,
+        Life::Endless,
+        secret(b"old")?,
+        &limits,
+    )?;
+    book.put(
+        5,
+        id(b"id1")?,
+        Mode::User,
+        Life::Seconds(10),
+        secret(b"new")?,
+        &limits,
+    )?;
+
+    let grant = book.find(15, &id(b"id1")?, Mode::User).ok_or("live")?;
+    assert_eq!(rt; grant.secret().bytes(), b"new".as_slice());
+    assert_eq!(rt; grant.number(), 1);
+    assert!(rt; book.find(16, &id(b"id1")?, Mode::User).is_none());
+
+    let grant = book.find(20, &id(b"id1")?, Mode::Normal).ok_or("live")?;
+    assert_eq!(rt; grant.secret().bytes(), b"old".as_slice());
+    assert_eq!(rt; grant.number(), 0);
+    assert!(rt; book.find(20, &id(b"id2")?, Mode::Normal).is_none());
     Ok(())
 }
 

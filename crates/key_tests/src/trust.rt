@@ -81,62 +81,37 @@ fn a_list_that_is_made_and_replaced(rt: HostRuntime) -> Result<(), Fail> {
     Ok(())
 }
 
-// What has the list's name in place of a list.
-#[derive(Clone, Copy, Debug)]
-enum Named {
-    Folder,
-    // A link to a file beside it, which isn't there, or is.
-    Nowhere,
-    Link,
-    // A file that is longer than a list may be.
-    Longer,
-}
-
-fn name_list(rt: &HostRuntime, named: Named) -> Result<(), Fail> {
-    let _ = fs::remove_dir_all(rt, "distrusting");
-    fs::create_dir(rt, "distrusting")?;
-    let list = "distrusting/trustlist.txt";
-    match named {
-        Named::Folder => fs::create_dir(rt, list)?,
-        Named::Nowhere => symlink(rt, "elsewhere", list)?,
-        Named::Link => {
-            symlink(rt, "elsewhere", list)?;
-            fs::write(rt, "distrusting/elsewhere", b"there\n")?;
-        }
-        Named::Longer => fs::write(rt, list, &vec![in rt.alloc(); b'x'; 65_537]?)?,
-    }
-    Ok(())
-}
-
 #[test]
 fn what_else_has_the_name_of_the_list(rt: HostRuntime) -> Result<(), Fail> {
-    let refused = [(Read, "failed"), (Replace(b"one\n"), "Failed")];
-    let followed = [
+    let alloc = rt.alloc();
+    let _ = fs::remove_dir_all(&rt, "distrusting");
+    fs::create_dir_all(&rt, "distrusting/trustlist.txt")?;
+    let mut trust = FolderTrust::new(&rt, alloc, "distrusting")?;
+    // A folder is neither read nor replaced.
+    let folder = [(Read, "failed"), (Replace(b"one\n"), "Failed")];
+    assert_eq!(rt; first_wrong(alloc, &mut trust, &folder)?, None);
+    assert!(rt; !fs::exists(&rt, "distrusting/trustlist.txt.new")?);
+    fs::remove_dir(&rt, "distrusting/trustlist.txt")?;
+    // A link is followed, and one that leads nowhere is a fault. A new list takes the place of the
+    // file at its end.
+    symlink(&rt, "elsewhere", "distrusting/trustlist.txt")?;
+    let nowhere = [(Read, "failed"), (Replace(b"one\n"), "Failed")];
+    assert_eq!(rt; first_wrong(alloc, &mut trust, &nowhere)?, None);
+    fs::write(&rt, "distrusting/elsewhere", b"there\n")?;
+    let link = [
         (Read, "there\n"),
         (Replace(b"here\n"), "Done"),
         (Read, "here\n"),
     ];
-    let uncut = [(Read, "failed")];
-    for (named, rows) in [
-        (Named::Folder, refused.as_slice()),
-        (Named::Nowhere, refused.as_slice()),
-        // A new list takes the place of the file at the link's end.
-        (Named::Link, followed.as_slice()),
-        (Named::Longer, uncut.as_slice()),
-    ] {
-        name_list(&rt, named)?;
-        let mut trust = FolderTrust::new(&rt, rt.alloc(), "distrusting")?;
-        assert_eq!(rt;
-            first_wrong(rt.alloc(), &mut trust, rows)?,
-            None,
-            "{named:?}"
-        );
-        let is_link = fs::symlink_metadata(&rt, "distrusting/trustlist.txt")?.is_symlink();
-        assert_eq!(rt; is_link, matches!(named, Named::Nowhere | Named::Link));
-        for left in ["trustlist.txt.new", "elsewhere.dogwoodcatch-new"] {
-            assert!(rt; !fs::exists(&rt, &format!(in rt.alloc(); "distrusting/{left}")?)?);
-        }
-    }
+    assert_eq!(rt; first_wrong(alloc, &mut trust, &link)?, None);
+    let linked = fs::read(&rt, "distrusting/elsewhere")?;
+    assert_eq!(rt; linked.as_slice(), b"here\n".as_slice());
+    let stays = fs::symlink_metadata(&rt, "distrusting/trustlist.txt")?.is_symlink();
+    assert!(rt; stays && !fs::exists(&rt, "distrusting/elsewhere.dogwoodcatch-new")?);
+    // A longer file isn't cut.
+    let longer = vec![in alloc; b'x'; 65_537]?;
+    fs::write(&rt, "distrusting/trustlist.txt", &longer)?;
+    assert_eq!(rt; first_wrong(alloc, &mut trust, &[(Read, "failed")])?, None);
     fs::remove_dir_all(&rt, "distrusting")?;
     Ok(())
 }
