@@ -37,7 +37,7 @@ fn reason(status: u8) -> Option<&'static str> {
     match status {
         0 => None,
         1 => Some("there is no memory"),
-        2 => Some("the command line is refused: see agent(1)"),
+        2 => Some("the command line is refused: see dogwoodcatch-agent(1)"),
         3 => Some("a read failed"),
         4 => Some("a write failed"),
         5 => Some("there is no socket in the home folder, or it failed"),
