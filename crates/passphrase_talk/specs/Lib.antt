@@ -1,0 +1,4 @@
+pub mod Contacts
+pub mod Turns
+pub mod Dialogues
+pub mod Visits

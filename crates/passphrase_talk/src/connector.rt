@@ -1,0 +1,105 @@
+ghost use Rattle.std.specs.Prelude.{◌≡◌, ◌≤◌, ◌+◌, IfOk, Err, MatchResult, List, ℕ};
+ghost use Rattle.agent_ports.specs.Counts.{Rose, RoseBy};
+ghost use Rattle.agent_ports.specs.Launches.{IsFresh, child_then};
+ghost use Rattle.passphrase_talk.specs.Contacts.{Contacts, then_met};
+ghost use Rattle.session_options.specs.OptionValues.{EnvWords, words_of};
+
+use agent_ports::Link;
+use session_options::Env;
+
+/// Which agent is asked.
+#[derive(Clone, Copy, Debug, PartialEq, Eq)]
+pub enum Place {
+    /// The one that answers for the folder that the user means.
+    Home,
+    /// The one of the folder of its own, where both run.
+    Beside,
+}
+
+/// Which agents answer.
+#[derive(Clone, Copy, Debug, PartialEq, Eq)]
+pub enum Agents {
+    /// One, at `Place::Home`.
+    One,
+    /// One at each place.
+    Both,
+}
+
+/// What an answer may take.
+#[derive(Clone, Copy, Debug, PartialEq, Eq)]
+pub enum Waits {
+    /// The agent answers by itself, within seconds.
+    Answer,
+    /// A user may have to type first, which takes minutes. The agent is told the terminal.
+    Prompt,
+}
+
+/// Why there is no agent, or no connection to it.
+#[derive(Clone, Copy, Debug, PartialEq, Eq)]
+pub enum Unmet {
+    NoMemory,
+    /// [`Connector::reason`] says more.
+    Fault,
+}
+
+/// Finds the agents, starts one where none answers, and connects to them.
+pub trait Connector {
+    /// The way to an agent.
+    type Link: Link;
+
+    /// The links to come, the contacts that were left, and how many calls failed.
+    ghost contacts: { Self → Contacts };
+
+    /// The terminal and the locale of the user. No call changes them.
+    ghost terminal: { Self → EnvWords };
+
+    /// Why the last call failed.
+    ghost reason: { Self → List ℕ };
+
+    /// Finds the agents that are asked: for this folder, or the GnuPG home where none is named, and
+    /// given this many seconds for an answer.
+    fn find(&mut self, folder: Option<&str>, seconds: Option<u32>) -> Result<Agents, Unmet>
+        ensures coming { (contacts self.new).coming ≡ (contacts self.old).coming }
+        ensures met { (contacts self.new).met ≡ (contacts self.old).met }
+        ensures failed { result ≡ Err Unmet.Fault
+            → Rose (contacts self.old).faults (contacts self.new).faults }
+        ensures faults { (contacts self.old).faults ≤ (contacts self.new).faults }
+        ensures terminal { terminal self.new ≡ terminal self.old };
+
+    /// Connects to the agent at this place. What the link then holds is all that the agent gives.
+    fn connect(&mut self, place: Place, waits: Waits) -> Result<Self::Link, Unmet>
+        ensures fresh { IfOk result
+            (λ link. IsFresh (Self.Link.input link) (Self.Link.output link)) }
+        ensures coming { MatchResult result (λ link. (contacts self.old).coming
+            ≡ child_then (Self.Link.input link).bytes (contacts self.new).coming)
+            (λ _. (contacts self.new).coming ≡ (contacts self.old).coming) }
+        ensures met { (contacts self.new).met ≡ (contacts self.old).met }
+        ensures failed { result ≡ Err Unmet.Fault
+            → Rose (contacts self.old).faults (contacts self.new).faults }
+        ensures faults { (contacts self.old).faults ≤ (contacts self.new).faults }
+        ensures terminal { terminal self.new ≡ terminal self.old };
+
+    /// Closes the connection. What failed there counts here too.
+    fn leave(&mut self, place: Place, link: Self::Link)
+        ensures met { (contacts self.new).met ≡ then_met (contacts self.old).met place
+            (Self.Link.input link).bytes (Self.Link.output link).bytes }
+        ensures coming { (contacts self.new).coming ≡ (contacts self.old).coming }
+        ensures rose { RoseBy ((Self.Link.input link).faults + (Self.Link.output link).faults)
+            (contacts self.old).faults (contacts self.new).faults }
+        ensures faults { (contacts self.old).faults ≤ (contacts self.new).faults }
+        ensures terminal { terminal self.new ≡ terminal self.old };
+
+    /// What the agent is told of the terminal.
+    fn terminal(&self) -> &Env
+        ensures { words_of result.now ≡ terminal self.now };
+
+    /// Why the last call failed, in words for a user.
+    fn reason(&self) -> &str
+        ensures { result.now ≡ reason self.now };
+
+    /// A pinentry was launched, of which the agent says this text.
+    fn launched(&mut self, text: &[u8])
+        ensures contacts { contacts self.new ≡ contacts self.old }
+        ensures terminal { terminal self.new ≡ terminal self.old }
+        ensures reason { reason self.new ≡ reason self.old };
+}

@@ -1,0 +1,33 @@
+ghost use Rattle.std.specs.Prelude.{◌≡◌};
+ghost use Rattle.passphrase_talk.specs.Visits.{Visits};
+
+use crate::{Connector, Loss, Place, Told, Unmet, Waits};
+use assuan_client::Peer;
+use assuan_line::Line;
+use std::alloc::Global;
+
+/// How many bytes are taken from an agent in one contact at most: 1 MiB.
+pub const BUDGET: u64 = 1 << 20;
+
+/// Connects to the agent at this place, leads one dialogue for the line, and leaves it. Where a
+/// user may have to type, the agent is told the terminal.
+pub fn visit<C: Connector>(
+    alloc: Global,
+    connector: &mut C,
+    place: Place,
+    waits: Waits,
+    line: &Line,
+) -> Told
+    ensures visits { Visits place waits line.now (C.terminal connector.old) result
+        (C.contacts connector.old) (C.contacts connector.new) }
+    ensures terminal { C.terminal connector.new ≡ C.terminal connector.old }
+{
+    let link = match connector.connect(place, waits) {
+        Ok(link) => link,
+        Err(Unmet::NoMemory) => return Told::NoMemory,
+        Err(Unmet::Fault) => return Told::Lost(Loss::Unmet),
+    };
+    let peer = Peer::new(alloc, link, BUDGET);
+    connector.leave(place, peer.into_link());
+    Told::Done
+}
