@@ -12,7 +12,7 @@ pub data Said : Type 0 where
   -- nothing: the greeting is waited for
   Hello : Said
   -- an option of the session
-  Setting : List ℕ → Said
+  OptionLine : List ℕ → Said
   -- the request
   Request : List ℕ → Said
   -- an inquiry is answered by no bytes
@@ -31,7 +31,7 @@ turn_of said answer = record { said = said; answer = answer }
 -- the bytes that say it
 abbrev pub text_of : Said → List ℕ
 text_of Hello = []
-text_of (Setting line) = line_of line
+text_of (OptionLine line) = line_of line
 text_of (Request line) = line_of line
 text_of End = line_of (codes "END")
 text_of Cancel = cancel_text
@@ -43,7 +43,7 @@ texts_of turns = flat_map (λ turn. text_of turn.said) turns
 -- It is said, and the agent's lines up to the next end come to this answer.
 abbrev pub IsAnswered : Said → Answer → Connection → Connection → Type 0
 IsAnswered Hello answer before after = ReadOn nothing answer before after
-IsAnswered (Setting line) answer before after = Command (line_of line) nothing answer before after
+IsAnswered (OptionLine line) answer before after = Command (line_of line) nothing answer before after
 IsAnswered (Request line) answer before after = Command (line_of line) nothing answer before after
 IsAnswered End answer before after = Reply [] answer before after
 IsAnswered Cancel answer before after = Command cancel_text before.tally answer before after

@@ -7,6 +7,8 @@
 #![tactic(auto)]
 
 mod connector;
+mod dialogue;
+mod options;
 mod told;
 mod visits;
 

@@ -1,6 +1,7 @@
 ghost use Rattle.std.specs.Prelude.{◌≡◌};
 ghost use Rattle.passphrase_talk.specs.Visits.{Visits};
 
+use crate::dialogue::lead;
 use crate::{Connector, Loss, Place, Told, Unmet, Waits};
 use assuan_client::Peer;
 use assuan_line::Line;
@@ -27,7 +28,8 @@ pub fn visit<C: Connector>(
         Err(Unmet::NoMemory) => return Told::NoMemory,
         Err(Unmet::Fault) => return Told::Lost(Loss::Unmet),
     };
-    let peer = Peer::new(alloc, link, BUDGET);
+    let mut peer = Peer::new(alloc, link, BUDGET);
+    let told = lead(connector, &mut peer, waits, line);
     connector.leave(place, peer.into_link());
-    Told::Done
+    told
 }

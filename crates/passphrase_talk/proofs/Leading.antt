@@ -1,0 +1,133 @@
+-- A dialogue that goes on, from one turn to the next.
+use Rattle.std.proofs.Common.{◌≡◌, ◌<◌, ◌≤◌, ◌+◌, ℕ, suc, false, drop, get_or, arith, drop-cons, List, [], ◌∷◌, ◌++◌, Result, Ok, Err, refl, ap, sym, ◌∙◌, subst}
+use Rattle.std.proofs.Math.ListN.{drop_of_length-le}
+use Rattle.std.specs.List.{flat_map}
+use Rattle.assuan_client.specs.Connections.{Connection}
+use Rattle.assuan_client.specs.declared.answer.Answer.{Answer}
+use Rattle.assuan_client.specs.declared.answer.Answer.TheVariants as answer
+use Rattle.session_options.specs.OptionValues.{EnvWords}
+use Rattle.passphrase_talk.specs.Dialogues.{all_settings, option_lines, Replies, Requests, IsDialogue, Leads, Tells, stopped, goes_on, requested, ended, asked, not_greeted, greeted, told_of, told_behind, told_by, loss_of, passed, quiet, reply_to, after_said, is_inquiry, is_ok}
+use Rattle.passphrase_talk.specs.Turns.{Said, Hello, OptionLine, Request, End, Cancel, Turn, turn_of, IsAnswered, AreTaken, none, one}
+use Rattle.passphrase_talk.specs.declared.dialogue.Course.{Course}
+use Rattle.passphrase_talk.specs.declared.options.Setting.{Setting}
+use Rattle.passphrase_talk.specs.declared.options.Setting.TheVariants.{Notify}
+use Rattle.passphrase_talk.specs.declared.told.Loss.{Loss}
+use Rattle.passphrase_talk.specs.declared.told.Told.{Told}
+use Rattle.passphrase_talk.specs.declared.told.Told.TheVariants as told
+
+pub not_asked : (said : Answer) → ((word text : List ℕ) → said ≡ answer.Asked word text → ⊥) → is_inquiry said ≡ false
+not_asked answer.Ok not = refl
+not_asked (answer.Got bytes) not = refl
+not_asked (answer.Err number) not = refl
+not_asked (answer.Asked word text) not = absurd (not word text refl)
+not_asked (answer.Broken why) not = refl
+not_asked answer.ReadFault not = refl
+not_asked answer.WriteFault not = refl
+
+-- behind an answer that is no inquiry
+pub ends : {course : Course} {last : Answer} {now : Connection} {what : Told} → is_inquiry last ≡ false → what ≡ told_by course last
+    → Leads (Replies last) (told_behind course last) now what now
+ends last is = record { turns = []; follows = ended last; taken = none; told_is = is }
+
+-- an inquiry is answered
+pub replies : {course later : Course} {word text : List ℕ} {next : Answer} {before mid after : Connection} {what : Told} → IsAnswered (reply_to word) next before mid
+    → later ≡ after_said (reply_to word) course → Leads (Replies next) (told_behind later next) mid what after
+    → Leads (Replies (answer.Asked word text)) (told_behind course (answer.Asked word text)) before what after
+replies {word} {next} answered same rest = record {
+  turns = turn_of (reply_to word) next ∷ rest.turns;
+  follows = asked rest.follows;
+  taken = one answered rest.taken;
+  told_is = rest.told_is ∙ ap (λ (c : Course). told_behind c next rest.turns) same;
+}
+
+-- the request is made
+pub requests : {line : List ℕ} {next : Answer} {before mid after : Connection} {what : Told} → IsAnswered (Request line) next before mid
+    → Leads (Replies next) (told_behind quiet next) mid what after → Leads (Requests line []) told_of before what after
+requests {line} {next} answered rest = record {
+  turns = turn_of (Request line) next ∷ rest.turns;
+  follows = requested rest.follows;
+  taken = one answered rest.taken;
+  told_is = rest.told_is;
+}
+
+-- what is told of turns in front of which there is an option
+behind_option : {line : List ℕ} {options : List (List ℕ)} (option : List ℕ) (next : Answer) {turns : List Turn} → Requests line options turns
+    → told_of turns ≡ told_of (turn_of (OptionLine option) next ∷ turns)
+behind_option option next (stopped not) = refl
+behind_option option next (goes_on passes rest) = refl
+behind_option option next (requested rest) = refl
+
+passed_or : (said : Answer) {why : Loss} → Err why ≡ passed said → (passed said ≡ Err (loss_of said)) × (why ≡ loss_of said)
+passed_or answer.Ok is = absurd (cc is)
+passed_or (answer.Got bytes) is = (refl, cc is)
+passed_or (answer.Err number) is = absurd (cc is)
+passed_or (answer.Asked word text) is = (refl, cc is)
+passed_or (answer.Broken why) is = (refl, cc is)
+passed_or answer.ReadFault is = (refl, cc is)
+passed_or answer.WriteFault is = (refl, cc is)
+
+-- an option is passed, or none is said
+pub tells_on : {line : List ℕ} {first options : List (List ℕ)} {before mid after : Connection} {end : Result (Unit {0}) Loss} {what : Told} → Tells first before end mid → end ≡ Ok tt
+    → Leads (Requests line options) told_of mid what after → Leads (Requests line (first ++ options)) told_of before what after
+tells_on Tells.unsaid well rest = rest
+tells_on (Tells.said {option} next answered) well rest = record {
+  turns = turn_of (OptionLine option) next ∷ rest.turns;
+  follows = goes_on well rest.follows;
+  taken = one answered rest.taken;
+  told_is = rest.told_is ∙ behind_option option next rest.follows;
+}
+
+-- it isn't passed
+pub tells_last : {line : List ℕ} {first : List (List ℕ)} (options : List (List ℕ)) {before after : Connection} {end : Result (Unit {0}) Loss} {why : Loss} → Tells first before end after → Err why ≡ end
+    → Leads (Requests line (first ++ options)) told_of before (told.Lost why) after
+tells_last options Tells.unsaid stops = absurd (cc stops)
+tells_last options (Tells.said {option} next answered) stops =
+    let not = passed_or next stops in
+    record {
+      turns = turn_of (OptionLine option) next ∷ [];
+      follows = stopped not.0;
+      taken = one answered none;
+      told_is = ap (λ (l : Loss). told.Lost l) not.1;
+    }
+
+pub not_ok : (said : Answer) → (said ≡ answer.Ok → ⊥) → is_ok said ≡ false
+not_ok answer.Ok not = absurd (not refl)
+not_ok (answer.Got bytes) not = refl
+not_ok (answer.Err number) not = refl
+not_ok (answer.Asked word text) not = refl
+not_ok (answer.Broken why) not = refl
+not_ok answer.ReadFault not = refl
+not_ok answer.WriteFault not = refl
+
+-- the settings from one on
+pub settings_from : (terminal : EnvWords) (index : ℕ) → index < 5
+    → flat_map (option_lines terminal) (drop index all_settings)
+    ≡ option_lines terminal (get_or all_settings index Notify) ++ flat_map (option_lines terminal) (drop (index + 1) all_settings)
+settings_from terminal index within =
+    let more : suc index ≡ index + 1 = omega arith in
+    ap (λ (s : List Setting). flat_map (option_lines terminal) s) (drop-cons all_settings index Notify within)
+    ∙ ap (λ (n : ℕ). option_lines terminal (get_or all_settings index Notify) ++ flat_map (option_lines terminal) (drop n all_settings)) more
+
+pub none_behind : (terminal : EnvWords) (index : ℕ) → 5 ≤ index → flat_map (option_lines terminal) (drop index all_settings) ≡ []
+none_behind terminal index past = ap (λ (s : List Setting). flat_map (option_lines terminal) s) (drop_of_length-le all_settings past)
+
+-- what is told of turns in front of which there is a greeting
+behind_greeting : {line : List ℕ} {options : List (List ℕ)} {turns : List Turn} → Requests line options turns → told_of turns ≡ told_of (turn_of Hello answer.Ok ∷ turns)
+behind_greeting (stopped not) = refl
+behind_greeting (goes_on passes rest) = refl
+behind_greeting (requested rest) = refl
+
+-- the agent greets
+pub greets : {line : List ℕ} {options : List (List ℕ)} {before mid after : Connection} {what : Told} → IsAnswered Hello answer.Ok before mid → Leads (Requests line options) told_of mid what after
+    → Leads (IsDialogue options line) told_of before what after
+greets answered rest = record {
+  turns = turn_of Hello answer.Ok ∷ rest.turns;
+  follows = greeted rest.follows;
+  taken = one answered rest.taken;
+  told_is = rest.told_is ∙ behind_greeting rest.follows;
+}
+
+-- it doesn't
+pub greets_not : {line : List ℕ} {options : List (List ℕ)} {last : Answer} {before after : Connection} {what : Told} → IsAnswered Hello last before after → is_ok last ≡ false
+    → what ≡ told.Lost (loss_of last) → Leads (IsDialogue options line) told_of before what after
+greets_not {last} answered not is = record { turns = turn_of Hello last ∷ []; follows = not_greeted not; taken = one answered none; told_is = is }

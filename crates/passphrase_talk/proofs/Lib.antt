@@ -1,0 +1,2 @@
+mod NoLines
+mod Leading
