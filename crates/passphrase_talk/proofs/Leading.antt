@@ -51,7 +51,7 @@ requests {line} {next} answered rest = record {
 }
 
 -- what is told of turns in front of which there is an option
-behind_option : {line : List ℕ} {options : List (List ℕ)} (option : List ℕ) (next : Answer) {turns : List Turn} → Requests line options turns
+pub behind_option : {line : List ℕ} {options : List (List ℕ)} (option : List ℕ) (next : Answer) {turns : List Turn} → Requests line options turns
     → told_of turns ≡ told_of (turn_of (OptionLine option) next ∷ turns)
 behind_option option next (stopped not) = refl
 behind_option option next (goes_on passes rest) = refl
@@ -112,7 +112,7 @@ pub none_behind : (terminal : EnvWords) (index : ℕ) → 5 ≤ index → flat_m
 none_behind terminal index past = ap (λ (s : List Setting). flat_map (option_lines terminal) s) (drop_of_length-le all_settings past)
 
 -- what is told of turns in front of which there is a greeting
-behind_greeting : {line : List ℕ} {options : List (List ℕ)} {turns : List Turn} → Requests line options turns → told_of turns ≡ told_of (turn_of Hello answer.Ok ∷ turns)
+pub behind_greeting : {line : List ℕ} {options : List (List ℕ)} {turns : List Turn} → Requests line options turns → told_of turns ≡ told_of (turn_of Hello answer.Ok ∷ turns)
 behind_greeting (stopped not) = refl
 behind_greeting (goes_on passes rest) = refl
 behind_greeting (requested rest) = refl

@@ -1,2 +1,5 @@
 mod NoLines
 mod Leading
+mod Ending
+mod Writing
+mod Visiting

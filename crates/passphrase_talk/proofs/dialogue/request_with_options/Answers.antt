@@ -12,8 +12,8 @@ pub loop-setting-preserved : goal.loop-setting-preserved
 loop-setting-preserved g c = (
   c.in_default.ensures.ready,
   λ what after rest. c.loop-setting.invariant.1 what after
-  (rw (settings_from (g.C.Connector.terminal c.args.connector.now) c.loop-setting.setting-index c.loop-setting-test.true)
-  (tells_on (rw c.terminal.ensures at c.in_default.ensures.tells) refl rest)),
+      (rw (settings_from (g.C.Connector.terminal c.args.connector.now) c.loop-setting.setting-index c.loop-setting-test.true)
+      (tells_on (rw c.terminal.ensures at c.in_default.ensures.tells) refl rest)),
 )
 
 pub returns-clause-leads : goal.returns-clause-leads

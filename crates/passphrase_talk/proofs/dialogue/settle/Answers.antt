@@ -8,7 +8,7 @@ loop-answer-preserved g c = (
   c.inquired-next.ensures.contacts ∙ c.loop-answer.invariant.1,
   c.inquired-next.ensures.terminal ∙ c.loop-answer.invariant.2,
   λ what after rest. c.loop-answer.invariant.3 what after
-  (rw c.in-Asked.is (replies c.inquired-next.ensures.answered c.inquired-next.ensures.course rest)),
+      (rw c.in-Asked.is (replies c.inquired-next.ensures.answered c.inquired-next.ensures.course rest)),
 )
 
 pub returns : goal.returns
