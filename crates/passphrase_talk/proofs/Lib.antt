@@ -3,3 +3,4 @@ mod Leading
 mod Ending
 mod Writing
 mod Visiting
+mod Places

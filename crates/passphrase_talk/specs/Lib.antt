@@ -2,3 +2,4 @@ pub mod Contacts
 pub mod Turns
 pub mod Dialogues
 pub mod Visits
+pub mod MemContacts

@@ -8,10 +8,12 @@
 
 mod connector;
 mod dialogue;
+mod mem_connector;
 mod options;
 mod told;
 mod visits;
 
 pub use connector::{Agents, Connector, Place, Unmet, Waits};
+pub use mem_connector::{MemConnector, MemContact, MemMeeting};
 pub use told::{Loss, Told};
 pub use visits::{BUDGET, visit};
