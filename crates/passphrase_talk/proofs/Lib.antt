@@ -4,3 +4,7 @@ mod Ending
 mod Writing
 mod Visiting
 mod Places
+mod OnlyTook
+mod Alike
+mod OnlyVisit
+mod ItsReply

@@ -1,7 +1,7 @@
 -- The dialogue of one request (Assuan manual, "client requests" and "server responses"; GnuPG manual, "agent protocol"): its turns in their
 -- order, and what is told of them. Which options are said, and what breaks the protocol, is this project's own.
 use Rattle.std.specs.Prelude.{◌≡◌, ℕ, Bool, true, false, if◌then◌else◌, List, [], ◌∷◌, ◌++◌, codes, Option, Some, None, Result, Ok, Err}
-use Rattle.std.specs.List.{flat_map}
+use Rattle.std.specs.List.{flat_map, list_any}
 use Rattle.std.specs.Str.{bytes_eq}
 use Rattle.assuan_client.specs.Connections.{Connection}
 use Rattle.assuan_client.specs.declared.answer.Answer.{Answer}
@@ -118,6 +118,20 @@ told_from said next (turn ∷ turns) later = later
 abbrev pub told_of : List Turn → Told
 told_of [] = told.Lost loss.Broken
 told_of (turn ∷ turns) = told_from turn.said turn.answer turns (told_of turns)
+
+-- a read or a write failed
+abbrev pub is_failure : Told → Bool
+is_failure (told.Lost loss.Read) = true
+is_failure (told.Lost loss.Write) = true
+is_failure _ = false
+
+-- an inquiry was cancelled in these turns
+abbrev pub is_cancel : Said → Bool
+is_cancel Cancel = true
+is_cancel _ = false
+
+abbrev pub has_cancel : List Turn → Bool
+has_cancel turns = list_any (λ turn. is_cancel turn.said) turns
 
 -- Turns by this rule were taken, and this is told of them.
 pub record Leads (Rule : List Turn → Type 0) (told_as : List Turn → Told) (before : Connection) (what : Told) (after : Connection) : Type 0 where

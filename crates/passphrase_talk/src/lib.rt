@@ -8,12 +8,14 @@
 
 mod connector;
 mod dialogue;
+mod laws;
 mod mem_connector;
 mod options;
 mod told;
 mod visits;
 
 pub use connector::{Agents, Connector, Place, Unmet, Waits};
+pub use laws::{a_passphrase_is_the_reply, a_visit_has_one_outcome};
 pub use mem_connector::{MemConnector, MemContact, MemMeeting};
 pub use told::{Loss, Told};
 pub use visits::{BUDGET, visit};
