@@ -1,5 +1,5 @@
 -- What is told of a dialogue, by its last answer.
-use Rattle.std.proofs.Common.{◌≡◌, ℕ, Bool, true, false, if◌then◌else◌, List, [], ◌∷◌, Option, Some, None, Result, Ok, refl, ap, sym, subst, ◌∙◌}
+use Rattle.std.proofs.Common.{◌≡◌, ℕ, Bool, true, false, if◌then◌else◌, List, [], ◌∷◌, Ok, refl, sym, subst, ◌∙◌, arith, rules}
 use Rattle.assuan_client.specs.declared.answer.Answer.{Answer}
 use Rattle.assuan_client.specs.declared.answer.Answer.TheVariants as answer
 use Rattle.passphrase_talk.specs.Dialogues.{Replies, Requests, IsDialogue, stopped, goes_on, requested, ended, asked, not_greeted, greeted, told_of, told_behind, told_by, loss_of, passed, quiet, after_said, reply_to}
@@ -92,7 +92,7 @@ read_lost answer.Ok is = absurd (cc is)
 read_lost (answer.Got secret) is = absurd (cc is)
 read_lost (answer.Err number) is = absurd (cc is)
 read_lost (answer.Asked word text) is = absurd (cc is)
-read_lost (answer.Broken why) is = absurd (cc is)
+read_lost (answer.Broken why) is = grind (arith, rules)
 read_lost answer.ReadFault is = refl
 read_lost answer.WriteFault is = absurd (cc is)
 
@@ -101,7 +101,7 @@ write_lost answer.Ok is = absurd (cc is)
 write_lost (answer.Got secret) is = absurd (cc is)
 write_lost (answer.Err number) is = absurd (cc is)
 write_lost (answer.Asked word text) is = absurd (cc is)
-write_lost (answer.Broken why) is = absurd (cc is)
+write_lost (answer.Broken why) is = grind (arith, rules)
 write_lost answer.ReadFault is = absurd (cc is)
 write_lost answer.WriteFault is = refl
 

@@ -1,9 +1,9 @@
 -- A passphrase that is told is the data of the last reply.
-use Rattle.std.proofs.Common.{◌≡◌, ℕ, Bool, true, false, ◌||◌, if◌then◌else◌, List, [], ◌∷◌, ◌++◌, None, refl, ap, sym, subst, ◌∙◌}
+use Rattle.std.proofs.Common.{◌≡◌, ℕ, Bool, true, false, if◌then◌else◌, List, [], ◌∷◌, ◌++◌, None, refl, ap, ◌∙◌}
 use Rattle.std.proofs.lemmas.Bool.{or_from}
 use Rattle.assuan_client.specs.declared.answer.Answer.{Answer}
 use Rattle.assuan_client.specs.declared.answer.Answer.TheVariants as answer
-use Rattle.passphrase_talk.specs.Dialogues.{Replies, Requests, IsDialogue, stopped, goes_on, requested, ended, asked, not_greeted, greeted, told_of, told_behind, told_by, quiet, after_said, reply_to, is_cancel, has_cancel}
+use Rattle.passphrase_talk.specs.Dialogues.{Requests, IsDialogue, stopped, goes_on, requested, not_greeted, greeted, told_of, told_behind, told_by, quiet, after_said, is_cancel, has_cancel}
 use Rattle.passphrase_talk.specs.Turns.{Said, Hello, OptionLine, Request, End, Cancel, Turn, turn_of}
 use Rattle.passphrase_talk.specs.declared.dialogue.Course.{Course}
 use Rattle.passphrase_talk.specs.declared.told.Told.{Told}

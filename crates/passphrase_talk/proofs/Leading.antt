@@ -1,5 +1,5 @@
 -- A dialogue that goes on, from one turn to the next.
-use Rattle.std.proofs.Common.{◌≡◌, ◌<◌, ◌≤◌, ◌+◌, ℕ, suc, false, drop, get_or, arith, drop-cons, List, [], ◌∷◌, ◌++◌, Result, Ok, Err, refl, ap, sym, ◌∙◌, subst}
+use Rattle.std.proofs.Common.{◌≡◌, ◌<◌, ◌≤◌, ◌+◌, ℕ, suc, false, drop, get_or, arith, drop-cons, List, [], ◌∷◌, ◌++◌, Result, Ok, Err, refl, ap, ◌∙◌}
 use Rattle.std.proofs.Math.ListN.{drop_of_length-le}
 use Rattle.std.specs.List.{flat_map}
 use Rattle.assuan_client.specs.Connections.{Connection}
@@ -7,7 +7,7 @@ use Rattle.assuan_client.specs.declared.answer.Answer.{Answer}
 use Rattle.assuan_client.specs.declared.answer.Answer.TheVariants as answer
 use Rattle.session_options.specs.OptionValues.{EnvWords}
 use Rattle.passphrase_talk.specs.Dialogues.{all_settings, option_lines, Replies, Requests, IsDialogue, Leads, Tells, stopped, goes_on, requested, ended, asked, not_greeted, greeted, told_of, told_behind, told_by, loss_of, passed, quiet, reply_to, after_said, is_inquiry, is_ok}
-use Rattle.passphrase_talk.specs.Turns.{Said, Hello, OptionLine, Request, End, Cancel, Turn, turn_of, IsAnswered, AreTaken, none, one}
+use Rattle.passphrase_talk.specs.Turns.{Hello, OptionLine, Request, Turn, turn_of, IsAnswered, none, one}
 use Rattle.passphrase_talk.specs.declared.dialogue.Course.{Course}
 use Rattle.passphrase_talk.specs.declared.options.Setting.{Setting}
 use Rattle.passphrase_talk.specs.declared.options.Setting.TheVariants.{Notify}

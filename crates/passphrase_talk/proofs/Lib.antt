@@ -3,6 +3,7 @@ mod Leading
 mod Ending
 mod Writing
 mod Visiting
+pub mod Connected
 mod Places
 mod OnlyTook
 mod Alike

@@ -1,13 +1,13 @@
 -- The bytes of an agent decide the turns of a dialogue.
-use Rattle.std.proofs.Common.{◌≡◌, ◌+◌, ℕ, Bool, true, false, List, [], ◌∷◌, ◌++◌, length, Option, Some, Result, Ok, Err, refl, ap, sym, subst, ◌∙◌}
+use Rattle.std.proofs.Common.{◌≡◌, ◌+◌, ℕ, true, false, List, [], ◌∷◌, ◌++◌, length, Option, Some, Ok, Err, refl, ap, sym, subst, ◌∙◌}
 use Rattle.assuan_client.specs.Connections.{Connection}
 use Rattle.assuan_client.specs.Skipping.{Tally}
 use Rattle.assuan_client.specs.Writing.{Command, reply_text, cancel_text}
 use Rattle.assuan_client.specs.declared.answer.Answer.{Answer}
 use Rattle.assuan_client.specs.declared.answer.Answer.TheVariants as answer
 use Rattle.assuan_line.specs.Next.{Reader}
-use Rattle.passphrase_talk.specs.Dialogues.{Replies, Requests, IsDialogue, stopped, goes_on, requested, ended, asked, not_greeted, greeted, told_of, passed, is_ok, is_failure, loss_of, reply_to}
-use Rattle.passphrase_talk.specs.Turns.{Said, Hello, OptionLine, Request, End, Cancel, Turn, turn_of, IsAnswered, AreTaken, none, one}
+use Rattle.passphrase_talk.specs.Dialogues.{Replies, Requests, IsDialogue, stopped, goes_on, requested, ended, asked, not_greeted, greeted, told_of, passed, is_ok, is_failure, reply_to}
+use Rattle.passphrase_talk.specs.Turns.{Said, Hello, OptionLine, Request, End, Cancel, Turn, turn_of, IsAnswered, AreTaken, one}
 use Rattle.passphrase_talk.specs.Visits.{Talk}
 use Rattle.passphrase_talk.specs.declared.told.Loss.{Loss}
 use Rattle.passphrase_talk.specs.declared.told.Told.{Told}

@@ -1,16 +1,16 @@
 -- A contact, from its connection to its end.
-use Rattle.std.proofs.Common.{◌≡◌, ◌≤◌, ◌+◌, ℕ, List, [], ◌∷◌, Option, None, IfSome, refl, ap, sym, ◌∙◌, subst, arith}
-use Rattle.agent_ports.specs.Counts.{Rose, RoseBy}
+use Rattle.std.proofs.Common.{◌≡◌, ◌≤◌, ◌+◌, ℕ, List, [], ◌∷◌, Option, None, IfSome, refl, ap, sym, ◌∙◌, arith}
+use Rattle.agent_ports.specs.Counts.{RoseBy}
 use Rattle.agent_ports.specs.Launches.{IsFresh, child_then}
 use Rattle.agent_ports.specs.Sides.{Side}
 use Rattle.assuan_client.specs.Connections.{Connection}
 use Rattle.assuan_client.specs.Skipping.{nothing}
 use Rattle.assuan_client.specs.declared.answer.State.TheVariants.{Ready}
 use Rattle.session_options.specs.OptionValues.{EnvWords}
-use Rattle.passphrase_talk.specs.Contacts.{Contact, Contacts, then_met}
+use Rattle.passphrase_talk.specs.Contacts.{Contact, Contacts, then_met, then_opened}
 use Rattle.passphrase_talk.specs.Dialogues.{IsDialogue, Leads, options_of, told_of}
 use Rattle.passphrase_talk.specs.Turns.{Turn, AreTaken, texts_of}
-use Rattle.passphrase_talk.specs.Visits.{AreWritten, Talk, IsMet, Visits, met}
+use Rattle.passphrase_talk.specs.Visits.{AreWritten, Visits, met}
 use Rattle.passphrase_talk.specs.declared.connector.Place.{Place}
 use Rattle.passphrase_talk.specs.declared.connector.Waits.{Waits}
 use Rattle.passphrase_talk.specs.declared.told.Loss.TheVariants as loss
@@ -38,11 +38,11 @@ effects_by {what} fresh last (turn ∷ turns) unused ends taken is = record {
 -- the connection was made, the dialogue led, and it was left
 pub meets : {place : Place} {waits : Waits} {line : List ℕ} {terminal : EnvWords} {what : Told} {before joined after : Contacts} {input output : Side} (fresh last : Connection)
     → fresh ≡ record { input = input; output = output; reader = record { ahead = []; left = BUDGET; ended = None }; tally = nothing; state = Ready }
-    → IsFresh input output → before.coming ≡ child_then input.bytes joined.coming → joined.met ≡ before.met → before.faults ≤ joined.faults
+    → IsFresh input output → before.coming ≡ child_then input.bytes joined.coming → joined.sought ≡ before.sought → joined.opened ≡ then_opened before.opened place waits → joined.met ≡ before.met → before.faults ≤ joined.faults
     → Leads (IsDialogue (options_of waits terminal) line) told_of fresh what last
-    → after.coming ≡ joined.coming → after.met ≡ then_met joined.met place last.input.bytes last.output.bytes
+    → after.coming ≡ joined.coming → after.sought ≡ joined.sought → after.opened ≡ joined.opened → after.met ≡ then_met joined.met place last.input.bytes last.output.bytes
     → RoseBy (last.input.faults + last.output.faults) joined.faults after.faults → joined.faults ≤ after.faults → Visits place waits line terminal what before after
-meets {place} {before} {joined} {input} {output} fresh last is unused coming met_is grew leads coming_is left_is rose grew_more =
+meets {place} {before} {joined} {input} {output} fresh last is unused coming sought opened met_is grew leads coming_is sought_is opened_is left_is rose grew_more =
     let fresh_unused : IsFresh fresh.input fresh.output = rw is unused in
     let does = effects_by fresh last leads.turns fresh_unused (dialogue_ends leads.follows) leads.taken leads.told_is in
     met (record {
@@ -66,6 +66,8 @@ meets {place} {before} {joined} {input} {output} fresh last is unused coming met
       told_is = leads.told_is;
       texts = does.texts;
       coming = coming ∙ ap (λ (o : Option (List (List ℕ))). child_then input.bytes o) (sym coming_is);
+      sought = sought_is ∙ sought;
+      opened = opened_is ∙ opened;
       met = left_is ∙ ap (λ (o : Option (List Contact)). then_met o place last.input.bytes last.output.bytes) met_is;
       faults = omega (arith, grew, grew_more);
       read_rose = λ lost. let one = does.read lost in omega (arith, one, rose, grew);

@@ -1,5 +1,5 @@
 -- What the turns of a dialogue write, and where the link's counts rise.
-use Rattle.std.proofs.Common.{◌≡◌, ◌≢◌, ◌≤◌, ◌<◌, ℕ, Bool, true, false, List, [], ◌∷◌, ◌++◌, Option, Some, None, All, IfSome, refl, ap, sym, subst, ◌∙◌, arith, append-nil, append_assoc}
+use Rattle.std.proofs.Common.{◌≡◌, ◌≢◌, ◌≤◌, ℕ, Bool, true, false, List, [], ◌∷◌, ◌++◌, Option, Some, None, All, IfSome, refl, ap, sym, subst, ◌∙◌, arith, append-nil, append_assoc}
 use Rattle.std.specs.List.{flat_map}
 use Rattle.agent_ports.specs.Sides.{Side, with_bytes}
 use Rattle.agent_ports.proofs.Known.{with_bytes_append}
@@ -9,7 +9,7 @@ use Rattle.assuan_client.specs.Skipping.{Tally}
 use Rattle.assuan_client.specs.Writing.{Command, reply_text}
 use Rattle.assuan_client.specs.declared.answer.Answer.{Answer}
 use Rattle.assuan_client.specs.declared.answer.Answer.TheVariants as answer
-use Rattle.assuan_escape.specs.DataLines.{AreData, IsPiece}
+use Rattle.assuan_escape.specs.DataLines.{IsPiece}
 use Rattle.passphrase_talk.specs.Turns.{Said, Hello, OptionLine, Request, End, Cancel, Turn, text_of, texts_of, IsAnswered, AreTaken, none, one}
 use Rattle.passphrase_talk.specs.Visits.{AreWritten}
 use Rattle.passphrase_talk.specs.declared.told.Loss.TheVariants as loss

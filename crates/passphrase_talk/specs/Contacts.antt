@@ -1,6 +1,9 @@
 -- The contacts of a connector with agents. This is the project's own.
 use Rattle.std.specs.Prelude.{ℕ, List, [], ◌∷◌, ◌++◌, Option, Some, None}
+use Rattle.std.specs.Option.{option_map}
+use Rattle.passphrase_talk.specs.declared.connector.Agents.{Agents}
 use Rattle.passphrase_talk.specs.declared.connector.Place.{Place}
+use Rattle.passphrase_talk.specs.declared.connector.Waits.{Waits}
 
 -- a contact that was left: which agent it was, the bytes that it still had to give, and those that it was written
 pub record Contact : Type 0 where
@@ -8,12 +11,33 @@ pub record Contact : Type 0 where
   pub left : List ℕ
   pub written : List ℕ
 
--- A connector at some point: the links to come, each as all the bytes that it gives, and the contacts that were left, in order, where they are
--- known; and how many calls and links' calls failed.
+-- what agents were sought: of which folder, and given how many seconds, where they were named; and which were found
+pub record Sought : Type 0 where
+  pub folder : Option (List ℕ)
+  pub seconds : Option ℕ
+  pub found : Agents
+
+-- a connection that was made: with which agent, and what its answers may take
+pub record Opening : Type 0 where
+  pub place : Place
+  pub waits : Waits
+
+-- A connector at some point: the links to come, each as all the bytes that it gives, the agents that were found, the connections that were
+-- made, and the contacts that were left, in order, where they are known; and how many calls and links' calls failed.
 pub record Contacts : Type 0 where
   pub coming : Option (List (List ℕ))
+  pub sought : Option (List Sought)
+  pub opened : Option (List Opening)
   pub met : Option (List Contact)
   pub faults : ℕ
+
+-- what was sought, and then this folder's agents, which were given so many seconds, and of which these were found
+abbrev pub then_sought : Option (List Sought) → Option (List ℕ) → Option ℕ → Agents → Option (List Sought)
+then_sought sought folder seconds found = option_map (λ all. all ++ (record { folder = folder; seconds = seconds; found = found }) ∷ []) sought
+
+-- the connections, and then this one
+abbrev pub then_opened : Option (List Opening) → Place → Waits → Option (List Opening)
+then_opened opened place waits = option_map (λ all. all ++ (record { place = place; waits = waits }) ∷ []) opened
 
 -- the contacts, and then one at this place, which has these bytes left to give and was written those
 abbrev pub then_met : Option (List Contact) → Place → Option (List ℕ) → Option (List ℕ) → Option (List Contact)

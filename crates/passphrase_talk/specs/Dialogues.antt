@@ -6,6 +6,7 @@ use Rattle.std.specs.Str.{bytes_eq}
 use Rattle.assuan_client.specs.Connections.{Connection}
 use Rattle.assuan_client.specs.declared.answer.Answer.{Answer}
 use Rattle.assuan_client.specs.declared.answer.Answer.TheVariants as answer
+use Rattle.assuan_line.specs.declared.breach.Breach.TheVariants as breach
 use Rattle.session_options.specs.OptionValues.{EnvWords}
 use Rattle.passphrase_talk.specs.Turns.{Said, Hello, OptionLine, Request, End, Cancel, Turn, turn_of, IsAnswered, AreTaken}
 use Rattle.passphrase_talk.specs.declared.connector.Waits.{Waits}
@@ -49,6 +50,7 @@ lines_of (Some line) = line ∷ []
 abbrev pub loss_of : Answer → Loss
 loss_of answer.ReadFault = loss.Read
 loss_of answer.WriteFault = loss.Write
+loss_of (answer.Broken breach.Ended) = loss.Ended
 loss_of _ = loss.Broken
 
 -- the dialogue goes on behind the greeting

@@ -1,15 +1,18 @@
 -- The contacts of a connector in memory, from its fields.
 use Rattle.std.specs.Prelude.{ℕ, List, [], ◌∷◌, map, drop, Option, Some, None, Box}
+use Rattle.std.specs.Option.{option_map}
 use Rattle.std.specs.declared.alloc.Global.{Global}
 use Rattle.agent_ports.specs.Plans.{Plan}
 use Rattle.agent_ports.specs.Sides.{Side}
 use Rattle.agent_ports.specs.declared.mem_link.MemLink.{MemLink}
 use Rattle.agent_ports.specs.declared.mem_link.PlannedLink.{PlannedLink}
-use Rattle.passphrase_talk.specs.Contacts.{Contact}
+use Rattle.passphrase_talk.specs.Contacts.{Contact, Sought, Opening}
 use Rattle.passphrase_talk.specs.declared.connector.Place.{Place}
+use Rattle.passphrase_talk.specs.declared.connector.Waits.{Waits}
 use Rattle.passphrase_talk.specs.declared.mem_connector.MemConnector.{MemConnector}
 use Rattle.passphrase_talk.specs.declared.mem_connector.MemContact.{MemContact, MemContact', Held-MemContact-earlier, None', Some', out-MemContact}
 use Rattle.passphrase_talk.specs.declared.mem_connector.MemMeeting.{MemMeeting}
+use Rattle.passphrase_talk.specs.declared.mem_connector.MemSought.{MemSought}
 
 -- all the bytes that each link gives
 abbrev pub gives_of : List PlannedLink → List (List ℕ)
@@ -45,6 +48,14 @@ abbrev mutual
 abbrev pub latest_first : Option (Box MemContact Global) → List Contact
 latest_first None = []
 latest_first (Some contact) = latest_of contact.value
+
+-- what was sought, and found
+abbrev pub sought_of : MemSought → Sought
+sought_of sought = record { folder = option_map (λ name. name.bytes.items) sought.folder; seconds = sought.seconds; found = sought.found }
+
+-- a connection that was made
+abbrev pub opening_of : Place × Waits → Opening
+opening_of made = record { place = made.0; waits = made.1 }
 
 -- the calls of a connector that are to fail
 abbrev pub call_plan : MemConnector → Plan

@@ -6,7 +6,7 @@ use Rattle.assuan_client.specs.Connections.{Connection}
 use Rattle.assuan_client.specs.Skipping.{nothing}
 use Rattle.assuan_client.specs.declared.answer.State.TheVariants.{Ready}
 use Rattle.session_options.specs.OptionValues.{EnvWords}
-use Rattle.passphrase_talk.specs.Contacts.{Contacts, then_met}
+use Rattle.passphrase_talk.specs.Contacts.{Contacts, then_met, then_opened}
 use Rattle.passphrase_talk.specs.Dialogues.{IsDialogue, options_of, told_of}
 use Rattle.passphrase_talk.specs.Turns.{Turn, AreTaken, texts_of}
 use Rattle.passphrase_talk.specs.declared.connector.Place.{Place}
@@ -39,12 +39,14 @@ pub record Talk (options : List (List ℕ)) (line : List ℕ) (turns : List Turn
 -- no connection was made
 pub record IsUnmet (what : Told) (before after : Contacts) : Type 0 where
   pub coming : after.coming ≡ before.coming
+  pub sought : after.sought ≡ before.sought
+  pub opened : after.opened ≡ before.opened
   pub met : after.met ≡ before.met
   pub faults : before.faults ≤ after.faults
   pub rose : what ≡ told.Lost loss.Unmet → Rose before.faults after.faults
 
--- A connection was made, which is the next to come; the dialogue was led, and it was left.
-pub record IsMet (place : Place) (options : List (List ℕ)) (line : List ℕ) (what : Told) (before after : Contacts) : Type 0 where
+-- A connection was made with this agent and for this wait, which is the next to come; the dialogue was led, and it was left.
+pub record IsMet (place : Place) (waits : Waits) (options : List (List ℕ)) (line : List ℕ) (what : Told) (before after : Contacts) : Type 0 where
   pub turns : List Turn
   pub given : Option (List ℕ)
   pub left : Option (List ℕ)
@@ -53,6 +55,8 @@ pub record IsMet (place : Place) (options : List (List ℕ)) (line : List ℕ) (
   pub told_is : what ≡ told_of turns
   pub texts : IfSome written (AreWritten (texts_of turns) what)
   pub coming : before.coming ≡ child_then given after.coming
+  pub sought : after.sought ≡ before.sought
+  pub opened : after.opened ≡ then_opened before.opened place waits
   pub met : after.met ≡ then_met before.met place left written
   pub faults : before.faults ≤ after.faults
   pub read_rose : what ≡ told.Lost loss.Read → Rose before.faults after.faults
@@ -62,5 +66,5 @@ pub record IsMet (place : Place) (options : List (List ℕ)) (line : List ℕ) (
 pub data Visits (place : Place) (waits : Waits) (line : List ℕ) (terminal : EnvWords) : Told → Contacts → Contacts → Type 0 where
   no_memory : {before after : Contacts} → IsUnmet told.NoMemory before after → Visits place waits line terminal told.NoMemory before after
   unmet : {before after : Contacts} → IsUnmet (told.Lost loss.Unmet) before after → Visits place waits line terminal (told.Lost loss.Unmet) before after
-  met : {what : Told} {before after : Contacts} → IsMet place (options_of waits terminal) line what before after
+  met : {what : Told} {before after : Contacts} → IsMet place waits (options_of waits terminal) line what before after
       → Visits place waits line terminal what before after

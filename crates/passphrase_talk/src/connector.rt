@@ -1,7 +1,9 @@
 ghost use Rattle.std.specs.Prelude.{◌≡◌, ◌≤◌, ◌+◌, IfOk, Err, MatchResult, List, ℕ};
+ghost use Rattle.std.specs.Option.{option_map};
 ghost use Rattle.agent_ports.specs.Counts.{Rose, RoseBy};
 ghost use Rattle.agent_ports.specs.Launches.{IsFresh, child_then};
 ghost use Rattle.passphrase_talk.specs.Contacts.{Contacts, then_met};
+ghost use Rattle.passphrase_talk.specs.Contacts.{then_sought, then_opened};
 ghost use Rattle.session_options.specs.OptionValues.{EnvWords, words_of};
 
 use agent_ports::Link;
@@ -47,7 +49,8 @@ pub trait Connector {
     /// The way to an agent.
     type Link: Link;
 
-    /// The links to come, the contacts that were left, and how many calls failed.
+    /// The links to come, the agents that were found, the connections that were made, the contacts
+    /// that were left, and how many calls failed.
     ghost contacts: { Self → Contacts };
 
     /// The terminal and the locale of the user. No call changes them.
@@ -59,7 +62,11 @@ pub trait Connector {
     /// Finds the agents that are asked: for this folder, or the GnuPG home where none is named, and
     /// given this many seconds for an answer.
     fn find(&mut self, folder: Option<&str>, seconds: Option<u32>) -> Result<Agents, Unmet>
+        ensures sought { MatchResult result (λ agents. (contacts self.new).sought
+            ≡ then_sought (contacts self.old).sought (option_map (λ name. name.now) folder.entry)
+            seconds agents) (λ _. (contacts self.new).sought ≡ (contacts self.old).sought) }
         ensures coming { (contacts self.new).coming ≡ (contacts self.old).coming }
+        ensures opened { (contacts self.new).opened ≡ (contacts self.old).opened }
         ensures met { (contacts self.new).met ≡ (contacts self.old).met }
         ensures failed { result ≡ Err Unmet.Fault
             → Rose (contacts self.old).faults (contacts self.new).faults }
@@ -73,6 +80,10 @@ pub trait Connector {
         ensures coming { MatchResult result (λ link. (contacts self.old).coming
             ≡ child_then (Self.Link.input link).bytes (contacts self.new).coming)
             (λ _. (contacts self.new).coming ≡ (contacts self.old).coming) }
+        ensures opened { MatchResult result (λ _. (contacts self.new).opened
+            ≡ then_opened (contacts self.old).opened place waits)
+            (λ _. (contacts self.new).opened ≡ (contacts self.old).opened) }
+        ensures sought { (contacts self.new).sought ≡ (contacts self.old).sought }
         ensures met { (contacts self.new).met ≡ (contacts self.old).met }
         ensures failed { result ≡ Err Unmet.Fault
             → Rose (contacts self.old).faults (contacts self.new).faults }
@@ -84,6 +95,8 @@ pub trait Connector {
         ensures met { (contacts self.new).met ≡ then_met (contacts self.old).met place
             (Self.Link.input link).bytes (Self.Link.output link).bytes }
         ensures coming { (contacts self.new).coming ≡ (contacts self.old).coming }
+        ensures sought { (contacts self.new).sought ≡ (contacts self.old).sought }
+        ensures opened { (contacts self.new).opened ≡ (contacts self.old).opened }
         ensures rose { RoseBy ((Self.Link.input link).faults + (Self.Link.output link).faults)
             (contacts self.old).faults (contacts self.new).faults }
         ensures faults { (contacts self.old).faults ≤ (contacts self.new).faults }

@@ -14,7 +14,7 @@ use crate::options::{SETTINGS, Setting, setting_line};
 use crate::{Connector, Loss, Told, Waits};
 use agent_ports::Link;
 use assuan_client::{Answer, Peer};
-use assuan_line::Line;
+use assuan_line::{Breach, Line};
 use assuan_text::MAX_LINE_LEN;
 use session_options::Env;
 use wiping::Wiped;
@@ -175,6 +175,7 @@ fn loss_of(answer: &Answer) -> Loss
     match answer {
         Answer::ReadFault => Loss::Read,
         Answer::WriteFault => Loss::Write,
+        Answer::Broken(Breach::Ended) => Loss::Ended,
         _ => Loss::Broken,
     }
 }

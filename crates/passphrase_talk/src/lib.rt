@@ -16,6 +16,6 @@ mod visits;
 
 pub use connector::{Agents, Connector, Place, Unmet, Waits};
 pub use laws::{a_passphrase_is_the_reply, a_visit_has_one_outcome};
-pub use mem_connector::{MemConnector, MemContact, MemMeeting};
+pub use mem_connector::{MemConnector, MemContact, MemMeeting, MemSought};
 pub use told::{Loss, Told};
 pub use visits::{BUDGET, visit};

@@ -1,17 +1,20 @@
-ghost use Rattle.std.specs.Prelude.{◌≡◌, ◌<◌, ◌≤◌, ◌+◌, ◌^◌, ◌-◌, ◌↔◌, IsTrue, IsOk, IsErr, Some, Ok};
-ghost use Rattle.std.specs.Prelude.{IfSome, [], length, reverse, slice_get, codes, refl};
+ghost use Rattle.std.specs.Prelude.{◌≡◌, ◌≤◌, ◌↔◌, ◌⊎◌, IsTrue, IsErr, IfOk, MatchResult, Some};
+ghost use Rattle.std.specs.Prelude.{Err, IfSome, [], map, reverse, slice_get, codes, refl};
 ghost use Rattle.std.specs.Bool.{OnTrue, OnFalse};
 ghost use Rattle.std.specs.Option.{option_map};
-ghost use Rattle.agent_ports.specs.Counts.{Rose, RoseBy};
+ghost use Rattle.agent_ports.specs.Counts.{Rose};
+ghost use Rattle.agent_ports.specs.Launches.{IsFresh, child_then};
 ghost use Rattle.agent_ports.specs.Plans.{Fails, after_call};
 ghost use Rattle.session_options.specs.OptionValues.{words_of};
 ghost use Rattle.passphrase_talk.specs.MemContacts.{gives_of, contact_of, latest_of, latest_first};
+ghost use Rattle.passphrase_talk.specs.MemContacts.{sought_of, opening_of};
+ghost use Rattle.passphrase_talk.specs.Contacts.{then_sought, then_opened};
 ghost use Rattle.passphrase_talk.specs.MemContacts.{meeting_input, meeting_output, call_plan};
 
 use crate::{Agents, Connector, Place, Unmet, Waits};
 use agent_ports::{Got, Link, MemLink, MemSink, MemSource, PlannedLink, Sent, Sink, Source};
 use session_options::Env;
-use std::alloc::Global;
+use std::alloc::{AllocError, Global};
 
 /// A contact of a `MemConnector`, with a place in the list of those that were left, so that leaving
 /// it takes no memory.
@@ -94,6 +97,40 @@ impl Link for MemMeeting {
     ghost input_beside = { λ _. refl };
 }
 
+/// What a `MemConnector` was asked to find, and found.
+#[derive(Drop)]
+pub struct MemSought {
+    folder: Option<String>,
+    seconds: Option<u32>,
+    found: Agents,
+}
+
+impl MemSought {
+    /// The folder that was named.
+    pub fn folder(&self) -> Option<&str>
+        ensures { option_map (λ name. name.now) result ≡ (sought_of self.now).folder }
+    {
+        match &self.folder {
+            Some(folder) => Some(folder),
+            None => None,
+        }
+    }
+
+    /// How many seconds were given.
+    pub fn seconds(&self) -> Option<u32>
+        ensures { result ≡ (sought_of self.now).seconds }
+    {
+        self.seconds
+    }
+
+    /// Which agents were found.
+    pub fn found(&self) -> Agents
+        ensures { result ≡ (sought_of self.now).found }
+    {
+        self.found
+    }
+}
+
 /// Connects to the links of a list, one after another. The calls of `find` and `connect` have
 /// numbers together, from 0: one fails where its number is among those that are to fail. A
 /// connection fails too where no link is left.
@@ -103,6 +140,8 @@ pub struct MemConnector {
     agents: Agents,
     terminal: Env,
     coming: Vec<PlannedLink>,
+    sought: Vec<MemSought>,
+    opened: Vec<(Place, Waits)>,
     met: Option<Box<MemContact>>,
     failing: Vec<u64>,
     calls: u64,
@@ -118,8 +157,13 @@ impl MemConnector {
         links: Vec<PlannedLink>,
         failing: Vec<u64>,
     ) -> Self
-        ensures contacts { ⟦<MemConnector as Connector>⟧.contacts result
-            ≡ record { coming = Some (gives_of links.items); met = Some []; faults = 0 } }
+        ensures contacts { ⟦<MemConnector as Connector>⟧.contacts result ≡ record {
+          coming = Some (gives_of links.items);
+          sought = Some [];
+          opened = Some [];
+          met = Some [];
+          faults = 0;
+        } }
         ensures terminal { ⟦<MemConnector as Connector>⟧.terminal result ≡ words_of terminal }
         ensures plan { call_plan result ≡ record { failing = failing.items; calls = 0; size = 0 } }
     {
@@ -128,11 +172,30 @@ impl MemConnector {
             agents,
             terminal,
             coming: links,
+            sought: Vec::new(alloc),
+            opened: Vec::new(alloc),
             met: None,
             failing,
             calls: 0,
             faults: 0,
         }
+    }
+
+    /// What was sought in the call of this number of those that found agents, counted from 0.
+    pub fn sought(&self, others: usize) -> Option<&MemSought>
+        ensures { IfSome (⟦<MemConnector as Connector>⟧.contacts self.now).sought (λ all.
+            option_map (λ sought. sought_of sought.now) result ≡ slice_get all others) }
+    {
+        self.sought.get(others)
+    }
+
+    /// For which agent the connection of this number was made, counted from 0, and what its answers
+    /// may take.
+    pub fn opened(&self, others: usize) -> Option<(Place, Waits)>
+        ensures { IfSome (⟦<MemConnector as Connector>⟧.contacts self.now).opened (λ all.
+            option_map opening_of result ≡ slice_get all others) }
+    {
+        self.opened.get(others).copied()
     }
 
     /// The contact of this number that was left, counted from 0 at the last one.
@@ -155,6 +218,8 @@ impl MemConnector {
         ensures passes { OnFalse result (self.new.faults ≡ self.old.faults) }
         ensures never_falls { self.old.faults ≤ self.new.faults }
         ensures coming { self.new.coming ≡ self.old.coming }
+        ensures sought { self.new.sought ≡ self.old.sought }
+        ensures opened { self.new.opened ≡ self.old.opened }
         ensures met { self.new.met ≡ self.old.met }
         ensures terminal { self.new.terminal ≡ self.old.terminal }
     {
@@ -165,6 +230,34 @@ impl MemConnector {
         }
         fails
     }
+
+    /// Keeps what is sought, and that these agents are found.
+    fn keep(&mut self, folder: Option<&str>, seconds: Option<u32>) -> Result<(), AllocError>
+        ensures sought { MatchResult result (λ _. Some (map sought_of self.new.sought.items)
+            ≡ then_sought (Some (map sought_of self.old.sought.items))
+            (option_map (λ name. name.now) folder.entry) seconds self.old.agents)
+            (λ _. self.new.sought.items ≡ self.old.sought.items) }
+        ensures others { self.new ≡ record self.old { sought = self.new.sought } }
+    {
+        let folder = copied(self.alloc, folder)?;
+        self.sought.push(MemSought {
+            folder,
+            seconds,
+            found: self.agents,
+        })?;
+        Ok(())
+    }
+}
+
+/// A copy of a text, if there is one.
+fn copied(alloc: Global, text: Option<&str>) -> Result<Option<String>, AllocError>
+    ensures { IfOk result (λ copy.
+        option_map (λ it. it.bytes.items) copy ≡ option_map (λ it. it.now) text.entry) }
+{
+    match text {
+        Some(text) => Ok(Some(String::from_str(alloc, text)?)),
+        None => Ok(None),
+    }
 }
 
 impl Connector for MemConnector {
@@ -172,6 +265,8 @@ impl Connector for MemConnector {
 
     ghost contacts = { λ c. record {
       coming = Some (gives_of c.coming.items);
+      sought = Some (map sought_of c.sought.items);
+      opened = Some (map opening_of c.opened.items);
       met = Some (reverse (latest_first c.met));
       faults = c.faults;
     } };
@@ -180,15 +275,75 @@ impl Connector for MemConnector {
 
     ghost reason = { λ _. codes "it is planned" };
 
-    fn find(&mut self, _folder: Option<&str>, _seconds: Option<u32>) -> Result<Agents, Unmet> {
+    /// Where no memory is left for what is sought, nothing was sought.
+    fn find(&mut self, folder: Option<&str>, seconds: Option<u32>) -> Result<Agents, Unmet>
+        ensures sought { MatchResult result
+            (λ agents. (⟦<MemConnector as Connector>⟧.contacts self.new).sought
+            ≡ then_sought (⟦<MemConnector as Connector>⟧.contacts self.old).sought
+            (option_map (λ name. name.now) folder.entry) seconds agents)
+            (λ _. (⟦<MemConnector as Connector>⟧.contacts self.new).sought
+            ≡ (⟦<MemConnector as Connector>⟧.contacts self.old).sought) }
+        ensures opened { (⟦<MemConnector as Connector>⟧.contacts self.new).opened
+            ≡ (⟦<MemConnector as Connector>⟧.contacts self.old).opened }
+        ensures coming { (⟦<MemConnector as Connector>⟧.contacts self.new).coming
+            ≡ (⟦<MemConnector as Connector>⟧.contacts self.old).coming }
+        ensures met { (⟦<MemConnector as Connector>⟧.contacts self.new).met
+            ≡ (⟦<MemConnector as Connector>⟧.contacts self.old).met }
+        ensures failed { result ≡ Err Unmet.Fault
+            → Rose (⟦<MemConnector as Connector>⟧.contacts self.old).faults
+            (⟦<MemConnector as Connector>⟧.contacts self.new).faults }
+        ensures faults { (⟦<MemConnector as Connector>⟧.contacts self.old).faults
+            ≤ (⟦<MemConnector as Connector>⟧.contacts self.new).faults }
+        ensures terminal { ⟦<MemConnector as Connector>⟧.terminal self.new
+            ≡ ⟦<MemConnector as Connector>⟧.terminal self.old }
+
+        // What the plan says.
+        ensures planned { (result ≡ Err Unmet.Fault) ↔ Fails (call_plan self.old) }
+        ensures calls { call_plan self.new ≡ after_call (call_plan self.old) }
+    {
         if self.next_fails() {
             return Err(Unmet::Fault);
         }
-        Ok(self.agents)
+        match self.keep(folder, seconds) {
+            Ok(()) => Ok(self.agents),
+            Err(_) => Err(Unmet::NoMemory),
+        }
     }
 
     /// Where no memory is left for it, no link is used up.
-    fn connect(&mut self, place: Place, _waits: Waits) -> Result<MemMeeting, Unmet> {
+    fn connect(&mut self, place: Place, waits: Waits) -> Result<MemMeeting, Unmet>
+        ensures fresh { IfOk result
+            (λ link. IsFresh (⟦<MemMeeting as Source>⟧.input link)
+            (⟦<MemMeeting as Sink>⟧.output link)) }
+        ensures coming { MatchResult result
+            (λ link. (⟦<MemConnector as Connector>⟧.contacts self.old).coming
+            ≡ child_then (⟦<MemMeeting as Source>⟧.input link).bytes
+            (⟦<MemConnector as Connector>⟧.contacts self.new).coming)
+            (λ _. (⟦<MemConnector as Connector>⟧.contacts self.new).coming
+            ≡ (⟦<MemConnector as Connector>⟧.contacts self.old).coming) }
+        ensures sought { (⟦<MemConnector as Connector>⟧.contacts self.new).sought
+            ≡ (⟦<MemConnector as Connector>⟧.contacts self.old).sought }
+        ensures opened { MatchResult result
+            (λ _. (⟦<MemConnector as Connector>⟧.contacts self.new).opened
+            ≡ then_opened (⟦<MemConnector as Connector>⟧.contacts self.old).opened place waits)
+            (λ _. (⟦<MemConnector as Connector>⟧.contacts self.new).opened
+            ≡ (⟦<MemConnector as Connector>⟧.contacts self.old).opened) }
+        ensures met { (⟦<MemConnector as Connector>⟧.contacts self.new).met
+            ≡ (⟦<MemConnector as Connector>⟧.contacts self.old).met }
+        ensures failed { result ≡ Err Unmet.Fault
+            → Rose (⟦<MemConnector as Connector>⟧.contacts self.old).faults
+            (⟦<MemConnector as Connector>⟧.contacts self.new).faults }
+        ensures faults { (⟦<MemConnector as Connector>⟧.contacts self.old).faults
+            ≤ (⟦<MemConnector as Connector>⟧.contacts self.new).faults }
+        ensures terminal { ⟦<MemConnector as Connector>⟧.terminal self.new
+            ≡ ⟦<MemConnector as Connector>⟧.terminal self.old }
+
+        // What the plan says.
+        ensures planned { Fails (call_plan self.old) → result ≡ Err Unmet.Fault }
+        ensures cause { result ≡ Err Unmet.Fault → Fails (call_plan self.old)
+            ⊎ ((⟦<MemConnector as Connector>⟧.contacts self.old).coming ≡ Some []) }
+        ensures calls { call_plan self.new ≡ after_call (call_plan self.old) }
+    {
         if self.next_fails() {
             return Err(Unmet::Fault);
         }
@@ -206,6 +361,9 @@ impl Connector for MemConnector {
         let Ok(mut contact) = Box::new(self.alloc, contact) else {
             return Err(Unmet::NoMemory);
         };
+        if self.opened.push((place, waits)).is_err() {
+            return Err(Unmet::NoMemory);
+        }
         contact.link = self.coming.remove(0).open(self.alloc);
         Ok(MemMeeting { contact })
     }

@@ -27,6 +27,8 @@ pub enum Loss {
     Read,
     /// A write failed.
     Write,
+    /// The agent ended the connection.
+    Ended,
     /// The agent broke the protocol, or its greeting was an error. Nothing more was said to it.
     Broken,
 }

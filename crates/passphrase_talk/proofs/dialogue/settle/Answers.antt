@@ -1,4 +1,4 @@
-use Rattle.std.proofs.Common.{sym, ◌∙◌}
+use Rattle.std.proofs.Common.{◌∙◌}
 use Rattle.passphrase_talk.proofs.Leading.{not_asked, ends, replies}
 use Rattle.passphrase_talk.proofs.dialogue.settle.Goals as goal
 

@@ -1,0 +1,7 @@
+pub mod Answering
+pub mod Filling
+pub mod Given
+pub mod Losing
+pub mod Putting
+pub mod Saying
+pub mod Secrets

@@ -1,0 +1,40 @@
+ghost use Rattle.std.specs.Prelude.{◌≡◌, ◌≢◌, ◌⊎◌, List, ℕ};
+ghost use Rattle.agent_ports.specs.Counts.{Rose};
+ghost use Rattle.passphrase_client.specs.Laws.{WasAnswered};
+ghost use Rattle.passphrase_client.specs.Runs.{GoesTo, World};
+ghost use Rattle.passphrase_talk.specs.declared.told.Loss.{Loss};
+ghost use Rattle.passphrase_words.specs.Tasks.{TaskValue};
+ghost use Rattle.session_options.specs.OptionValues.{EnvWords};
+
+use crate::Ending;
+use passphrase_talk::Loss;
+
+/// A law: what is given is one line, and was an agent's reply in this run.
+pub fn what_is_given_was_answered()
+    ensures { (task : TaskValue) (terminal : EnvWords) (before after : World)
+        → GoesTo task terminal before after Ending.Given
+        → WasAnswered task terminal before after }
+{}
+
+/// A law: in any end but that a passphrase was given, or couldn't be written whole, the output is
+/// as it was.
+pub fn without_a_passphrase_nothing_is_written()
+    ensures { (task : TaskValue) (terminal : EnvWords) (before after : World) (ending : Ending)
+        → GoesTo task terminal before after ending → ending ≢ Ending.Given
+        → ending ≢ Ending.Unwritten → after.output ≡ before.output }
+{}
+
+/// A law: where a run ends without an agent, or with one that was lost and neither ended nor broke
+/// the protocol, a call of the connector or of a link failed; where the output couldn't be written, a write of it.
+pub fn each_failure_is_counted()
+    ensures lost { (task : TaskValue) (terminal : EnvWords) (before after : World) (loss : Loss)
+        → GoesTo task terminal before after (Ending.Lost loss)
+        → (loss ≡ Loss.Broken) ⊎ ((loss ≡ Loss.Ended)
+        ⊎ Rose before.contacts.faults after.contacts.faults) }
+    ensures no_agent { (task : TaskValue) (terminal : EnvWords) (before after : World)
+        → GoesTo task terminal before after Ending.NoAgent
+        → Rose before.contacts.faults after.contacts.faults }
+    ensures unwritten { (task : TaskValue) (terminal : EnvWords) (before after : World)
+        → GoesTo task terminal before after Ending.Unwritten
+        → Rose before.output.faults after.output.faults }
+{}

@@ -1,0 +1,24 @@
+//! The command `passphrase`: from the user's words to the line that it prints.
+//!
+//! Begin with [`run_passphrase`]. Its clause says what a run is (`specs/Runs`): the words' steps at
+//! the agents that answer (`specs/Steps`), what each reply makes of them (`specs/Verdicts`), and
+//! what the run's end writes, with its status (`specs/Endings`). A passphrase is written only where
+//! an agent's reply to the last request was it.
+#![tactic(auto)]
+
+mod course;
+mod ending;
+mod input;
+mod laws;
+mod message;
+mod run;
+mod steps;
+mod verdict;
+
+pub use ending::{Cause, Ending};
+pub use input::InputFault;
+pub use laws::{
+    each_failure_is_counted, what_is_given_was_answered, without_a_passphrase_nothing_is_written,
+};
+pub use run::{VERSION, run_askpass, run_passphrase};
+pub use steps::Step;

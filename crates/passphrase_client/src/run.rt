@@ -1,0 +1,244 @@
+ghost use Rattle.std.specs.Prelude.{◌≡◌, ◌≤◌, map, string_bytes};
+ghost use Rattle.agent_ports.specs.Writing.{Writes};
+ghost use Rattle.passphrase_client.specs.Runs.{RunsBy, RunsAskpass, HasRun, HasTold, HasRefused};
+ghost use Rattle.passphrase_client.specs.Runs.{GoesTo, TakesHeld, Says, given_text, ending_of};
+ghost use Rattle.passphrase_client.specs.Runs.{ending_of_unmet};
+ghost use Rattle.std.specs.Prelude.{List, ℕ};
+ghost use Rattle.agent_ports.specs.Sides.{Side};
+ghost use Rattle.assuan_text.specs.LineEnds.{line_of};
+ghost use Rattle.passphrase_talk.specs.Contacts.{Contacts};
+ghost use Rattle.passphrase_client.specs.Messages.{said};
+ghost use Rattle.passphrase_words.specs.Faults.{fault_text};
+ghost use Rattle.passphrase_words.specs.Tasks.{task_value};
+
+use crate::course::{Course, come_to};
+use crate::ending::Ending;
+use crate::input::{InputFault, take_secret};
+use crate::message::{put, say, tell};
+use crate::steps::steps_of;
+use agent_ports::{Sink, Source, WriteFault};
+use cache_policy::{MAX_SECRET_LEN, Secret};
+use passphrase_talk::{Connector, Unmet};
+use passphrase_words::{Act, Task, USAGE, Wanted, WordsFault, read_askpass, read_words};
+use std::alloc::Global;
+use wiping::Wiped;
+
+/// How many bytes are written at most: those of a passphrase, and its line feed.
+const MAX_WRITTEN: usize = MAX_SECRET_LEN + 1;
+
+/// What `--version` says.
+pub const VERSION: &str = "passphrase (Dogwoodcatch) 0.2.0\n";
+
+/// Runs the command of these words, without the program's name, and returns the status of the
+/// process: 0 where all was done, 1 where an agent refused or its passphrase can't be given, 2
+/// where the words or the input are refused or the output can't be written, and 3 where there is no
+/// agent, or it was lost. Standard output gets a passphrase alone, the lines of use, or the version.
+pub fn run_passphrase<C: Connector, I: Source, O: Sink, E: Sink>(
+    alloc: Global,
+    words: &[String],
+    connector: &mut C,
+    input: &mut I,
+    output: &mut O,
+    errors: &mut E,
+) -> u8
+    ensures { RunsBy (map string_bytes words.now) (C.terminal connector.old)
+        (C.reason connector.new) (record {
+          contacts = C.contacts connector.old;
+          input = I.input input.old;
+          output = O.output output.old;
+          errors = E.output errors.old;
+        }) (record {
+          contacts = C.contacts connector.new;
+          input = I.input input.new;
+          output = O.output output.new;
+          errors = E.output errors.new;
+        }) result }
+{
+    match read_words(words) {
+        Ok(Wanted::Help) => show(USAGE, output, errors),
+        Ok(Wanted::Version) => show(VERSION, output, errors),
+        Ok(Wanted::Task(task)) => run_task(alloc, &task, connector, input, output, errors),
+        Err(fault) => refuse(&fault, errors),
+    }
+}
+
+/// Runs the command as an askpass, whose one word is what the prompt says: as SSH_ASKPASS,
+/// GIT_ASKPASS and SUDO_ASKPASS name it.
+pub fn run_askpass<C: Connector, I: Source, O: Sink, E: Sink>(
+    alloc: Global,
+    words: &[String],
+    connector: &mut C,
+    input: &mut I,
+    output: &mut O,
+    errors: &mut E,
+) -> u8
+    ensures { RunsAskpass (map string_bytes words.now) (C.terminal connector.old)
+        (C.reason connector.new) (record {
+          contacts = C.contacts connector.old;
+          input = I.input input.old;
+          output = O.output output.old;
+          errors = E.output errors.old;
+        }) (record {
+          contacts = C.contacts connector.new;
+          input = I.input input.new;
+          output = O.output output.new;
+          errors = E.output errors.new;
+        }) result }
+{
+    match read_askpass(words) {
+        Ok(task) => run_task(alloc, &task, connector, input, output, errors),
+        Err(fault) => refuse(&fault, errors),
+    }
+}
+
+/// Runs a task, says how it ended, and returns the status.
+fn run_task<C: Connector, I: Source, O: Sink, E: Sink>(
+    alloc: Global,
+    task: &Task<'_>,
+    connector: &mut C,
+    input: &mut I,
+    output: &mut O,
+    errors: &mut E,
+) -> u8
+    ensures { HasRun (task_value task.now) (C.terminal connector.old) (C.reason connector.new)
+        (record {
+          contacts = C.contacts connector.old;
+          input = I.input input.old;
+          output = O.output output.old;
+          errors = E.output errors.old;
+        }) (record {
+          contacts = C.contacts connector.new;
+          input = I.input input.new;
+          output = O.output output.new;
+          errors = E.output errors.new;
+        }) result }
+{
+    let ending = end_of_task(alloc, task, connector, input, output);
+    tell(errors, ending, task.id(), connector.reason().as_bytes());
+    ending.status()
+}
+
+/// What the task comes to.
+fn end_of_task<C: Connector, I: Source, O: Sink>(
+    alloc: Global,
+    task: &Task<'_>,
+    connector: &mut C,
+    input: &mut I,
+    output: &mut O,
+) -> Ending
+    ensures { (errors later : Side) → GoesTo (task_value task.now) (C.terminal connector.old) (record {
+      contacts = C.contacts connector.old;
+      input = I.input input.old;
+      output = O.output output.old;
+      errors = errors;
+    }) (record {
+      contacts = C.contacts connector.new;
+      input = I.input input.new;
+      output = O.output output.new;
+      errors = later;
+    }) result }
+{
+    let mut held = match held_for(task.act, input) {
+        Ok(held) => held,
+        Err(fault) => return Ending::Input(fault),
+    };
+    let agents = match connector.find(task.folder, task.seconds) {
+        Ok(agents) => agents,
+        Err(why) => return end_of_unmet(why),
+    };
+    let steps = steps_of(task.act, agents);
+    let course = come_to(alloc, connector, task, steps, &held, None);
+    held.clear();
+    match course {
+        Course::Gives(mut secret) => {
+            let written = give(task.act, &secret, output);
+            secret.clear();
+            end_of(written)
+        }
+        Course::Ends(ending) => ending,
+    }
+}
+
+/// What is held as the first step comes: the passphrase on standard input, where it is to be
+/// stored, and else an empty one.
+fn held_for<I: Source>(act: Act, input: &mut I) -> Result<Secret, InputFault>
+    ensures { TakesHeld act (I.input input.old) result (I.input input.new) }
+{
+    if act == Act::Store {
+        take_secret(input)
+    } else {
+        Ok(Secret::of(b"").unwrap())
+    }
+}
+
+/// Writes the passphrase at once, with its line feed where one is wanted.
+fn give<O: Sink>(act: Act, secret: &Secret, output: &mut O) -> Result<(), WriteFault>
+    ensures { Writes (given_text act secret.now) (O.output output.old) result
+        (O.output output.new) }
+{
+    match act {
+        Act::Give { feeds: false, .. } => put(output, secret.bytes()),
+        _ => put_line(output, secret),
+    }
+}
+
+/// Writes the passphrase and a line feed, as one text.
+fn put_line<O: Sink>(output: &mut O, secret: &Secret) -> Result<(), WriteFault>
+    ensures { Writes (line_of secret.now) (O.output output.old) result (O.output output.new) }
+{
+    let mut line: Wiped<MAX_WRITTEN> = Wiped::new();
+    line.try_extend_from_slice(secret.bytes()).unwrap();
+    line.push(b'\n');
+    let written = put(output, line.bytes());
+    line.clear();
+    written
+}
+
+/// Writes a text that was asked for.
+fn show<O: Sink, E: Sink>(text: &str, output: &mut O, errors: &mut E) -> u8
+    ensures { (contacts : Contacts) (input : Side) → HasTold text.now (record {
+      contacts = contacts;
+      input = input;
+      output = O.output output.old;
+      errors = E.output errors.old;
+    }) (record {
+      contacts = contacts;
+      input = input;
+      output = O.output output.new;
+      errors = E.output errors.new;
+    }) result }
+{
+    let ending = end_of(put(output, text.as_bytes()));
+    tell(errors, ending, b"", b"");
+    ending.status()
+}
+
+/// Says why the words are refused.
+fn refuse<E: Sink>(fault: &WordsFault<'_>, errors: &mut E) -> u8
+    ensures says { Says (said (fault_text fault.now)) (E.output errors.old) (E.output errors.new) }
+    ensures status { result ≡ 2 }
+{
+    let words = fault.pieces();
+    say(errors, words.first, words.second, words.third, words.last);
+    2
+}
+
+/// What the run comes to without an agent.
+fn end_of_unmet(why: Unmet) -> Ending
+    ensures { result ≡ ending_of_unmet why }
+{
+    match why {
+        Unmet::NoMemory => Ending::NoMemory,
+        Unmet::Fault => Ending::NoAgent,
+    }
+}
+
+/// What the write of the passphrase makes of the run.
+fn end_of(written: Result<(), WriteFault>) -> Ending
+    ensures { result ≡ ending_of written }
+{
+    match written {
+        Ok(()) => Ending::Given,
+        Err(WriteFault) => Ending::Unwritten,
+    }
+}

@@ -1,0 +1,34 @@
+-- A dialogue never says that there was no connection.
+use Rattle.std.proofs.Common.{◌≡◌, ◌∷◌, [], List, arith, rules}
+use Rattle.assuan_client.specs.declared.answer.Answer.{Answer}
+use Rattle.passphrase_talk.specs.declared.dialogue.Course.{Course}
+use Rattle.passphrase_talk.specs.Dialogues.{told_of, told_from, told_behind, told_by, loss_of, quiet, after_said}
+use Rattle.passphrase_talk.specs.Turns.{Said, Hello, OptionLine, Request, End, Cancel, Turn}
+use Rattle.passphrase_talk.specs.declared.told.Loss.TheVariants as loss
+use Rattle.passphrase_talk.specs.declared.told.Told.{Told}
+use Rattle.passphrase_talk.specs.declared.told.Told.TheVariants as told
+
+by_answer : (course : Course) (last : Answer) → told_by course last ≡ told.Lost loss.Unmet → ⊥
+by_answer course last is = grind (arith, rules)
+
+behind_answer : (course : Course) (last : Answer) (turns : List Turn) → told_behind course last turns ≡ told.Lost loss.Unmet → ⊥
+behind_answer course last [] is = by_answer course last is
+behind_answer course last (turn ∷ turns) is = behind_answer (after_said turn.said course) turn.answer turns is
+
+loss_met : (last : Answer) → told.Lost (loss_of last) ≡ told.Lost loss.Unmet → ⊥
+loss_met last is = grind (arith, rules)
+
+from_turn : (said : Said) (last : Answer) (turns : List Turn) (later : Told) → (later ≡ told.Lost loss.Unmet → ⊥) → told_from said last turns later ≡ told.Lost loss.Unmet → ⊥
+from_turn (Request line) last turns later not is = behind_answer quiet last turns is
+from_turn Hello last [] later not is = loss_met last is
+from_turn Hello last (turn ∷ turns) later not is = not is
+from_turn (OptionLine option) last [] later not is = loss_met last is
+from_turn (OptionLine option) last (turn ∷ turns) later not is = not is
+from_turn End last [] later not is = loss_met last is
+from_turn End last (turn ∷ turns) later not is = not is
+from_turn Cancel last [] later not is = loss_met last is
+from_turn Cancel last (turn ∷ turns) later not is = not is
+
+pub never_unmet : (turns : List Turn) → told_of turns ≡ told.Lost loss.Unmet → ⊥
+never_unmet [] is = grind (arith, rules)
+never_unmet (turn ∷ turns) is = from_turn turn.said turn.answer turns (told_of turns) (never_unmet turns) is

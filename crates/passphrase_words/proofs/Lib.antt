@@ -1,0 +1,5 @@
+pub mod Pushing
+pub mod Reading
+pub mod Sound
+mod WorkedExamples
+pub mod LineParts

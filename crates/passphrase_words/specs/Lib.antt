@@ -1,0 +1,10 @@
+pub mod Faults
+pub mod Ids
+pub mod Options
+pub mod Parts
+pub mod Requests
+pub mod Rules
+pub mod Spelling
+pub mod Tasks
+pub mod Texts
+pub mod Words

@@ -1,0 +1,26 @@
+-- What words of the command line ask for.
+use Rattle.std.specs.Prelude.{◌≡◌, ℕ, ◌||◌, Bool, true, List, [], ◌∷◌, codes, Some}
+use Rattle.std.specs.Str.{bytes_eq}
+use Rattle.passphrase_words.specs.Rules.{IsTask, askpass_task}
+use Rattle.passphrase_words.specs.Spelling.{Setting, Spells, operands_of}
+use Rattle.passphrase_words.specs.Tasks.{TaskValue, WantedValue, WantsHelp, WantsVersion, WantsTask}
+use Rattle.passphrase_words.specs.Texts.{Fits}
+
+abbrev pub asks_for_help : List ℕ → Bool
+asks_for_help word = bytes_eq word (codes "--help") || bytes_eq word (codes "-h")
+
+-- The words are options and then help or the version, behind which nothing counts; or options and operands that are a task's.
+pub data Reads (words : List (List ℕ)) : WantedValue → Type 0 where
+  help : {given : List Setting} {word : List ℕ} {behind : List (List ℕ)} → Spells given (word ∷ behind) words → asks_for_help word ≡ true
+      → Reads words WantsHelp
+  version : {given : List Setting} {behind : List (List ℕ)} → Spells given (codes "--version" ∷ behind) words
+      → Reads words WantsVersion
+  task : {given : List Setting} {rest operands : List (List ℕ)} {task : TaskValue} → Spells given rest words
+      → operands_of rest ≡ Some operands → IsTask given operands task → Reads words (WantsTask task)
+
+-- The words of an askpass are one text, which a request has room for.
+pub record ReadsAskpass (words : List (List ℕ)) (task : TaskValue) : Type 0 where
+  pub text : List ℕ
+  pub words_are : words ≡ text ∷ []
+  pub task_is : task ≡ askpass_task text
+  pub fit : Fits task.id task.texts

@@ -1,0 +1,9 @@
+ghost use Rattle.std.specs.Prelude.{◌≡◌, ℕ, List};
+ghost use Rattle.passphrase_words.specs.Tasks.{WantedValue};
+ghost use Rattle.passphrase_words.specs.Words.{Reads};
+
+/// A law: the same words don't ask for two things.
+pub fn a_command_line_is_read_one_way()
+    ensures { (words : List (List ℕ)) (one other : WantedValue) → Reads words one
+        → Reads words other → one ≡ other }
+{}

@@ -1,0 +1,85 @@
+ghost use Rattle.std.specs.Prelude.{◌≡◌, Some};
+ghost use Rattle.std.specs.Option.{option_map};
+ghost use Rattle.assuan_text.specs.Rows.{found, rows_of};
+ghost use Rattle.passphrase_words.specs.Options.{form_of, takes_value, is_of_form, seconds_of};
+ghost use Rattle.passphrase_words.specs.Spelling.{takes};
+
+use assuan_text::number_of;
+
+/// What an option takes.
+#[derive(Clone, Copy)]
+pub(crate) enum Form {
+    /// No value.
+    Flag,
+    /// A text that isn't empty.
+    Text,
+    /// 1 to 10 decimal digits, zeros in front among them, whose number is 1 to 2^31 - 1.
+    Seconds,
+}
+
+const OPTIONS: [(&str, Form); 10] = [
+    ("--new", Form::Flag),
+    ("--no-ask", Form::Flag),
+    ("--null", Form::Flag),
+    ("--forget", Form::Flag),
+    ("--store", Form::Flag),
+    ("--cached", Form::Flag),
+    ("--prompt", Form::Text),
+    ("--homedir", Form::Text),
+    ("--timeout", Form::Seconds),
+    ("--ttl", Form::Seconds),
+];
+
+/// What the option of this name takes.
+#[tactic(auto, unfolding(crate::specs::Options::form_of))]
+pub(crate) fn form_of(name: &str) -> Option<Form>
+    ensures { result ≡ form_of name.now }
+{
+    named(name, &OPTIONS)
+}
+
+/// What the first row of this name has.
+fn named(name: &str, rows: &[(&str, Form)]) -> Option<Form>
+    ensures { result ≡ found name.now (rows_of rows.now) }
+{
+    for (known, form) in rows {
+        if *known == name {
+            return Some(*form);
+        }
+    }
+    None
+}
+
+/// Whether the option of this name takes a value, where there is one.
+pub(crate) fn takes(name: &str) -> Option<bool>
+    ensures { result ≡ takes name.now }
+{
+    match form_of(name)? {
+        Form::Flag => Some(false),
+        Form::Text | Form::Seconds => Some(true),
+    }
+}
+
+/// Whether a value, or none, has the form of its option.
+pub(crate) fn is_of_form(form: Form, value: Option<&str>) -> bool
+    ensures { result ≡ is_of_form form (option_map (λ value. value.now) value.entry) }
+{
+    match (form, value) {
+        (Form::Flag, None) => true,
+        (Form::Text, Some(text)) => !text.is_empty(),
+        (Form::Seconds, Some(number)) => seconds_of(number).is_some(),
+        _ => false,
+    }
+}
+
+/// The seconds that a value is, 1 to 2^31 - 1.
+pub(crate) fn seconds_of(value: &str) -> Option<u32>
+    ensures { result ≡ seconds_of value.now }
+{
+    let number = number_of(value.as_bytes())?;
+    if 1 <= number && number <= 2_147_483_647 {
+        Some(number as u32)
+    } else {
+        None
+    }
+}

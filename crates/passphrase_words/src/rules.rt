@@ -1,0 +1,140 @@
+ghost use Rattle.std.specs.Prelude.{◌≡◌, ◌↔◌, true, false, get_or, [], length, map};
+ghost use Rattle.std.specs.Prelude.{string_bytes, is_some, IsOk, IfOk, IfErr, MatchOption};
+ghost use Rattle.std.specs.List.{list_all};
+ghost use Rattle.assuan_text.specs.Rows.{pairs_of};
+ghost use Rattle.passphrase_words.specs.Parts.{settings};
+ghost use Rattle.passphrase_words.specs.Rules.{IsTask, is_apart, wants_id_alone, are_counted};
+ghost use Rattle.passphrase_words.specs.Rules.{is_alone_or_free, act_of};
+ghost use Rattle.passphrase_words.specs.Tasks.{TaskValue, task_value};
+
+use crate::ids::id_of;
+use crate::settings::{check_each, is_set, seconds_given, value_given};
+use crate::texts::texts_of;
+use crate::{Act, Task, WordsFault};
+
+/// Options that can't be given together.
+const EXCLUDED: [(&str, &str); 17] = [
+    ("--new", "--forget"),
+    ("--new", "--store"),
+    ("--new", "--cached"),
+    ("--forget", "--store"),
+    ("--forget", "--cached"),
+    ("--store", "--cached"),
+    ("--new", "--no-ask"),
+    ("--forget", "--no-ask"),
+    ("--store", "--no-ask"),
+    ("--cached", "--no-ask"),
+    ("--no-ask", "--ttl"),
+    ("--forget", "--ttl"),
+    ("--store", "--ttl"),
+    ("--cached", "--ttl"),
+    ("--forget", "--null"),
+    ("--store", "--null"),
+    ("--cached", "--null"),
+];
+
+/// The task of the options in front of the words, and of these operands.
+pub(crate) fn task_from<'a>(
+    words: &'a [String],
+    operands: &'a [String],
+) -> Result<Task<'a>, WordsFault<'a>>
+    ensures read { IfOk result (λ task. IsTask (settings (map string_bytes words.entry.now))
+        (map string_bytes operands.entry.now) (task_value task)) }
+    ensures refused { IfErr result (λ _. (task : TaskValue)
+        → IsTask (settings (map string_bytes words.entry.now)) (map string_bytes operands.entry.now)
+        task → ⊥) }
+{
+    check_each(words)?;
+    check_pairs(words, &EXCLUDED)?;
+    check_alone(words, operands)?;
+    let Some((name, description)) = id_and_description(operands) else {
+        return Err(WordsFault::Operands);
+    };
+    let id = id_of(name)?;
+    let texts = texts_of(&id, value_given(words, "--prompt"), description)?;
+    Ok(Task {
+        folder: value_given(words, "--homedir"),
+        seconds: seconds_given(words, "--timeout"),
+        act: act_of(words),
+        id,
+        texts,
+    })
+}
+
+/// No two of a row are given.
+fn check_pairs(
+    words: &[String],
+    pairs: &[(&'static str, &'static str)],
+) -> Result<(), WordsFault<'static>>
+    ensures { IsOk result ↔ (list_all (is_apart (settings (map string_bytes words.now)))
+        (pairs_of pairs.now) ≡ true) }
+{
+    for (one, other) in pairs {
+        if is_set(words, one) && is_set(words, other) {
+            return Err(WordsFault::Apart(one, other));
+        }
+    }
+    Ok(())
+}
+
+/// Where an id alone is wanted, nothing else is given.
+fn check_alone(words: &[String], operands: &[String]) -> Result<(), WordsFault<'static>>
+    ensures { IsOk result ↔ (is_alone_or_free (settings (map string_bytes words.now))
+        (map string_bytes operands.now) ≡ true) }
+{
+    match alone(words) {
+        Some(name) if operands.len() != 1 || is_set(words, "--prompt") => {
+            Err(WordsFault::Alone(name))
+        }
+        _ => Ok(()),
+    }
+}
+
+/// The option that wants an id alone.
+fn alone(words: &[String]) -> Option<&'static str>
+    ensures { is_some result ≡ wants_id_alone (settings (map string_bytes words.now)) }
+{
+    if is_set(words, "--forget") {
+        Some("--forget")
+    } else if is_set(words, "--store") {
+        Some("--store")
+    } else if is_set(words, "--cached") {
+        Some("--cached")
+    } else {
+        None
+    }
+}
+
+/// The id, and the description or an empty one.
+fn id_and_description(operands: &[String]) -> Option<(&str, &str)>
+    ensures counted { is_some result ≡ are_counted (map string_bytes operands.entry.now) }
+    ensures texts { MatchOption result (are_counted (map string_bytes operands.entry.now) ≡ false)
+        (λ texts. (texts.0.now ≡ get_or (map string_bytes operands.entry.now) 0 [])
+        × (texts.1.now ≡ get_or (map string_bytes operands.entry.now) 1 [])) }
+{
+    match operands {
+        [id] => Some((id, "")),
+        [id, description] => Some((id, description)),
+        _ => None,
+    }
+}
+
+/// What is to be done.
+fn act_of(words: &[String]) -> Act
+    ensures { result ≡ act_of (settings (map string_bytes words.now)) }
+{
+    if is_set(words, "--forget") {
+        Act::Forget
+    } else if is_set(words, "--store") {
+        Act::Store
+    } else if is_set(words, "--cached") {
+        Act::Cached
+    } else {
+        Act::Give {
+            repeats: is_set(words, "--new"),
+            quiet: is_set(words, "--no-ask"),
+            ttl: seconds_given(words, "--ttl"),
+            feeds: !is_set(words, "--null"),
+        }
+    }
+}

@@ -1,0 +1,155 @@
+ghost use Rattle.std.specs.Prelude.{◌≡◌, Some, None, IfOk, IfErr, map, string_bytes};
+ghost use Rattle.std.specs.Option.{option_map};
+ghost use Rattle.passphrase_words.specs.Parts.{rest_of, front_of, front_word};
+ghost use Rattle.passphrase_words.specs.Spelling.{operands_of};
+ghost use Rattle.passphrase_words.specs.Tasks.{TaskValue, WantedValue, task_value, wanted_value};
+ghost use Rattle.passphrase_words.specs.Words.{Reads, ReadsAskpass, asks_for_help};
+
+use crate::ids::{askpass_id, begins_with_dash};
+use crate::options::takes;
+use crate::rules::task_from;
+use crate::settings::{rest_of, wish};
+use crate::texts::texts_of;
+use crate::{Act, Task, WordsFault};
+
+/// The lines of use.
+pub const USAGE: &str = "\
+usage: passphrase [--homedir DIR] [--timeout SECONDS] [--new | --no-ask] [--ttl SECONDS] \
+[--prompt TEXT] [--null] ID [DESCRIPTION]
+       passphrase [--homedir DIR] [--timeout SECONDS] --cached ID
+       passphrase [--homedir DIR] [--timeout SECONDS] --forget ID
+       passphrase [--homedir DIR] [--timeout SECONDS] --store ID < FILE
+       passphrase --help | --version
+       passphrase-askpass TEXT
+";
+
+/// What a command line asks for.
+#[derive(Drop)]
+pub enum Wanted<'a> {
+    /// The lines of use.
+    Help,
+    /// The version.
+    Version,
+    /// A task.
+    Task(Task<'a>),
+}
+
+/// Reads the words of a command line, without the program's name.
+pub fn read_words(words: &[String]) -> Result<Wanted<'_>, WordsFault<'_>>
+    ensures read { IfOk result
+        (λ wanted. Reads (map string_bytes words.entry.now) (wanted_value wanted)) }
+    ensures refused { IfErr result (λ _. (wanted : WantedValue)
+        → Reads (map string_bytes words.entry.now) wanted → ⊥) }
+{
+    let rest = rest_of(words);
+    match front_of(rest) {
+        Front::Help => Ok(Wanted::Help),
+        Front::Version => Ok(Wanted::Version),
+        Front::Other => read_task(words, rest),
+    }
+}
+
+/// Reads words that ask for neither help nor the version; the rest is what is behind the options.
+fn read_task<'a>(words: &'a [String], rest: &'a [String]) -> Result<Wanted<'a>, WordsFault<'a>>
+    requires rest { map string_bytes rest.now ≡ rest_of (map string_bytes words.now) }
+    requires other { front_of (map string_bytes rest.now) ≡ Front.Other }
+    ensures read { IfOk result
+        (λ wanted. Reads (map string_bytes words.entry.now) (wanted_value wanted)) }
+    ensures refused { IfErr result (λ _. (wanted : WantedValue)
+        → Reads (map string_bytes words.entry.now) wanted → ⊥) }
+{
+    match operands_of(rest) {
+        Some(operands) => match task_from(words, operands) {
+            Ok(task) => Ok(Wanted::Task(task)),
+            Err(fault) => Err(fault),
+        },
+        None => Err(unread(rest)),
+    }
+}
+
+/// What the word behind the options asks for.
+#[derive(Clone, Copy)]
+enum Front {
+    Help,
+    Version,
+    Other,
+}
+
+fn front_of(rest: &[String]) -> Front
+    ensures { result ≡ front_of (map string_bytes rest.now) }
+{
+    let Some((word, _)) = rest.split_first() else {
+        return Front::Other;
+    };
+    front_word(word)
+}
+
+fn front_word(word: &str) -> Front
+    ensures { result ≡ front_word word.now }
+{
+    if asks_for_help(word) {
+        Front::Help
+    } else if word == "--version" {
+        Front::Version
+    } else {
+        Front::Other
+    }
+}
+
+fn asks_for_help(word: &str) -> bool
+    ensures { result ≡ asks_for_help word.now }
+{
+    word == "--help" || word == "-h"
+}
+
+/// The operands of what is behind the options.
+fn operands_of(rest: &[String]) -> Option<&[String]>
+    ensures { option_map (λ operands. map string_bytes operands.now) result
+        ≡ operands_of (map string_bytes rest.entry.now) }
+{
+    let Some((word, behind)) = rest.split_first() else {
+        return Some(rest);
+    };
+    if word.as_str() == "--" {
+        Some(behind)
+    } else if begins_with_dash(word) {
+        None
+    } else {
+        Some(rest)
+    }
+}
+
+/// Why the words aren't options from here on.
+fn unread(rest: &[String]) -> WordsFault<'_> {
+    match rest.first() {
+        Some(word) if takes(word).is_some() => WordsFault::Wants(word, wish(word)),
+        Some(word) => WordsFault::Unknown(word),
+        None => WordsFault::Operands,
+    }
+}
+
+/// Reads the words of an askpass, without the program's name: one text, which the prompt shows.
+pub fn read_askpass(words: &[String]) -> Result<Task<'_>, WordsFault<'_>>
+    ensures read { IfOk result
+        (λ task. ReadsAskpass (map string_bytes words.entry.now) (task_value task)) }
+    ensures refused { IfErr result (λ _. (task : TaskValue)
+        → ReadsAskpass (map string_bytes words.entry.now) task → ⊥) }
+{
+    let [text] = words else {
+        return Err(WordsFault::Askpass);
+    };
+    let id = askpass_id(text);
+    let texts = texts_of(&id, None, text)?;
+    Ok(Task {
+        folder: None,
+        seconds: None,
+        act: Act::Give {
+            repeats: false,
+            quiet: false,
+            ttl: None,
+            feeds: true,
+        },
+        id,
+        texts,
+    })
+}
