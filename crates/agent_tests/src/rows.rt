@@ -7,7 +7,7 @@ use agent_ports::{
     Grip, Host, KeyNames, KeyRead, Keys, ListClock, ListDice, MAX_KEY_FILE_LEN, MapKeys, MemHost,
     MemLauncher, MemLink, MemSink, MemSource, NoGate, Parts, PlannedChild,
 };
-use agent_top::{Status, run_server};
+use agent_top::{Status, run_lawful_server};
 use session_options::Rules;
 use std::alloc::{AllocError, Global};
 use std::sync::Wait;
@@ -239,7 +239,7 @@ fn serve<H: Host>(alloc: Global, rules: &Rules, stdio: &mut MemLink, host: &mut 
     requires { IsSome (H.server host.old) }
     ensures { IsSome (H.server host.new) }
 {
-    run_server(alloc, rules, stdio, host)
+    run_lawful_server(alloc, rules, stdio, host)
 }
 
 /// The programs that were launched, and what they were written, of the last one first.

@@ -1,6 +1,7 @@
 mod Answered
 mod EndingWell
 mod Ears
+mod LawfulRuns
 mod Lifting
 mod Loading
 mod Rounds
@@ -15,9 +16,4 @@ mod Replays
 mod Stopping
 mod Spelling
 mod WorkedExamples
-mod WorkedCommon
-mod WorkedServer
-mod WorkedDaemon
-mod WorkedPrompt
-mod WorkedRestricted
-mod WorkedLoad
+mod WorkedOutcomes

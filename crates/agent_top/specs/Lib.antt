@@ -3,6 +3,7 @@ pub mod Completeness
 pub mod Daemon
 pub mod Faults
 pub mod Forms
+pub mod LawfulRuns
 pub mod Load
 pub mod Options
 pub mod Runs

@@ -9,6 +9,7 @@
 
 mod completeness;
 mod daemon;
+mod lawful;
 mod load;
 mod own_passphrases;
 mod runs;
@@ -23,6 +24,7 @@ pub use completeness::{
     each_error_of_a_daemon_has_its_cause, each_error_of_a_server_has_its_cause,
 };
 pub use daemon::run_daemon;
+pub use lawful::{run_lawful_daemon, run_lawful_load, run_lawful_server};
 pub use load::run_load;
 pub use own_passphrases::{a_daemon_stores_its_sessions_own, a_session_of_a_daemon_stores_its_own};
 pub use runs::{

@@ -4,7 +4,7 @@ use crate::serving::{host_of, parts, planned, preset_rules};
 use agent_ports::{
     HoldGate, ListListener, ListedLinks, Listener, MemLink, MemParts, MemSink, MemSource, Next,
 };
-use agent_top::{run_agent, run_daemon};
+use agent_top::{run_agent, run_lawful_daemon};
 use session_options::Rules;
 use std::alloc::{AllocError, Global};
 use std::rt;
@@ -317,7 +317,8 @@ fn rules_of(row: &Row) -> Rules {
     rules
 }
 
-/// What comes of it, as `run_agent` is asked for it by words, or as `run_daemon` is given rules.
+/// What comes of it, as `run_agent` is asked for it by words, or as `run_lawful_daemon`
+/// is given rules.
 fn outcome<W: Threads + Wait + rt::Clock + Sync>(
     rt: &W,
     alloc: Global,
@@ -337,7 +338,7 @@ fn outcome<W: Threads + Wait + rt::Clock + Sync>(
     let status = if by_words {
         run_agent(rt, alloc, &words_of(alloc, row)?, &mut stdio, &mut host)
     } else {
-        run_daemon(rt, alloc, &rules_of(row), &mut stdio, &mut host)
+        run_lawful_daemon(rt, alloc, &rules_of(row), &mut stdio, &mut host)
     };
     let settled = if by_words { FOLDER.as_bytes() } else { b"" };
     if host.homedir() != settled {

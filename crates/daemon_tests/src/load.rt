@@ -5,7 +5,7 @@ ghost use Rattle.cache_policy.specs.declared.bounds.TheConstants.{MAX_MOMENT};
 
 use crate::serving::{LIMITS, parts};
 use agent_ports::{MemHost, MemLink, MemSink, MemSource};
-use agent_top::run_agent;
+use agent_top::{run_agent, run_lawful_load};
 use cache_policy::{CacheId, Life, ListBook, Mode, Secret};
 use rand_core::SeedableRng;
 use rand_core::utils::NextWord;
@@ -232,5 +232,15 @@ fn a_load_comes_to_what_a_plain_fold_does(rt: HostRuntime) -> Result<(), Fail> {
         assert_eq!(rt; folded.as_str(), load.line);
         assert_eq!(rt; served(&rt, alloc, load)?, wanted(alloc, load)?);
     }
+    Ok(())
+}
+
+#[test]
+fn a_load_needs_no_host(rt: HostRuntime) -> Result<(), Fail> {
+    let alloc = rt.alloc();
+    let source = MemSource::new(Vec::new(alloc), 64, Vec::new(alloc));
+    let mut stdio = MemLink::new(source, MemSink::new(alloc, 0, Vec::new(alloc)));
+    assert_eq!(rt; run_lawful_load(alloc, 2, &mut stdio), 0);
+    assert!(rt; stdio.written() == OF_2.as_bytes());
     Ok(())
 }
