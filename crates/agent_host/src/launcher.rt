@@ -2,13 +2,13 @@ ghost use Rattle.std.specs.Prelude.{◌≡◌, None, IfOk};
 ghost use Rattle.agent_ports.specs.Launches.{IsFresh};
 
 use crate::child::PipedChild;
-use crate::environment::hand_on;
 use crate::faults::count;
 use crate::guard::{can_guard, can_start, guarded};
 use crate::patience::Patience;
 use crate::terminal::Terminal;
 use crate::told::{LastError, Printable};
 use agent_ports::{Launcher, Sink, Source};
+use child_environment::hand_on;
 use std::alloc::Global;
 use std::fs::{File, Files};
 use std::io::ErrorKind;

@@ -10,7 +10,6 @@
 mod child;
 mod clock;
 mod dice;
-mod environment;
 mod faults;
 mod guard;
 mod host;
