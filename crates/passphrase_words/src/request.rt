@@ -18,7 +18,7 @@ use wiping::Wiped;
 const MAX_DIGITS: usize = 2 * MAX_SECRET_LEN;
 
 /// A request to an agent (GnuPG manual, "Agent's Assuan protocol").
-#[derive(Drop)]
+#[derive(Clone, Copy)]
 pub enum Request<'a> {
     /// What is kept, without a prompt.
     Look,

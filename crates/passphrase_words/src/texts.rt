@@ -1,6 +1,7 @@
-ghost use Rattle.std.specs.Prelude.{◌≡◌, ◌≤◌, ◌<◌, ◌∷◌, ◌++◌, codes, length, IfOk, IfErr};
+ghost use Rattle.std.specs.Prelude.{◌≡◌, ◌≤◌, ◌<◌, ◌∷◌, ◌++◌, codes, decimal, length, IfOk, IfErr};
 ghost use Rattle.std.specs.List.{flat_map};
 ghost use Rattle.std.specs.Option.{option_map};
+ghost use Rattle.passphrase_words.specs.Faults.{counted, fault_text, long_text};
 ghost use Rattle.passphrase_words.specs.Parts.{HasPushed};
 ghost use Rattle.passphrase_words.specs.Texts.{escape_of, word_of, prompt_word, description_or};
 ghost use Rattle.passphrase_words.specs.Texts.{texts_of, longest_line};
@@ -26,6 +27,8 @@ pub(crate) fn texts_of(
         description.entry.now in IfOk result (λ _. length (longest_line id.entry.now.items texts) ≤ 1000) }
     ensures long { let texts = texts_of id.entry.now.items (option_map (λ prompt. prompt.now) prompt.entry)
         description.entry.now in IfErr result (λ _. 1000 < length (longest_line id.entry.now.items texts)) }
+    ensures told { let texts = texts_of id.entry.now.items (option_map (λ prompt. prompt.now) prompt.entry)
+        description.entry.now in IfErr result (λ fault. fault_text fault ≡ long_text id.entry.now.items texts) }
 {
     let mut texts = Texts::new();
     if push_texts(&mut texts, id.as_slice(), prompt, description).is_err()
@@ -112,23 +115,24 @@ fn push_text(texts: &mut Texts, text: &[u8]) -> Result<(), CapacityError>
     ensures { HasPushed (flat_map escape_of text.now) texts.old.items result texts.new.items }
 {
     for byte in text {
-        if let Err(full) = push_byte(texts, *byte) {
+        if let Err(full) = push(texts, escape_of(byte)) {
             return Err(full);
         }
     }
     Ok(())
 }
 
-fn push_byte(texts: &mut Texts, byte: u8) -> Result<(), CapacityError>
-    ensures { HasPushed (escape_of byte) texts.old.items result texts.new.items }
+/// What a byte of a text is in a word.
+fn escape_of(byte: &u8) -> &[u8]
+    ensures { result.now ≡ escape_of byte.now }
 {
-    match byte {
-        b' ' | b'\t' => push(texts, b"+"),
-        b'%' => push(texts, b"%25"),
-        b'+' => push(texts, b"%2B"),
-        b'\n' => push(texts, b"%0A"),
-        b'\r' => push(texts, b"%0D"),
-        _ => push(texts, &[byte]),
+    match *byte {
+        b' ' | b'\t' => b"+",
+        b'%' => b"%25",
+        b'+' => b"%2B",
+        b'\n' => b"%0A",
+        b'\r' => b"%0D",
+        _ => std::slice::from_ref(byte),
     }
 }
 
@@ -139,36 +143,63 @@ fn push(texts: &mut Texts, bytes: &[u8]) -> Result<(), CapacityError>
 }
 
 /// How many bytes the longest request has with these texts, for a user.
-fn request_len(id: &[u8], prompt: Option<&str>, description: &str) -> usize {
-    let description = if description.is_empty() {
-        word_len(id).saturating_add(11)
-    } else {
-        word_len(description.as_bytes())
-    };
-    let prompt = match prompt {
-        Some(text) => word_len(text.as_bytes()),
-        None => 1,
-    };
-    prompt
-        .saturating_add(description)
+fn request_len(id: &[u8], prompt: Option<&str>, description: &str) -> usize
+    ensures { result ≡ counted (length (longest_line id.now (texts_of id.now
+        (option_map (λ prompt. prompt.now) prompt.entry) description.now))) }
+{
+    prompt_len(prompt)
+        .saturating_add(description_len(id, description))
         .saturating_add(id.len())
         .saturating_add(FRAME_LEN + 1)
 }
 
-fn word_len(text: &[u8]) -> usize {
-    let mut len: usize = if text == b"X".as_slice() { 2 } else { 0 };
+fn prompt_len(prompt: Option<&str>) -> usize
+    ensures { result ≡ counted (length (prompt_word
+        (option_map (λ prompt. prompt.now) prompt.entry))) }
+{
+    match prompt {
+        Some(text) => word_len(text.as_bytes()),
+        None => 1,
+    }
+}
+
+fn description_len(id: &[u8], description: &str) -> usize
+    ensures { result ≡ counted (length (word_of (description_or id.now description.now))) }
+{
+    if description.is_empty() {
+        text_len(id).saturating_add(11)
+    } else {
+        word_len(description.as_bytes())
+    }
+}
+
+fn word_len(text: &[u8]) -> usize
+    ensures { result ≡ counted (length (word_of text.now)) }
+{
+    if text == b"X".as_slice() {
+        3
+    } else {
+        text_len(text)
+    }
+}
+
+fn text_len(text: &[u8]) -> usize
+    ensures { result ≡ counted (length (flat_map escape_of text.now)) }
+{
+    let mut len: usize = 0;
     for byte in text {
-        len = len.saturating_add(match byte {
-            b'%' | b'+' | b'\n' | b'\r' => 3,
-            _ => 1,
-        });
+        len = len.saturating_add(escape_of(byte).len());
     }
     len
 }
 
-fn decimal(number: usize) -> ArrayVec<u8, 20> {
+fn decimal(number: usize) -> ArrayVec<u8, 20>
+    ensures { result.items ≡ decimal number }
+{
     let mut buffer = Buffer::new();
     let mut digits = ArrayVec::new();
-    let _ = digits.try_extend_from_slice(buffer.format(number).as_bytes());
+    digits
+        .try_extend_from_slice(buffer.format(number).as_bytes())
+        .unwrap();
     digits
 }

@@ -4,5 +4,5 @@ use Rattle.passphrase_words.proofs.texts.push_text.Goals as goal
 
 pub returns-in-Err : goal.returns-in-Err
 returns-in-Err c =
-    some_is_full escape_of c.args.text.now c.args.texts.now.items c.loop-byte.texts.items c.push_byte.new.texts.items c.loop-byte.byte-index c.in-Err.full
-    c.loop-byte-test.true c.loop-byte.invariant c.in-Err.ensures
+    some_is_full escape_of c.args.text.now c.args.texts.now.items c.loop-byte.texts.items c.push.new.texts.items c.loop-byte.byte-index c.in-Err.full
+    c.loop-byte-test.true c.loop-byte.invariant (rw c.escape_of.ensures at c.in-Err.ensures)

@@ -1,0 +1,294 @@
+//! Which agents are asked: those that answer, and one that is started where none does.
+//! Begin with `find_agents`.
+
+use crate::failure::{Failure, said};
+use crate::folders::{absolute, gnupg_home, own_folder};
+use crate::patience::{Deadline, Limits};
+use crate::reach::{Ahead, Greeting, greet, reach, too_long};
+use crate::set_up::{SetUp, has_keys, set_up, stand_in};
+use crate::socket_path::{MAX_PATH, home_socket, socket_paths};
+use crate::starting::{make_own, silence, start};
+use std::alloc::{AllocError, Global};
+use std::fs;
+use std::fs::{File, Files};
+use std::net::Net;
+use std::os::unix::fs::FileTypeExt;
+use std::os::unix::net::UnixStream;
+use std::process::Processes;
+use std::rt::{Clock, Env};
+
+/// An agent that is asked.
+#[derive(Drop)]
+pub(crate) struct Asked {
+    pub(crate) folder: String,
+    paths: Vec<String>,
+    open: Option<Opened>,
+}
+
+/// A connection that was made already, and what was read of it.
+#[derive(Drop)]
+pub(crate) struct Opened {
+    pub(crate) stream: UnixStream,
+    pub(crate) ahead: Ahead,
+}
+
+/// The agents that answer: that of the folder that the user means, and where it runs too that of
+/// the folder of its own.
+#[derive(Drop)]
+pub(crate) struct Found {
+    pub(crate) home: Asked,
+    pub(crate) beside: Option<Asked>,
+}
+
+/// Finds the agents for the folder that the user names, or for the GnuPG home, and starts one where
+/// none answers.
+pub(crate) fn find_agents<R: Clock + Env + Processes + Files<File = File> + Net + Eprint>(
+    rt: &R,
+    alloc: Global,
+    named: Option<&str>,
+    limits: Limits,
+) -> Result<Found, Failure> {
+    let stand_in = stand_in(rt, alloc)?;
+    match named {
+        Some(named) => {
+            let folder = absolute(rt, alloc, named)?;
+            Ok(Found {
+                home: named_agent(rt, alloc, folder, stand_in, limits)?,
+                beside: None,
+            })
+        }
+        None => match gnupg_home(rt, alloc)? {
+            Some(home) => home_agents(rt, alloc, home, stand_in, limits),
+            None => Err(said(format!(in alloc;
+                "no agent: neither GNUPGHOME nor HOME names a folder for it"
+            ))),
+        },
+    }
+}
+
+/// The agent of the folder that the user names. It is taken as it is, but where who uses its keys
+/// would miss GnuPG's own agent.
+fn named_agent<R: Clock + Env + Processes + Files<File = File> + Net>(
+    rt: &R,
+    alloc: Global,
+    folder: String,
+    stand_in: Option<String>,
+    limits: Limits,
+) -> Result<Asked, Failure> {
+    let mut asked = Asked::new(rt, alloc, folder)?;
+    if asked.is_there(rt, alloc, limits)? {
+        return Ok(asked);
+    }
+    let program = match set_up(rt, alloc, asked.folder.as_str(), stand_in.as_deref())? {
+        SetUp::By(program) => Some(program),
+        SetUp::Marked => stand_in,
+        SetUp::No => {
+            refuse_keys(rt, alloc, asked.folder.as_str())?;
+            stand_in
+        }
+    };
+    asked.start(rt, alloc, program, limits)?;
+    Ok(asked)
+}
+
+fn refuse_keys<R: Files>(rt: &R, alloc: Global, folder: &str) -> Result<(), Failure> {
+    if has_keys(rt, alloc, folder)? {
+        return Err(said(format!(in alloc;
+            "no agent answers for {folder}, and ours isn't started there: the folder has secret keys, by which ours neither signs nor decrypts"
+        )));
+    }
+    Ok(())
+}
+
+/// The agent of the GnuPG home, which is started where the folder was set up for it, and beside it
+/// the one of the folder of its own: what was typed while none answered for the GnuPG home is there.
+fn home_agents<R: Clock + Env + Processes + Files<File = File> + Net + Eprint>(
+    rt: &R,
+    alloc: Global,
+    home: String,
+    stand_in: Option<String>,
+    limits: Limits,
+) -> Result<Found, Failure> {
+    let own = own_folder(rt, alloc)?;
+    let mut asked = Asked::new(rt, alloc, home)?;
+    if !asked.is_there(rt, alloc, limits)? {
+        let program = match set_up(rt, alloc, asked.folder.as_str(), stand_in.as_deref())? {
+            SetUp::By(program) => Some(program),
+            SetUp::Marked => stand_in,
+            SetUp::No => {
+                let home = own_agent(rt, alloc, asked.folder.as_str(), own, stand_in, limits)?;
+                return Ok(Found { home, beside: None });
+            }
+        };
+        asked.start(rt, alloc, program, limits)?;
+    }
+    let beside = running_own(rt, alloc, asked.folder.as_str(), own)?;
+    Ok(Found {
+        home: asked,
+        beside,
+    })
+}
+
+/// The agent of the folder of its own, where it runs and isn't that of the GnuPG home.
+fn running_own<R: Env + Files<File = File> + Net>(
+    rt: &R,
+    alloc: Global,
+    home: &str,
+    own: Option<String>,
+) -> Result<Option<Asked>, Failure> {
+    let Some(own) = own else {
+        return Ok(None);
+    };
+    let socket = home_socket(alloc, own.as_str())?;
+    if own.as_str() == home || !is_socket(rt, socket.as_str()) {
+        return Ok(None);
+    }
+    let mut asked = Asked::new(rt, alloc, own)?;
+    Ok(if asked.is_reached(rt, alloc)? {
+        Some(asked)
+    } else {
+        None
+    })
+}
+
+fn is_socket(files: &impl Files, path: &str) -> bool {
+    fs::metadata(files, path).is_ok_and(|found| found.file_type().is_socket())
+}
+
+/// The agent of the folder of its own, in which no other program looks for one. It is started where
+/// none answers, and who makes the folder says so.
+fn own_agent<R: Clock + Env + Processes + Files<File = File> + Net + Eprint>(
+    rt: &R,
+    alloc: Global,
+    home: &str,
+    own: Option<String>,
+    stand_in: Option<String>,
+    limits: Limits,
+) -> Result<Asked, Failure> {
+    let Some(own) = own else {
+        return Err(said(format!(in alloc;
+            "no agent answers for {home}, which isn't set up for ours, and HOME names no place for a folder of its own: name one by --homedir"
+        )));
+    };
+    let mut asked = Asked::new(rt, alloc, own)?;
+    if asked.is_there(rt, alloc, limits)? {
+        return Ok(asked);
+    }
+    if stand_in.is_none() {
+        return Err(not_installed(alloc, home));
+    }
+    let own = asked.folder.as_str();
+    if make_own(rt, alloc, own, home)? {
+        // Where that can't be written nobody is to be told.
+        let _ = eprintln!(rt;
+            "passphrase: no agent answers for {home}, which isn't set up for ours: made {own}, in which it is started"
+        );
+    }
+    asked.start(rt, alloc, stand_in, limits)?;
+    Ok(asked)
+}
+
+fn not_installed(alloc: Global, folder: &str) -> Failure {
+    said(format!(in alloc; "no agent answers for {folder}, and its program isn't installed"))
+}
+
+fn not_started(alloc: Global, folder: &str) -> Failure {
+    said(format!(in alloc;
+        "no agent answers for {folder}, and none could be started (agent.log there may say why)"
+    ))
+}
+
+impl Asked {
+    /// The agent of this folder, to which no connection was made.
+    fn new<R: Env + Files<File = File>>(
+        rt: &R,
+        alloc: Global,
+        folder: String,
+    ) -> Result<Self, AllocError> {
+        let paths = socket_paths(rt, alloc, folder.as_str())?;
+        Ok(Asked {
+            folder,
+            paths,
+            open: None,
+        })
+    }
+
+    /// Whether an agent answers. One that is there and has no answer is a failure: none is started
+    /// in its place.
+    fn is_there<R: Clock + Env + Processes + Files<File = File> + Net>(
+        &mut self,
+        rt: &R,
+        alloc: Global,
+        limits: Limits,
+    ) -> Result<bool, Failure> {
+        let Some(mut stream) = reach(rt, alloc, self.paths.as_slice())? else {
+            return Ok(false);
+        };
+        match greet(rt, &mut stream, Deadline::in_seconds(rt, limits.answer)) {
+            Greeting::Agent(ahead) => {
+                self.open = Some(Opened { stream, ahead });
+                Ok(true)
+            }
+            Greeting::Other => Ok(false),
+            Greeting::Silent => Err(silence(rt, alloc, self.folder.as_str(), limits.answer)),
+        }
+    }
+
+    /// Whether somebody listens there. That one may hang.
+    fn is_reached<R: Env + Files<File = File> + Net>(
+        &mut self,
+        rt: &R,
+        alloc: Global,
+    ) -> Result<bool, Failure> {
+        let Some(stream) = reach(rt, alloc, self.paths.as_slice())? else {
+            return Ok(false);
+        };
+        let ahead = Ahead::new();
+        self.open = Some(Opened { stream, ahead });
+        Ok(true)
+    }
+
+    /// Has this program start an agent, which answers then.
+    fn start<R: Clock + Env + Processes + Files<File = File> + Net>(
+        &mut self,
+        rt: &R,
+        alloc: Global,
+        program: Option<String>,
+        limits: Limits,
+    ) -> Result<(), Failure> {
+        let Some(program) = program else {
+            return Err(not_installed(alloc, self.folder.as_str()));
+        };
+        let socket = home_socket(alloc, self.folder.as_str())?;
+        if socket.len() > MAX_PATH {
+            return Err(too_long(alloc, socket.as_str()));
+        }
+        if start(rt, alloc, program.as_str(), self.folder.as_str())?
+            && self.is_there(rt, alloc, limits)?
+        {
+            return Ok(());
+        }
+        Err(not_started(alloc, self.folder.as_str()))
+    }
+
+    /// The connection that was made already, or else a new one.
+    pub(crate) fn opened<R: Env + Files<File = File> + Net>(
+        &mut self,
+        rt: &R,
+        alloc: Global,
+    ) -> Result<Opened, Failure> {
+        if let Some(opened) = self.open.take() {
+            return Ok(opened);
+        }
+        match reach(rt, alloc, self.paths.as_slice())? {
+            Some(stream) => Ok(Opened {
+                stream,
+                ahead: Ahead::new(),
+            }),
+            None => {
+                let folder = self.folder.as_str();
+                Err(said(format!(in alloc; "no agent answers for {folder}")))
+            }
+        }
+    }
+}

@@ -1,0 +1,198 @@
+ghost use Rattle.std.specs.Prelude.{◌≡◌, ◌≤◌, None, string_bytes};
+ghost use Rattle.agent_ports.specs.Counts.{Rose};
+ghost use Rattle.session_options.specs.OptionValues.{words_of};
+
+use crate::asked::{Asked, Found, Opened, find_agents};
+use crate::failure::{Failure, said};
+use crate::guard::Guard;
+use crate::link::AgentLink;
+use crate::patience::Limits;
+use crate::starting::silence;
+use crate::terminal::environment_of;
+use crate::wire::WireLoss;
+use passphrase_talk::{Agents, Connector, Place, Unmet, Waits};
+use session_options::Env;
+use std::alloc::{AllocError, Global};
+use std::fs::{File, Files};
+use std::net::Net;
+use std::process::Processes;
+use std::rt;
+
+/// The agents of this machine, by their sockets: GnuPG's own or those of this repository.
+///
+/// Where none answers it starts one by gpg-agent's stand-in: in the folder that the user names, in
+/// the GnuPG home where that was set up for it, and else in a folder of its own. Beside a prompt a
+/// guard is left, which ends that where this program ends or is stopped.
+#[derive(Drop)]
+pub struct SystemConnector<'a, R: Processes> {
+    rt: &'a R,
+    alloc: Global,
+    env: Env,
+    limits: Limits,
+    home: Option<Asked>,
+    beside: Option<Asked>,
+    guard: Option<Guard<R::Started>>,
+    reason: String,
+    faults: u64,
+}
+
+impl<'a, R: rt::Clock + rt::Env + Processes + Files<File = File> + Net + Eprint> SystemConnector<
+    'a,
+    R,
+> {
+    /// A connector that has found no agent yet, at the terminal that the environment says.
+    pub fn new(rt: &'a R, alloc: Global) -> Result<Self, AllocError> {
+        Ok(SystemConnector {
+            rt,
+            alloc,
+            env: environment_of(rt, alloc)?,
+            limits: Limits::new(None),
+            home: None,
+            beside: None,
+            guard: None,
+            reason: String::new(alloc),
+            faults: 0,
+        })
+    }
+}
+
+impl<'a, R: rt::Clock + rt::Env + Processes + Files<File = File> + Net + Eprint> Connector
+    for SystemConnector<'a, R> {
+    type Link = AgentLink<'a, R>;
+
+    ghost contacts = { λ c. record {
+      coming = None;
+      sought = None;
+      opened = None;
+      met = None;
+      faults = c.faults;
+    } };
+
+    ghost terminal = { λ c. words_of c.env };
+
+    ghost reason = { λ c. string_bytes c.reason };
+
+    fn find(&mut self, folder: Option<&str>, seconds: Option<u32>) -> Result<Agents, Unmet> {
+        self.limits = Limits::new(seconds);
+        match find_agents(self.rt, self.alloc, folder, self.limits) {
+            Ok(Found { home, beside }) => {
+                let agents = if beside.is_some() {
+                    Agents::Both
+                } else {
+                    Agents::One
+                };
+                self.home = Some(home);
+                self.beside = beside;
+                Ok(agents)
+            }
+            Err(failure) => Err(self.fail(failure)),
+        }
+    }
+
+    fn connect(&mut self, place: Place, waits: Waits) -> Result<AgentLink<'a, R>, Unmet> {
+        let seconds = match waits {
+            Waits::Answer => self.limits.answer,
+            Waits::Prompt => self.limits.prompt,
+        };
+        match self.opened(place) {
+            Ok(Opened { stream, ahead }) => {
+                let prompts = waits == Waits::Prompt;
+                Ok(AgentLink::new(self.rt, stream, ahead, seconds, prompts))
+            }
+            Err(failure) => Err(self.fail(failure)),
+        }
+    }
+
+    fn leave(&mut self, place: Place, link: AgentLink<'a, R>) {
+        let (reads, writes) = link.faults();
+        self.faults = self.faults.saturating_add(reads).saturating_add(writes);
+        if let Some(guard) = self.guard.take() {
+            guard.end();
+        }
+        if let Some(reason) = self.why_lost(place, &link) {
+            self.reason = reason;
+        }
+        drop(link);
+    }
+
+    fn terminal(&self) -> &Env {
+        &self.env
+    }
+
+    fn reason(&self) -> &str {
+        self.reason.as_str()
+    }
+
+    fn launched(&mut self, text: &[u8]) {
+        if let Some(guard) = self.guard.take() {
+            guard.end();
+        }
+        self.guard = Guard::of_pinentry(self.rt, self.alloc, text, self.env.ttyname.as_slice());
+    }
+}
+
+impl<R: rt::Clock + rt::Env + Processes + Files<File = File> + Net + Eprint> SystemConnector<
+    '_,
+    R,
+> {
+    /// Notes why a call failed.
+    fn fail(&mut self, failure: Failure) -> Unmet
+        ensures failed { result ≡ Unmet.Fault → Rose self.old.faults self.new.faults }
+        ensures faults { self.old.faults ≤ self.new.faults }
+        ensures env { self.new.env ≡ self.old.env }
+    {
+        match failure {
+            Failure::NoMemory => Unmet::NoMemory,
+            Failure::Said(reason) => {
+                self.reason = reason;
+                self.faults = self.faults.saturating_add(1);
+                Unmet::Fault
+            }
+        }
+    }
+
+    /// A connection to the agent at this place.
+    fn opened(&mut self, place: Place) -> Result<Opened, Failure>
+        ensures { (self.new.faults ≡ self.old.faults) × (self.new.env ≡ self.old.env) }
+    {
+        let (rt, alloc) = (self.rt, self.alloc);
+        match place {
+            Place::Home => opened_of(rt, alloc, &mut self.home),
+            Place::Beside => opened_of(rt, alloc, &mut self.beside),
+        }
+    }
+
+    /// Why the agent's answer is missing, where the link ended or its time was over.
+    fn why_lost(&self, place: Place, link: &AgentLink<'_, R>) -> Option<String> {
+        match link.loss()? {
+            WireLoss::Ended => String::from_str(self.alloc, "the agent ended the connection").ok(),
+            WireLoss::Late(seconds) => {
+                format!(in self.alloc; "no answer within {seconds} seconds").ok()
+            }
+            WireLoss::Silent(seconds) => self.why_silent(place, seconds),
+        }
+    }
+
+    fn why_silent(&self, place: Place, seconds: u32) -> Option<String> {
+        let asked = match place {
+            Place::Home => self.home.as_ref()?,
+            Place::Beside => self.beside.as_ref()?,
+        };
+        match silence(self.rt, self.alloc, asked.folder.as_str(), seconds) {
+            Failure::Said(reason) => Some(reason),
+            Failure::NoMemory => None,
+        }
+    }
+}
+
+/// A connection to an agent that was found.
+fn opened_of<R: rt::Env + Files<File = File> + Net>(
+    rt: &R,
+    alloc: Global,
+    asked: &mut Option<Asked>,
+) -> Result<Opened, Failure> {
+    match asked {
+        Some(asked) => asked.opened(rt, alloc),
+        None => Err(said(format!(in alloc; "no agent was found"))),
+    }
+}

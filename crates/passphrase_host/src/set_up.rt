@@ -1,0 +1,290 @@
+//! Whether an agent of this repository is to answer for a folder, and by which program it is
+//! started: `gpg-agent`'s stand-in, which is a script. Begin with `starter`.
+
+use crate::failure::if_there;
+use crate::folders::joined;
+use std::alloc::{AllocError, Global};
+use std::fs::{File, Files};
+use std::io::Read;
+use std::os::unix::fs::PermissionsExt;
+use std::{fs, io, str};
+
+/// What a line of `gpg-agent.conf` begins with in a folder that is for this agent alone.
+pub(crate) const MARK: &str = "# dogwoodcatch: this folder is for its agent";
+
+/// GnuPG's options for all users, which are read before those of a folder.
+const GPG_CONF_OF_ALL: &str = "/etc/gnupg/gpg.conf";
+
+/// Where the package puts its programs.
+const INSTALLED: [&str; 2] = ["/usr/local/lib/dogwoodcatch", "/usr/lib/dogwoodcatch"];
+
+/// What the stand-in's path ends with where it is installed.
+const INSTALLED_NAME: &str = "/dogwoodcatch/gpg-agent";
+
+/// The bits of a mode by which a file may be run.
+const MAY_RUN: u32 = 0o111;
+
+/// Whether this is the stand-in, as far as can be seen: GnuPG's own program of its name is no
+/// script.
+fn is_script<R: Files<File = File>>(rt: &R, path: &str) -> bool {
+    may_run(rt, path) && begins_as_script(rt, path).unwrap_or(false)
+}
+
+fn may_run(files: &impl Files, path: &str) -> bool {
+    match fs::metadata(files, path) {
+        Ok(found) => found.is_file() && found.permissions().mode() & MAY_RUN != 0,
+        Err(_) => false,
+    }
+}
+
+fn begins_as_script<R: Files<File = File>>(rt: &R, path: &str) -> io::Result<bool> {
+    let mut front = [0u8; 2];
+    File::open(rt, path)?.read(&mut front)?;
+    Ok(front == *b"#!")
+}
+
+/// The folder of this program.
+pub(crate) fn program_folder<R: Files>(
+    rt: &R,
+    alloc: Global,
+) -> Result<Option<String>, AllocError> {
+    let Some(program) = if_there(fs::read_link(&(rt, alloc), "/proc/self/exe"))? else {
+        return Ok(None);
+    };
+    match program.as_str().rsplit_once('/') {
+        Some((folder, _)) => Ok(Some(String::from_str(alloc, folder)?)),
+        None => Ok(None),
+    }
+}
+
+/// The stand-in: beside this program, or where the package puts it.
+pub(crate) fn stand_in<R: Files<File = File>>(
+    rt: &R,
+    alloc: Global,
+) -> Result<Option<String>, AllocError> {
+    if let Some(folder) = program_folder(rt, alloc)? {
+        if let Some(path) = script_in(rt, alloc, folder.as_str())? {
+            return Ok(Some(path));
+        }
+    }
+    for folder in INSTALLED {
+        if let Some(path) = script_in(rt, alloc, folder)? {
+            return Ok(Some(path));
+        }
+    }
+    Ok(None)
+}
+
+fn script_in<R: Files<File = File>>(
+    rt: &R,
+    alloc: Global,
+    folder: &str,
+) -> Result<Option<String>, AllocError> {
+    let path = joined(alloc, folder, "gpg-agent")?;
+    Ok(if is_script(rt, path.as_str()) {
+        Some(path)
+    } else {
+        None
+    })
+}
+
+/// How a folder stands to the agent of this repository.
+#[derive(Drop)]
+pub(crate) enum SetUp {
+    /// GnuPG's programs start this program there, which is the stand-in.
+    By(String),
+    /// It has the mark.
+    Marked,
+    /// It isn't this agent's.
+    No,
+}
+
+/// Whether the agent of the folder is to be ours: GnuPG's programs start the stand-in there, or the
+/// folder has the mark.
+pub(crate) fn set_up<R: Files<File = File>>(
+    rt: &R,
+    alloc: Global,
+    folder: &str,
+    stand_in: Option<&str>,
+) -> Result<SetUp, AllocError> {
+    if let Some(program) = agent_program(rt, alloc, folder)? {
+        if is_stand_in(rt, alloc, program.as_str(), stand_in)? {
+            return Ok(SetUp::By(program));
+        }
+    }
+    let conf = joined(alloc, folder, "gpg-agent.conf")?;
+    Ok(match if_there(fs::read(&(rt, alloc), conf.as_str()))? {
+        Some(bytes) if has_mark(bytes.as_slice()) => SetUp::Marked,
+        _ => SetUp::No,
+    })
+}
+
+fn has_mark(conf: &[u8]) -> bool {
+    conf.split(|byte| *byte == b'\n')
+        .any(|line| line.starts_with(MARK.as_bytes()))
+}
+
+/// Whether this program is the stand-in: this one, or that of another place where it is installed.
+fn is_stand_in<R: Files<File = File>>(
+    rt: &R,
+    alloc: Global,
+    program: &str,
+    stand_in: Option<&str>,
+) -> Result<bool, AllocError> {
+    if !is_script(rt, program) {
+        return Ok(false);
+    }
+    let Some(found) = if_there(fs::canonicalize(&(rt, alloc), program))? else {
+        return Ok(false);
+    };
+    if found.as_str().ends_with(INSTALLED_NAME) {
+        return Ok(true);
+    }
+    let Some(stand_in) = stand_in else {
+        return Ok(false);
+    };
+    Ok(match if_there(fs::canonicalize(&(rt, alloc), stand_in))? {
+        Some(wanted) => wanted.as_str() == found.as_str(),
+        None => false,
+    })
+}
+
+/// The program that GnuPG's programs start as the agent of this folder: the last line counts, and
+/// the file of all users is read first (GnuPG manual, `--agent-program`).
+fn agent_program<R: Files>(
+    rt: &R,
+    alloc: Global,
+    folder: &str,
+) -> Result<Option<String>, AllocError> {
+    let conf = joined(alloc, folder, "gpg.conf")?;
+    match program_of(rt, alloc, conf.as_str())? {
+        Some(program) => Ok(Some(program)),
+        None => program_of(rt, alloc, GPG_CONF_OF_ALL),
+    }
+}
+
+fn program_of<R: Files>(rt: &R, alloc: Global, conf: &str) -> Result<Option<String>, AllocError> {
+    match if_there(fs::read(&(rt, alloc), conf))? {
+        Some(bytes) => last_program(alloc, bytes.as_slice()),
+        None => Ok(None),
+    }
+}
+
+fn last_program(alloc: Global, conf: &[u8]) -> Result<Option<String>, AllocError> {
+    let mut last = None;
+    for line in conf.split(|byte| *byte == b'\n') {
+        if let Some(program) = program_in(line) {
+            last = Some(program);
+        }
+    }
+    match last {
+        Some(program) => unquoted(alloc, program),
+        None => Ok(None),
+    }
+}
+
+/// What a line has behind `agent-program`, where it says that.
+fn program_in(line: &[u8]) -> Option<&str> {
+    let line = str::from_utf8(line).ok()?.trim_start_matches(is_blank);
+    let rest = line
+        .strip_prefix("--")
+        .unwrap_or(line)
+        .strip_prefix("agent-program")?;
+    let program = rest.trim_start_matches(is_blank_or_equals);
+    if program.len() == rest.len() {
+        None
+    } else {
+        Some(program)
+    }
+}
+
+fn is_blank(letter: char) -> bool {
+    letter == ' ' || letter == '\t'
+}
+
+fn is_blank_or_equals(letter: char) -> bool {
+    is_blank(letter) || letter == '='
+}
+
+/// The value without quotes, carriage returns and blanks at its end; none is no program.
+fn unquoted(alloc: Global, value: &str) -> Result<Option<String>, AllocError> {
+    let mut program = String::new(alloc);
+    for letter in value.chars() {
+        if letter != '"' && letter != '\r' {
+            program.push(letter)?;
+        }
+    }
+    let program = String::from_str(alloc, program.trim_end_matches(is_blank))?;
+    Ok(if program.is_empty() {
+        None
+    } else {
+        Some(program)
+    })
+}
+
+/// Whether secret keys are kept in the folder, for which GnuPG's own agent is wanted.
+pub(crate) fn has_keys<R: Files>(rt: &R, alloc: Global, folder: &str) -> Result<bool, AllocError> {
+    let keys = joined(alloc, folder, "private-keys-v1.d")?;
+    let Some(entries) = if_there(fs::read_dir(&(rt, alloc), keys.as_str()))? else {
+        return Ok(false);
+    };
+    for entry in entries {
+        if entry.is_ok_and(|entry| entry.file_name().ends_with(".key")) {
+            return Ok(true);
+        }
+    }
+    Ok(false)
+}
+
+#[cfg(test)]
+mod tests {
+    use super::*;
+    use std::test::Fail;
+
+    #[test]
+    fn the_last_agent_program_counts(rt: HostRuntime) -> Result<(), Fail> {
+        for (conf, wanted) in [
+            (b"agent-program /a/gpg-agent\n".as_slice(), "/a/gpg-agent"),
+            (
+                b"\t--agent-program = \"/b c/gpg-agent\" \r\n",
+                "/b c/gpg-agent",
+            ),
+            (b"agent-program=/d", "/d"),
+            (
+                b"agent-program /a\n# agent-program /none\nagent-program /c\nbatch\n",
+                "/c",
+            ),
+            (b"agent-programs /a\nno-agent-program /b\n", ""),
+            (b"agent-program\n", ""),
+            (b"agent-program \"\"\n", ""),
+            (b"agent-program \xff\n", ""),
+            (b"", ""),
+        ] {
+            let program = last_program(rt.alloc(), conf)?;
+            assert_eq!(rt;
+                program.as_ref().map_or("", |program| program.as_str()),
+                wanted
+            );
+        }
+        Ok(())
+    }
+
+    #[test]
+    fn the_mark_begins_a_line(rt: HostRuntime) {
+        for (conf, wanted) in [
+            (
+                b"# dogwoodcatch: this folder is for its agent\n".as_slice(),
+                true,
+            ),
+            (
+                b"batch\n# dogwoodcatch: this folder is for its agent, which has\n",
+                true,
+            ),
+            (b"\n # dogwoodcatch: this folder is for its agent\n", false),
+            (b"# dogwoodcatch: this folder", false),
+            (b"", false),
+        ] {
+            assert_eq!(rt; has_mark(conf), wanted);
+        }
+    }
+}
