@@ -1,4 +1,4 @@
-"""A home folder with the installed scripts and a pinentry without a user, which answers by a file, for the scripts that try `passphrase`."""
+"""A home folder with what is installed and a pinentry without a user, which answers by a file, for the scripts that try `passphrase`."""
 import os
 import pathlib
 import shutil
@@ -11,10 +11,13 @@ SCRIPTS = pathlib.Path(__file__).resolve().parent.parent / "daemon"
 # How many seconds a program has.
 LIMIT = 300
 
+# What a passphrase may have that is given by a line.
+EVERY = bytes(byte for byte in range(1, 256) if byte != 10)
+
 # It answers GETPIN by the next line of the file `answers`, escaped as a data line is: none, or `-`, is a cancel, `timeout` is one,
 # and `wait` stays until it is ended, each after the seconds of the file `delay`. It tells each prompt in a file: the terminal that it was named, and what the user reads.
 PINENTRY = """#!/usr/bin/env python3
-import pathlib, sys, time, urllib.parse
+import os, pathlib, sys, time, urllib.parse
 folder, tty, description, prompt = pathlib.Path(__file__).parent, "", "", ""
 print("OK", flush=True)
 for line in sys.stdin.buffer:
@@ -26,6 +29,8 @@ for line in sys.stdin.buffer:
         description = rest
     elif command == "SETPROMPT":
         prompt = rest
+    elif line == "GETINFO pid":
+        print(f"D {os.getpid()}", flush=True)
     elif command == "SETREPEAT":
         # The agent asks twice then.
         print("ERR 536871187 Unknown IPC command", flush=True)
@@ -62,17 +67,26 @@ def as_bytes(environment):
     return {(name.encode() if isinstance(name, str) else name): (value.encode() if isinstance(value, str) else value) for name, value in environment.items()}
 
 
+def install(passphrase, folder):
+    """Puts the program into a folder as it is installed, with its mode and by both names."""
+    shutil.copy(passphrase, folder / "passphrase_program")
+    (folder / "passphrase_program").chmod(0o711)
+    for name in ("passphrase", "passphrase-askpass"):
+        (folder / name).symlink_to("passphrase_program")
+
+
 class ScriptedHome:
     """`passphrase`, the stand-in and the agent side by side, as they are installed, and a home folder that is set up for them."""
 
-    def __init__(self, agent, place, conf=()):
+    def __init__(self, agent, passphrase, place, conf=()):
         self.place, self.failed, self.installed, self.home = place, False, place / "installed", place / "home"
         self.files, self.asked = place / "files", place / "pinentry"
         for folder in (self.installed, self.home, self.files, self.asked):
             folder.mkdir(mode=0o700)
-        for name in ("gpg-agent", "gpg-agent-options", "passphrase"):
+        for name in ("gpg-agent", "gpg-agent-options"):
             shutil.copy(SCRIPTS / name, self.installed / name)
         (self.installed / "agent_program").symlink_to(agent)
+        install(passphrase, self.installed)
         pinentry = self.asked / "program"
         pinentry.write_text(PINENTRY)
         pinentry.chmod(0o755)
@@ -97,7 +111,8 @@ class ScriptedHome:
 
     def run(self, *words, data=b"", environment=None, **more):
         """Runs a program that no terminal has. What it did, its texts as bytes."""
-        return subprocess.run([str(word) for word in words], cwd=self.files, input=data, capture_output=True, timeout=LIMIT, start_new_session=True,
+        words = [word if isinstance(word, bytes) else str(word) for word in words]
+        return subprocess.run(words, cwd=self.files, input=data, capture_output=True, timeout=LIMIT, start_new_session=True,
                               env=as_bytes({**self.environment, **(environment or {})}), check=False, **more)
 
     def shown(self, *words, hides=(), **more):
