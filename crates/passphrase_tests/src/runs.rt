@@ -83,8 +83,11 @@ fn planned(alloc: Global, row: &Row, piece: usize) -> Result<Vec<PlannedLink>, A
     Ok(links)
 }
 
-/// What the last agent was written.
-fn last_written(connector: &MemConnector) -> &[u8] {
+/// What the last agent was written, where the row looks at it.
+fn last_written<'a>(row: &Row, connector: &'a MemConnector) -> &'a [u8] {
+    if row.sent.is_empty() {
+        return b"";
+    }
     match connector.contact(0) {
         Some(contact) => contact.written(),
         None => b"",
@@ -103,8 +106,11 @@ fn come_out(alloc: Global, row: &Row, piece: usize) -> Result<String, AllocError
     let mut connector = MemConnector::new(alloc, row.agents, no_terminal(), links, failing);
     let bytes = Vec::from_slice(alloc, row.input.as_bytes())?;
     let mut input = MemSource::new(bytes, piece, Vec::new(alloc));
-    let cuts: &[u64] = if row.is_cut { &[0] } else { &[] };
-    let mut output = MemSink::new(alloc, 1, Vec::from_slice(alloc, cuts)?);
+    let mut cuts = Vec::new(alloc);
+    if row.is_cut {
+        cuts.push(0)?;
+    }
+    let mut output = MemSink::new(alloc, 1, cuts);
     let mut errors = MemSink::new(alloc, 0, Vec::new(alloc));
     let (to, from) = (&mut connector, &mut input);
     let status = if row.is_askpass {
@@ -112,11 +118,7 @@ fn come_out(alloc: Global, row: &Row, piece: usize) -> Result<String, AllocError
     } else {
         run_passphrase(alloc, &words, to, from, &mut output, &mut errors)
     };
-    let sent = if row.sent.is_empty() {
-        b""
-    } else {
-        last_written(&connector)
-    };
+    let sent = last_written(row, &connector);
     format!(in alloc;
         "{status}/{}/{}/{}",
         String::from_utf8_lossy(alloc, output.written())?,
