@@ -79,7 +79,7 @@ fn main(rt: HostRuntime) -> ExitCode {
 }
 
 fn run(rt: &HostRuntime, streams: &Streams) -> Result<u8, Refusal> {
-    let called = called(rt)?;
+    let called = call_of(rt)?;
     refuse_surroundings(rt, &called, streams)?;
     let alloc = rt.alloc();
     let mut connector = SystemConnector::new(rt, alloc).map_err(|_| Refusal::NoMemory)?;
@@ -108,7 +108,7 @@ fn run(rt: &HostRuntime, streams: &Streams) -> Result<u8, Refusal> {
     })
 }
 
-fn called(rt: &HostRuntime) -> Result<Called, Refusal> {
+fn call_of(rt: &HostRuntime) -> Result<Called, Refusal> {
     let all = env::args(rt).map_err(|fault| match fault.kind() {
         ErrorKind::OutOfMemory => Refusal::NoMemory,
         _ => Refusal::Words,

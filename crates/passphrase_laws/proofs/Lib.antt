@@ -1,0 +1,12 @@
+pub mod Walking
+pub mod Finding
+pub mod Pieces
+pub mod ErrorRows
+pub mod Replying
+pub mod ReadAs
+pub mod Telling
+pub mod Noting
+pub mod NoteLines
+pub mod Texts
+pub mod Hearing
+pub mod Dialogue

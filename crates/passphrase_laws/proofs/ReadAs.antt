@@ -1,0 +1,20 @@
+-- What the agent writes is read as it was meant.
+use Rattle.std.proofs.Common.{ℕ, List}
+use Rattle.assuan_client.specs.Answers.{success_of}
+use Rattle.assuan_client.specs.declared.answer.Answer.TheVariants as answer
+use Rattle.assuan_server.specs.Errors.{error_text, error_number}
+use Rattle.assuan_server.specs.Written.{IsDataAnswer}
+use Rattle.assuan_server.specs.declared.errors.Origin.{Origin}
+use Rattle.assuan_text.specs.LineEnds.{line_of}
+use Rattle.session_client.specs.declared.code.Code.{Code}
+use Rattle.passphrase_laws.specs.Readings.{IsSecret, IsReadAs}
+use Rattle.passphrase_laws.proofs.Finding.{finds}
+use Rattle.passphrase_laws.proofs.Replying.{data_comes, error_comes}
+
+pub passphrase_read : (secret text : List ℕ) → IsSecret secret → IsDataAnswer secret text → IsReadAs text (success_of secret)
+passphrase_read secret text is answers behind tally found before after begun comes read =
+    finds tally text _ (data_comes tally secret text begun is.bytes is.short answers) behind before after found comes.within read comes.next
+
+pub error_read : (why : Code) (origin : Origin) → IsReadAs (line_of (error_text why origin)) (answer.Err (error_number why origin))
+error_read why origin behind tally found before after begun comes read =
+    finds tally _ _ (error_comes tally why origin) behind before after found comes.within read comes.next

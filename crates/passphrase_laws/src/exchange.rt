@@ -1,0 +1,18 @@
+ghost use Rattle.agent_commands.specs.Exchanges.{LineExchange};
+ghost use Rattle.agent_commands.specs.Parts.{CacheEvent};
+ghost use Rattle.agent_commands.specs.Requests.{GetFields, get_passphrase, request_of};
+ghost use Rattle.agent_commands.specs.declared.request.Request.TheVariants.{Cache};
+ghost use Rattle.agent_commands.specs.declared.went.Went.{Went};
+ghost use Rattle.passphrase_laws.specs.Exchanges.{IsTold};
+ghost use Rattle.session_options.specs.OptionValues.{OptionValues};
+ghost use Rattle.session_options.specs.declared.rules.Rules.{Rules};
+ghost use Rattle.std.specs.Prelude.{List, true, ◌≡◌, ℕ};
+
+/// The exchange of a request with `--data` ends by a line that its client reads as the passphrase
+/// that the request came by, or as the error by which it was refused.
+pub fn a_request_for_a_passphrase_is_answered_so()
+    ensures { (rules : Rules) (values after : OptionValues) (fields : GetFields) (line : List ℕ)
+        (events : List CacheEvent) (went : Went) → LineExchange rules values line events after went
+        → request_of line ≡ Cache (get_passphrase fields) → fields.plain ≡ true
+        → IsTold rules values fields events }
+{}

@@ -1,0 +1,41 @@
+ghost use Rattle.agent_commands.specs.Exchanges.{LineExchange};
+ghost use Rattle.agent_commands.specs.Parts.{CacheEvent};
+ghost use Rattle.agent_commands.specs.Requests.{GetFields, get_passphrase, request_of};
+ghost use Rattle.agent_commands.specs.declared.request.Request.TheVariants.{Cache};
+ghost use Rattle.agent_commands.specs.declared.went.Went.{Went};
+ghost use Rattle.passphrase_laws.specs.Roads.{AreReplies, IsWhole, Reaches, session_text};
+ghost use Rattle.passphrase_talk.specs.Dialogues.{told_of};
+ghost use Rattle.passphrase_talk.specs.Turns.{Turn};
+ghost use Rattle.passphrase_talk.specs.Visits.{Talk};
+ghost use Rattle.passphrase_talk.specs.declared.visits.TheConstants.{BUDGET};
+ghost use Rattle.session_options.specs.OptionValues.{OptionValues};
+ghost use Rattle.session_options.specs.declared.options.PinMode.TheVariants.{Loopback};
+ghost use Rattle.session_options.specs.declared.rules.Rules.{Rules};
+ghost use Rattle.std.specs.List.{AllByRecursion};
+ghost use Rattle.std.specs.Prelude.{
+  List,
+  Option,
+  Some,
+  length,
+  true,
+  ◌++◌,
+  ◌≡◌,
+  ◌≢◌,
+  ◌≤◌,
+  ℕ,
+};
+
+/// A client that asks this agent for a passphrase is told what the request came to: the passphrase
+/// that its exchange came by, or the error by which it was refused, unless its link failed. A note
+/// of a launched pinentry in between is answered by END. What comes behind is left.
+pub fn a_request_for_a_passphrase_is_told_it()
+    ensures { (rules : Rules) (values after : OptionValues) (fields : GetFields)
+        (line replies behind : List ℕ) (events : List CacheEvent) (went : Went)
+        (options : List (List ℕ)) (turns : List Turn) (left written : Option (List ℕ))
+        → LineExchange rules values line events after went
+        → request_of line ≡ Cache (get_passphrase fields) → fields.plain ≡ true
+        → values.mode ≢ Loopback → AllByRecursion IsWhole events → AreReplies options replies
+        → length (session_text replies events) ≤ BUDGET
+        → Talk options line turns (Some (session_text replies events ++ behind)) left written
+        → Reaches rules values fields events (told_of turns) }
+{}
