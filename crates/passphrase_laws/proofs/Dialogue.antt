@@ -1,16 +1,13 @@
 -- A dialogue with a session, from its greeting to what is told of it.
 use Rattle.std.specs.List.{AllByRecursion}
-use Rattle.std.proofs.Common.{◌≡◌, ◌≢◌, ℕ, ◌+◌, ◌<◌, ◌≤◌, Bool, true, false, List, [], ◌∷◌, ◌++◌, length, Option, Some, None, Result, Ok, Err, refl, ap, sym, subst, ◌∙◌, arith, append_assoc, append-nil, length-append}
+use Rattle.std.proofs.Common.{◌≡◌, ℕ, ◌≤◌, Bool, false, List, [], ◌∷◌, ◌++◌, length, Option, Some, None, Result, Ok, Err, refl, ap, sym, subst, ◌∙◌, arith, append_assoc, append-nil}
 use Rattle.std.proofs.lemmas.Bool.{false≢true}
 use Rattle.std.proofs.lemmas.List.Concat.{flat_map-append}
 use Rattle.agent_ask.specs.SessionEvents.{Sent, said_last}
 use Rattle.agent_commands.specs.Parts.{CacheEvent}
-use Rattle.agent_commands.specs.Requests.{GetFields}
 use Rattle.agent_ports.specs.Sides.{followed_by}
-use Rattle.assuan_client.specs.Answers.{ReadOn}
 use Rattle.assuan_client.specs.Connections.{Connection}
-use Rattle.assuan_client.specs.Skipping.{Tally, nothing}
-use Rattle.assuan_client.specs.Writing.{Command}
+use Rattle.assuan_client.specs.Skipping.{nothing}
 use Rattle.assuan_client.specs.declared.answer.Answer.{Answer}
 use Rattle.assuan_client.specs.declared.answer.Answer.TheVariants as answer
 use Rattle.assuan_line.specs.Next.{Reader, held}
@@ -23,16 +20,12 @@ use Rattle.passphrase_talk.specs.Visits.{Talk}
 use Rattle.passphrase_talk.specs.declared.told.Told.{Told}
 use Rattle.passphrase_talk.specs.declared.visits.TheConstants.{BUDGET}
 use Rattle.session_client.specs.declared.refusal.Refusal.{Refusal}
-use Rattle.session_options.specs.OptionValues.{OptionValues}
-use Rattle.session_options.specs.declared.rules.Rules.{Rules}
-use Rattle.passphrase_laws.specs.Exchanges.{TellsLast, gone, IsSilent, Notes, IsTold, texts_of, text_of}
-use Rattle.passphrase_laws.specs.Exchanges as exchanges
-use Rattle.passphrase_laws.specs.Readings.{unread, Comes, Finds, found, failed}
+use Rattle.passphrase_laws.specs.Exchanges.{TellsLast, gone, IsSilent, Notes, texts_of, text_of}
+use Rattle.passphrase_laws.specs.Readings.{Comes}
 use Rattle.passphrase_laws.specs.Roads.{IsWhole, IfSecret, AreReplies, session_text, Hears}
 use Rattle.passphrase_laws.specs.Roads as road
 use Rattle.passphrase_laws.proofs.Finding.{ComesTo, is_found}
 use Rattle.passphrase_laws.proofs.Hearing.{Takes, takes, no_read, no_write, by_finds, begun, command_takes, front, rest, IsLast, last_is, requested_hears}
-use Rattle.passphrase_laws.proofs.Noting.{turn_closes}
 use Rattle.passphrase_laws.proofs.Replying.{error_comes, ok_comes, greeting_comes}
 use Rattle.passphrase_laws.proofs.Texts.{silent_texts, whole_front}
 

@@ -1,5 +1,5 @@
 -- Each error line of an agent, as a client reads it.
-use Rattle.std.proofs.Common.{◌≡◌, ◌≤◌, ℕ, List, length, refl, arith}
+use Rattle.std.proofs.Common.{◌≡◌, ℕ, List, refl, arith}
 use Rattle.std.specs.Fmt.{digits}
 use Rattle.assuan_client.specs.Forms.{answer_form, Err}
 use Rattle.assuan_server.specs.Errors.{error_text, error_number}

@@ -1,5 +1,5 @@
 -- Lines that come to an answer are read as it.
-use Rattle.std.proofs.Common.{◌≡◌, ℕ, ◌+◌, ◌<◌, ◌≤◌, Bool, false, List, [], ◌∷◌, ◌++◌, length, Option, Some, None, refl, ap, sym, subst, ◌∙◌, arith, append_assoc, length-append}
+use Rattle.std.proofs.Common.{◌≡◌, ℕ, ◌+◌, ◌≤◌, false, List, [], ◌++◌, length, Option, Some, None, refl, ap, sym, subst, ◌∙◌, arith, append_assoc, length-append}
 use Rattle.std.specs.List.{flat_map}
 use Rattle.agent_ports.specs.Counts.{Rose}
 use Rattle.agent_ports.specs.Sides.{WhereKnown, followed_by}
@@ -10,11 +10,11 @@ use Rattle.assuan_client.specs.Forms.{answer_form}
 use Rattle.assuan_client.specs.Skipping.{Tally, with_lines, with_inquiry, skips_after}
 use Rattle.assuan_client.specs.declared.answer.Answer.{Answer}
 use Rattle.assuan_client.specs.declared.answer.Answer.TheVariants as answer
-use Rattle.assuan_line.specs.Next.{Reader, held}
+use Rattle.assuan_line.specs.Next.{held}
 use Rattle.assuan_line.specs.declared.reader.Took.{Took}
-use Rattle.assuan_line.specs.declared.reader.Took.TheVariants.{Line, ReadFault}
+use Rattle.assuan_line.specs.declared.reader.Took.TheVariants.{ReadFault}
 use Rattle.assuan_text.specs.LineEnds.{line_of}
-use Rattle.passphrase_laws.specs.Readings.{unread, Comes, Finds, found, failed}
+use Rattle.passphrase_laws.specs.Readings.{unread, Finds, found, failed}
 use Rattle.passphrase_laws.proofs.Walking.{IsSent, AreSkipped, Walked, walk, whole, spent, fault}
 
 -- a text is lines that are skipped and one that isn't, by which they come to this answer

@@ -1,45 +1,35 @@
 -- What a dialogue tells of a session's bytes: each turn finds the answer that the session wrote next, or the link failed.
-use Rattle.std.specs.List.{AllByRecursion, flat_map}
-use Rattle.std.specs.Prelude.{⊤}
-use Rattle.std.proofs.Common.{◌≡◌, ◌≢◌, ◌⊎◌, ℕ, ◌+◌, ◌<◌, ◌≤◌, Bool, true, false, cond, List, [], ◌∷◌, ◌++◌, length, codes, decimal, Option, Some, None, Result, Ok, Err, inl, inr, refl, ap, sym, subst, ◌∙◌, arith, append_assoc, append-nil, length-append}
+use Rattle.std.specs.List.{AllByRecursion}
+use Rattle.std.proofs.Common.{◌≡◌, ◌≢◌, ◌⊎◌, ℕ, ◌+◌, Bool, true, false, cond, List, [], ◌∷◌, ◌++◌, length, decimal, Some, Result, Ok, Err, inl, inr, refl, ap, sym, subst, ◌∙◌, arith, append_assoc, length-append}
 use Rattle.std.proofs.lemmas.Bool.{false≢true, ne_eqb}
-use Rattle.std.proofs.lemmas.List.Concat.{flat_map-append}
-use Rattle.agent_ask.specs.SessionEvents.{Sent, Cut, Inquiry, CacheTurn, Further, said_last}
 use Rattle.agent_ask.specs.SessionPrompts.{note}
-use Rattle.agent_commands.specs.Events.{Inquired}
 use Rattle.agent_commands.specs.Parts.{CacheEvent}
-use Rattle.agent_ports.specs.Sides.{followed_by}
-use Rattle.assuan_client.specs.Answers.{ReadOn, success_of}
+use Rattle.assuan_client.specs.Answers.{success_of}
 use Rattle.assuan_client.specs.Connections.{Connection}
 use Rattle.assuan_client.specs.Skipping.{Tally, nothing, with_lines, with_inquiry}
-use Rattle.assuan_client.specs.Writing.{Command, Reply}
+use Rattle.assuan_client.specs.Writing.{Command}
 use Rattle.assuan_client.specs.declared.answer.Answer.{Answer}
 use Rattle.assuan_client.specs.declared.answer.Answer.TheVariants as answer
 use Rattle.assuan_line.specs.Next.{held}
 use Rattle.assuan_server.specs.Errors.{error_text, error_number}
 use Rattle.assuan_server.specs.Inquiries.{inquire_text}
-use Rattle.assuan_server.specs.Written.{greeting, ok, refusal_line}
+use Rattle.assuan_server.specs.Written.{refusal_line}
 use Rattle.assuan_server.specs.declared.errors.Origin.{Origin}
 use Rattle.assuan_text.specs.LineEnds.{line_of}
-use Rattle.passphrase_talk.specs.Dialogues.{Replies, Requests, IsDialogue, stopped, goes_on, requested, ended, asked, not_greeted, greeted, told_of, told_behind, told_by, loss_of, passed, quiet, after_said, is_inquiry, is_ok}
-use Rattle.passphrase_talk.specs.Turns.{Said, Hello, OptionLine, Request, End, Turn, turn_of, IsAnswered, AreTaken, one}
-use Rattle.passphrase_talk.specs.Visits.{Talk}
-use Rattle.passphrase_talk.specs.declared.told.Loss.TheVariants as loss
+use Rattle.passphrase_talk.specs.Dialogues.{Replies, ended, asked, told_behind, told_by, quiet, after_said, is_inquiry}
+use Rattle.passphrase_talk.specs.Turns.{End, Turn, AreTaken, one}
 use Rattle.passphrase_talk.specs.declared.told.Told.{Told}
-use Rattle.passphrase_talk.specs.declared.told.Told.TheVariants as told
-use Rattle.passphrase_talk.specs.declared.visits.TheConstants.{BUDGET}
-use Rattle.session_client.specs.Asking.{Asked, NotAsked}
 use Rattle.session_client.specs.declared.code.Code.{Code}
 use Rattle.session_client.specs.declared.refusal.Refusal.{Refusal}
 use Rattle.passphrase_laws.specs.Exchanges.{TellsLast, passphrase, gone, IsSilent, Notes, texts_of, text_of}
 use Rattle.passphrase_laws.specs.Exchanges as exchanges
-use Rattle.passphrase_laws.specs.Readings.{unread, Comes, IsBegun, Finds, found, failed, IsSecret}
+use Rattle.passphrase_laws.specs.Readings.{unread, Comes, IsBegun, Finds, found, failed}
 use Rattle.passphrase_laws.specs.Roads.{IsWhole, IfSecret, AreReplies, session_text, Hears}
 use Rattle.passphrase_laws.specs.Roads as road
 use Rattle.passphrase_laws.proofs.Finding.{ComesTo, is_found}
 use Rattle.passphrase_laws.proofs.NoteLines.{launched, note_comes}
 use Rattle.passphrase_laws.proofs.Texts.{silent_texts, noted_texts, whole_at, note_whole}
-use Rattle.passphrase_laws.proofs.Replying.{data_comes, error_comes, ok_comes, greeting_comes}
+use Rattle.passphrase_laws.proofs.Replying.{data_comes, error_comes}
 
 -- ---- single turns
 

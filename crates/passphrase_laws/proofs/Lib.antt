@@ -10,3 +10,8 @@ pub mod NoteLines
 pub mod Texts
 pub mod Hearing
 pub mod Dialogue
+pub mod Words
+pub mod Fields
+pub mod Asked
+pub mod Reaching
+mod WorkedRoads

@@ -1,15 +1,13 @@
 -- The note of a pinentry comes to the inquiry that it is.
-use Rattle.std.proofs.Common.{◌≡◌, ℕ, ◌+◌, ◌/◌, ◌%◌, ◌^◌, ◌<◌, ◌≤◌, ◌==◌, ◌||◌, Bool, true, false, cond, List, [], ◌∷◌, ◌++◌, length, codes, decimal, inl, inr, refl, ap, sym, subst, ◌∙◌, arith, length-append}
+use Rattle.std.proofs.Common.{◌≡◌, ℕ, ◌+◌, ◌%◌, ◌^◌, ◌<◌, ◌≤◌, ◌==◌, ◌||◌, Bool, false, cond, List, [], ◌∷◌, ◌++◌, length, codes, decimal, refl, ap, sym, subst, ◌∙◌, arith}
 use Rattle.std.specs.List.{list_any}
 use Rattle.std.proofs.lemmas.Bool.{le-leb, ne_eqb}
 use Rattle.std.proofs.lemmas.Fmt.{decimal_by_steps, length-decimal-le}
 use Rattle.std.proofs.lemmas.List.Folds.{list_any-append}
 use Rattle.assuan_client.proofs.OnlyAnswer.{by_form}
-use Rattle.assuan_client.specs.Answers.{inquiry_after}
 use Rattle.assuan_client.specs.Forms as form
 use Rattle.assuan_client.specs.Forms.{answer_form}
 use Rattle.assuan_client.specs.Skipping.{Tally, with_lines, skips}
-use Rattle.assuan_client.specs.declared.answer.Answer.{Answer}
 use Rattle.assuan_client.specs.declared.answer.Answer.TheVariants as answer
 use Rattle.assuan_client.specs.declared.tally.TheConstants.{MAX_NOTES}
 use Rattle.assuan_escape.specs.DataLines.{carried}

@@ -1,13 +1,13 @@
 -- Before its last line, a request for a passphrase tells its client at most that a pinentry was launched, and once.
 use Rattle.std.specs.List.{AllByRecursion}
 use Rattle.std.specs.Prelude.{⊤}
-use Rattle.std.proofs.Common.{◌≡◌, ◌≢◌, ℕ, zero, suc, Bool, true, false, List, [], ◌∷◌, ◌++◌, Option, Some, None, Result, Ok, Err, refl, ap, sym, subst, ◌∙◌, append_assoc, append-nil}
+use Rattle.std.proofs.Common.{◌≢◌, ℕ, zero, suc, Bool, true, false, List, [], ◌∷◌, ◌++◌, Option, Some, None, Result, Ok, Err, refl, sym, subst, append_assoc}
 use Rattle.agent_ask.specs.Events.{PromptEvent, Called, Notified, OutOfMemory, Shut}
 use Rattle.agent_ask.specs.Further.{Prompt}
-use Rattle.agent_ask.specs.Parts.{◌>>=◌, PartOf, Follows, goes_on, stops, Returns, returns, Refuses, refuses, needed, or_else}
+use Rattle.agent_ask.specs.Parts.{◌>>=◌, Follows, goes_on, stops, Returns, returns, Refuses, refuses, needed, or_else}
 use Rattle.agent_ask.specs.PinParts.{PromptsPin}
 use Rattle.agent_ask.specs.Prompts.{AsksBefore, Opens, Tries, IsTry, Repeats, repeated}
-use Rattle.agent_ask.specs.SessionEvents.{CacheTurn, Further}
+use Rattle.agent_ask.specs.SessionEvents.{Further}
 use Rattle.agent_ask.specs.SessionPrompts.{AnyInSession, note}
 use Rattle.agent_ask.specs.SessionPrompts as session
 use Rattle.agent_ask.specs.Tests.{PinTest}
@@ -16,7 +16,6 @@ use Rattle.agent_ask.specs.TurnParts as turning
 use Rattle.agent_ask.specs.declared.ask.Asked.{Asked}
 use Rattle.agent_ask.specs.declared.spec.AskPlan.{AskPlan}
 use Rattle.agent_ask.specs.declared.spec.PromptSpec.{PromptSpec}
-use Rattle.agent_commands.specs.Events.{Inquired}
 use Rattle.agent_commands.specs.Parts.{CacheEvent, CachePart}
 use Rattle.agent_commands.specs.Passphrases.{Passphrase, passphrase_by, as_wanted, WithoutPrompt, ByUser, ByCache, LooksFor, WantsPrompt, Prompts, PromptsAny, Uncached}
 use Rattle.agent_commands.specs.Passphrases as passphrases

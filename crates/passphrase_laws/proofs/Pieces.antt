@@ -1,7 +1,6 @@
 -- The data lines of a passphrase and the OK behind them come to it.
-use Rattle.std.proofs.Common.{◌≡◌, ℕ, zero, suc, ◌+◌, ◌-◌, ◌<◌, ◌≤◌, ◌||◌, ◌&&◌, Bool, true, false, cond, leb, ◌==◌, nat_le, slice_index, List, [], ◌∷◌, ◌++◌, length, map, take, drop, codes, inl, inr, All, refl, ap, sym, subst, ◌∙◌, arith, append_assoc, append-nil, length-append}
+use Rattle.std.proofs.Common.{◌≡◌, ℕ, ◌+◌, ◌-◌, ◌<◌, ◌≤◌, ◌||◌, Bool, true, false, ◌==◌, slice_index, List, [], ◌∷◌, ◌++◌, length, map, inl, inr, All, refl, ap, sym, subst, ◌∙◌, arith, append-nil, length-append}
 use Rattle.std.specs.List.{flat_map, list_any}
-use Rattle.std.specs.Prelude.{if◌then◌else◌}
 use Rattle.std.proofs.lemmas.Bool.{false≢true, le-leb, cases_Bool, cond-true, cond-false}
 use Rattle.std.proofs.lemmas.Bool.Decides.{nat_tests}
 use Rattle.std.proofs.lemmas.List.Concat.{flat_map-append}
@@ -15,7 +14,7 @@ use Rattle.assuan_escape.proofs.EscapeLemmas.{percent_decode_escapes, has_lf_esc
 use Rattle.assuan_escape.specs.DataLines.{data_line, data_text, carried, IsPiece}
 use Rattle.assuan_escape.specs.Escapes.{escapes, escape_of, hex_digits, is_escaped}
 use Rattle.assuan_text.specs.Forms.{is_data}
-use Rattle.assuan_text.specs.LineEnds.{has_lf, line_of, without_cr}
+use Rattle.assuan_text.specs.LineEnds.{line_of, without_cr}
 use Rattle.passphrase_laws.proofs.Walking.{IsSent, AreSkipped}
 
 abbrev pub IsByte : ℕ → Type 0

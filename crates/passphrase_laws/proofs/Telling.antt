@@ -1,16 +1,15 @@
 -- What an exchange of a request for a passphrase tells the client last.
-use Rattle.std.proofs.Common.{◌≡◌, ℕ, Bool, true, List, [], ◌∷◌, ◌++◌, Option, Some, None, Result, Ok, Err, refl, ap, sym, subst, ◌∙◌, append-nil}
+use Rattle.std.proofs.Common.{◌≡◌, ℕ, Bool, true, List, ◌++◌, Option, Some, None, Ok, Err, refl, ap, sym, subst, append-nil}
 use Rattle.agent_ask.specs.PartExchanges.{AnyExchange, answered, refused}
-use Rattle.agent_ask.specs.Parts.{Follows, goes_on, stops, Returns, returns}
-use Rattle.agent_ask.specs.SessionEvents.{Sent, said_last}
+use Rattle.agent_ask.specs.Parts.{goes_on, stops, Returns, returns}
+use Rattle.agent_ask.specs.SessionEvents.{said_last}
 use Rattle.agent_ask.specs.TurnParts.{Closes}
 use Rattle.agent_commands.specs.Answers.{IsPassphrase}
 use Rattle.agent_commands.specs.Endings.{went_after}
-use Rattle.agent_commands.specs.Exchanges.{CacheExchange, CacheReply, GetReplies, TellsPassphrase, tells}
+use Rattle.agent_commands.specs.Exchanges.{CacheReply, GetReplies, TellsPassphrase, tells}
 use Rattle.agent_commands.specs.Parts.{CacheEvent}
 use Rattle.agent_commands.specs.Passphrases.{Passphrase}
-use Rattle.agent_commands.specs.Requests.{GetFields, get_passphrase}
-use Rattle.agent_commands.specs.declared.request.Request.TheVariants.{Cache}
+use Rattle.agent_commands.specs.Requests.{GetFields}
 use Rattle.agent_commands.specs.declared.went.Went.{Went}
 use Rattle.assuan_server.specs.Errors.{error_text}
 use Rattle.assuan_server.specs.Written.{IsDataAnswer, refusal_line}

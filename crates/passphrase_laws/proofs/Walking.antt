@@ -1,6 +1,6 @@
 -- Lines that are written one after another are read again, whatever comes behind them.
-use Rattle.std.proofs.Common.{◌≡◌, ℕ, suc, ◌+◌, ◌-◌, ◌<◌, ◌≤◌, ◌||◌, Bool, true, false, cond, leb, slice_index, ◌==◌, List, [], ◌∷◌, ◌++◌, length, take, drop, inl, inr, refl, ap, sym, subst, ◌∙◌, arith, append_assoc, append-nil, length-append}
-use Rattle.std.specs.List.{flat_map, list_any, position_or_len}
+use Rattle.std.proofs.Common.{◌≡◌, ℕ, suc, ◌+◌, ◌-◌, ◌<◌, ◌≤◌, ◌||◌, Bool, true, false, cond, leb, List, [], ◌∷◌, ◌++◌, length, take, drop, inl, inr, refl, ap, sym, subst, ◌∙◌, arith, append_assoc, append-nil, length-append}
+use Rattle.std.specs.List.{flat_map, position_or_len}
 use Rattle.std.proofs.lemmas.Bool.{false≢true, le-leb, cases_lt}
 use Rattle.std.proofs.lemmas.List.{take-append-drop, take-append-le}
 use Rattle.std.proofs.lemmas.List.Folds.{list_any-append}
@@ -9,7 +9,7 @@ use Rattle.assuan_line.proofs.Decided.{stays}
 use Rattle.assuan_line.proofs.Parts.{end_tells}
 use Rattle.assuan_line.proofs.Places.{place_after}
 use Rattle.assuan_line.specs.Lines.{first_line, after_line}
-use Rattle.assuan_line.specs.Next.{Reader, next_of, IsCutShort}
+use Rattle.assuan_line.specs.Next.{Reader, next_of}
 use Rattle.assuan_line.specs.Skipping.{Skipped, none, one, Stops, ReadsNext}
 use Rattle.assuan_line.specs.declared.buffer.TheConstants.{MAX_UNDECIDED}
 use Rattle.assuan_line.specs.declared.reader.Took.{Took}

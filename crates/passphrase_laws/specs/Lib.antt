@@ -1,3 +1,4 @@
 pub mod Readings
 pub mod Exchanges
 pub mod Roads
+pub mod Asking

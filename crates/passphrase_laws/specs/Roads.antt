@@ -1,6 +1,6 @@
 -- The road of a passphrase: what a session of this agent writes to its client, and what the client's dialogue tells of it (Assuan manual,
 -- "server responses").
-use Rattle.std.specs.Prelude.{◌≡◌, ◌<◌, ◌^◌, ℕ, Bool, List, [], ◌∷◌, ◌++◌, decimal, Option, Some, None, Result, Ok, Err, ⊤}
+use Rattle.std.specs.Prelude.{◌≡◌, ◌<◌, ◌^◌, ℕ, Bool, List, [], ◌∷◌, ◌++◌, decimal, Some, None, Result, Ok, Err, ⊤}
 use Rattle.agent_ask.specs.SessionEvents.{Cut, Inquiry}
 use Rattle.agent_commands.specs.Parts.{CacheEvent}
 use Rattle.agent_commands.specs.Requests.{GetFields}

@@ -1,0 +1,34 @@
+-- The whole road: what a dialogue tells of the exchange of its request.
+use Rattle.std.specs.List.{AllByRecursion}
+use Rattle.std.proofs.Common.{◌≡◌, ◌≢◌, ◌≤◌, ℕ, true, List, ◌++◌, length, Option, Some, None, Ok, subst}
+use Rattle.agent_commands.specs.Exchanges.{LineExchange, CacheExchange}
+use Rattle.agent_commands.specs.Parts.{CacheEvent}
+use Rattle.agent_commands.specs.Requests.{GetFields, get_passphrase, request_of}
+use Rattle.agent_commands.specs.declared.request.Request.{Request}
+use Rattle.agent_commands.specs.declared.request.Request.TheVariants.{Cache}
+use Rattle.agent_commands.specs.declared.went.Went.{Went}
+use Rattle.passphrase_talk.specs.Dialogues.{told_of}
+use Rattle.passphrase_talk.specs.Turns.{Turn}
+use Rattle.passphrase_talk.specs.Visits.{Talk}
+use Rattle.passphrase_talk.specs.declared.visits.TheConstants.{BUDGET}
+use Rattle.session_options.specs.OptionValues.{OptionValues}
+use Rattle.session_options.specs.declared.options.PinMode.TheVariants.{Loopback}
+use Rattle.session_options.specs.declared.rules.Rules.{Rules}
+use Rattle.passphrase_laws.specs.Roads.{AreReplies, IsWhole, Reaches, session_text}
+use Rattle.passphrase_laws.proofs.Dialogue.{hears_it}
+use Rattle.passphrase_laws.proofs.Noting.{passphrase_notes, turn_closes}
+use Rattle.passphrase_laws.proofs.Telling.{told}
+
+pub reaches : (rules : Rules) (values after : OptionValues) (fields : GetFields) (line replies behind : List ℕ) (events : List CacheEvent) (went : Went) (options : List (List ℕ)) (turns : List Turn)
+    (left written : Option (List ℕ)) → LineExchange rules values line events after went → request_of line ≡ Cache (get_passphrase fields) → fields.plain ≡ true → values.mode ≢ Loopback
+    → AllByRecursion IsWhole events → AreReplies options replies → length (session_text replies events) ≤ BUDGET
+    → Talk options line turns (Some (session_text replies events ++ behind)) left written → Reaches rules values fields events (told_of turns)
+reaches rules values after fields line replies behind events went options turns left written exchange is plain not whole are few talk =
+    let by = told rules values fields plain (subst (λ (r : Request). CacheExchange rules values r events after went) is exchange) in
+    let noted = (passphrase_notes rules values fields not).of None by.work by.result by.held by.came in record {
+      told = by;
+      launched = noted.launched;
+      notes = noted.notes;
+      hears = λ secret. hears_it by.result by.last noted.launched by.work by.back events replies behind line by.tells secret noted.notes
+          ((turn_closes None).of by.held by.back (Ok tt) None by.closed) by.events_are whole are few talk;
+    }

@@ -1,0 +1,94 @@
+-- A request of the command on a worked example: its line, how the agent reads it, what is written for it, and what that is read as.
+use Rattle.std.specs.List.{AllByRecursion}
+use Rattle.std.proofs.Common.{◌≡◌, ◌<◌, ℕ, true, List, [], ◌∷◌, ◌++◌, codes, All, None, refl, sym, subst, arith}
+use Rattle.std.proofs.lemmas.List.Elements.{All-cons, All-nil}
+use Rattle.agent_ask.specs.PartExchanges.{answered}
+use Rattle.agent_ask.specs.Parts.{goes_on, returns}
+use Rattle.agent_ask.specs.SessionEvents.{Sent, cache_turn}
+use Rattle.agent_ask.specs.TurnParts as turn
+use Rattle.agent_commands.specs.Exchanges.{CacheExchange, LineExchange, reply, tells}
+use Rattle.agent_commands.specs.Parts.{CacheEvent}
+use Rattle.agent_commands.specs.Passphrases.{ask}
+use Rattle.agent_commands.specs.Requests.{get_passphrase}
+use Rattle.agent_commands.specs.declared.request.Request.{Request}
+use Rattle.agent_commands.specs.declared.request.Request.TheVariants.{Cache}
+use Rattle.agent_commands.specs.declared.went.Went.TheVariants.{On}
+use Rattle.assuan_client.specs.declared.answer.Answer.TheVariants as answer
+use Rattle.assuan_escape.specs.DataLines.{IsPiece}
+use Rattle.assuan_server.specs.Written.{IsDataAnswer}
+use Rattle.cache_policy.specs.Turns.{Given}
+use Rattle.cache_policy.specs.declared.grant.Grant.{Grant}
+use Rattle.cache_policy.specs.declared.mode.Mode.TheVariants.{User}
+use Rattle.passphrase_words.specs.Requests.{Looks, line_of_request}
+use Rattle.passphrase_words.specs.Tasks.{TaskValue}
+use Rattle.passphrase_words.specs.Texts.{texts_of}
+use Rattle.passphrase_words.specs.declared.task.Act.TheVariants.{Cached}
+use Rattle.session_options.specs.OptionValues.{OptionValues}
+use Rattle.session_options.specs.declared.rules.Rules.{Rules}
+use Rattle.passphrase_laws.specs.Asking.{Says, fields_of}
+use Rattle.passphrase_laws.specs.Readings.{IsSecret, IsReadAs}
+use Rattle.passphrase_laws.specs.Roads.{IsWhole, AreReplies, session_text}
+use Rattle.passphrase_laws.specs.Roads as road
+use Rattle.passphrase_laws.proofs.Asked.{looks_read}
+use Rattle.passphrase_laws.proofs.ReadAs.{passphrase_read}
+
+-- what is kept as mail is looked for
+abbrev task : TaskValue
+task = record { folder = None; seconds = None; id = codes "mail"; act = Cached; texts = texts_of (codes "mail") None [] }
+
+says : Says task None []
+says = record { id_is = refl; some = λ is. cc is; texts_are = refl }
+
+line_is : line_of_request task Looks ≡ codes "GET_PASSPHRASE --data --no-ask mail X X Passphrase+mail"
+line_is = refl
+
+-- a percent sign is escaped in its data line
+abbrev secret : List ℕ
+secret = codes "50% off"
+
+abbrev written : List ℕ
+written = codes "D 50%25 off" ++ 10 ∷ (codes "OK" ++ 10 ∷ [])
+
+small : (bytes : List ℕ) → AllByRecursion (λ byte. byte < 256) bytes → All (λ byte. byte < 256) bytes
+small [] each = All-nil (λ byte. byte < 256)
+small (byte ∷ bytes) each = All-cons (λ byte. byte < 256) byte bytes each.0 (small bytes each.1)
+
+is_secret : IsSecret secret
+is_secret = record {
+  bytes = small secret (omega arith, (omega arith, (omega arith, (omega arith, (omega arith, (omega arith, (omega arith, tt)))))));
+  short = omega arith;
+}
+
+as_data : IsDataAnswer secret written
+as_data = record {
+  pieces = secret ∷ [];
+  are_data = record { joined = refl; each = All-cons IsPiece secret [] (omega arith, omega arith) (All-nil IsPiece); full = (tt, tt) };
+  text_is = refl;
+}
+
+-- and read as the passphrase
+read : IsReadAs written (answer.Got secret)
+read = passphrase_read secret written is_secret as_data
+
+abbrev events : Grant → List CacheEvent
+events grant = cache_turn (ask (codes "mail")) (Given grant) ∷ Sent written ∷ []
+
+-- what is live is given
+exchange : (rules : Rules) (values : OptionValues) (grant : Grant) → grant.id ≡ codes "mail" → grant.mode ≡ User → grant.entry.secret ≡ secret
+    → LineExchange rules values (line_of_request task Looks) (events grant) values On
+exchange rules values grant id mode is =
+    subst (λ (r : Request). CacheExchange rules values r (events grant) values On) (sym (looks_read task None [] says)) given where
+      given : CacheExchange rules values (Cache (get_passphrase (fields_of task None [] true 0))) (events grant) values On
+      given =
+          answered (cache_turn (ask (codes "mail")) (Given grant) ∷ []) None (reply values written)
+          (goes_on (goes_on (turn.Asks.given (id, mode)) returns) (goes_on (tells (rw is as_data)) returns)) turn.unheld
+
+whole : (grant : Grant) → AllByRecursion IsWhole (events grant)
+whole grant = (tt, (tt, tt))
+
+-- the bytes of the session, to a client that says no options
+text_is : (grant : Grant) → session_text [] (events grant) ≡ codes "OK Pleased to meet you" ++ 10 ∷ written
+text_is grant = refl
+
+no_replies : AreReplies [] []
+no_replies = road.none

@@ -1,0 +1,53 @@
+-- The requests of the command `passphrase` as the agent reads them (GnuPG manual, "Agent GET_PASSPHRASE").
+use Rattle.std.specs.Prelude.{◌≡◌, ◌≢◌, ℕ, Bool, true, false, List, [], map, codes, Option, Some, None, if◌then◌else◌}
+use Rattle.arrayvec.specs.ArrayVec.{ArrayVec}
+use Rattle.agent_ask.specs.Plans.{text}
+use Rattle.agent_commands.specs.Requests.{GetFields}
+use Rattle.assuan_text.specs.Blanks.{is_blank}
+use Rattle.passphrase_words.specs.Ids.{is_id}
+use Rattle.passphrase_words.specs.Tasks.{TaskValue}
+use Rattle.passphrase_words.specs.Texts.{texts_of, description_or}
+use Rattle.passphrase_words.specs.declared.task.Act.{Act}
+use Rattle.passphrase_words.specs.declared.task.Act.TheVariants.{Give}
+
+-- a text as the agent has it: a tab counts as a blank
+abbrev pub as_read : List ℕ → ArrayVec ℕ
+as_read bytes = text (map (λ byte. if is_blank byte then 32 else byte) bytes)
+
+-- without a prompt's text it is the agent's own
+abbrev pub prompt_read : Option (List ℕ) → ArrayVec ℕ
+prompt_read None = text (codes "Passphrase:")
+prompt_read (Some bytes) = as_read bytes
+
+-- the task says this prompt, which isn't empty where it is given, and this description
+pub record Says (task : TaskValue) (prompt : Option (List ℕ)) (description : List ℕ) : Type 0 where
+  pub id_is : is_id task.id ≡ true
+  pub some : prompt ≢ Some []
+  pub texts_are : task.texts ≡ texts_of task.id prompt description
+
+-- nobody is asked by this act
+abbrev pub is_quiet : Act → Bool
+is_quiet (Give repeats quiet ttl feeds) = quiet
+is_quiet _ = true
+
+-- how often what is typed is repeated
+abbrev pub repeat_by : Bool → Bool → ℕ
+repeat_by repeats true = 0
+repeat_by true false = 1
+repeat_by false false = 0
+
+abbrev pub repeats_of : Act → ℕ
+repeats_of (Give repeats quiet ttl feeds) = repeat_by repeats quiet
+repeats_of _ = 0
+
+-- what is read of a request under this task's id: data lines are wanted, nobody is asked or somebody is, and with these texts
+abbrev pub fields_of : TaskValue → Option (List ℕ) → List ℕ → Bool → ℕ → GetFields
+fields_of task prompt description no_ask repeat = record {
+  plain = true;
+  check = false;
+  no_ask = no_ask;
+  repeat = repeat;
+  quality = false;
+  id = Some task.id;
+  texts = Some (record { error = text []; prompt = prompt_read prompt; description = as_read (description_or task.id description) });
+}
