@@ -1,3 +1,7 @@
+//! The ticket (permit) that a request may hold, as a place from which none gets lost: a `Held`
+//! can't be dropped, and `end` takes only an empty one. It calls nothing and takes no memory. Begin
+//! with `Held`; its contracts speak of the ticket's number, or of none.
+
 ghost use Rattle.std.specs.Prelude.{◌≡◌, None, Some, is_some};
 ghost use Rattle.std.specs.Option.{option_copied};
 

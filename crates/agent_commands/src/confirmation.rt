@@ -1,4 +1,6 @@
-//! GET_CONFIRMATION.
+//! GET_CONFIRMATION: the user's consent, or the error that the pinentry-mode says. It takes the
+//! seat (lock: the right to prompt) at the desk (cache handle), and calls the prompter and the
+//! client. Begin with `confirm`; its events are `confirms_by` (`specs/Exchanges`).
 
 ghost use Rattle.std.specs.Prelude.{◌≡◌, None, Some};
 ghost use Rattle.agent_ask.specs.ConsentParts.{AgreesTo};

@@ -1,4 +1,7 @@
-//! GET_PASSPHRASE: by the cache, a prompt, or the client itself.
+//! GET_PASSPHRASE: by the cache, a prompt, or the client itself (OPTION `pinentry-mode=loopback`).
+//! It takes turns at the desk (cache handle), holds the ticket (permit) of a prompt, and calls the
+//! prompter and the client. Begin with `get_passphrase`; `specs/Passphrases` has a definition for
+//! each of the ways, as `ByUser` and `ByCache`.
 
 ghost use Rattle.std.specs.Prelude.{◌≡◌, ◌≢◌, None, Ok, is_some, true};
 ghost use Rattle.agent_ask.specs.Prompters.{IsShut};

@@ -1,4 +1,6 @@
-//! MARKTRUSTED.
+//! MARKTRUSTED: two consents of the user under one ticket (permit), and then an entry in the trust
+//! list. It works on the desk (cache handle), the prompter, the client and the trust file. Begin
+//! with `mark_trusted`; its events are `Marked` (`specs/TrustExchanges`).
 
 ghost use Rattle.std.specs.Prelude.{◌≡◌, None, Some};
 ghost use Rattle.agent_ask.specs.PartStates.{NoTurn};
