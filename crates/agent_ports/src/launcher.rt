@@ -1,3 +1,7 @@
+//! The port of child programs, by which a pinentry is started, talked to over a link, and finished.
+//! A launch touches the launcher alone, and all that a child gives is known at its start where
+//! anything is. Begin with `Launcher::launch`; definitions begin in `specs/Launches`.
+
 ghost use Rattle.std.specs.Prelude.{◌≡◌, ◌≤◌, ◌+◌, IfSome, IsNone, MatchOption};
 ghost use Rattle.agent_ports.specs.Counts.{Rose, RoseBy};
 ghost use Rattle.agent_ports.specs.Launches.{Launches, IsFresh, child_then, then_launched};

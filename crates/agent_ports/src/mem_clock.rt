@@ -1,3 +1,7 @@
+//! Clocks for tests, whose readings are all known beforehand: those of a list, or ones that rise
+//! step by step. A reading changes their own fields alone. Begin with `ListClock::new`;
+//! `specs/Readings` has the definitions.
+
 ghost use Rattle.std.specs.Prelude.{◌≡◌, ◌+◌, ◌*◌, ◌-◌, ◌^◌, ◌≤◌, min, ℕ, Some, slice_index};
 ghost use Rattle.agent_ports.specs.Readings.{reading_at};
 

@@ -1,3 +1,7 @@
+//! Random bytes for tests: those of a list, with draws that fail as planned. A draw changes its own
+//! fields alone. Begin with `ListDice::new`; beside the port's clause, `fill` says when it fails
+//! (`specs/Plans`).
+
 ghost use Rattle.std.specs.Prelude.{◌≡◌, ◌≤◌, ◌↔◌, drop, length, vec_len, IsTrue, IfSome, Some};
 
 use crate::Dice;

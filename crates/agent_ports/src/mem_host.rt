@@ -1,3 +1,7 @@
+//! A whole machine in memory, for tests of the agent and of its daemon. Its sessions' parts, trust
+//! files and links come from lists behind locks, and no call reaches the system. Begin with
+//! `MemHost::new`, then `with_sessions` and `with_links`; the clauses are those of `Host`.
+
 ghost use Rattle.std.specs.Prelude.{◌≡◌, ◌≤◌, [], Some, IfSome, IsNone, true, false};
 ghost use Rattle.agent_ports.specs.Counts.{Rose};
 

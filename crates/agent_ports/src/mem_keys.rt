@@ -1,3 +1,7 @@
+//! Private keys in memory, for tests: a map of files by their grips, with calls that fail as
+//! planned. No call reaches the system. Begin with `MapKeys::new`; definitions begin in
+//! `specs/MemKeys` and `specs/Plans`.
+
 ghost use Rattle.std.specs.Prelude.{◌≡◌, ◌≢◌, ◌≤◌, ◌↔◌, length, vec_len, Some, None, OnOk, OnErr};
 ghost use Rattle.agent_ports.specs.declared.keys.TheConstants.{MAX_KEY_FILE_LEN};
 

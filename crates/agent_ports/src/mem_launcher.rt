@@ -1,3 +1,8 @@
+//! Child programs in memory, for tests of prompts: what each gives is planned, and what it was
+//! written is kept. No program is run; a child's place in the list of the finished is taken at its
+//! launch, so that finishing takes no memory. Begin with `MemLauncher::new`; definitions begin in
+//! `specs/MemLaunches`.
+
 ghost use Rattle.std.specs.Prelude.{◌≡◌, ◌<◌, ◌≤◌, ◌+◌, ◌↔◌, ◌⊎◌, ◌∷◌, [], Some, None, IfSome};
 ghost use Rattle.std.specs.Prelude.{IsNone, MatchOption, length, map, min, reverse, slice_get};
 ghost use Rattle.std.specs.Prelude.{take, refl};

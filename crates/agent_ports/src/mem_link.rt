@@ -1,3 +1,7 @@
+//! A link in memory, for tests: it gives the bytes of a list in pieces of a given size, keeps what
+//! is written, and fails as planned. No call reaches the system. Begin with `MemLink::new`, or with
+//! `PlannedLink` for one that is opened later; `specs/Plans` says when a call fails.
+
 ghost use Rattle.std.specs.Prelude.{◌≡◌, ◌≤◌, ◌<◌, ◌+◌, ◌^◌, ◌-◌, ◌↔◌, ◌⊎◌, IsTrue, [], length};
 ghost use Rattle.std.specs.Prelude.{take, drop, Some, None, IfSome, vec_len, Contains, min, max};
 ghost use Rattle.std.specs.Prelude.{refl};

@@ -1,3 +1,7 @@
+//! A listener in memory, for tests of the daemon: the links of a list, which lies behind a lock
+//! that the workers and the test share. What a worker was answered is counted by its ear (fault
+//! counter). Begin with `ListedLinks::next`; definitions begin in `specs/MemListening`.
+
 ghost use Rattle.std.specs.Prelude.{◌≡◌, ◌≤◌, ◌<◌, ◌↔◌, ◌⊎◌, ◌∷◌, ◌++◌, [], ⊤, true, false, IfOk};
 ghost use Rattle.std.specs.Prelude.{map, length, slice_get, vec_len};
 ghost use Rattle.std.specs.Option.{option_map};

@@ -1,3 +1,7 @@
+//! A trust list in memory, for tests: the bytes of one file, or none, with calls that fail as
+//! planned. No call reaches the system. Begin with `MemTrust::new`; the clauses are those of
+//! `TrustFile` and of the plan (`specs/Plans`).
+
 ghost use Rattle.std.specs.Prelude.{◌≡◌, ◌↔◌, Some, None};
 ghost use Rattle.std.specs.Option.{option_map};
 ghost use Rattle.agent_ports.specs.MemPlans.{trust_plan};
