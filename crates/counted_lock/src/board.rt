@@ -1,5 +1,7 @@
 //! The table that threads share. One word counts the numbers that were drawn, one those that were
-//! served, and one the marks. The slot has the core, but for the time of a turn.
+//! served, and one the marks (log entries). The slot has the core, but for the time of a turn.
+//! Begin with `OneRun`, whose rule `Kept` (`specs/Rule`) ties the words to one legal run.
+
 use agent_core::Core;
 use atomic_table::{Seat, Table, TableRule};
 use cache_policy::{Limits, Mark, Tally};

@@ -1,3 +1,8 @@
+//! The counted lock: a core at which threads take turns in the order of the numbers that they draw.
+//! It is shared by `&self`, and the core is in one turn's hands at a time. Begin with
+//! `Counted::new`, which makes all passes (workers' tokens), and `Counted::close`; a desk (cache
+//! handle) goes by `attempt`, which is `Tries` of `specs/Trying`.
+
 ghost use Rattle.std.specs.Prelude.{◌≡◌, ◌+◌, ◌<◌, ◌≤◌, ◌^◌, ℕ, List, length, IfOk, IfErr};
 ghost use Rattle.std.specs.Prelude.{vec_len};
 ghost use Rattle.cache_policy.specs.declared.mark.Mark.{Mark as AnyMark};

@@ -1,3 +1,7 @@
+//! A session's desk (cache handle) at the counted lock. A turn draws a number, reads the clock and
+//! steps the core while it has it, and wakes others where they may go on; a step that has to stand
+//! is tried again by a new number. Begin with `turn`, and with `CountedTurn` of `specs/Turns`.
+
 ghost use Rattle.std.specs.Prelude.{◌≡◌, ◌+◌, ◌<◌, ◌≤◌, ◌^◌, ◌-◌, true, None, Some, IfErr};
 ghost use Rattle.std.specs.Option.{is_some};
 ghost use Rattle.cache_policy.specs.declared.mark.MarkStep.{MarkStep as AskedStep};

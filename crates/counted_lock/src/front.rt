@@ -1,5 +1,6 @@
-//! A plain lock before the numbers, and where threads wait for the seat. No clause speaks of
-//! either.
+//! A plain lock before the numbers, and where threads wait for the seat (the prompt's lock). No
+//! clause speaks of either. It puts threads to sleep and wakes them, and touches no word of the
+//! table. Begin with `Front::come` and `Front::stand`.
 
 use std::hint;
 use std::sync::{Condvar, Mutex, MutexGuard, Wait};

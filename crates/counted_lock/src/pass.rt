@@ -1,3 +1,7 @@
+//! A worker's pass (worker's token): its number, its counts, and what it knows at the table of the
+//! one run. Plain numbers in memory; the run that it has seen is there for contracts alone. Begin
+//! with `CountedPass::keeps`; `IsSeen` of `specs/Passes` says what a pass always knows.
+
 ghost use Rattle.std.specs.Prelude.{◌≡◌, length};
 ghost use Rattle.counted_lock.specs.Logs.{is_stopped};
 ghost use Rattle.counted_lock.specs.Passes.{mine, IsSeen};

@@ -1,3 +1,7 @@
+//! The mark (log entry) of a step that the core has answered, counted on the table exactly where
+//! the step made one. It raises the word of the marks, in the turn that has the core. Begin with
+//! `Settles` of `specs/Settling`.
+
 ghost use Rattle.std.specs.Prelude.{◌≡◌, [], ◌∷◌, None};
 ghost use Rattle.cache_policy.specs.Turns.{mark_step, turn_of};
 ghost use Rattle.counted_lock.specs.Plays.{Works, IsSeatOf};

@@ -1,4 +1,7 @@
-//! The steps of a turn on the table.
+//! The steps of a turn on the table. They touch its words and its slot and nothing else: a number
+//! is drawn and waited for, the core taken, a mark (log entry) counted, the core given back. Begin
+//! with `enter`; `Enters`, `Counts` and `Gives` of `specs/Plays` say what each does.
+
 ghost use Rattle.std.specs.Prelude.{◌≡◌, [], ◌∷◌, ◌++◌, None, Ok};
 ghost use Rattle.cache_policy.specs.Turns.{mark_step, turn_of};
 ghost use Rattle.agent_core.specs.Cores.{mark_of};

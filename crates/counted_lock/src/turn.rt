@@ -1,3 +1,7 @@
+//! One step at the core, from the table and back to it. It reads the clock while it has the core,
+//! so that moments come in the order of turns. Begin with `take_turn`, and with `TakesTurn` of
+//! `specs/Taking`.
+
 ghost use Rattle.std.specs.Prelude.{◌≡◌, IfErr};
 ghost use Rattle.agent_ports.specs.Readings.{IsRead};
 ghost use Rattle.cache_policy.specs.Turns.{asked_step, mark_step, turn_of, FitsReply};
