@@ -1,4 +1,4 @@
-//! What is written for a request, once all else is done for it (Assuan manual, "Server responses").
+//! What is written for a request, once all else is done for it (Assuan manual, "server responses").
 //! It writes on the connection alone. Begin with `respond`; what it writes is `RespondsTo`
 //! (`specs/Replies`).
 

@@ -1,5 +1,5 @@
 //! Connections to the agent of a folder, by its socket or by a file that names one. It opens
-//! sockets and reads the greeting (Assuan manual, "Server responses"). Begin with `reach`, and with
+//! sockets and reads the greeting (Assuan manual, "server responses"). Begin with `reach`, and with
 //! `greet` for whether it answers.
 
 use crate::failure::{Failure, if_there, said};

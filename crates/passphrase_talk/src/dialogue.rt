@@ -1,5 +1,5 @@
 //! The dialogue of one contact: the greeting, options, one request, and the inquiries that come
-//! before its answer (Assuan manual, "Server responses"). It writes and reads by a `Peer`, and
+//! before its answer (Assuan manual, "server responses"). It writes and reads by a `Peer`, and
 //! tells the connector of a pinentry. Begin with `lead`; its rule is `IsDialogue`
 //! (`specs/Dialogues`).
 

@@ -1,5 +1,5 @@
 //! The prompt and the description as words of a request, escaped, and whether a line of 1,000 bytes
-//! has room for them (Assuan manual, "Client requests"). Pure. Begin with `texts_of`, which
+//! has room for them (Assuan manual, "client requests"). Pure. Begin with `texts_of`, which
 //! `specs/Texts` defines.
 
 ghost use Rattle.std.specs.Prelude.{◌≡◌, ◌≤◌, ◌<◌, ◌∷◌, ◌++◌, codes, decimal, length, IfOk, IfErr};
