@@ -1,6 +1,7 @@
 //! The port of child programs, by which a pinentry is started, talked to over a link, and finished.
-//! A launch touches the launcher alone, and all that a child gives is known at its start where
-//! anything is. Begin with `Launcher::launch`; definitions begin in `specs/Launches`.
+//! What a child will give is known at its start, where anything is. Begin with `Launcher::launch`;
+//! definitions begin in `specs/Launches`. `MemLauncher` is the form in memory, and `agent_host`
+//! starts programs.
 
 ghost use Rattle.std.specs.Prelude.{◌≡◌, ◌≤◌, ◌+◌, IfSome, IsNone, MatchOption};
 ghost use Rattle.agent_ports.specs.Counts.{Rose, RoseBy};
