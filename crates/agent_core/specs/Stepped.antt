@@ -1,4 +1,4 @@
--- How a step came out at a core whose run is known.
+-- Private: how a step came out at a core whose run is known.
 use Rattle.std.specs.Prelude.{◌≡◌, None, Ok, ⊤}
 use Rattle.cache_policy.specs.declared.step.Step.{Step}
 use Rattle.cache_policy.specs.Turns.{Turn, Stand, Refused, turn_of}
