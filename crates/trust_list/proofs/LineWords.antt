@@ -1,12 +1,7 @@
 -- The words of a line, and where they stand in it.
-use Rattle.std.proofs.Common.{◌≡◌, ◌≤◌, ℕ, true, false, cond, List, [], ◌∷◌, ◌++◌, length, refl, sym, ap, ◌∙◌, arith, inl, inr, append-nil}
-use Rattle.std.specs.Prelude.{nat_le}
-use Rattle.std.specs.List.{All, filter, list_all, slice_split}
-use Rattle.std.proofs.lemmas.Bool.{and_from, and_parts, cases_Bool, le-leb}
-use Rattle.std.proofs.lemmas.List.Elements.{All-cons, All-nil}
-use Rattle.std.proofs.lemmas.List.Splits.{slice_split-cons_yes, slice_split_at, slice_split_none}
-use Rattle.assuan_text.specs.Blanks.{is_blank}
-use Rattle.assuan_text.specs.Words.{words}
+use Rattle.std.proofs.{Common.{◌≡◌, ◌≤◌, ℕ, true, false, cond, List, [], ◌∷◌, ◌++◌, length, refl, sym, ap, ◌∙◌, arith, inl, inr, append-nil}, lemmas.{Bool.{and_from, and_parts, cases_Bool, le-leb}, List.Elements.{All-cons, All-nil}}}
+use Rattle.std.{proofs.lemmas.List.Splits.{slice_split-cons_yes, slice_split_at, slice_split_none}, specs.{Prelude.nat_le, List.{All, filter, list_all, slice_split}}}
+use Rattle.assuan_text.specs.{Blanks.is_blank, Words.words}
 use Rattle.trust_list.specs.Written.{EndsWord}
 
 abbrev AreNotBlank : List ℕ → Type 0
