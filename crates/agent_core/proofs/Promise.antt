@@ -15,6 +15,7 @@ use Rattle.agent_core.{specs.Solos.{ReadingsNeverFall, NoneTriedBefore, IsTriedS
 use Rattle.cache_policy.specs.Policy as ruling
 use Rattle.agent_core.specs.declared.stepped.Stepped.TheVariants as stepped
 use Rattle.agent_core.specs.declared.foreign.ForeignStep.TheVariants as told
+use Rattle.agent_core.proofs.Taken.{own_session}
 
 -- the marks that a step adds
 pub record Adds (limits : Limits) (run : List History) (session : SessionId) (asked : MarkStep) (turn : Turn) (after : List History) : Type 0 where
@@ -561,9 +562,6 @@ pub end_script : (before : AtSolo) (after : AtSolo) → PlaysNext before false a
 end_script before after (at_end is same) = (is, same)
 
 -- a ticket that is given back is nobody's
-own_session : (session : SessionId) → is_session session session ≡ true
-own_session session = rw (eq-eqb session.pass session.pass refl, eq-eqb session.count session.count refl) refl
-
 closed_by : (holder : Holder) (before after : AtSolo) → before.holder ≡ Some holder → PlaysStep before (close_held holder.session) after → after.holder ≡ None
 closed_by holder before after is plays =
     by plays (subst (λ (h : Option Holder). foreign_step h (close_held holder.session) ≡ Some (Close holder.ticket None)) (sym is)

@@ -96,7 +96,7 @@ since_with since (Peek id mode) P is = tt
 since_with since Stop P is = tt
 
 -- a wait of the session's own
-own_session : (session : SessionId) → is_session session session ≡ true
+pub own_session : (session : SessionId) → is_session session session ≡ true
 own_session session = rw (eq-eqb session.pass session.pass refl, eq-eqb session.count session.count refl) refl
 
 pub since_own : (session : SessionId) (wait : Wait) → wait.session ≡ session → since_by session (Some wait) ≡ Some wait.since

@@ -21,7 +21,7 @@ drop_next count byte text = let one : 1 + count ≡ suc count = omega arith in a
 take_next : (count byte : ℕ) (text : List ℕ) → take (1 + count) (byte ∷ text) ≡ byte ∷ take count text
 take_next count byte text = let one : 1 + count ≡ suc count = omega arith in ap (λ n. take n (byte ∷ text)) one
 
-words_blank : (byte : ℕ) (text : List ℕ) → is_blank byte ≡ true → words (byte ∷ text) ≡ words text
+pub words_blank : (byte : ℕ) (text : List ℕ) → is_blank byte ≡ true → words (byte ∷ text) ≡ words text
 words_blank byte text blank = ap filled (slice_split-cons_yes is_blank byte text blank)
 
 pieces_after : List ℕ → List (List ℕ)

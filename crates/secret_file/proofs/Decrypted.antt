@@ -3,7 +3,7 @@ use Rattle.std.proofs.Common.{◌≡◌, ◌⊎◌, inl, inr, ℕ, ◌-◌, ◌<
 use Rattle.std.{proofs.{Common.length-drop, lemmas.List.take-append-drop}, specs.{List.list_all, Cmp.Lexicographic.pointwise}}
 use Rattle.sexp_canonical.specs.{Tree.{Tree, leaf, list_of, Row, branch, end, item, items, items_of, row}, View.tree_of, Spelling.{IsReadable, most_bytes, most_depth, depth, spelling, spelling_of, depths}, declared.tree.Sexp.Sexp}
 use Rattle.{sexp_canonical.{specs.declared.{tree.Sexp.TheVariants.List as Listed, fault.SexpFault.{SexpFault, TheVariants.NoMemory}}, proofs.Trees.{one_spelling, row_injective}}, sha1.specs.Sha1.sha1, sexp_keys.specs.Names.secret_names}
-use Rattle.sexp_keys.specs.{Parameters.{is_atom, is_parameter_len, has_name, is_parameter, is_named, are_secret}, Key.{Key, clear_with}, Lists.hashed_list_of, declared.algorithm.Algorithm.Algorithm}
+use Rattle.sexp_keys.{specs.{Parameters.{is_atom, is_parameter_len, has_name, is_parameter, is_named, are_secret}, Key.{Key, clear_with}, Lists.hashed_list_of, declared.algorithm.Algorithm.Algorithm}, proofs.Parts.and_second}
 use Rattle.secret_file.specs.{Opens.{secret_tree, hash_tree, time_of, AreSpelled}, Steps.AreSecrets}
 
 pub again_read : (r : Result (Sexp × ℕ) SexpFault) (x y : Sexp × ℕ) → r ≡ Ok y → (r ≡ Err NoMemory) ⊎ (r ≡ Ok x) → Some y ≡ Some x
@@ -58,10 +58,6 @@ items_are tree ts us e f = let same : list_of ts ≡ list_of us = ap tree_of (sy
 and_first : (a b : Bool) → (a && b) ≡ true → a ≡ true
 and_first true b e = refl
 and_first false b e = absurd cc
-
-and_second : (a b : Bool) → (a && b) ≡ true → b ≡ true
-and_second true b e = e
-and_second false b e = absurd cc
 
 flat_items : (r : Row) → list_all is_atom (items_of r) ≡ true → depths r ≤ 0
 flat_items end e = omega arith

@@ -2,7 +2,7 @@
 use Rattle.std.proofs.{Common.{◌≡◌, ℕ, ◌+◌, ◌^◌, ◌<◌, ◌≤◌, true, false, IfSome, List, [], ◌∷◌, ◌++◌, length, Option, Some, None, ap, ◌∙◌, arith, length-append}, lemmas.{Grind.flat_map-append, List.Concat.flat_map-cons}}
 use Rattle.std.specs.{List.flat_map, Prelude.codes}
 use Rattle.sexp_canonical.{specs.{Tree.{Tree, leaf, list_of, row}, Spelling.{numeral, spelling, depth, depths}}, proofs.{Numerals.length_numeral, Trees.{numeral_begins, spelled_list}}}
-use Rattle.sexp_keys.specs.{Names.{algorithm_name, form_name, protected_name, time_name}, Key.{Key, key_tree, algorithm_list}, Lists.time_lists}
+use Rattle.sexp_keys.{specs.{Names.{algorithm_name, form_name, protected_name, time_name}, Key.{Key, key_tree, algorithm_list}, Lists.time_lists}, proofs.Measured.depths_front}
 use Rattle.secret_file.specs.{Protection.{Protection, protection_name, iv_of, hash_name, hashing_tree, derivation_tree, protection_tree}, Opens.{hash_tree, secret_tree}, declared.cipher.Cipher.{Cipher, TheVariants.{Cbc, Ocb}}}
 use Rattle.secret_file.specs.Protects.{written_protection, locked_by}
 
@@ -124,10 +124,6 @@ locked_len key p time clear h short =
 pub depths_le_append : (ts us : List Tree) (n : ℕ) → depths (row ts) ≤ n → depths (row us) ≤ n → depths (row (ts ++ us)) ≤ n
 depths_le_append [] us n h g = g
 depths_le_append (t ∷ ts) us n h g = omega (arith, depths_le_append ts us n (omega arith) g)
-
-pub depths_front : (ts us : List Tree) → depths (row ts) ≤ depths (row (ts ++ us))
-depths_front [] us = omega arith
-depths_front (t ∷ ts) us = omega (arith, depths_front ts us)
 
 times_depth : (time : Option (List ℕ)) → depths (row (time_lists time)) ≤ 1
 times_depth None = omega arith

@@ -48,7 +48,7 @@ pub held : {A : Type 0} (b : Bool) (x y : A) → cond b (Some x) None ≡ Some y
 held true x y e = (refl, cc)
 held false x y e = absurd cc
 
-or_true : (a b : Bool) → (a || b) ≡ true → (a ≡ true) ⊎ (b ≡ true)
+pub or_true : (a b : Bool) → (a || b) ≡ true → (a ≡ true) ⊎ (b ≡ true)
 or_true true b e = inl refl
 or_true false b e = inr e
 

@@ -70,7 +70,7 @@ short_names key = omega (
 
 -- ---- a part that doesn't fit makes the key too long, where the key is shallow
 
-depths_front : (ts us : List Tree) → depths (row ts) ≤ depths (row (ts ++ us))
+pub depths_front : (ts us : List Tree) → depths (row ts) ≤ depths (row (ts ++ us))
 depths_front [] us = omega arith
 depths_front (t ∷ ts) us = omega (arith, depths_front ts us)
 

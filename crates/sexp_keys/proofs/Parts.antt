@@ -10,7 +10,7 @@ ends_append [] y ys = refl
 ends_append (x ∷ []) y ys = refl
 ends_append (x ∷ z ∷ xs) y ys = ends_append (z ∷ xs) y ys
 
-and_second : (a b : Bool) → (a && b) ≡ true → b ≡ true
+pub and_second : (a b : Bool) → (a && b) ≡ true → b ≡ true
 and_second true b e = e
 and_second false b e = absurd cc
 
