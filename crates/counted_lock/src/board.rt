@@ -54,11 +54,11 @@ pub enum Stage {
     Working(u64),
 }
 
-/// What a seat at the table knows. No value of it is made.
+/// What a place at the table knows. No value of it is made.
 pub struct Doing {
     /// Where its turn is.
     pub stage: Stage,
-    /// What the passes of this seat have seen.
+    /// What the passes of this place have seen.
     pub claims: LinkedList<Claim>,
 }
 
@@ -76,5 +76,5 @@ impl TableRule<Option<Cored>, Doing, About> for OneRun {
 /// The table.
 pub type Board = Table<Option<Cored>, Doing, About, OneRun, Global>;
 
-/// A seat at the table.
+/// A place at the table.
 pub type Place = Seat<Option<Cored>, Doing>;

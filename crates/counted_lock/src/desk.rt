@@ -94,7 +94,7 @@ impl<'a, W: Wait + time::Clock, C: Clock> CountedDesk<'a, W, C> {
         pass
     }
 
-    /// Tries a step once, at the front.
+    /// Tries a step once, in the monitor.
     fn attempt(&mut self, step: Step) -> Result<Reply, Refused>
         ensures tries { TriesAt C.readings self.old (asked_step step)
             (mark_step self.old.session step) (turn_of result) self.new }
@@ -166,16 +166,16 @@ impl<'a, W: Wait + time::Clock, C: Clock> Desk for CountedDesk<'a, W, C> {
     /// has passed, and tries again.
     fn turn(&mut self, step: Step) -> Result<Reply, Refused> {
         let (rt, counted) = (self.rt, self.counted);
-        let front = &counted.front;
+        let monitor = &counted.monitor;
         let opening = Opening::of(&step);
         let wakes = may_end_stands(&step);
-        let mut here = front.come(rt);
+        let mut entered = monitor.enter(rt);
         let mut stood = match self.attempt(step)? {
             Reply::Stand(stood) => stood,
             reply => {
-                drop(here);
+                drop(entered);
                 if wakes {
-                    front.wake();
+                    monitor.wake();
                 }
                 return Ok(reply);
             }
@@ -184,7 +184,7 @@ impl<'a, W: Wait + time::Clock, C: Clock> Desk for CountedDesk<'a, W, C> {
             unreachable!()
         };
         for _ in rt.forever() {
-            here = front.stand(rt, here);
+            entered = monitor.wait(rt, entered);
             match self.try_again(&opening, stood)? {
                 Reply::Stand(still) => stood = still,
                 reply => return Ok(reply),

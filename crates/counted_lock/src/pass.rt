@@ -23,7 +23,7 @@ pub struct CountedPass {
     /// How many marks it made.
     pub(crate) calls: u64,
     pub(crate) stopped: bool,
-    pub(crate) seat: Place,
+    pub(crate) place: Place,
 }
 
 impl Model for CountedPass {
@@ -34,15 +34,15 @@ impl Model for CountedPass {
     ghost Value = { AtPass };
 
     ghost view = { λ pass. record {
-      table = pass.seat.table_id;
-      limits = (own pass.seat.me).limits;
+      table = pass.place.table_id;
+      limits = (own pass.place.me).limits;
       number = pass.number;
       sessions = pass.sessions;
-      seen = (own pass.seat.me).seen;
+      seen = (own pass.place.me).seen;
     } };
 
     ghost invariant = { λ pass.
-        IsPass pass.number pass.sessions pass.front pass.calls pass.stopped pass.seat.me };
+        IsPass pass.number pass.sessions pass.front pass.calls pass.stopped pass.place.me };
 }
 
 impl CountedPass {
@@ -96,12 +96,12 @@ impl CountedPass {
     ghost use Rattle.counted_lock.specs.Claims.{own};
     ghost use Rattle.counted_lock.specs.Keeping.{claim_of};
 
-    pub(crate) fn into_seat(self) -> Place
+    pub(crate) fn into_place(self) -> Place
         ensures table { result.table_id ≡ self.table }
         ensures idle { IsIdle result.me }
         ensures own { own result.me ≡ claim_of self }
     {
-        let CountedPass { seat, .. } = self;
-        seat
+        let CountedPass { place, .. } = self;
+        place
     }
 }
