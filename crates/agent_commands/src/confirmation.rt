@@ -46,10 +46,7 @@ pub(crate) fn confirm<L: Link, D: Desk, P: Prompter>(
     match options.mode() {
         PinMode::Ask => {
             hold_seat(None, held, desk)?;
-            match held.ticket() {
-                Some(ticket) => ask_consent(description, rules, options, ticket, conn, prompter),
-                None => unreachable!(),
-            }
+            ask_consent(description, rules, options, held.ticket(), conn, prompter)
         }
         PinMode::Cancel => Err(Refusal::Agent(Code::Cancelled)),
         PinMode::Error | PinMode::Loopback => Err(Refusal::Agent(Code::NoPinentry)),

@@ -300,9 +300,6 @@ fn prompt<L: Link, P: Prompter>(
         conn.old prompter.old result conn.new prompter.new }
     ensures shut { IsShut (P.at prompter.new) }
 {
-    let Some(ticket) = held.ticket() else {
-        unreachable!()
-    };
     let (texts, rules, options) = (asking.texts, asking.rules, asking.options);
     let spec = prompt_spec(
         &texts.description,
@@ -312,7 +309,7 @@ fn prompt<L: Link, P: Prompter>(
         options,
     );
     let plan = ask_plan(&texts.error, asking.check, asking.repeat, rules, options);
-    match ask_user(ticket, &spec, &plan, &mut AnyPin, conn, prompter) {
+    match ask_user(held.ticket(), &spec, &plan, &mut AnyPin, conn, prompter) {
         Asked::Pin(pin) => Ok(pin),
         asked => Err(pin_refusal(asked)),
     }

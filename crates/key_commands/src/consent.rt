@@ -42,10 +42,7 @@ pub(crate) fn consent<L: Link, D: Desk, P: Prompter>(
     match asking.options.mode() {
         PinMode::Ask => {
             hold_seat(None, held, desk)?;
-            match held.ticket() {
-                Some(ticket) => ask_consent(asking, ticket, conn, prompter),
-                None => unreachable!(),
-            }
+            ask_consent(asking, held.ticket(), conn, prompter)
         }
         PinMode::Cancel => Err(Refusal::Agent(Code::Cancelled)),
         PinMode::Error | PinMode::Loopback => Err(Refusal::Agent(Code::NoPinentry)),

@@ -83,10 +83,7 @@ fn ask<L: Link, D: Desk, P: Prompter, T: TrustFile>(
     match marking.options.mode() {
         PinMode::Ask => {
             hold_seat(None, held, desk)?;
-            match held.ticket() {
-                Some(ticket) => mark_consented(marking, ticket, conn, prompter, trust),
-                None => unreachable!(),
-            }
+            mark_consented(marking, held.ticket(), conn, prompter, trust)
         }
         PinMode::Cancel => Err(Refusal::Agent(Code::Cancelled)),
         PinMode::Error | PinMode::Loopback => Err(Refusal::Agent(Code::NoPinentry)),

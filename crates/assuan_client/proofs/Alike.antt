@@ -15,7 +15,12 @@ use Rattle.assuan_line.specs.Next.{OnLine}
 use Rattle.assuan_line.specs.declared.breach.Breach.TheVariants as breach
 use Rattle.assuan_line.specs.declared.reader.Took.{Took}
 use Rattle.assuan_line.specs.declared.reader.Took.TheVariants as took
-use Rattle.passphrase_talk.proofs.OnlyTook.{Fits, same_reading}
+use Rattle.assuan_line.proofs.OnlyTook.{Fits, same_reading}
+
+abbrev pub is_fault : Answer → Bool
+is_fault answer.ReadFault = true
+is_fault answer.WriteFault = true
+is_fault _ = false
 
 -- the same bytes come, as many more may be taken, and the same came in the command
 pub record Alike (one two : Connection) : Type 0 where
@@ -26,11 +31,6 @@ pub record Alike (one two : Connection) : Type 0 where
   pub bytes : one.reader.ahead ++ rest ≡ two.reader.ahead ++ other
   pub fits : Fits one.reader two.reader rest other
   pub tally : one.tally ≡ two.tally
-
-abbrev pub is_fault : Answer → Bool
-is_fault answer.ReadFault = true
-is_fault answer.WriteFault = true
-is_fault _ = false
 
 -- after this answer something may be said
 abbrev pub goes_on : Answer → Bool
