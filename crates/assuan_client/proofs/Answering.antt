@@ -1,19 +1,10 @@
 -- From the lines that were read to the answer.
 use Rattle.std.proofs.Common.{◌≡◌, ◌≢◌, ℕ, List, [], ◌∷◌, Option, Some, None, ◌⊎◌, inl, inr, refl, ap, sym, ◌∙◌, subst}
-use Rattle.agent_ports.specs.Sides.{Side, WhereKnown}
-use Rattle.assuan_line.specs.Next.{Reader, WereNeeded, ended_by}
-use Rattle.assuan_line.specs.Reading.{HasRead}
-use Rattle.assuan_line.specs.Skipping.{IsUndecided, Stops, ReadsOn}
-use Rattle.assuan_line.specs.declared.reader.Took.{Took}
+use Rattle.{agent_ports.specs.Sides.{Side, WhereKnown}, assuan_line.{specs.{Next.{Reader, WereNeeded, ended_by}, Reading.HasRead, Skipping.{IsUndecided, Stops, ReadsOn}, declared.reader.Took.Took}, proofs.ReadingOn.read_says_less}}
+use Rattle.assuan_client.specs.{Answers.{Answers, ReadOn, IsStop, Says, ended_of, state_after}, Connections.Connection, Skipping.{Tally, with_lines, with_inquiry, skips_after, skips_behind, coded, IsBehind, nothing}}
+use Rattle.assuan_client.{specs.declared.answer.Answer.{Answer, TheVariants.{Ok, Got, Err, Asked, Broken, ReadFault, WriteFault}}, proofs.Skipping.skipped_after}
 use Rattle.assuan_line.specs.declared.reader.Took.TheVariants as took
-use Rattle.assuan_line.proofs.ReadingOn.{read_says_less}
-use Rattle.assuan_client.specs.Answers.{Answers, ReadOn, IsStop, Says, ended_of, state_after}
-use Rattle.assuan_client.specs.Connections.{Connection}
-use Rattle.assuan_client.specs.Skipping.{Tally, with_lines, with_inquiry, skips_after, skips_behind, coded, IsBehind, nothing}
-use Rattle.assuan_client.specs.declared.answer.Answer.{Answer}
-use Rattle.assuan_client.specs.declared.answer.Answer.TheVariants.{Ok, Got, Err, Asked, Broken, ReadFault, WriteFault}
 use Rattle.assuan_client.specs.declared.answer.State.TheVariants as state
-use Rattle.assuan_client.proofs.Skipping.{skipped_after}
 
 -- after an answer that leaves the connection whole, the reader goes on
 pub goes_on : (answer : Answer) → state_after answer ≢ state.Broken → ended_of answer ≡ None
