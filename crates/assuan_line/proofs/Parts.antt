@@ -88,7 +88,7 @@ rest_some bytes some =
     last (before_first is_lf bytes) h.first h.others _ _ h.parts (split_first is_lf bytes some)
 
 -- what the next line tells of the line feeds
-has_lf_among_first : (bytes : List ℕ) → has_lf (take MAX_UNDECIDED bytes) ≡ true → has_lf bytes ≡ true
+pub has_lf_among_first : (bytes : List ℕ) → has_lf (take MAX_UNDECIDED bytes) ≡ true → has_lf bytes ≡ true
 has_lf_among_first bytes some =
     ap has_lf (sym (take-append-drop MAX_UNDECIDED bytes)) ∙ list_any-append is_lf (take MAX_UNDECIDED bytes) (drop MAX_UNDECIDED bytes)
     ∙ ap (λ (b : Bool). b || has_lf (drop MAX_UNDECIDED bytes)) some

@@ -12,7 +12,7 @@ reads_next before rest End after left known = known
 reads_next before rest Spent after left known = (cut_short_of_all known.0, known.1)
 reads_next before rest ReadFault after left known = (cut_short_of_all known.0, known.1)
 
-where_known : (before after : Option (List ℕ)) (P Q : List ℕ → List ℕ → Type 0) → WhereKnown before after P → ((rest left : List ℕ) → P rest left → Q rest left) → WhereKnown before after Q
+pub where_known : (before after : Option (List ℕ)) (P Q : List ℕ → List ℕ → Type 0) → WhereKnown before after P → ((rest left : List ℕ) → P rest left → Q rest left) → WhereKnown before after Q
 where_known None None P Q known each = tt
 where_known None (Some left) P Q known each = known
 where_known (Some rest) None P Q known each = known
