@@ -1,6 +1,6 @@
 -- What a turn at a desk in memory does to the run: its promise.
 use Rattle.std.specs.{Prelude.{◌≡◌, ℕ, ◌+◌, ◌<◌, ◌≤◌, List, [], ◌∷◌, ◌++◌, length, fold, min, Bool, true, false, Option, Some, None, IsSome, IfSome, refl, if◌then◌else◌}, Option.{option_and_then, is_some}, List.AllByRecursion}
-use Rattle.std.proofs.Common.{ap, sym, ◌∙◌, subst, append-nil, append_assoc, eq-eqb, zero, suc, add-one, add_assoc, arith}
+use Rattle.std.proofs.Common.{ap, sym, ◌∙◌, subst, append-nil, append_assoc, zero, suc, add-one, add_assoc, arith}
 use Rattle.{agent_ports.specs.{Leads.{Leads, none as stay, one}, Readings.{Readings, IsRead}, declared.session.SessionId.SessionId}, cache_policy.specs.declared.{life.Limits.Limits, entry.Entry.Entry, mark.{Mark.Mark, MarkStep.MarkStep}}}
 use Rattle.cache_policy.specs.declared.{mark.{MarkStep.TheVariants.{Ask, Seat, Close, Put, Clear, Flush, Peek, Stop}, Way.{Way, TheVariants.{Quiet, Prompt}}}, bounds.TheConstants.MAX_MOMENT, wait.Wait.Wait, history.Held.Held as Ticket}
 use Rattle.cache_policy.specs.{declared.step.Step.Step, Desks.{is_of, IsSpentRun, MakesMarks, marked as makes_mark, refused as makes_none, spent as makes_spent, IsTurn}, Histories.{History, with_mark}}

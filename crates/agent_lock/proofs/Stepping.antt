@@ -1,5 +1,5 @@
 -- A step under the lock, from what the core says of it.
-use Rattle.std.proofs.Common.{◌≡◌, ◌≢◌, ◌⊎◌, ℕ, ◌+◌, ◌^◌, ◌%◌, ◌<◌, ◌≤◌, ◌==◌, inl, inr, Bool, true, false, cond, List, [], ◌∷◌, ◌++◌, length, Option, Some, None, refl, ap, sym, ◌∙◌, subst, arith, length-append}
+use Rattle.std.proofs.Common.{◌≡◌, ◌≢◌, ℕ, ◌+◌, ◌^◌, ◌%◌, ◌<◌, ◌≤◌, ◌==◌, Bool, true, false, cond, List, [], ◌∷◌, ◌++◌, length, Option, Some, None, refl, ap, sym, ◌∙◌, subst, arith, length-append}
 use Rattle.std.{proofs.lemmas.{List.{map-append, length-map, Sums.fold-append}, Bool.{eqb-true, eqb-false}}, specs.Prelude.{vec_capacity, IsTrue, ◌↔◌}}
 use Rattle.{agent_ports.specs.declared.session.SessionId.SessionId, cache_policy.specs.declared.{bounds.TheConstants.MAX_MARKS, life.Limits.Limits, mark.{Mark.Mark, MarkStep.MarkStep, MarkReply.MarkReply}, history.Held.Held}}
 use Rattle.cache_policy.specs.{declared.{tally.Tally.Tally, trace.Trace.Trace}, Bare.{bare, bare_mark, bare_step}, Desks.Shows, Entries.stored, Histories.{History, with_mark}, Legal.IsLegal, Policy.{Reply, policy}}

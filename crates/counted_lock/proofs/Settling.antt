@@ -1,7 +1,7 @@
 -- What a step of the core adds to the run.
-use Rattle.std.proofs.{Common.{◌≡◌, ◌≤◌, ◌<◌, ◌%◌, ◌≢◌, ◌==◌, ℕ, ◌+◌, true, false, List, [], ◌∷◌, ◌++◌, length, Some, None, sym, refl, ap, ◌∙◌, subst, arith, if◌then◌else◌}, lemmas.{Bool.Decides.nat_tests, List.append-nil}}
-use Rattle.{agent_ports.specs.declared.session.SessionId.SessionId, cache_policy.specs.declared.{bounds.TheConstants.{MAX_MARKS, MAX_MOMENT}, life.Limits.Limits, mark.{Mark.Mark, MarkStep.MarkStep}, tally.Tally.Tally, wait.Wait.Wait}}
-use Rattle.cache_policy.specs.{Desks.Shows, Entries.stored, Histories.History, Runs.{last_base, turn_over, next_history, is_spent, run_with_mark, joined, moment_before}, Tallies.one_if, Turns.{Turn, Stand, Refused, Stopping}}
+use Rattle.std.proofs.{Common.{◌≡◌, ◌≤◌, ℕ, ◌+◌, true, false, List, [], ◌∷◌, ◌++◌, length, Some, None, sym, refl, ap, ◌∙◌, subst, arith}, lemmas.{List.append-nil}}
+use Rattle.{agent_ports.specs.declared.session.SessionId.SessionId, cache_policy.specs.declared.{bounds.TheConstants.{MAX_MOMENT}, life.Limits.Limits, mark.{Mark.Mark, MarkStep.MarkStep}, tally.Tally.Tally, wait.Wait.Wait}}
+use Rattle.cache_policy.specs.{Desks.Shows, Entries.stored, Histories.History, Runs.{last_base, next_history, is_spent, run_with_mark, joined, moment_before}, Tallies.one_if, Turns.{Turn, Stand, Refused, Stopping}}
 use Rattle.agent_core.specs.{Cores.{AtCore, mark_of, WantsMemory, IsStep, marked, stood, refused, spent}, Known.TakesStep, Recording.{KeepsRun, reply_of}, Stepped.IsSettled, Tallies.{counted, Tallied, CanCount}}
 use Rattle.agent_core.proofs.{Counting.{can_count, tally_counted, tally_stays}, Knowing.{legal_last, spent_run, going, is_marked, made, keeps_same, keeps_refused, took_refused, took_stood, seat_next, below_next}, Seating.going_on}
 use Rattle.counted_lock.specs.{declared.{board.{Claim.Claim, Stage.TheVariants.Working}, trial.Trial.Trial}, Logs.{run_of_log, IsLegalLog}, Rule.doing, Plays.{Hand, number, Works, Counts}, Claims.{Sat, own}}
