@@ -1,3 +1,8 @@
+//! AES-128 under one key: its expansion, and the encryption and decryption of single blocks (FIPS
+//! 197). It works on the block and on its own round keys, and takes no memory. Begin with
+//! `Aes128::encrypt`, which is the standard's rounds; `decrypt` is the equivalent inverse cipher
+//! (5.3.5).
+
 ghost use Rattle.std.specs.Prelude.{◌≡◌, ℕ, ◌+◌, ◌<◌, List, map, replicate, slice_index_or, []};
 ghost use Rattle.std.specs.List.{range_with_len};
 ghost use Rattle.aes_block.specs.Columns.{bytes_of};

@@ -1,3 +1,7 @@
+//! Laws of the cipher, for whoever composes it in a mode: functions without a body, whose contracts
+//! are facts about the definitions. They touch nothing. Begin with `encrypted` and `decrypted` of
+//! `specs/Aes`, of which they speak.
+
 ghost use Rattle.std.specs.Prelude.{◌≡◌, ℕ, List, length};
 ghost use Rattle.aes_block.specs.Aes.{IsBytes, xor_of, encrypted, decrypted};
 

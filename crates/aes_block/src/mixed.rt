@@ -1,5 +1,7 @@
 //! What each byte of a column adds to the mixed column, once it is substituted: a word, its byte of
-//! the first row lowest. A proof computes each table's rule over the whole table.
+//! the first row lowest. A proof computes each table's rule over the whole table. Pure look-ups, of
+//! SubBytes and MixColumns together (FIPS 197, 5.1.1 and 5.1.3); begin with the clause of
+//! `mixed_first`.
 
 ghost use Rattle.std.specs.Prelude.{◌≡◌, [], ◌∷◌};
 ghost use Rattle.std.specs.Int.{w32, to_le_bytes};

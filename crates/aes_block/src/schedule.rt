@@ -1,4 +1,6 @@
-//! The key schedule (FIPS 197, 5.2).
+//! The key schedule (FIPS 197, 5.2), and the keys that the equivalent inverse cipher adds (5.3.5).
+//! It writes into its caller's arrays, and keeps nothing. Begin with `write_round_keys`;
+//! `round_key` of `specs/Aes` says which keys these are.
 
 ghost use Rattle.std.specs.Prelude.{◌≡◌, ℕ, ◌+◌, ◌-◌, ◌<◌, ◌≤◌, List, [], length, slice_index_or};
 ghost use Rattle.std.specs.Int.{w32, to_le_bytes};

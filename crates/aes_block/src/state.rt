@@ -1,4 +1,6 @@
 //! The steps of a round on the state: a word for each column, its byte of the first row lowest.
+//! Pure functions, of which some do several of the standard's transformations by one look-up. Begin
+//! with `mix`, a whole round but for its key; `specs/Columns` says how words are columns.
 
 ghost use Rattle.std.specs.Prelude.{◌≡◌, [], ◌∷◌, slice_index};
 ghost use Rattle.std.specs.Int.{w32, to_le_bytes};

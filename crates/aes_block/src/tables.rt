@@ -1,4 +1,6 @@
-//! The tables of the cipher. A proof computes each rule over the whole table.
+//! The small tables of the cipher: SubBytes, its inverse and the round constants (FIPS 197, 5.1.1,
+//! 5.3.2 and 5.2). A proof computes each rule over the whole table. Pure look-ups; begin with the
+//! clause of `substitute`, whose field arithmetic stands in `specs/Field`.
 
 ghost use Rattle.std.specs.Prelude.{◌≡◌, ◌-◌, ◌≤◌};
 ghost use Rattle.aes_block.specs.Field.{power, sub_byte, inv_sub_byte};

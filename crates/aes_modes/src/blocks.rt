@@ -1,4 +1,5 @@
-//! Blocks within bytes.
+//! Blocks of 16 bytes within longer bytes, for both modes. A block is copied out, or put in its
+//! place in the caller's bytes; nothing else is touched. The two clauses say all of it.
 
 ghost use Rattle.std.specs.Prelude.{◌≡◌, ◌+◌, ◌≤◌, ◌++◌, length, take, drop};
 

@@ -1,4 +1,6 @@
-//! Cipher block chaining.
+//! Cipher block chaining (SP 800-38A, 6.2) with AES-128. It works in place on the caller's whole
+//! blocks and takes no memory; padding is the caller's. Begin with `cbc_encrypt`; the definitions
+//! stand in `specs/Cbc`.
 
 ghost use Rattle.std.specs.Prelude.{◌≡◌, ℕ, ◌%◌, List, length};
 ghost use Rattle.aes_block.specs.Aes.{IsBytes};

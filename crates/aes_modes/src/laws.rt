@@ -1,3 +1,7 @@
+//! Laws of both modes: what was encrypted comes back, and OCB has one plaintext for all bytes.
+//! Functions without a body, whose contracts are facts about `specs/Cbc` and `specs/Ocb`; they
+//! touch nothing. Begin with `ocb_decryption_undoes_encryption`.
+
 ghost use Rattle.std.specs.Prelude.{◌≡◌, ◌%◌, ℕ, List, length};
 ghost use Rattle.aes_block.specs.Aes.{IsBytes};
 ghost use Rattle.aes_modes.specs.Cbc.{cbc_encrypted, cbc_decrypted};

@@ -1,5 +1,6 @@
 //! What is added to the blocks of OCB: the masks L of a key, and the first offset of a nonce (RFC
-//! 7253, 4.1 and 4.2).
+//! 7253, 4.1 and 4.2). Pure but for the masks, which are overwritten when they are dropped. Begin
+//! with `Masks::new` and `first_offset`; the definitions stand in `specs/Masks`.
 
 ghost use Rattle.std.specs.Prelude.{◌≡◌, ℕ, ◌+◌, ◌/◌, ◌<◌, List};
 ghost use Rattle.std.specs.Int.{w64, trailing_zeros};

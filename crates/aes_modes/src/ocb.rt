@@ -1,5 +1,6 @@
-//! OCB: each block is added an offset, encrypted, and added the offset again; the sum of the
-//! plaintext gives the tag.
+//! OCB (RFC 7253): each block is added an offset, encrypted, and added the offset again; the sum of
+//! the plaintext gives the tag. It works in place on the caller's bytes and takes no memory. Begin
+//! with `ocb_encrypt`; the definitions stand in `specs/Ocb`.
 
 ghost use Rattle.std.specs.Prelude.{◌≡◌, ◌↔◌, [], ◌∷◌, ℕ, ◌+◌, ◌*◌, ◌/◌, ◌<◌, ◌≤◌, List, ◌++◌};
 ghost use Rattle.std.specs.Prelude.{length, take, drop, replicate, IsTrue, false};

@@ -1,4 +1,6 @@
-//! The user's consent, as a part of a request that holds a ticket.
+//! The user's consent, as a part (action) of a request that holds a ticket (permit): all but a yes
+//! refuses the request. It calls the prompter and the client. Begin with `agree`;
+//! `specs/ConsentParts` says what it does, and which answer is which error (`IsConsented`).
 
 ghost use Rattle.std.specs.Prelude.{◌≡◌};
 ghost use Rattle.agent_ask.specs.Clients.{Hears, LeftByPart};

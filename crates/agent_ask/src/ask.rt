@@ -1,3 +1,8 @@
+//! The prompt for a passphrase: it is opened, tried up to three times and shut, whatever came. It
+//! calls the prompter, the client and the test of the passphrase, and borrows the ticket (permit)
+//! of the seat (lock: the right to prompt). Begin with `ask_pin`; its events are `AsksPinBy`
+//! (`specs/Prompts`).
+
 ghost use Rattle.std.specs.Prelude.{◌≡◌, ℕ, List};
 ghost use Rattle.agent_ask.specs.Listening.{ListensAfterPin};
 ghost use Rattle.agent_ask.specs.Doing.{HasEvents, DoesPrompt, ends};

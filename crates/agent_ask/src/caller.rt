@@ -1,3 +1,8 @@
+//! The port to the client for whom a prompt is open: it is told of it, as by the inquiry
+//! PINENTRY_LAUNCHED (GnuPG manual, `OPTION allow-pinentry-notify`), or asked for a passphrase. A
+//! trait and its answers. Begin with `Caller`; `specs/Callers` says what each answer means, and
+//! which are unheard (a client error).
+
 ghost use Rattle.std.specs.Prelude.{◌≡◌, Some};
 ghost use Rattle.agent_ask.specs.Events.{Question, Launched, Wanted};
 ghost use Rattle.agent_ask.specs.Callers.{IsHearing, IsUnheardBy, unheard_of};

@@ -1,3 +1,7 @@
+//! A session's client, lent to a prompt: any `Client` as a `Caller`. It calls the client's `tell`
+//! and `ask`, and nothing else. Begin with `LentClient`; `specs/Clients` says what it hears
+//! (`LentHears`).
+
 ghost use Rattle.std.specs.Prelude.{◌≡◌};
 ghost use Rattle.agent_ask.specs.Callers.{SaysNote, SaysWish};
 ghost use Rattle.session_client.specs.Lines.{IsOpen};

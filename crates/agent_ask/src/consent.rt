@@ -1,3 +1,7 @@
+//! The prompt for consent: it is opened, asked once and shut, whatever came. It calls the prompter
+//! and the client, and borrows the ticket (permit) of the seat (lock: the right to prompt). Begin
+//! with `ask_consent`; its events are `AsksConsent` (`specs/Consents`).
+
 ghost use Rattle.std.specs.Prelude.{◌≡◌};
 ghost use Rattle.agent_ask.specs.Listening.{ListensAfterConsent};
 ghost use Rattle.agent_ask.specs.Consents.{AsksConsent, ConsentBefore, agreed_of};

@@ -1,5 +1,8 @@
-ghost use Rattle.std.specs.Prelude.{◌≡◌, None, Some, is_some};
-ghost use Rattle.std.specs.Option.{option_copied};
+//! The ticket (permit) that a request may hold, as a place from which none gets lost: a `Held`
+//! can't be dropped, and `end` takes only an empty one. It calls nothing and takes no memory. Begin
+//! with `Held`; its contracts speak of the ticket's number, or of none.
+
+ghost use Rattle.std.specs.Prelude.{◌≡◌, None, Some, IsSome, is_some};
 
 use prompt_seat::Ticket;
 use std::marker::Model;
@@ -61,9 +64,11 @@ impl Held {
         self.ticket.is_some()
     }
 
-    pub fn ticket(&self) -> Option<&Ticket>
-        ensures { option_copied result ≡ self.now }
+    /// The ticket, of a request that holds one.
+    pub fn ticket(&self) -> &Ticket
+        requires { IsSome self.now }
+        ensures { Some result.now ≡ self.now }
     {
-        self.ticket.as_ref()
+        self.ticket.as_ref().unwrap()
     }
 }

@@ -1,4 +1,6 @@
-//! Laws: each function's contract is a fact about the definitions.
+//! Laws: each function's contract is a fact about the definitions. Nothing runs. Begin with
+//! `a_prompt_has_one_answer`; the definitions are those of `specs/Prompts`, `specs/Consents` and
+//! `specs/Prompters`.
 
 ghost use Rattle.std.specs.Prelude.{◌≡◌, ℕ, Bool, List};
 ghost use Rattle.std.specs.List.{count_by};

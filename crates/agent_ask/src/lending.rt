@@ -1,4 +1,6 @@
-//! Prompts for a session's client, who is lent to them.
+//! Prompts for a session's client, who is lent to them. They call the prompter, the test and the
+//! client. Begin with `ask_user` and `ask_leave`, which are `ask_pin` and `ask_consent` over a
+//! `Client`; `specs/Clients` says what becomes of that (`LeftByPin`, `LeftByConsent`).
 
 ghost use Rattle.std.specs.Prelude.{◌≡◌, ℕ, List, ⊤};
 ghost use Rattle.agent_ask.specs.Callers.{IsUnheardBy};

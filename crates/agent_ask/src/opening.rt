@@ -1,3 +1,7 @@
+//! The opening of a prompt, for a passphrase or for consent: the prompter is started, and the
+//! client is told of it where it set `allow-pinentry-notify`. It calls these two and nothing else.
+//! Begin with `open_prompt`; its events are `Opens` (`specs/Prompts`).
+
 ghost use Rattle.std.specs.Prelude.{◌≡◌, true};
 ghost use Rattle.agent_ask.specs.Doing.{HasEvents, DoesPrompt, ends};
 ghost use Rattle.agent_ask.specs.Listening.{ListensAfterOpening};

@@ -1,4 +1,6 @@
-//! Prompts for a passphrase that gave none.
+//! Prompts for a passphrase that gave none, as the refusals of their requests. Pure. It has one
+//! function, `pin_refusal`, which `specs/PinParts` defines: a cancel and a timeout are the
+//! pinentry's errors, the others the agent's.
 
 ghost use Rattle.std.specs.Prelude.{◌≡◌, Some, IsSome};
 ghost use Rattle.agent_ask.specs.PinParts.{pin_refusal};

@@ -1,3 +1,7 @@
+//! What a prompt shows and how it asks, by the agent's rules (its command line) and the session's
+//! options (OPTION). Pure; the texts are copied into places of a fixed size. Begin with
+//! `prompt_spec` and `ask_plan`, which `specs/Plans` defines.
+
 ghost use Rattle.std.specs.Prelude.{◌≡◌};
 ghost use Rattle.agent_ask.specs.Plans.{IsSpec, plan_of};
 

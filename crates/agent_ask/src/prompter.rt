@@ -1,3 +1,8 @@
+//! The port to what asks the user, by the operations of a pinentry (pinentry manual, "protocol"):
+//! start, GETPIN, CONFIRM, and the end. A trait and its answers; `Pinentry` of `pinentry_client` is
+//! the agent's own. Begin with `Prompter`; `specs/Prompters` says what each call does to its state
+//! and to its count of faults.
+
 ghost use Rattle.std.specs.Prelude.{◌≡◌, true};
 ghost use Rattle.agent_ask.specs.Events.{Call, Start, GetPin, Confirm, Shut};
 ghost use Rattle.agent_ask.specs.Prompters.{AtPrompter, IsShut, IsCall};

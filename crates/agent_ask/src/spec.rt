@@ -1,3 +1,7 @@
+//! What a prompt shows (`PromptSpec`), and how its passphrase is checked and repeated (`AskPlan`).
+//! Plain data of fixed size, which `plan.rt` makes. What each text is for is in the pinentry
+//! manual, "protocol".
+
 use assuan_text::Text;
 use session_options::Env;
 

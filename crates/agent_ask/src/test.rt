@@ -1,3 +1,8 @@
+//! The port to the test of a passphrase: whether it is right, or that there was no memory to tell.
+//! A trait and its answer; `AnyPin` (`lending.rt`) accepts every passphrase, `OpensKey` of
+//! `key_commands` those that open a key. Begin with `Test`; `specs/Tests` says what its answers
+//! mean.
+
 ghost use Rattle.std.specs.Prelude.{ℕ, List};
 ghost use Rattle.agent_ask.specs.Tests.{IsTest};
 

@@ -1,3 +1,7 @@
+//! The tries of one prompt: each is a GETPIN, the check of a new passphrase, the test and the
+//! repeats, and the next one shows what failed it. It calls the prompter and the test alone. Begin
+//! with `ask_tries`; its events are `Tries` (`specs/Prompts`).
+
 ghost use Rattle.std.specs.Prelude.{◌≡◌, ◌≤◌, ◌↔◌, true, None, IsTrue, length};
 ghost use Rattle.agent_ask.specs.Doing.{HasEvents, DoesCall};
 ghost use Rattle.agent_ask.specs.Prompts.{MeetsCheck, IsTry, Repeats, Tries, failure_words};

@@ -1,4 +1,7 @@
-//! A command on the cache or on the session, carried out and answered.
+//! A command on the cache or on the session, carried out and answered. It works on the connection,
+//! the desk (cache handle), the prompter and the session's options, and leaves no ticket (permit)
+//! out. Begin with `run_cache`, and with `run_quiet` for the cache alone; what is done is
+//! `CacheExchange` (`specs/Exchanges`).
 
 ghost use Rattle.std.specs.Prelude.{◌≡◌, ℕ, List, None, Some};
 ghost use Rattle.agent_ask.specs.Prompters.{IsShut};

@@ -1,4 +1,6 @@
-//! GET_CONFIRMATION.
+//! GET_CONFIRMATION: the user's consent, or the error that the pinentry-mode says. It takes the
+//! seat (lock: the right to prompt) at the desk (cache handle), and calls the prompter and the
+//! client. Begin with `confirm`; its events are `confirms_by` (`specs/Exchanges`).
 
 ghost use Rattle.std.specs.Prelude.{◌≡◌, None, Some};
 ghost use Rattle.agent_ask.specs.ConsentParts.{AgreesTo};
@@ -44,10 +46,7 @@ pub(crate) fn confirm<L: Link, D: Desk, P: Prompter>(
     match options.mode() {
         PinMode::Ask => {
             hold_seat(None, held, desk)?;
-            match held.ticket() {
-                Some(ticket) => ask_consent(description, rules, options, ticket, conn, prompter),
-                None => unreachable!(),
-            }
+            ask_consent(description, rules, options, held.ticket(), conn, prompter)
         }
         PinMode::Cancel => Err(Refusal::Agent(Code::Cancelled)),
         PinMode::Error | PinMode::Loopback => Err(Refusal::Agent(Code::NoPinentry)),

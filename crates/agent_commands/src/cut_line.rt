@@ -1,3 +1,7 @@
+//! A line, cut into the name of its command and what comes after it, once for all that read it.
+//! Pure; it borrows the line. Begin with `CutLine::of`; contracts see the line, of which
+//! `command_of` and `rest_of` (`assuan_text`, `specs/Words`) are the two.
+
 ghost use Rattle.std.specs.Prelude.{◌≡◌, ◌≤◌, length};
 ghost use Rattle.assuan_text.specs.Words.{command_of, rest_of};
 ghost use Rattle.assuan_text.specs.declared.TheConstants.{MAX_LINE_LEN};

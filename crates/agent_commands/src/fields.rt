@@ -1,3 +1,8 @@
+//! The fields of the commands on the cache (GnuPG manual, "Agent's Assuan protocol"): cache ids,
+//! lifetimes in seconds, modes, passphrases in hexadecimal digits, `--repeat`, and the texts of a
+//! prompt. Pure; a passphrase that was spelled is overwritten but for the `Secret` that it becomes.
+//! Begin with `specs/Fields`, which defines what each is read as.
+
 ghost use Rattle.std.specs.Prelude.{◌≡◌, ◌≤◌, ◌++◌, length, codes, [], true, MatchOption, Some};
 ghost use Rattle.std.specs.Option.{option_and_then, option_map};
 ghost use Rattle.hex.specs.Hex.{decode_of};

@@ -1,4 +1,6 @@
-//! The passphrase that a request came by.
+//! The passphrase that a request came by: a grant of the cache, which isn't copied, or a secret of
+//! its own. Plain data; a secret is overwritten when it is dropped. Begin with `Found`; contracts
+//! see its bytes (`specs/Sources`).
 
 ghost use Rattle.std.specs.Prelude.{◌≡◌};
 

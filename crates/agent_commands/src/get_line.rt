@@ -1,3 +1,7 @@
+//! The arguments and options of a GET_PASSPHRASE, as words of its line: most requests need none of
+//! the texts, which are long. Pure. Begin with `GetLine::of`; `get_of` (`specs/Requests`) says what
+//! is in form, and `quiet` when the cache alone is asked.
+
 ghost use Rattle.std.specs.Prelude.{◌≡◌, ◌≤◌, length};
 ghost use Rattle.std.specs.Option.{option_map};
 ghost use Rattle.assuan_text.specs.declared.TheConstants.{MAX_LINE_LEN};

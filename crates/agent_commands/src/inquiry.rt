@@ -1,4 +1,6 @@
-//! The client is asked for a passphrase.
+//! The client is asked for a passphrase, as a part (action) of a request: a status with the limit,
+//! and an inquiry (Assuan manual, "server responses"). It works on the connection alone. Begin with
+//! `ask_client`; its events are `AsksPassphrase` (`specs/Parts`).
 
 ghost use Rattle.assuan_server.specs.Clients.{connection_views};
 ghost use Rattle.assuan_server.specs.Connections.{IsOpen};

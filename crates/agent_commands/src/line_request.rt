@@ -1,3 +1,7 @@
+//! A line that is read as a request, in two steps: its command and the fields of a GET_PASSPHRASE,
+//! and then all that is long. Pure; it borrows the line. Begin with `LineRequest::of`: its value is
+//! `request_of` the line (`specs/Requests`), and `quiet` finds the request of the cache alone.
+
 ghost use Rattle.std.specs.Prelude.{◌≡◌};
 ghost use Rattle.agent_commands.specs.Exchanges.{quiet_of};
 ghost use Rattle.agent_commands.specs.Requests.{request_of};

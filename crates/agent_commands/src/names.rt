@@ -1,3 +1,8 @@
+//! The commands on the cache, the names of those on keys, and what GETINFO can be asked for: tables
+//! for the reader, for HELP and for `cmd_has_option`. Pure; a command is found in any case of its
+//! letters. Begin with `COMMANDS`; `specs/Names` has the tables again, and
+//! `commands_are_as_defined` ties them.
+
 ghost use Rattle.std.specs.Prelude.{◌≡◌, map};
 ghost use Rattle.agent_commands.specs.declared.names.TheConstants.{COMMANDS, KEY_COMMANDS};
 ghost use Rattle.agent_commands.specs.declared.names.TheConstants.{PROMPT_COMMANDS};

@@ -1,4 +1,7 @@
-//! GET_PASSPHRASE: by the cache, a prompt, or the client itself.
+//! GET_PASSPHRASE: by the cache, a prompt, or the client itself (OPTION `pinentry-mode=loopback`).
+//! It takes turns at the desk (cache handle), holds the ticket (permit) of a prompt, and calls the
+//! prompter and the client. Begin with `get_passphrase`; `specs/Passphrases` has a definition for
+//! each of the ways, as `ByUser` and `ByCache`.
 
 ghost use Rattle.std.specs.Prelude.{◌≡◌, ◌≢◌, None, Ok, is_some, true};
 ghost use Rattle.agent_ask.specs.Prompters.{IsShut};
@@ -297,9 +300,6 @@ fn prompt<L: Link, P: Prompter>(
         conn.old prompter.old result conn.new prompter.new }
     ensures shut { IsShut (P.at prompter.new) }
 {
-    let Some(ticket) = held.ticket() else {
-        unreachable!()
-    };
     let (texts, rules, options) = (asking.texts, asking.rules, asking.options);
     let spec = prompt_spec(
         &texts.description,
@@ -309,7 +309,7 @@ fn prompt<L: Link, P: Prompter>(
         options,
     );
     let plan = ask_plan(&texts.error, asking.check, asking.repeat, rules, options);
-    match ask_user(ticket, &spec, &plan, &mut AnyPin, conn, prompter) {
+    match ask_user(held.ticket(), &spec, &plan, &mut AnyPin, conn, prompter) {
         Asked::Pin(pin) => Ok(pin),
         asked => Err(pin_refusal(asked)),
     }

@@ -1,3 +1,7 @@
+//! The arguments of each command on the cache, read as a `CacheCommand`, or the code that refuses
+//! them (GnuPG manual, "Agent's Assuan protocol"). Pure. Begin with `read_command`; `asked_by`
+//! (`specs/Requests`) says what it gives.
+
 ghost use Rattle.std.specs.Prelude.{◌≡◌, ◌≤◌, length, if◌then◌else◌, Some};
 ghost use Rattle.assuan_text.specs.declared.TheConstants.{MAX_LINE_LEN};
 ghost use Rattle.assuan_text.specs.Options.{options_of, arguments_of};

@@ -1,3 +1,7 @@
+//! The requests on the cache and on the session (GnuPG manual, "Agent's Assuan protocol"), as lines
+//! are read. Plain data; a `Secret` in it is overwritten when it is dropped. Begin with `Request`;
+//! which one a line is says `request_of` (`specs/Requests`).
+
 use assuan_server::Code;
 use assuan_text::Text;
 use cache_policy::{CacheId, Life, Mode, Secret};

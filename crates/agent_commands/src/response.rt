@@ -1,3 +1,8 @@
+//! What is written for a request that is carried out or refused (Assuan manual, "Server
+//! responses"). It writes on the connection, and overwrites the digits that it made of a
+//! passphrase. Begin with `respond`; what it writes is `RespondsTo` (`specs/Steps`), and the text
+//! of each response `IsText`.
+
 ghost use Rattle.std.specs.Prelude.{◌≡◌, ◌++◌, ℕ, List, All, map};
 ghost use Rattle.assuan_line.specs.Lines.{IsLine};
 ghost use Rattle.assuan_text.specs.LineEnds.{line_of};

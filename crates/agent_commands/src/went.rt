@@ -1,3 +1,6 @@
+//! How a session goes on after a request, and by what it ended. Plain data, and the end that a lost
+//! connection (`Gone`) is. Begin with `Went`; `specs/Endings` has `end_of`.
+
 ghost use Rattle.std.specs.Prelude.{◌≡◌};
 ghost use Rattle.agent_commands.specs.Endings.{end_of};
 

@@ -1,3 +1,7 @@
+//! The cache core as others see it: a session's step and a reading of the clock in, the policy's
+//! reply out. It works on its own state alone, and reads no clock and takes no lock itself. Begin
+//! with `Core::step`; `IsStep` and `StandsFor` of `specs/Cores` say what it does to every history.
+
 ghost use Rattle.std.specs.Prelude.{◌≡◌, ℕ, ◌+◌, ◌<◌, ◌≤◌, ◌↔◌, [], length, false, None, IsTrue};
 ghost use Rattle.std.specs.Prelude.{OnErr, IfErr};
 ghost use Rattle.std.specs.Option.{is_some};

@@ -1,3 +1,7 @@
+//! What a test's script has other sessions do at the desk (cache handle) in memory. Plain data:
+//! `Solo` takes these steps between its own. Begin with `ForeignStep`; `specs/Foreigners` says
+//! which step of its session each one is.
+
 use agent_ports::SessionId;
 use cache_policy::{CacheId, Life, Mode, Secret, Under, Way};
 

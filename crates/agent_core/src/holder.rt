@@ -1,3 +1,7 @@
+//! The other session that has the ticket (permit) at a desk (cache handle) in memory. A scripted
+//! step is made a step of the core here, and a CloseHeld takes the ticket out of its holder;
+//! nothing else is touched. Begin with `told_step`, and with its namesake in `specs/Foreigners`.
+
 ghost use Rattle.std.specs.Prelude.{◌≡◌, None, if◌then◌else◌};
 ghost use Rattle.std.specs.Option.{option_map, option_and_then, is_some};
 ghost use Rattle.cache_policy.specs.Turns.{mark_step, closes};

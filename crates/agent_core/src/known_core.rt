@@ -1,3 +1,8 @@
+//! A core with its whole run beside it, so that contracts can speak of each mark (log entry) with
+//! its secrets. It works on its own memory, and reserves a history's room before the step that
+//! needs it: a step that was taken always has its mark. Begin with `KnownCore::step`; `TakesStep`
+//! of `specs/Known` says what it does.
+
 ghost use Rattle.std.specs.Prelude.{◌≡◌, ◌+◌, ◌<◌, ◌∷◌, [], true, None, Ok, IsSome, IfSome, OnOk};
 ghost use Rattle.std.specs.Prelude.{OnErr, IfOk, vec_len, vec_capacity};
 ghost use Rattle.std.specs.Option.{is_some};

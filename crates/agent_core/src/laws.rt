@@ -1,3 +1,7 @@
+//! A law of the desk (cache handle) in memory: a session's turns, one after another, extend its
+//! run. A function without a body, whose contract is a fact about `SoloTurn` of `specs/Solos`; it
+//! touches nothing.
+
 ghost use Rattle.agent_ports.specs.Leads.{Leads};
 ghost use Rattle.cache_policy.specs.Extending.{Taken as TakenTurn, TakesTurn, IsExtended};
 ghost use Rattle.std.specs.Prelude.{List};

@@ -1,3 +1,7 @@
+//! A step that wants the prompt, kept so that it can be tried again while another session has the
+//! seat (the prompt's lock). Pure, and both desks (cache handles) over locks use it too. Begin with
+//! `Opening::of`; `opening_step` of `specs/Openings` is one try.
+
 ghost use Rattle.std.specs.Prelude.{◌≡◌, false, None, IfSome, IsNone};
 ghost use Rattle.cache_policy.specs.Turns.{asked_step, opens};
 ghost use Rattle.agent_core.specs.Openings.{opening_step, without_wait};

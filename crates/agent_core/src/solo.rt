@@ -1,3 +1,8 @@
+//! The desk (cache handle) of a lone session, over a core that keeps its run: that of the agent as
+//! a server on standard input and output, and of tests, whose script has others take steps at it.
+//! It owns the core, and reads the clock that it was lent once a try; where it would wait it goes
+//! on with the script. Begin with `turn`, and with `SoloTurn` of `specs/Solos`.
+
 ghost use Rattle.std.specs.Prelude.{◌≡◌, true, false, None, Some, IsSome, IfSome, IfOk, IfErr};
 ghost use Rattle.std.specs.Option.{is_some};
 ghost use Rattle.cache_policy.specs.declared.mark.MarkStep.{MarkStep as AskedStep};

@@ -1,3 +1,8 @@
+//! What a core keeps in place of its history: the live entries, the seat (the prompt's lock), the
+//! last moment and the number of marks (log entries). `CacheShelf` names the shelf that it stands
+//! on. Begin with `State`, and with `begin`, the front of each step; `IsState` of `specs/States`
+//! stays true.
+
 ghost use Rattle.std.specs.Prelude.{◌≡◌, ◌+◌, ◌<◌, ◌≤◌};
 ghost use Rattle.cache_policy.specs.Runs.{last_base, moment_of};
 ghost use Rattle.cache_policy.specs.declared.bounds.TheConstants.{MAX_MARKS, MAX_MOMENT};

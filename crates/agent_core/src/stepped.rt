@@ -1,3 +1,7 @@
+//! How a step came out at a core whose run is known, and how a step looks in its mark (log entry).
+//! Pure; ids and secrets are copied without taking memory. Begin with `Stepped`, whose turn is
+//! `turn_of_stepped` of `specs/Stepped`.
+
 ghost use Rattle.std.specs.Prelude.{◌≡◌};
 ghost use Rattle.cache_policy.specs.Turns.{mark_step};
 ghost use Rattle.agent_core.specs.Openings.{without_wait};

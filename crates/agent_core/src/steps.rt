@@ -1,3 +1,8 @@
+//! Each kind of step on a core's state: an ask, the seat (the prompt's lock), a put, a close, a
+//! clear, a flush, a peek and a stop. It changes that state alone, at the moment that it is given,
+//! and hands a step back for which there is no memory. Begin with `State::take_step`; `Takes` of
+//! `specs/Taking` says what each comes to.
+
 ghost use Rattle.std.specs.Prelude.{◌≡◌, ◌≤◌, true, None, Some, IsSome, IfErr};
 ghost use Rattle.std.specs.Option.{is_some};
 ghost use Rattle.cache_policy.specs.declared.grant.Grant.{Grant as OneGrant};

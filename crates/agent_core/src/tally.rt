@@ -1,3 +1,6 @@
+//! The tally of a run with one mark (log entry) more, for a core that keeps its run. Pure:
+//! `counted` of `specs/Tallies` says the same.
+
 ghost use Rattle.std.specs.Prelude.{◌≡◌};
 ghost use Rattle.agent_core.specs.Tallies.{counted, CanCount};
 

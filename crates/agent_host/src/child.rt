@@ -1,5 +1,6 @@
 //! A pinentry that runs, as a child of the agent: its two pipes, its process, and what it was told.
-//! Begin with [`PipedChild`]. It writes to the child, the error stream and nothing else.
+//! It writes to the child, the error stream and nothing else. Begin with [`PipedChild`]; the
+//! promise is that of `Link` (`agent_ports`), and `launcher.rt` starts and ends it.
 
 ghost use Rattle.std.specs.Prelude.{◌≡◌, refl};
 

@@ -1,3 +1,7 @@
+//! The system's time in seconds, which goes on where the time of day is set back. It reads the time
+//! of day and the clock that nobody sets, and counts its readings. Begin with `SystemClock`; the
+//! promise is that of `Clock` (`agent_ports`), and its tests show the rest.
+
 ghost use Rattle.std.specs.Prelude.{None};
 
 use agent_ports::Clock;

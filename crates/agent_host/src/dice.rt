@@ -1,3 +1,6 @@
+//! Random bytes of the system, for salts, nonces and wrapping keys. It reads `/dev/urandom`, and
+//! counts what fails. Begin with `SystemDice`; the promise is that of `Dice` (`agent_ports`).
+
 ghost use Rattle.std.specs.Prelude.{◌≡◌, None};
 
 use crate::faults::count;

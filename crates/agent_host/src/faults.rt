@@ -1,3 +1,7 @@
+//! The count of a part's failed calls, which stands still at its type's end. Pure. It has one
+//! function, `count`, which all parts of the host call; `Rose` (`agent_ports`, `specs/Counts`) says
+//! what it does.
+
 ghost use Rattle.std.specs.Prelude.{◌≤◌};
 ghost use Rattle.std.specs.Bool.{OnTrue};
 ghost use Rattle.agent_ports.specs.Counts.{Rose};

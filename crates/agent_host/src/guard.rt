@@ -1,5 +1,6 @@
-//! How a child is started so that it ends with its agent, where the system has the program for it.
-//! Begin with `can_guard`, which tries that once.
+//! How a child is started so that it ends with its agent, where the system has the program for it
+//! (setpriv(1)). It starts that program on one that does nothing, to try it, and looks at what is
+//! to be started. Begin with `can_guard`, and with `guarded` for the command.
 
 use std::alloc::Global;
 use std::fs::{File, Files};

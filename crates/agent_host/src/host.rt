@@ -1,3 +1,8 @@
+//! The machine that the agent runs on: the parts of each session, the folder that was settled, and
+//! its two sockets, `S.gpg-agent` and `S.gpg-agent.extra`. It binds sockets there, and says on the
+//! error stream why one can't be had. Begin with `SystemHost::new`; the promise is that of `Host`
+//! (`agent_ports`).
+
 ghost use Rattle.std.specs.Prelude.{◌≡◌, ◌≤◌, Some, None, IsSome, IsNone, IfSome};
 ghost use Rattle.agent_ports.specs.Counts.{Rose};
 ghost use Rattle.unix_socket.specs.declared.path.SocketName.{SocketName as Named};

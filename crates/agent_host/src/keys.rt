@@ -1,3 +1,7 @@
+//! The key files of the folder that was settled, by `key_store`. It reads and writes below
+//! `private-keys-v1.d` of that folder, and counts what fails. Begin with `SystemKeys`; the promise
+//! is that of `Keys` (`agent_ports`).
+
 ghost use Rattle.std.specs.Prelude.{◌≡◌, [], Some, None, IfOk};
 
 use crate::faults::count;

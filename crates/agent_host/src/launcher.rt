@@ -1,3 +1,8 @@
+//! The start and the end of a child program, the pinentry. It makes pipes, sockets and processes,
+//! hands on a few variables of the environment, and says on the error stream what failed. Begin
+//! with `PipeLauncher` and `start`; the promise is that of `Launcher` (`agent_ports`), and its
+//! tests show the rest.
+
 ghost use Rattle.std.specs.Prelude.{◌≡◌, None, IfOk};
 ghost use Rattle.agent_ports.specs.Launches.{IsFresh};
 

@@ -1,3 +1,6 @@
+//! Why a call for the keys or the trust list has no folder to work on. Plain data, for `keys.rt`
+//! and `trust.rt`, which make their folder's path at each call. Begin with `NoFolder`.
+
 /// Why a call has no folder.
 #[derive(Clone, Copy)]
 pub enum NoFolder {

@@ -1,5 +1,6 @@
-//! How long the answer of a child is awaited, by what it was asked.
-//! Begin with `Patience`.
+//! How long the answer of a child is awaited, by what it was asked: its own timeout and a minute
+//! more where a user answers (pinentry manual, "protocol", SETTIMEOUT). It reads the system's
+//! clock. Begin with `Patience`.
 
 use std::rt::Clock;
 use std::str;

@@ -1,4 +1,6 @@
-//! Scripts that the tests start in a pinentry's place.
+//! Scripts that the tests start in a pinentry's place. It writes a file of the shell in the
+//! temporary folder, which the test removes. It has one function, `script`, and is part of no
+//! program.
 
 use std::fs::OpenOptions;
 use std::io::Write;

@@ -1,5 +1,6 @@
-//! Which names are a terminal's, and so may be told to a child that opens what it is told.
-//! Begin with `is_terminal`.
+//! Which names are a terminal's, and so may be told to a child that opens what it is told. Pure:
+//! names are judged by their letters (pts(4), tty(4)), and none is opened. Begin with
+//! `is_terminal`.
 
 use crate::told::Printable;
 use arrayvec::ArrayVec;

@@ -1,3 +1,7 @@
+//! What is kept of a pinentry's output to say what it failed by: its last error line (Assuan
+//! manual, "server responses"), never a data line. It is a machine over bytes, of fixed size, and
+//! calls nothing. Begin with `LastError`; its tests show what is said of which output.
+
 ghost use Rattle.std.specs.Prelude.{◌≡◌, ◌⊎◌, []};
 
 use arrayvec::ArrayVec;

@@ -1,3 +1,7 @@
+//! The trust list of the folder that was settled, by `key_store`. It reads `trustlist.txt` of that
+//! folder and replaces it, and counts what fails. Begin with `SystemTrust`; the promise is that of
+//! `TrustFile` (`agent_ports`).
+
 ghost use Rattle.std.specs.Prelude.{◌≡◌, Some, None, IfOk};
 
 use crate::faults::count;

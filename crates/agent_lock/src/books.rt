@@ -1,3 +1,8 @@
+//! The totals of four ledgers, which tie what the passes (workers' tokens) counted to what the
+//! journal has. It is worked on under the lock alone: counting raises a total and a pass's share of
+//! it together. Begin with `Books::count`; at the end `Books::close` has all shares, and so the
+//! sums (`specs/Shares`).
+
 ghost use Rattle.std.specs.Prelude.{◌≡◌, [], Ok, vec_len};
 ghost use Rattle.cache_policy.specs.Turns.{turn_of};
 ghost use Rattle.agent_lock.specs.Closings.{AreSums};

@@ -1,3 +1,7 @@
+//! What the lock guards: the core, its journal and the books of the ledgers. It takes no lock
+//! itself, so the full clauses can stand here, where a contract sees all of it. Begin with
+//! `Locked::step`; `IsJournaled` of `specs/Journals` says what a step adds.
+
 ghost use Rattle.std.specs.Prelude.{◌≡◌, ℕ, None, [], false, IfOk, IfErr, OnErr};
 ghost use Rattle.cache_policy.specs.Histories.{History};
 ghost use Rattle.cache_policy.specs.Legal.{IsLegal};

@@ -1,3 +1,7 @@
+//! A worker's right to take turns at the lock: a pass (worker's token), with counts of its own.
+//! Plain data and shares of the ledgers, which the books alone change. Begin with `Pass`, and with
+//! `Marks`, whose type carries the lifetimes that a lock can't show.
+
 ghost use Rattle.std.specs.Prelude.{◌≡◌};
 ghost use Rattle.cache_policy.specs.declared.life.Limits.{Limits};
 

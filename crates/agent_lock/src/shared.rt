@@ -1,3 +1,8 @@
+//! The lock over the core, from its making to its end. Threads share it; its condition is where
+//! they wait for the seat (the prompt's lock). Begin with `Shared::new`, which makes all passes
+//! (workers' tokens), and `Shared::close`, which wants them all back; the end's facts stand in
+//! `specs/Closings`.
+
 ghost use Rattle.std.specs.Prelude.{◌≡◌, ◌<◌, true, false, All, IfOk, vec_len};
 ghost use Rattle.cache_policy.specs.Seat.{stopped};
 ghost use Rattle.agent_lock.specs.Closings.{IfStopped, IfOpen, AreSums};

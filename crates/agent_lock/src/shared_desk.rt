@@ -1,3 +1,7 @@
+//! A session's desk (cache handle) over the lock. A turn takes the lock, reads the clock under it,
+//! steps the core and wakes who waits; a step that has to stand waits there, a second at most, and
+//! is tried again. Begin with `turn`; each try is an `IsAttempt` of `specs/Attempts`.
+
 ghost use Rattle.std.specs.Prelude.{◌≡◌, None, IfErr, refl};
 ghost use Rattle.cache_policy.specs.Turns.{asked_step, turn_of, out_after, FitsStep};
 ghost use Rattle.agent_core.specs.Openings.{opening_step};

@@ -1,3 +1,7 @@
+//! The core and the journal of its marks (log entries), without the bytes of secrets and in room
+//! that is taken once. It reads no clock and takes no lock. Begin with `State::step`; `IsKept` of
+//! `specs/Keeping` is what every call leaves true.
+
 ghost use Rattle.std.specs.Prelude.{◌≡◌, ◌<◌, ◌≤◌, ◌^◌, [], None, IfOk, IfErr, OnErr, vec_len};
 ghost use Rattle.std.specs.Prelude.{vec_capacity};
 ghost use Rattle.cache_policy.specs.declared.bounds.TheConstants.{MAX_MARKS as MAX};

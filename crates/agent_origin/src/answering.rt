@@ -1,4 +1,7 @@
-//! A request of any session, answered.
+//! A request of any session, answered: on the cache, on the session or on keys. It works on all
+//! that a session has but the trust file, and overwrites the stack behind a request that may have
+//! had a passphrase. Begin with `answer`; what it does is `SessionExchange`
+//! (`specs/SessionExchanges`).
 
 ghost use Rattle.std.specs.Prelude.{◌≡◌, ℕ, List, None};
 ghost use Rattle.agent_ask.specs.Prompters.{IsShut};

@@ -1,3 +1,8 @@
+//! Which lines are allowed at which of the agent's sockets: at the user's own (gpg-agent's main
+//! socket) all, at the outer one (its `--extra-socket`) those that the rule of their command lets
+//! through. Pure. Begin with `Rule` and its table `RULES`; `allowed` (`specs/Doors`) defines what
+//! `allows` gives.
+
 ghost use Rattle.std.specs.Prelude.{◌≡◌, map};
 ghost use Rattle.assuan_text.specs.Words.{words};
 ghost use Rattle.agent_commands.specs.Requests.{get_fields, request_of};

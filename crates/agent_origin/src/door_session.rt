@@ -1,4 +1,7 @@
-//! A session by the door that it came in.
+//! A session by the door that it came in: the outer one (gpg-agent's `--extra-socket`) forbids
+//! lines, and both answer HELP and the commands on the trust list themselves. It works on all that
+//! a session has. Begin with `serve_door`; it is `ServesDoor`, and each line `DoorExchange`
+//! (`specs/DoorSessions`).
 
 ghost use Rattle.std.specs.Prelude.{◌≡◌, None};
 ghost use Rattle.agent_ask.specs.Prompters.{IsShut};

@@ -1,3 +1,7 @@
+//! What a session keeps between its requests: the values of its options, and its wrapping keys.
+//! Plain data; the keys are overwritten when it is dropped. Begin with `Kept`; at a session's start
+//! it is `kept_at_start` (`specs/SessionExchanges`).
+
 use key_commands::WrapKeys;
 use session_options::{Options, Rules};
 

@@ -1,3 +1,8 @@
+//! Laws on sessions by their door: each function's contract is a fact about the definitions.
+//! Nothing runs. Begin with `an_outer_session_leaves_the_run` and
+//! `a_new_trust_file_has_two_consents`; what they speak of is `ServesDoor` and `DoorExchange`
+//! (`specs/DoorSessions`).
+
 ghost use Rattle.std.specs.Prelude.{◌≡◌, ℕ, List, [], ◌∷◌, ◌++◌, true, false, IsSome};
 ghost use Rattle.agent_ask.specs.SessionEvents.{Sent, turns_in};
 ghost use Rattle.agent_commands.specs.Exchanges.{LineExchange};

@@ -1,4 +1,7 @@
-//! The frame of every session: its greeting, its requests one after another, and its end.
+//! The frame of every session: its greeting, its requests one after another, and its end. It works
+//! on all that a session has, and overwrites its wrapping keys and its stack at the end. Begin with
+//! `serve` and the trait `Answers`, what its requests are answered by; definitions begin in
+//! `specs/Services` and `specs/Sessions`.
 
 ghost use Rattle.std.specs.Prelude.{◌≡◌, [], None};
 ghost use Rattle.agent_ask.specs.Prompters.{IsShut};

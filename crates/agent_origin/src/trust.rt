@@ -1,5 +1,6 @@
 //! The commands on the agent's trust list: a line of the client read as a request, or refused by a
-//! code, and carried out and answered over any link, any desk, any prompter and any trust file.
+//! code, and carried out and answered over any link, any desk (cache handle), any prompter and any
+//! trust file. Begin with `run_trust`; what it does is `TrustExchange` (`specs/TrustExchanges`).
 
 mod calls;
 mod marking;

@@ -14,7 +14,7 @@ use Rattle.std.specs.declared.cmp.Ordering.TheVariants.{Less}
 use Rattle.agent_ports.specs.declared.grip.Grip.{Grip}
 use Rattle.agent_ports.specs.KeyFiles.{KeyFiles, RemovesKey, grip_cmp}
 use Rattle.agent_ports.specs.declared.keys.KeyDone.TheVariants.{Done, Absent}
-use Rattle.agent_ports.specs.MemKeys.{files_of}
+use Rattle.agent_ports.specs.Mem.Keys.{files_of}
 
 same_grips : IsAntisymmetric grip_cmp
 same_grips a b tie = ap (λ (bytes : List ℕ). record { 0 = bytes }) (exact_bytes a.0 b.0 tie)

@@ -8,10 +8,7 @@ pub mod Draws
 pub mod KeyFiles
 pub mod Leads
 pub mod Plans
-pub mod MemPlans
-pub mod MemLaunches
-pub mod MemListening
-pub mod MemKeys
 pub mod Lent
 pub mod TrustFiles
 pub mod HostParts
+pub mod Mem

@@ -1,3 +1,7 @@
+//! The port of random bytes, for salts, nonces and wrapping keys. A draw fills the caller's buffer
+//! and touches nothing else. `IsDrawn` of `specs/Draws` says what one does; `mem::dice` has those
+//! of tests, `agent_host` the machine's.
+
 ghost use Rattle.agent_ports.specs.Draws.{IsDrawn};
 ghost use Rattle.agent_ports.specs.Sides.{Side};
 

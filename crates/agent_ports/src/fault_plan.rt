@@ -1,3 +1,7 @@
+//! Which calls of a form in memory fail, by their numbers, so that a test can make each fault
+//! happen. Two counters and a list, which the form asks at each call. Begin with
+//! `FaultPlan::next_fails`; contracts of the forms show it as a `Plan` (`specs/Plans`).
+
 ghost use Rattle.std.specs.Prelude.{◌≡◌, ◌≤◌, ◌+◌, ◌^◌, ◌-◌, ◌↔◌, IsTrue, Contains, min};
 ghost use Rattle.std.specs.Bool.{OnTrue, OnFalse};
 ghost use Rattle.agent_ports.specs.Counts.{Rose, RoseBy};

@@ -1,3 +1,7 @@
+//! The gate (test hook) that sessions of a daemon pass by, so that a test holds one at its prompt
+//! while others go on. It may keep a thread waiting, by atomics of its own, and changes nothing of
+//! a session; no clause speaks of it. Begin with `Gate::at`; the agent itself has `NoGate`.
+
 use crate::SessionId;
 use std::sync::atomic::{AtomicBool, AtomicU64, Ordering};
 

@@ -1,3 +1,7 @@
+//! The home directory that a host was settled at, as bytes in the value itself, since settling may
+//! take no memory. It touches no file. Begin with `Homedir::settle`; `kept_path` of
+//! `specs/HostParts` says which path is kept.
+
 ghost use Rattle.std.specs.Prelude.{◌≡◌, [], IfSome};
 ghost use Rattle.agent_ports.specs.HostParts.{kept_path};
 

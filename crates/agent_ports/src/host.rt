@@ -1,3 +1,8 @@
+//! The machine as one port: the parts of a session, the listeners and the folder. Begin with
+//! `Host::server_parts`, for a session on standard input and output, and `session_parts`, for one
+//! of a daemon; definitions begin in `specs/HostParts`. `MemHost` is the form in memory, and
+//! `agent_host` the machine itself.
+
 ghost use Rattle.std.specs.Prelude.{◌≡◌, ◌≤◌, ℕ, List, Option, Some, None, IfSome, IsSome, IsNone};
 ghost use Rattle.agent_ports.specs.Counts.{Rose, RoseBy};
 ghost use Rattle.agent_ports.specs.HostParts.{IsFolder, AreSettled, AreNew, kept_path};

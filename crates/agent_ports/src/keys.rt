@@ -1,3 +1,8 @@
+//! The port of the user's private keys, a file of bytes for each grip. Whole files are read,
+//! replaced and removed; what they say isn't looked at here. Begin with `Keys::read`; `ReadsKey`
+//! and its neighbours in `specs/KeyFiles` say what each call does. `MapKeys` is the form in memory,
+//! `key_store` the folder.
+
 ghost use Rattle.std.specs.Prelude.{◌≤◌, length};
 ghost use Rattle.agent_ports.specs.declared.keys.TheConstants.{MAX_KEY_FILE_LEN};
 ghost use Rattle.agent_ports.specs.KeyFiles.{KeyFiles, ReadsKey, ListsKeys, ReplacesKey};

@@ -1,3 +1,8 @@
+//! The port of child programs, by which a pinentry is started, talked to over a link, and finished.
+//! What a child will give is known at its start, where anything is. Begin with `Launcher::launch`;
+//! definitions begin in `specs/Launches`. `MemLauncher` is the form in memory, and `agent_host`
+//! starts programs.
+
 ghost use Rattle.std.specs.Prelude.{◌≡◌, ◌≤◌, ◌+◌, IfSome, IsNone, MatchOption};
 ghost use Rattle.agent_ports.specs.Counts.{Rose, RoseBy};
 ghost use Rattle.agent_ports.specs.Launches.{Launches, IsFresh, child_then, then_launched};

@@ -1,3 +1,8 @@
+//! A clock that was lent, as an owner of parts lends it to a desk (cache handle) for a session. It
+//! passes each reading on, and holds the only borrow of the clock. Begin with
+//! `LentClock::into_clock`, by which the lender's contract learns what was read; `specs/Lent` has
+//! the model.
+
 use crate::Clock;
 use std::marker::Model;
 

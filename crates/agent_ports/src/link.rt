@@ -1,3 +1,8 @@
+//! The ports of bytes: a source, a sink, and both to one peer as a link. A read takes from the
+//! front of the input and a write adds to the end of the output; neither touches the other side,
+//! and a fault is counted. Begin with `Source::read` and `Sink::put`; a side's bytes and faults are
+//! a `Side` (`specs/Sides`).
+
 ghost use Rattle.std.specs.Prelude.{◌≡◌, ◌<◌, ◌≤◌, length, take, IfSome, []};
 ghost use Rattle.agent_ports.specs.Counts.{Rose};
 ghost use Rattle.agent_ports.specs.Writing.{whole_of};

@@ -1,3 +1,7 @@
+//! The port of new clients: a listener that workers share, and each one's ear (fault counter).
+//! Calls go by `&self` from any thread, and what a worker was answered is known by its own ear.
+//! Begin with `Listener::next`; definitions begin in `specs/Listening`.
+
 ghost use Rattle.std.specs.Prelude.{◌≡◌, ◌<◌, ◌≤◌, ◌↔◌, ℕ, IsTrue};
 ghost use Rattle.agent_ports.specs.Counts.{Rose};
 ghost use Rattle.agent_ports.specs.Listening.{IfLink, NothingFailed};

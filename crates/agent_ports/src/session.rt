@@ -1,3 +1,6 @@
+//! Which session it is: the pass (worker's token) that serves it, and its number there. Plain data,
+//! by which each mark (log entry) and each wait of the cache names its session.
+
 /// Which session took a step: the pass that served it, and its number there, from 0.
 #[derive(Clone, Copy, Debug, PartialEq, Eq)]
 pub struct SessionId {

@@ -1,3 +1,8 @@
+//! The port of the file of trusted root certificates, `trustlist.txt`: read and replaced whole. It
+//! knows bytes alone; what an entry says is the matter of `trust_list`. Begin with
+//! `TrustFile::read`; definitions begin in `specs/TrustFiles`. `MemTrust` is the form in memory,
+//! `key_store` the folder.
+
 ghost use Rattle.agent_ports.specs.TrustFiles.{TrustState, ReadsTrust, ReplacesTrust};
 
 use std::alloc::Global;

@@ -1,3 +1,7 @@
+//! A task for each of a list of pairs, one inside the other: `std::thread::join` runs the last
+//! beside all before it. It starts threads, and knows nothing of what they do. Begin with
+//! `run_each`; the pairs and how they come back are `specs/Pairs`.
+
 ghost use Rattle.std.specs.Prelude.{◌≡◌, [], IfNone, IfSome, vec_len, vec_capacity};
 ghost use Rattle.std.specs.Thread.{IsSync, IsSend};
 ghost use Rattle.agent_serve.specs.Pairs.{Paired, PairedTo, HasPopped};

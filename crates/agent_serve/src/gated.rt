@@ -1,3 +1,7 @@
+//! A prompter that tells a gate (test hook) where a prompt is open, and passes all calls on to
+//! another one. In the agent itself the gate does nothing. Begin with `GatedPrompter`; to contracts
+//! it is the prompter alone (`specs/Gates`).
+
 ghost use Rattle.std.specs.Prelude.{◌≡◌};
 
 use agent_ask::{Consent, Opened, Outcome, PromptSpec, Prompter};

@@ -1,3 +1,8 @@
+//! Laws on the daemon's sessions and workers: each function's contract is a fact about the
+//! definitions. Nothing runs. Begin with `a_restricted_session_leaves_the_run` and
+//! `a_worker_ends_for_a_cause`; what they speak of is `ServesOne` (`specs/Serves`) and `Works`
+//! (`specs/Working`).
+
 ghost use Rattle.std.specs.Prelude.{◌+◌, ◌-◌, ◌<◌, ◌^◌, ℕ, List, None};
 ghost use Rattle.agent_ask.specs.SessionEvents.{turns_in};
 ghost use Rattle.agent_commands.specs.declared.went.SessionEnd.{SessionEnd as Ends};

@@ -1,3 +1,8 @@
+//! One session of the daemon, from its link to its end. It makes the session's own pinentry and
+//! desk (cache handle) of the host's parts, takes turns at the counted lock by its pass (worker's
+//! token), and tells the gate (test hook) its begin and end. Begin with `serve_one`; what it does
+//! is `ServesOne` (`specs/Serves`).
+
 ghost use Rattle.std.specs.Prelude.{◌≡◌, ◌<◌, ◌≤◌, ◌-◌, ◌^◌, None, is_some, false};
 ghost use Rattle.pinentry_client.specs.States.{at_pinentry};
 ghost use Rattle.agent_ports.specs.HostParts.{AreNew, IsFolder};

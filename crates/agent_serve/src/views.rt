@@ -1,3 +1,7 @@
+//! A host as its workers' contracts see it: the views of all its parts, in one record. It has no
+//! code that runs. Begin with `ViewedHost`, which every host is; the record is `HostViews`
+//! (`specs/Working`).
+
 ghost use Rattle.std.specs.Prelude.{ℕ, List};
 ghost use Rattle.agent_serve.specs.Working.{HostViews};
 

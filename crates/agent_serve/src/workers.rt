@@ -1,3 +1,8 @@
+//! The workers of the daemon: each serves the links of its listener, one after the other, until no
+//! more come. They share the counted lock and the listeners, and each has a pass (worker's token)
+//! and an ear (fault counter) of its own. Begin with `run_workers`; what a worker does is `Works`
+//! (`specs/Working`).
+
 ghost use Rattle.std.specs.Prelude.{◌≡◌, ◌<◌, ◌-◌, ◌^◌, vec_len};
 ghost use Rattle.std.specs.Option.{option_copied};
 ghost use Rattle.agent_ports.specs.Listening.{NothingFailed};

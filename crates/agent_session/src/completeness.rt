@@ -1,3 +1,7 @@
+//! Laws on how requests are answered: each error line has its cause, and without one there is an
+//! answer. Nothing runs; each contract is a fact about the definitions. Begin with
+//! `each_error_has_its_cause`; definitions are in `specs/Causes` and `specs/Completeness`.
+
 ghost use Rattle.std.specs.List.{AllByRecursion};
 ghost use Rattle.std.specs.Prelude.{List, ℕ};
 ghost use Rattle.agent_ask.specs.Worlds.{Outside, Does};

@@ -1,3 +1,7 @@
+//! Laws on which error a request is answered: exactly where the cause of a code stands, by its
+//! error line. Nothing runs; each contract is a fact about the definitions. Begin with
+//! `each_cause_has_its_error`; the causes are `ExactCause` (`specs/Exactly`).
+
 ghost use Rattle.std.specs.List.{AllByRecursion};
 ghost use Rattle.std.specs.Prelude.{List, ℕ};
 ghost use Rattle.session_client.specs.declared.code.Code.{Code};

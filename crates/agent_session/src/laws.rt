@@ -1,3 +1,7 @@
+//! Laws on whole sessions: what they add to their desk's (cache handle's) run, and how those at a
+//! door compare with those at none. Nothing runs; each contract is a fact about the definitions.
+//! Begin with `a_session_extends_a_run`.
+
 ghost use Rattle.std.specs.Prelude.{◌≡◌, List, ℕ, None, map, true};
 ghost use Rattle.cache_policy.specs.Extending.{ExtendsDesk};
 ghost use Rattle.agent_ask.specs.SessionEvents.{turns_in};

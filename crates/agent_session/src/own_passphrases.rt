@@ -1,3 +1,7 @@
+//! Laws on whose a passphrase is: a request stores and is told none but its own. Nothing runs; each
+//! contract is a fact about the definitions. Begin with `each_request_stores_its_own`; definitions
+//! are in `specs/OwnPassphrases` and `specs/OwnAnswers`.
+
 ghost use Rattle.std.specs.Prelude.{◌≡◌, List, ℕ, Some};
 ghost use Rattle.agent_ask.specs.Worlds.{Outside, Does};
 ghost use Rattle.agent_ports.specs.Leads.{Leads};

@@ -1,3 +1,8 @@
+//! Laws on requests that are refused: what may be done before the refusal, and that behind it the
+//! prompt is shut, its ticket (permit) given back and nothing else done but to answer. Nothing
+//! runs; each contract is a fact about the definitions. Begin with `each_request_takes_its_course`;
+//! definitions are in `specs/Refusals`, `specs/Imports` and `specs/TrustCalls`.
+
 ghost use Rattle.std.specs.List.{AllByRecursion};
 ghost use Rattle.std.specs.Prelude.{◌≡◌, ◌≢◌, Bool, List, Option, ℕ, Some};
 ghost use Rattle.agent_ask.specs.Worlds.{Outside, Does};

@@ -1,3 +1,7 @@
+//! A session as `--server` has it: the frame of `agent_origin`, with neither a door nor a trust
+//! file. It works on the link, the desk (cache handle), the prompter, the keys and the dice that it
+//! is lent. Begin with `serve_session`; what it does is `ServesRules` (`specs/Sessions`).
+
 ghost use Rattle.std.specs.Prelude.{◌≡◌, None};
 ghost use Rattle.agent_ask.specs.Prompters.{IsShut};
 ghost use Rattle.agent_session.specs.Sessions.{no_trust, without_trust, ServesRules};

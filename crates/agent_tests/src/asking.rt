@@ -1,3 +1,6 @@
+//! Tests of one prompt, over a prompter, a client and a test of lists: which calls each makes, what
+//! is shown as an error, and what comes of it. Begin with `CASES` and `CONSENTS`, a row a prompt.
+
 ghost use Rattle.std.specs.Prelude.{◌≡◌, ◌≤◌, false};
 ghost use Rattle.agent_ports.specs.Counts.{Rose};
 

@@ -1,5 +1,5 @@
 //! The dialogues of docs/PROTOCOL.md: what the client sends, and what it is answered.
-//! Made by tools/dialogues.
+//! Plain data, which `sessions.rt` serves; made by tools/dialogues.
 
 pub(crate) const DIALOGUES: [(&str, &str); 20] = [
     ("NOP\n", "OK\n"),

@@ -1,5 +1,5 @@
 //! Sessions by the door that they came in, over a trust list in memory: what is answered, what the
-//! list has behind them, and what the user was asked.
+//! list has behind them, and what the user was asked. Begin with `Row`.
 
 use crate::rows::text_of;
 use agent_core::Solo;

@@ -1,5 +1,6 @@
 //! One failure at each place of a session: what is answered there, and that what follows is
-//! answered as ever.
+//! answered as ever. Links and children are in memory, and cut or failing behind each byte. Begin
+//! with `TALKS` and `the_input_may_end_or_fail_behind_each_byte`.
 
 use crate::prompts::{AFTER_GPG, Opening, PIN, QUALITY};
 use crate::rows::{PLAIN, Row, served, text_of};

@@ -1,4 +1,5 @@
-//! Sessions on keys about the limits of their lengths. Made by tools/key-sessions.
+//! Sessions on keys about the limits of their lengths: what `large_keys.rt` serves. Begin with
+//! `COMING`. Plain data, made by tools/key-sessions.
 
 use crate::large_keys::{Filled, Large};
 use crate::rows::{KEYS, Row};

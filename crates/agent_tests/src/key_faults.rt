@@ -1,4 +1,5 @@
-//! Requests on keys where keys, dice or launches fail. Made by tools/key-sessions.
+//! Requests on keys where keys, dice or launches fail: what `keys.rt` serves. Begin with
+//! `REFUSALS`. Plain data, made by tools/key-sessions.
 
 use crate::key_files::{BY_CBC, BY_OCB, CHANGED, CLEAR, DSA, DSA_GRIP, GRIP};
 use crate::rows::{KEYS, Row};

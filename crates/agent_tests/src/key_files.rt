@@ -1,4 +1,5 @@
-//! Key files of the tests, by their grips. Made by tools/key-sessions.
+//! Key files of the tests, and their grips. Begin with `CLEAR`, the key that most of them have.
+//! Plain data, made by tools/key-sessions.
 
 use crate::rows::{KEYS, Row};
 

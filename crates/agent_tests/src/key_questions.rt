@@ -1,4 +1,5 @@
-//! What clients and users are asked by requests on keys. Made by tools/key-sessions.
+//! What clients and users are asked by requests on keys: what `keys.rt` serves. Begin with
+//! `INQUIRIES`. Plain data, made by tools/key-sessions.
 
 use crate::key_files::{BY_CBC, BY_OCB, CHANGED, GRIP};
 use crate::rows::{KEYS, Row};

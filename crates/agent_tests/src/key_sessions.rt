@@ -1,4 +1,5 @@
-//! Keys are listed, exported, taken in and changed. Made by tools/key-sessions.
+//! Keys are listed, exported, taken in and changed: what `keys.rt` serves. Begin with `LISTS`.
+//! Plain data, made by tools/key-sessions.
 
 use crate::key_files::{
     BY_CBC, BY_OCB, CHANGED, CHANGED_LATER, CLEAR, DSA, DSA_GRIP, EMPTY, EXTENDED,

@@ -1,4 +1,5 @@
-//! Requests on keys beside another session at the seat. Made by tools/key-sessions.
+//! Requests on keys beside another session at the seat (lock: the right to prompt): what
+//! `script.rt` serves. Begin with `LATE`. Plain data, made by tools/key-sessions.
 
 use crate::key_files::{BY_CBC, BY_OCB, CHANGED, CLEAR, GRIP};
 use crate::rows::{KEYS, Row};

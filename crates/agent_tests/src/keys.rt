@@ -1,4 +1,6 @@
-//! Sessions on keys go as their rows say.
+//! Sessions on keys go as their rows say. The rows are in `key_sessions.rt`, `key_faults.rt` and
+//! `key_questions.rt`, which tools/key-sessions makes; here each table is served by `first_wrong`
+//! (`rows.rt`).
 
 use crate::key_faults::{LAUNCHES, REFUSALS};
 use crate::key_questions::{DESCRIPTIONS, INQUIRIES};

@@ -1,4 +1,5 @@
-//! Keys about the limits of their lengths, in sessions whose files one letter fills.
+//! Keys about the limits of their lengths, in sessions whose files one letter fills. The keys are
+//! in memory; the rows are in `filled_keys.rt`. Begin with `Large` and `first_wrong`.
 
 ghost use Rattle.std.specs.Prelude.{◌≤◌};
 

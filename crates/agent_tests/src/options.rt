@@ -1,3 +1,6 @@
+//! Tests of OPTION (GnuPG manual, "Agent OPTION"): what each name and value is answered, and what a
+//! session has by them. Begin with `ANSWERS`, a row an option, and `STEPS`, one session.
+
 use arrayvec::ArrayVec;
 use session_options::{OptionAnswer, Options, PinMode, Rules, spelling_is_plain};
 use std::test::Fail;

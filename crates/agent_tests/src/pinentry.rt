@@ -1,3 +1,7 @@
+//! Tests of the dialogue with a pinentry (pinentry manual, "protocol"), over children in memory
+//! that give the bytes of a row: what each is written, byte for byte, and what its answers mean.
+//! Begin with `dialogues_go_byte_for_byte` and `ANSWERS`.
+
 ghost use Rattle.std.specs.Prelude.{◌≡◌};
 ghost use Rattle.agent_ask.specs.Prompters.{IsShut};
 

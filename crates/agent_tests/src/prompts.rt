@@ -1,4 +1,6 @@
-//! Prompts from bytes to bytes: what the client is answered, and what each child is written.
+//! Prompts from bytes to bytes: what the client is answered, and what each child is written. Plain
+//! data, which `sessions.rt` serves. Begin with `PROMPTS`; openings that other rows share stand
+//! before it.
 
 /// How a prompt begins: what its child gives up to the question, and what that child is written.
 pub(crate) type Opening = (&'static str, &'static str);

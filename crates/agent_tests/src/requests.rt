@@ -1,3 +1,6 @@
+//! Tests of request lines: what each is read as, and by which code it is refused. Begin with `READ`
+//! and `REFUSALS`, a row a line, which `first_wrong` goes through.
+
 use agent_commands::{
     CacheCommand, LineRequest, Request, Texts, commands_are_as_defined, read_request,
 };

@@ -1,4 +1,6 @@
-//! The loop over sessions in memory: what a row is given, and what comes of it.
+//! The loop over sessions in memory: what a row is given, and what comes of it. It makes a host,
+//! its children, keys and links in memory, with the faults that a row says. Begin with `Row`, and
+//! with `first_wrong`, which serves each row and names the first that comes out otherwise.
 
 ghost use Rattle.std.specs.Prelude.{◌≤◌, IfOk, IsSome};
 

@@ -1,4 +1,6 @@
-//! A session with a pinentry at a desk where another session takes steps meanwhile.
+//! A session with a pinentry at a desk (cache handle) where another session takes steps meanwhile.
+//! That one's steps are a script, at fixed turns of the first, so nothing hangs on threads. Begin
+//! with `Bob` and `script_of`.
 
 ghost use Rattle.std.specs.Prelude.{◌≡◌, map, IfOk};
 ghost use Rattle.std.specs.List.{AllByRecursion};

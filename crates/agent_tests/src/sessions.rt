@@ -1,4 +1,6 @@
-//! Sessions and runs of the agent go as their rows say.
+//! Sessions and runs of the agent go as their rows say: requests and their answers, and the words
+//! of a run, its status and what it launched. All is in memory. Begin with `ANSWERS` and
+//! `SESSIONS`, and with `WORDS` for whole runs.
 
 use crate::dialogues::DIALOGUES;
 use crate::key_files::WITH_A_KEY;

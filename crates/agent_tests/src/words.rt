@@ -1,3 +1,6 @@
+//! Tests of the agent's command line (GnuPG manual, "agent options"): what each is read as, in
+//! words. Begin with `LINES`, a row a command line, which `first_wrong` goes through.
+
 use crate::rows::text_of;
 use agent_top::{WordsFault, read_words};
 use session_options::Rules;

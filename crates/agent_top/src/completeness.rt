@@ -1,3 +1,7 @@
+//! Laws on how runs of the agent end, and how their requests are answered: with faults by their
+//! causes, without faults well. Nothing runs; each contract is a fact about the definitions. Begin
+//! with `a_server_without_faults_is_answered`; definitions are in `specs/Completeness`.
+
 ghost use Rattle.std.specs.List.{AllByRecursion};
 ghost use Rattle.std.specs.Prelude.{◌≡◌, List, ℕ, None, true};
 ghost use Rattle.agent_ask.specs.Worlds.{Outside, Does};

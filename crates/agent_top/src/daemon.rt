@@ -1,3 +1,8 @@
+//! The daemon: workers at the counted lock until a session stops the agent, and then a line of
+//! summary. It listens by the host, gives each worker a pass (worker's token) and an ear (fault
+//! counter), and writes the summary on standard output. Begin with `run_daemon`; what it does is
+//! `RunsDaemon` (`specs/Daemon`).
+
 ghost use Rattle.std.specs.Prelude.{◌≡◌, ◌≤◌, ◌<◌, ◌+◌, ◌⊎◌, ◌++◌, IfSome, IsNone, decimal};
 ghost use Rattle.std.specs.Prelude.{is_some, length, sum_by, vec_len, vec_capacity, true, false};
 ghost use Rattle.std.specs.Option.{option_copied};

@@ -1,7 +1,7 @@
 //! What the agent does, by the laws on whole runs: each is applied here to the runs of real calls.
-//!
 //! Begin with [`run_lawful_server`], which is [`run_server`] and ensures each law's conclusion over
-//! its run. Definitions begin in `specs/LawfulRuns`.
+//! its run. What these touch is what `run_server`, `run_daemon` and `run_load` do. Definitions
+//! begin in `specs/LawfulRuns`.
 
 ghost use Rattle.std.specs.Prelude.{◌≡◌, IsSome};
 ghost use Rattle.agent_top.specs.LawfulRuns.{LawfulDaemon, LawfulLoad, LawfulServer};

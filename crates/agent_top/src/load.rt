@@ -1,3 +1,7 @@
+//! The load of `--load N`: 64 sessions of generated requests over links, clock and keys in memory,
+//! the same at each run. It writes one line on standard output, and asks nothing of the host. Begin
+//! with `run_load`; what it does is `RunsLoad` (`specs/Load`).
+
 ghost use Rattle.std.specs.Prelude.{◌≡◌, ◌++◌, ◌∷◌, ℕ, List, [], None, Some, true, codes, IfOk};
 ghost use Rattle.std.specs.Prelude.{IfSome, decimal};
 ghost use Rattle.agent_ask.specs.Prompters.{IsShut};

@@ -1,3 +1,7 @@
+//! Laws on whose a passphrase is in a daemon: a session hands only its own line's to the cache.
+//! Nothing runs; each contract is a fact about the definitions. Begin with
+//! `a_daemon_stores_its_sessions_own`; definitions are in `specs/OwnPassphrases`.
+
 ghost use Rattle.std.specs.Prelude.{List, ℕ};
 ghost use Rattle.agent_commands.specs.declared.went.SessionEnd.{SessionEnd as Ends};
 ghost use Rattle.agent_origin.specs.declared.door.Door.{Door};

@@ -1,3 +1,7 @@
+//! Laws on single requests and prompts, as they hold throughout a run of the agent. Nothing runs;
+//! each contract is a fact about the definitions. Begin with `each_request_of_a_server_is_lawful`;
+//! what is lawful says `specs/Runs`.
+
 ghost use Rattle.std.specs.Prelude.{List, ℕ};
 ghost use Rattle.agent_commands.specs.declared.went.SessionEnd.{SessionEnd as Ends};
 ghost use Rattle.agent_origin.specs.declared.door.Door.{Door};

@@ -1,3 +1,7 @@
+//! With what status the agent's process ends (`dogwoodcatch-agent(1)`, "EXIT STATUS"), and which
+//! end of a session gives which. Pure. Begin with `Status`; contracts call its number `exit_number`
+//! (`specs/Top`).
+
 ghost use Rattle.std.specs.Prelude.{◌≡◌};
 
 use agent_commands::SessionEnd;

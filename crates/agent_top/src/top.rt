@@ -1,3 +1,7 @@
+//! The agent: its words are read, the host is settled, and a server, a daemon or a load is run. It
+//! works on standard input and output and on the host's parts, which it gives back. Begin with
+//! `run_agent`, whose clauses are the release guarantee; definitions begin in `specs/Top`.
+
 ghost use Rattle.std.specs.Prelude.{◌≡◌, ◌⊎◌, map, string_bytes, IfSome, IfNone, IsSome, is_some};
 ghost use Rattle.std.specs.Prelude.{false};
 ghost use Rattle.agent_core.specs.Solos.{seen};

@@ -1,3 +1,7 @@
+//! The words of the command line, read as the agent's rules (GnuPG manual, "agent options"). Pure
+//! but for the memory that clap takes. Begin with `read_words`: its value is `rules_of` the words
+//! (`specs/Words`). The options are in `words/forms.rt`.
+
 ghost use Rattle.std.specs.Prelude.{◌≡◌, ◌≤◌, IfOk, IfErr, Some, None, true, false, length, map};
 ghost use Rattle.std.specs.Prelude.{string_bytes};
 ghost use Rattle.agent_top.specs.Forms.{form_of, forms, number_or, path_or};

@@ -1,3 +1,4 @@
+pub mod Alike
 mod Answering
 pub mod OnlyAnswer
 mod Sending

@@ -1,3 +1,7 @@
+//! What a server's answer to a command comes to, and how the connection stands behind it. Plain
+//! data, which may hold what a user typed. Begin with `Answer`; which one the server's bytes come
+//! to say `specs/Answers`.
+
 ghost use Rattle.std.specs.Prelude.{◌≡◌};
 ghost use Rattle.assuan_client.specs.Answers.{state_after};
 

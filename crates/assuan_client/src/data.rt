@@ -1,3 +1,7 @@
+//! What a client writes: one line, or the answer to an inquiry as data lines and END (Assuan
+//! manual, "client requests"). It touches the sink alone, and overwrites each line behind its
+//! write. Begin with `send_reply`; `Writes` of `agent_ports` (`specs/Writing`) says how much went.
+
 ghost use Rattle.std.specs.Prelude.{◌≡◌, List, ℕ};
 ghost use Rattle.agent_ports.specs.Writing.{Writes};
 ghost use Rattle.assuan_escape.specs.DataLines.{AreData, data_text};

@@ -1,3 +1,7 @@
+//! What one line of a server is: data, a note, OK, ERR, an inquiry, or none of these (Assuan
+//! manual, "server responses"). Pure, over slices of the line. Begin with `form_of`, and with
+//! `answer_form` of `specs/Forms`, which it is.
+
 ghost use Rattle.std.specs.Prelude.{◌≡◌, ◌≤◌, length};
 ghost use Rattle.std.specs.List.{before_first, after_first};
 ghost use Rattle.assuan_text.specs.Blanks.{is_blank};

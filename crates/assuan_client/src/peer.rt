@@ -1,3 +1,7 @@
+//! The client's side of a connection: commands out, and for each the one answer that the server's
+//! lines come to. It owns its link and its reader's memory. Begin with `Peer::command`; `Command`
+//! of `specs/Writing` is its contract, and `ReadOn` of `specs/Answers` what reading comes to.
+
 ghost use Rattle.std.specs.Prelude.{◌≡◌, ◌≢◌, ◌++◌, [], None, List, ℕ};
 ghost use Rattle.assuan_line.specs.Next.{Reader};
 ghost use Rattle.assuan_text.specs.LineEnds.{line_of};

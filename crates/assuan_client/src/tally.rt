@@ -1,3 +1,7 @@
+//! What came of one command so far: notes are counted, data kept up to a secret's length. It is the
+//! filter by which lines are skipped, and touches its own bytes alone, without memory. Begin with
+//! `skip` and `Tally::answer`; `skips_behind` of `specs/Skipping` says which lines are skipped.
+
 ghost use Rattle.std.specs.Prelude.{◌≡◌, ◌≢◌, ◌≤◌, ◌+◌, ◌++◌, [], ◌∷◌, length, nat_le, List, ℕ};
 ghost use Rattle.std.specs.Prelude.{None};
 ghost use Rattle.std.specs.Bool.{OnTrue, OnFalse};

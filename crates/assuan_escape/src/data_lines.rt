@@ -1,3 +1,7 @@
+//! Data lines (Assuan manual, "server responses", `D`), cut and read: each as full as no cut escape
+//! allows. Pure, in arrays that are overwritten when they are dropped. Begin with `full_line`;
+//! `AreData` of `specs/DataLines` says which lines some bytes have.
+
 ghost use Rattle.std.specs.Prelude.{◌≡◌, ◌≤◌, ◌<◌, ◌∷◌, ℕ, List, true, false, length, take, drop};
 ghost use Rattle.std.specs.Prelude.{MatchOption};
 ghost use Rattle.assuan_text.specs.declared.TheConstants.{MAX_LINE_LEN};

@@ -1,3 +1,7 @@
+//! The percent escapes of data lines, as they are written. It appends to its caller's text, up to a
+//! line's length, and takes no memory. Begin with `escape_into`; `escapes` of `specs/Escapes` is
+//! what it writes.
+
 ghost use Rattle.std.specs.Prelude.{◌≡◌, ◌+◌, ◌<◌, ◌≤◌, ◌++◌, ◌↔◌, ℕ, List, false, length, take};
 ghost use Rattle.std.specs.Prelude.{slice_index, IsTrue, All};
 ghost use Rattle.std.specs.Bool.{OnTrue, OnFalse};

@@ -1,3 +1,7 @@
+//! Bytes as uppercase hexadecimal digits in a line, as passphrases, nonces and grips are sent.
+//! Pure, without memory; the result isn't overwritten when it is dropped. The clauses of
+//! `upper_hex` say all of it.
+
 ghost use Rattle.std.specs.Prelude.{◌≡◌, ◌≤◌, ◌*◌, false, length};
 ghost use Rattle.assuan_text.specs.LineEnds.{has_lf};
 ghost use Rattle.assuan_text.specs.declared.TheConstants.{MAX_LINE_LEN};

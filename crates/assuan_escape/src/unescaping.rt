@@ -1,3 +1,7 @@
+//! The percent escapes, read, and with `plus` a blank for each `+`, as arguments of commands have
+//! them. Pure, without memory. Begin with `unescape`, and with `unescaped` of `specs/Escapes`,
+//! which it is.
+
 ghost use Rattle.std.specs.Prelude.{◌≡◌, ◌≤◌, length};
 ghost use Rattle.percent_encoding.specs.Percent.{percent_decode};
 ghost use Rattle.assuan_text.specs.declared.TheConstants.{MAX_LINE_LEN};

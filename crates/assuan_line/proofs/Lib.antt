@@ -3,6 +3,7 @@ pub mod Decided
 pub mod Parts
 pub mod Places
 pub mod OnlyReading
+pub mod OnlyTook
 mod Reading
 pub mod ReadingOn
 pub mod Sending

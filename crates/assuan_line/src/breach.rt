@@ -1,3 +1,7 @@
+//! How a server broke the protocol, as its client finds it: a pinentry, or the agent that
+//! `passphrase` asks. Plain data. It stands in this crate since the client that finds a breach and
+//! the prompts that report one both stand on it.
+
 use crate::Line;
 
 /// How a child broke the protocol. It may hold a line of the child's, so it isn't printed.

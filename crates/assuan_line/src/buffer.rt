@@ -1,3 +1,7 @@
+//! The bytes that a reader holds ahead of its lines: a ring, or one line's bytes in place where
+//! there is no memory for that. It reads the source, and overwrites what it has given out. Begin
+//! with `Ahead::take_line` and `Ahead::read`; `next_of` of `specs/Next` says which line comes next.
+
 ghost use Rattle.std.specs.Prelude.{◌≡◌, ◌≤◌, ◌<◌, ◌+◌, ◌↔◌, [], ◌++◌, ℕ, List, false, length};
 ghost use Rattle.std.specs.Prelude.{take, drop, IsSome, IfSome};
 ghost use Rattle.std.specs.List.{position};

@@ -1,3 +1,7 @@
+//! Lines that a reader passes over, as comments or an inquiry's data: the trait by which callers
+//! say which, and the loop over them. It reads the source by the reader, and overwrites each line
+//! that was skipped. Begin with `next_after_skipped`; definitions begin in `specs/Skipping`.
+
 ghost use Rattle.std.specs.Prelude.{◌≡◌, ◌++◌, ◌∷◌, [], ℕ, List, Bool, true, false, None};
 ghost use Rattle.assuan_line.specs.Next.{ended_by};
 ghost use Rattle.assuan_line.specs.Reading.{HasRead};

@@ -1,3 +1,7 @@
+//! One line of the protocol without its end, whose type says that it is one, so that nobody checks
+//! it again. Its bytes lie in the value itself, and no memory is taken. Begin with `Line::of`;
+//! `IsLine` of `specs/Lines` is the rule.
+
 ghost use Rattle.std.specs.Prelude.{◌≡◌, ◌↔◌, [], IsSome, IfSome};
 ghost use Rattle.assuan_line.specs.Lines.{IsLine};
 

@@ -1,3 +1,7 @@
+//! Lines of a source, whatever pieces its bytes come in. It reads that source alone, within a
+//! budget, and holds what it read ahead; once it has ended it gives its last answer again. Begin
+//! with `LineReader::next`; `next_of` of `specs/Next` says which line or end that is.
+
 ghost use Rattle.std.specs.Prelude.{◌≡◌, ◌≢◌, ◌≤◌, ◌+◌, ◌<◌, ◌∷◌, [], ◌++◌, ℕ, List, length};
 ghost use Rattle.std.specs.Prelude.{IsSome, IfSome, OnOk, IfErr, None};
 ghost use Rattle.std.specs.Option.{option_map};

@@ -1,3 +1,7 @@
+//! One line of several parts, in one write. It touches the sink alone; the parts are put together
+//! in place, without memory, and overwritten. `HasSent` of `specs/Written` says how much of the
+//! line went.
+
 ghost use Rattle.std.specs.Prelude.{◌≡◌, ◌≤◌};
 ghost use Rattle.std.specs.List.{flat_map};
 ghost use Rattle.assuan_line.specs.Lines.{IsLine};

@@ -1,3 +1,7 @@
+//! One line and its line feed, in one write. It touches the sink alone; the bytes are put together
+//! in place, without memory, and overwritten. The clauses of `write_line` say how much of them
+//! went.
+
 ghost use Rattle.std.specs.Prelude.{◌≡◌, ◌≤◌, ◌+◌, ◌∷◌, [], ◌++◌, length};
 ghost use Rattle.agent_ports.specs.Counts.{Rose};
 ghost use Rattle.agent_ports.specs.Sides.{with_bytes, sent_part, IfCut, IsCut};

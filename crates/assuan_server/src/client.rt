@@ -1,4 +1,6 @@
-//! A connection as that of a session's client.
+//! A server's connection as the client of a session (`session_client`): an inquiry's outcome
+//! becomes a passphrase, or a client error. It writes and reads the connection's link alone. Begin
+//! with `ask`, and with `Wishes` of `specs/Clients`, which is its relation.
 
 ghost use Rattle.std.specs.Prelude.{◌≡◌};
 ghost use Rattle.assuan_server.specs.Clients.{secret_said, drop_said};

@@ -1,3 +1,8 @@
+//! A server's connection to its client: the lines that it writes, and the requests that it reads.
+//! It works on the link that it was lent and on its reader's bytes, and knows nothing of a session.
+//! Begin with `Conn::next_request` and `Conn::ok`; `Connection` of `specs/Connections` is what
+//! contracts see, and `HasWritten` of `specs/Written` what a write does.
+
 ghost use Rattle.std.specs.Prelude.{◌≡◌, ◌≤◌, ◌+◌, [], length, false, None, Some, List, ℕ, OnSome};
 ghost use Rattle.std.specs.List.{flat_map};
 ghost use Rattle.assuan_line.specs.Lines.{IsLine};

@@ -1,3 +1,7 @@
+//! What a server sends as data lines, alone or with the OK behind them. It writes to the
+//! connection's link, and overwrites each line behind its write. Begin with `Conn::data`; `AreData`
+//! of `assuan_escape` (`specs/DataLines`) says which lines some bytes have.
+
 ghost use Rattle.std.specs.Prelude.{◌≡◌, ◌++◌, ◌∷◌, ◌^◌, ◌-◌, [], ℕ, List, length, min};
 ghost use Rattle.std.specs.Bool.{OnTrue};
 ghost use Rattle.assuan_escape.specs.DataLines.{AreData, data_line, data_text};

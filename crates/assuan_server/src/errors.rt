@@ -1,3 +1,7 @@
+//! Where an error comes from, and the text of an error line: number, description and source, as
+//! libgpg-error has them. Pure, without memory. Begin with `error_text`, and with its namesake in
+//! `specs/Errors`.
+
 ghost use Rattle.std.specs.Prelude.{◌≡◌, ◌≤◌, ◌<◌, ◌^◌, length, false};
 ghost use Rattle.assuan_text.specs.LineEnds.{has_lf};
 ghost use Rattle.assuan_line.specs.Lines.{IsLine};

@@ -1,3 +1,8 @@
+//! Inquiries (Assuan manual, INQUIRE): a question to the client, and its data lines up to END or
+//! CAN. They go over the connection's link, and `inquire` alone takes memory. Begin with
+//! `Conn::inquire`, whose two siblings differ in what is kept of the bytes; `Inquire` of
+//! `specs/Asking` is the contract, and `ComesTo` of `specs/Inquiries` the outcome.
+
 ghost use Rattle.std.specs.Prelude.{◌≡◌, ◌≢◌, ◌≤◌, ◌∷◌, ◌++◌, [], ℕ, List, length, codes, None};
 ghost use Rattle.std.specs.Prelude.{Some, IfSome, IfNone, OnOk, IfErr, MatchResult};
 ghost use Rattle.std.specs.List.{flat_map};

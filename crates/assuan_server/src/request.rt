@@ -1,3 +1,7 @@
+//! Which lines are no requests: empty ones, blank ones and comments. A filter that keeps nothing of
+//! them; the reading is done by `Conn::next_request`. Begin with `NextRequest` of `specs/Requests`,
+//! and with the law that the next request is the only one.
+
 ghost use Rattle.std.specs.Prelude.{◌≡◌, ◌++◌, ◌∷◌, [], ℕ, List, true, false};
 ghost use Rattle.assuan_line.specs.Next.{Reader};
 ghost use Rattle.assuan_text.specs.Forms.{is_ignored};

@@ -1,3 +1,6 @@
+//! Blank and tab, by which the words of a line are apart. Pure, over slices. Begin with
+//! `without_blanks`, and with its namesake in `specs/Blanks`.
+
 ghost use Rattle.std.specs.Prelude.{◌≡◌, ◌≤◌, length};
 ghost use Rattle.assuan_text.specs.Blanks.{is_blank, without_blanks};
 

@@ -1,3 +1,7 @@
+//! The forms of lines that both sides tell apart: blank ones, comments, and data (Assuan manual,
+//! "server responses" and "client requests"). Pure, over slices. Begin with `is_ignored`; each
+//! function is its namesake in `specs/Forms`.
+
 ghost use Rattle.std.specs.Prelude.{◌≡◌, true, false, drop, MatchOption};
 ghost use Rattle.std.specs.List.{list_all};
 ghost use Rattle.assuan_text.specs.Blanks.{is_blank};

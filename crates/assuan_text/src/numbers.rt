@@ -1,3 +1,6 @@
+//! Decimal numbers as options and error lines have them: 1 to 10 digits, zeros in front counted.
+//! Pure. `number_of` of `specs/Numbers` says the same.
+
 ghost use Rattle.std.specs.Prelude.{◌≡◌};
 ghost use Rattle.assuan_text.specs.Numbers.{number_of};
 

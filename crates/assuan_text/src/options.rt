@@ -1,3 +1,7 @@
+//! The options of a command: words that begin with two dashes, in front of its arguments. Pure,
+//! over slices. Begin with `arguments` and `last_value`; each function is its namesake over the
+//! text's words in `specs/Options`.
+
 ghost use Rattle.std.specs.Prelude.{◌≡◌, ◌≤◌, ◌<◌, ◌+◌, ◌∷◌, true, false, length, drop};
 ghost use Rattle.std.specs.Prelude.{MatchOption};
 ghost use Rattle.std.specs.List.{prefix_len};

@@ -1,3 +1,7 @@
+//! The words of a line: a command in front, what comes behind it, and one word after another. Pure,
+//! over slices. Begin with `command_and_rest`; `words` of `specs/Words` says what a line's words
+//! are.
+
 ghost use Rattle.std.specs.Prelude.{◌≡◌, ◌≤◌, ◌<◌, ◌+◌, [], ◌∷◌, length, MatchOption};
 ghost use Rattle.std.specs.List.{position_or_len, before_first};
 ghost use Rattle.assuan_text.specs.Blanks.{is_blank};

@@ -1,3 +1,8 @@
+//! A slot in memory of its own, its id's hash beside it, and the blanks from which slots are made.
+//! A blank takes the memory beforehand, so that a store takes none and a move leaves no copy of a
+//! passphrase. Begin with `Blank::filled`; contracts see a `Slot`, and each call is its namesake in
+//! `specs/Shelves` or `specs/SlotOrders`.
+
 ghost use Rattle.std.specs.Prelude.{◌≡◌, [], IfSome, IfNone};
 
 use crate::deadlines::Place;

@@ -1,3 +1,7 @@
+//! The places of slots in a heap, the soonest deadline in front, by which a sweep finds what is
+//! past. It works on its heap's memory, and may hold places that slots have left. Begin with
+//! `Deadlines::pop_past`; `HavePlaces` of `specs/Deadlines` is what a shelf keeps true of it.
+
 ghost use Rattle.std.specs.Prelude.{◌≡◌, ◌+◌, ◌<◌, ◌≤◌, ◌==◌, ◌||◌, true, false, [], nat_le, OnOk};
 ghost use Rattle.std.specs.Prelude.{IfSome, IfNone, IsSome};
 ghost use Rattle.std.specs.BinaryHeap.{IsHeap, heap_items, heap_len, heap_capacity};

@@ -1,3 +1,7 @@
+//! An index over ranges of hashes, from which a search among many slots begins. It guesses, and no
+//! clause speaks of it: the search checks the place, and without memory for ranges is only slower.
+//! Begin with `Guide::guess`.
+
 use crate::boxed_slot::BoxedSlot;
 use std::alloc::Global;
 

@@ -1,3 +1,6 @@
+//! The hash of a cache id, of std's `FoldHasher` from its fixed start. Pure: `id_hash` of
+//! `specs/Hashes`. A shelf is right whatever the hashes are, and only its speed hangs on them.
+
 ghost use Rattle.std.specs.Prelude.{◌≡◌};
 ghost use Rattle.cache_book.specs.Hashes.{id_hash};
 

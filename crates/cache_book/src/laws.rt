@@ -1,3 +1,7 @@
+//! A law: what each kind of mark (log entry) and a turn-over make of a history's slots. A function
+//! without a body, whose contract is a fact about the definitions; it touches nothing. By it a
+//! shelf may stand in place of a history. Begin with `slots` of `specs/Slots`.
+
 ghost use Rattle.std.specs.Prelude.{◌≡◌, ℕ, ◌≤◌, List, [], ◌∷◌, false, Option, None, Some};
 ghost use Rattle.cache_policy.specs.declared.life.Limits.{Limits};
 ghost use Rattle.cache_policy.specs.declared.mode.Mode.{Mode};

@@ -1,3 +1,7 @@
+//! The plain shelf, one list that is searched from its front: it shows that the contract of `Shelf`
+//! can be met simply, and tests put it beside `SlotShelf`. It works on its list's memory. Begin
+//! with `find`; the clauses are those of `Shelf`.
+
 ghost use Rattle.std.specs.Prelude.{◌≡◌, [], map, find, IfSome, IfNone, vec_len, vec_capacity};
 ghost use Rattle.std.specs.Option.{option_copied};
 ghost use Rattle.cache_book.specs.Shelves.{serves_at, IsGrantFrom, ServesNone, AreWithinMode};

@@ -1,3 +1,6 @@
+//! A set of cache modes: those whose requests a slot still serves. Pure. Begin with
+//! `Modes::not_covered`; each call is its namesake in `specs/Modes`.
+
 ghost use Rattle.std.specs.Prelude.{◌≡◌};
 ghost use Rattle.cache_policy.specs.Mode.{covers};
 

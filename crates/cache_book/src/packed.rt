@@ -1,3 +1,7 @@
+//! A few bytes with their count, in the value itself, for ids and short passphrases in slots. No
+//! memory is taken, and `fill` and `clear` overwrite what lay there. Begin with `Packed::fill`;
+//! contracts see the list of bytes.
+
 ghost use Rattle.std.specs.Prelude.{◌≡◌, ◌<◌, ◌≤◌, ◌↔◌, [], true, false, length, IsTrue};
 
 use std::marker::Model;

@@ -1,3 +1,7 @@
+//! A slot as it lies in memory, in 120 bytes, of which a request mostly reads two cache lines. It
+//! works on itself alone. Begin with `serves_at`; contracts see a `Slot`, and each call is its
+//! namesake in `specs/Shelves` or `specs/Deadlines`.
+
 ghost use Rattle.std.specs.Prelude.{◌≡◌, []};
 
 use crate::Modes;

@@ -1,3 +1,7 @@
+//! The passphrase of a slot: in the slot where it is short, else in memory that was taken
+//! beforehand. It is overwritten where it lies, by `clear`. Begin with `Passphrase::fill`;
+//! contracts see its `bytes_of` (`specs/Passphrases`).
+
 ghost use Rattle.std.specs.Prelude.{◌≡◌, ◌≤◌, [], true, length};
 ghost use Rattle.cache_book.specs.declared.passphrase.TheConstants.{MAX_SHORT_LEN};
 ghost use Rattle.cache_book.specs.Passphrases.{bytes_of, is_short};

@@ -1,4 +1,7 @@
-// Finding slots among slots in the order of their ids.
+//! Finding slots among slots in the order of their ids: by the hash, from where the guide says, and
+//! then by the id. It changes nothing but the note of where a slot was found, and reads few boxes.
+//! Begin with `grant_from`; `AreById` of `specs/SlotOrders` is the order.
+
 ghost use Rattle.std.specs.Prelude.{◌≡◌, ◌<◌, ◌≤◌, ◌==◌, ◌↔◌, true, false, length, IfSome, IfNone};
 ghost use Rattle.std.specs.Prelude.{IsTrue};
 ghost use Rattle.std.specs.List.{HoldsAt, AllByRecursion, AllWithin};

@@ -1,3 +1,7 @@
+//! The shelf of live entries, the trait on which the cache core stands. Memory is taken by
+//! `reserve` alone, so that no later call can fail. Begin with `Shelf::find` and `Shelf::store`;
+//! each call is said on the whole list of slots, by its namesake in `specs/Shelves`.
+
 ghost use Rattle.std.specs.Prelude.{◌≡◌, ◌≤◌, ◌+◌, [], IfSome, IfNone, OnOk};
 ghost use Rattle.cache_book.specs.Shelves.{AtShelf, IsGrantFrom, ServesNone, AreBelow, touched};
 ghost use Rattle.cache_book.specs.Shelves.{with_entry, cleared, swept};

@@ -1,3 +1,7 @@
+//! A live entry, with its last use and the modes that it still serves: the plain form, which
+//! contracts see of any slot. Pure, on the slot alone. Begin with `Slot::serves_at`; each call is
+//! its namesake in `specs/Shelves`.
+
 ghost use Rattle.std.specs.Prelude.{◌≡◌};
 
 use crate::Modes;

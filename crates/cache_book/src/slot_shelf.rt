@@ -1,3 +1,8 @@
+//! The shelf of the agent: slots in the order of their ids' hashes, and their deadlines in a heap.
+//! It takes memory in `reserve` alone, and overwrites each passphrase where it lies before its slot
+//! is freed. Begin with `find`, `store_in` and `sweep_in`; the clauses are those of `Shelf`, and
+//! `specs/SlotOrders` has the order.
+
 ghost use Rattle.std.specs.Prelude.{◌≡◌, ◌+◌, ◌<◌, ◌≤◌, ◌^◌, ◌==◌, ◌||◌, [], true, length, map};
 ghost use Rattle.std.specs.Prelude.{OnOk, vec_len, vec_capacity};
 ghost use Rattle.std.specs.List.{AllByRecursion, insert, remove};

@@ -1,3 +1,7 @@
+//! The policy's numbers: how many marks (log entries) a history has, where moments are cut, and how
+//! long a step stands before a held seat (the prompt's lock). Constants, which `specs/Runs` and
+//! `specs/Waits` read too.
+
 /// How many marks one history has room for.
 pub const MAX_MARKS: u64 = 131_072;
 

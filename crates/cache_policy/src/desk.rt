@@ -1,3 +1,7 @@
+//! The desk (cache handle): where a session takes its turns at the cache, whatever lock lies under
+//! it. A turn may wait there for the seat (the prompt's lock), and so for other sessions. Begin
+//! with `Desk::turn`; `IsTurn` of `specs/Desks` is what every desk promises of one.
+
 ghost use Rattle.std.specs.Prelude.{◌≡◌, true, None, Some, IfErr, IfSome};
 ghost use Rattle.cache_policy.specs.declared.mark.MarkStep.{MarkStep};
 ghost use Rattle.cache_policy.specs.Turns.{Turn, asked_step, turn_of, opens, closes, wait_of};

@@ -1,3 +1,7 @@
+//! An entry of the cache: a passphrase, what it is stored under, and its lifetimes. Pure; a copy
+//! takes no memory. Begin with `Entry::within`; `specs/Entry` says when an entry serves, and
+//! `specs/Entries` which marks (log entries) store one.
+
 ghost use Rattle.std.specs.Prelude.{◌≡◌};
 ghost use Rattle.std.specs.Option.{option_to_list};
 

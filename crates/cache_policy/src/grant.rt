@@ -1,3 +1,7 @@
+//! The leave to use an entry for one request, which there is only within the entry's lifetimes: its
+//! type has the proof. Pure. Begin with `Grant::of`; `serves` and `within` of `specs/Entry` are its
+//! two facts.
+
 ghost use Rattle.std.specs.Prelude.{◌≡◌, true, ◌&&◌, ◌↔◌, IsSome, IfSome};
 ghost use Rattle.cache_policy.specs.Entry.{serves, within};
 

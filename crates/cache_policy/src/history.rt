@@ -1,3 +1,7 @@
+//! A history in memory, for a core that keeps its run: how it began, and its marks (log entries).
+//! Plain data, secrets among it. Begin with `History`; `history_of` of `specs/Histories` is what
+//! definitions read.
+
 ghost use Rattle.std.specs.Prelude.{◌≡◌};
 
 use crate::{Mark, Under};

@@ -1,3 +1,6 @@
+//! The cache id that a client names: 1 to 50 bytes, in the value itself. Pure, without memory.
+//! Begin with `CacheId::of`; contracts see the bytes.
+
 ghost use Rattle.std.specs.Prelude.{◌≡◌, ◌<◌, ◌≤◌, ◌↔◌, length, IsSome, IfSome};
 
 use arrayvec::ArrayVec;

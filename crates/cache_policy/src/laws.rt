@@ -1,3 +1,7 @@
+//! What the policy comes to over whole histories and runs. Functions without a body, whose
+//! contracts are facts about the definitions; they touch nothing. Begin with `nothing_comes_back`
+//! (`specs/Return`) and `one_prompt` (`specs/OnePrompt`).
+
 ghost use Rattle.std.specs.Prelude.{◌≡◌, ◌<◌, ◌≤◌, ◌+◌, ◌||◌, ◌&&◌, ℕ, List, [], ◌∷◌, ◌++◌, Option};
 ghost use Rattle.std.specs.Prelude.{None, Some, Bool, true, false, not, max, length, map};
 ghost use Rattle.std.specs.Prelude.{if◌then◌else◌};

@@ -1,3 +1,7 @@
+//! Lifetimes: what a client asks for an entry, and the limits that the agent was started with
+//! (GnuPG manual, `default-cache-ttl` and `max-cache-ttl`). Pure. Begin with `Limits::ttl_of`, and
+//! with its namesake in `specs/Lifetimes`.
+
 ghost use Rattle.std.specs.Prelude.{◌≡◌};
 
 use crate::Mode;

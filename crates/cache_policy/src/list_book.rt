@@ -1,3 +1,8 @@
+//! The plain cache: a list of what was put, the newest found first, which meets the definitions for
+//! puts alone and for endless ones with asks. It works on its list's memory; the agent doesn't use
+//! it, and a test of the load puts it beside the agent's own. Begin with `ListBook::find`;
+//! definitions begin in `specs/Book`.
+
 ghost use Rattle.std.specs.Prelude.{◌≡◌, ◌≤◌, [], ◌++◌, OnOk, OnErr, IfSome, Option, ℕ};
 ghost use Rattle.std.specs.Option.{option_map, option_copied, option_to_list};
 ghost use Rattle.agent_ports.specs.declared.session.SessionId.{SessionId};

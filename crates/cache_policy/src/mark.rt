@@ -1,3 +1,7 @@
+//! Marks (log entries), of which a history is made: who took which step, with which reply and when.
+//! Plain data, with a secret's bytes; definitions read them, and `Trace` is the form without those
+//! bytes. Begin with `Mark`; `policy` of `specs/Policy` says which reply is right.
+
 ghost use Rattle.std.specs.Prelude.{◌≡◌};
 
 use crate::{CacheId, Life, Mode, Secret};

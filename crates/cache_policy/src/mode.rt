@@ -1,3 +1,6 @@
+//! Cache modes: for which kind of use a passphrase is kept. Pure. Begin with `Mode::covers`, and
+//! with its namesake in `specs/Mode`.
+
 ghost use Rattle.std.specs.Prelude.{◌≡◌};
 
 /// The kind of use that a passphrase is cached for.

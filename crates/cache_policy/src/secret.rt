@@ -1,3 +1,6 @@
+//! A passphrase, or any bytes that may be one: at most 255, in the value itself and overwritten. No
+//! memory is taken. Begin with `Secret::of`; contracts see the bytes.
+
 ghost use Rattle.std.specs.Prelude.{◌≡◌, ◌≤◌, ◌↔◌, [], length, IsSome, IfSome};
 
 use std::marker::Model;

@@ -1,3 +1,7 @@
+//! What a session asks of a desk (cache handle), and what it is replied. Plain data, but that a
+//! step or a reply may have a ticket (permit), which can't be dropped. Begin with `Step` and
+//! `Reply`; `turn_of` and `mark_step` of `specs/Turns` say how definitions see them.
+
 ghost use Rattle.std.specs.Prelude.{◌≡◌};
 
 use crate::{CacheId, Grant, Life, Mode, Secret, Under, Wait, Way};

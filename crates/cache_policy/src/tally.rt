@@ -1,3 +1,7 @@
+//! The counts of what was done, by one mark (log entry) after another. Pure. Begin with
+//! `Tally::count`; `with_one` of `specs/Tallies` is its result, and the law `a_tally_goes_on` says
+//! that this counts a run.
+
 ghost use Rattle.std.specs.Prelude.{◌≡◌, ◌≤◌, ◌+◌, ◌^◌, ℕ, length, false};
 ghost use Rattle.cache_policy.specs.declared.mark.Mark.{Mark};
 ghost use Rattle.cache_policy.specs.Entries.{stored};

@@ -1,3 +1,7 @@
+//! A mark (log entry) without the bytes of its secret, as a journal may keep it. Plain data. Begin
+//! with `TraceStep::of`; `trace_mark` of `specs/Traces` is the mark that definitions see, without
+//! bytes as in `specs/Bare`.
+
 ghost use Rattle.std.specs.Prelude.{◌≡◌, Ok};
 ghost use Rattle.cache_policy.specs.Bare.{bare_step};
 ghost use Rattle.cache_policy.specs.Traces.{trace_step, reply_of};

@@ -1,3 +1,7 @@
+//! Since when a step stands before the held seat (the prompt's lock). Plain data, which the reply
+//! Stand gives and the next try hands in. Begin with `since_by`; `is_late` of `specs/Waits` says
+//! when a step has stood too long.
+
 ghost use Rattle.std.specs.Prelude.{◌≡◌, Some};
 ghost use Rattle.cache_policy.specs.Waits.{since_by};
 

@@ -1,3 +1,7 @@
+//! Tests of the cache core: what steps come to at which second (GnuPG manual, "agent options": the
+//! lifetimes), and that one prompt is open at a time. Begin with `Asked` and `first_wrong`, which
+//! takes the steps of a row over a new core.
+
 use agent_core::Core;
 use agent_ports::SessionId;
 use cache_policy::{

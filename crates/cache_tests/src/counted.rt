@@ -1,3 +1,7 @@
+//! Tests of the counted lock: turns of several passes (worker's tokens) are those of one run, also
+//! where two threads take them at once. Begin with `Asked` and `played`; `waits.rt` has the tests
+//! of waiting.
+
 ghost use Rattle.std.specs.Prelude.{◌≡◌, ◌+◌, ◌<◌, None, length};
 ghost use Rattle.cache_policy.specs.Turns.{asked_step, closes, wait_of};
 ghost use Rattle.counted_lock.specs.Passes.{IsSamePass};

@@ -1,3 +1,7 @@
+//! Tests of the core under one lock (`agent_lock`) and of its journal: what turns are answered, and
+//! that the tally has the mark (log entry) of each, whichever thread took it. Begin with `Asked`
+//! and `played`.
+
 ghost use Rattle.std.specs.Prelude.{◌≡◌, true, false, None};
 ghost use Rattle.cache_policy.specs.Turns.{asked_step, opens, closes, wait_of};
 

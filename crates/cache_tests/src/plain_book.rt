@@ -1,3 +1,6 @@
+//! Tests of the list of entries by which the policy is defined (`ListBook`): what it finds at which
+//! second, and the sizes of ids and passphrases. Begin with `found_until_the_last_second`.
+
 use cache_policy::{CacheId, Life, Limits, ListBook, Mode, Secret};
 use std::test::Fail;
 

@@ -1,5 +1,6 @@
 //! The core beside a plain program: at each of some thousand generated steps that looks through all
-//! marks so far, as the policy's definitions do, and both have to say the same.
+//! marks (log entries) so far, as the policy's definitions do, and both have to say the same. Begin
+//! with `stored` and `seat`, the plain program's words for the definitions.
 
 use crate::cache_core::give_up;
 use agent_core::{Core, mark_step_of};

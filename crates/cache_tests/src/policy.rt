@@ -1,3 +1,6 @@
+//! A test of the cache's steps as values: one that isn't taken gives back the ticket (permit) that
+//! it has. No cache is called; laws of `cache_policy` are, once each.
+
 use cache_policy::{
     Secret, Step, a_history_turns_over, a_replay_is_the_only_one, a_run_goes_on, no_secret_is_read,
     nothing_comes_back, one_more_mark, one_prompt,

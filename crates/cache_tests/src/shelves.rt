@@ -1,3 +1,7 @@
+//! Tests of both shelves for entries, that of slots beside that of a list: thousands of generated
+//! calls, and both have to find the same. Begin with `Both`, and with `NAMES` for the ids that are
+//! hard.
+
 ghost use Rattle.std.specs.Prelude.{ℕ, ◌+◌};
 ghost use Rattle.cache_book.specs.Shelves.{AreBelow};
 

@@ -1,4 +1,6 @@
-//! How threads wait at the counted lock: for the turns before their own, and for the seat.
+//! How threads wait at the counted lock: for the turns before their own, and for the seat (lock:
+//! the right to prompt). Two threads and the system's clock, with flags by which each knows of the
+//! other. Begin with `Watch` and `run_flushes`.
 
 ghost use Rattle.std.specs.Prelude.{◌≡◌, None};
 

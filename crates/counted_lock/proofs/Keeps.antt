@@ -29,13 +29,13 @@ use Rattle.counted_lock.specs.declared.board.Stage.TheVariants.{Idle, Waiting, W
 use Rattle.counted_lock.specs.Rule.{Closes, wrap, doing, blank_claims, first_doing, Fits, AllFit, IsHome, IsSlot, WaitsAt, WorksAt, IsAt, Knows, total, going, active, claims_of, times, claims_by, Kept}
 use Rattle.counted_lock.specs.Plays.{Hand, saw, number, IsIdle, IsWaiting, Works, drew, looked, counted, gave, first_claims, later_claims}
 use Rattle.counted_lock.specs.Claims.{Sat, first_of_claims, own}
-use Rattle.counted_lock.proofs.Totals.{total_set, total_le, total_one, total_two, total_snoc, put, put_here, put_else, seats_stay, none_more, all_fit_more, times_each}
+use Rattle.counted_lock.proofs.Totals.{total_set, total_le, total_one, total_two, total_snoc, put, put_here, put_else, places_stay, none_more, all_fit_more, times_each}
 
 abbrev St : Type 0
 St = State (Option Cored) Doing
 
 module _ (about : About) where
-  -- a seat that has a number has the claim of one pass
+  -- a place that has a number has the claim of one pass
   going_at : (log : List Mark) (drawn served : ℕ) (out : Bool) (owner : ℕ → ℕ) (j : ℕ) (claims : List Claim) (stage : Stage) → IsAt log drawn served out owner j claims stage → going stage ≤ length claims
   going_at log drawn served out owner j claims Idle k = omega arith
   going_at log drawn served out owner j claims (Waiting n) k = let h = ap (λ (l : List Claim). length l) k.claims_are in omega (arith, h)
@@ -47,7 +47,7 @@ module _ (about : About) where
       let h = total_le active claims_of s.views (λ j v e. going_at k.log k.drawn k.served k.out k.owner j v.claims v.stage (k.each j v e).at) in
       let w = k.waits in let c = k.claimed in let f = k.few in (omega (arith, w), omega (arith, h, w, c, f))
 
-  -- a number is one seat's
+  -- a number is one place's
   waits_alone : (s : St) (k : Kept about s) (i j : ℕ) → k.owner k.served ≡ i → i ≢ j → (claims : List Claim) (stage : Stage) → IsAt k.log k.drawn k.served k.out k.owner j claims stage
       → (log' : List Mark) (out' : Bool) → IsAt log' k.drawn k.served out' k.owner j claims stage
   waits_alone s k i j is other claims Idle at log' out' = tt
@@ -94,7 +94,7 @@ module _ (about : About) where
   not_out true h = absurd (h refl)
   not_out false h = refl
 
-  -- the parts of a seat at a stage
+  -- the parts of a place at a stage
   claims_at : (m : Sat) (stage : Stage) (hand : Hand) → m ≡ (doing stage (own m ∷ []), hand) → m.0.claims ≡ own m ∷ []
   claims_at m stage hand is = ap (λ (z : Sat). z.0.claims) is
 
@@ -128,7 +128,7 @@ module _ (about : About) where
           claimed = (let t = total_set claims_of s.views id m.0 w at in let g = ap (λ (l : List Claim). length l) same_claims in let h = k.claimed in omega (arith, t, g, h));
           apart = λ n. (let t = total_set (claims_by n) s.views id m.0 w at in let g = ap (times n) same_claims in let h = k.apart n in omega (arith, t, g, h));
           within = k.within;
-          each = seats_stay (Knows about k.log (k.drawn + 1) k.served k.out (put k.owner k.drawn id)) s.views id w
+          each = places_stay (Knows about k.log (k.drawn + 1) k.served k.out (put k.owner k.drawn id)) s.views id w
               (record {
                 fit = subst (AllFit about k.log) same_claims known.fit;
                 at = record {
@@ -193,7 +193,7 @@ module _ (about : About) where
           claimed = (let t = total_set claims_of s.views id m.0 w at in let g = ap (λ (l : List Claim). length l) same_claims in let h = k.claimed in omega (arith, t, g, h));
           apart = λ x. (let t = total_set (claims_by x) s.views id m.0 w at in let g = ap (times x) same_claims in let h = k.apart x in omega (arith, t, g, h));
           within = k.within;
-          each = seats_stay (Knows about k.log k.drawn k.served true k.owner) s.views id w
+          each = places_stay (Knows about k.log k.drawn k.served true k.owner) s.views id w
               (record {
                 fit = (
                   record {
@@ -257,7 +257,7 @@ module _ (about : About) where
         ((λ hit. absurd (miss hit)), (λ _. refl)),
       ))
 
-  -- the claim of a seat that has the core has seen the whole run
+  -- the claim of a place that has the core has seen the whole run
   works_seen : (log : List Mark) (drawn served : ℕ) (out : Bool) (owner : ℕ → ℕ) (id : ℕ) (m : Sat) (n : ℕ) → WorksAt log drawn served out owner id m.0.claims n → (own m).seen ≡ log
   works_seen log drawn served out owner id m n w = ap (λ (cs : List Claim). (first_of_claims cs).seen) w.claims_are ∙ w.seen
 
@@ -308,7 +308,7 @@ module _ (about : About) where
           claimed = (let t = total_set claims_of s.views id m.0 w at in let g = ap (λ (l : List Claim). length l) same_claims in let h = k.claimed in omega (arith, t, g, h));
           apart = λ x. (let t = total_set (claims_by x) s.views id m.0 w at in let g = ap (times x) same_claims in let h = k.apart x in omega (arith, t, g, h));
           within = λ x far. none_more x k.log mark (λ e. let i = fits.inside in omega (arith, i, far, e, by)) (k.within x far);
-          each = seats_stay (Knows about log' k.drawn k.served k.out k.owner) s.views id w
+          each = places_stay (Knows about log' k.drawn k.served k.out k.owner) s.views id w
               (record {
                 fit = (
                   record {
@@ -400,7 +400,7 @@ module _ (about : About) where
           claimed = (let t = total_set claims_of s.views id m.0 w at in let g = ap (λ (l : List Claim). length l) same_claims in let h = k.claimed in omega (arith, t, g, h));
           apart = λ x. (let t = total_set (claims_by x) s.views id m.0 w at in let g = ap (times x) same_claims in let h = k.apart x in omega (arith, t, g, h));
           within = k.within;
-          each = seats_stay (Knows about k.log k.drawn (k.served + 1) false k.owner) s.views id w
+          each = places_stay (Knows about k.log k.drawn (k.served + 1) false k.owner) s.views id w
               (record {
                 fit = subst (AllFit about k.log) same_claims known.fit;
                 at = tt;
@@ -416,7 +416,7 @@ module _ (about : About) where
         }),
       )
 
-  -- a seat is run_of_log in two, or two are put together
+  -- a place is run_of_log in two, or two are put together
   times_log : (x : ℕ) (cs : List Claim) → times x (first_claims cs) + times x (later_claims cs) ≡ times x cs
   times_log x [] = omega arith
   times_log x (c ∷ cs) = omega arith
@@ -453,7 +453,7 @@ module _ (about : About) where
         apart = λ x. (let t = total_set (claims_by x) s.views id v left at in let u = total_snoc (claims_by x) (set s.views id left) right in let g = times_log x v.claims in let h = k.apart x in omega (arith, t, u, g, h));
         within = k.within;
         each = λ j d e. ⊎_elim
-            (λ (z : get_elem? (set s.views id left) j ≡ some d). seats_stay (Knows about k.log k.drawn k.served k.out k.owner) s.views id left
+            (λ (z : get_elem? (set s.views id left) j ≡ some d). places_stay (Knows about k.log k.drawn k.served k.out k.owner) s.views id left
             (record { fit = fit_later k.log v.claims known.fit; at = subst (IsAt k.log k.drawn k.served k.out k.owner id (later_claims v.claims)) (sym idle) tt })
             (λ i y _ l. k.each i y l) j d z)
             (λ (z : right ≡ d). subst (Knows about k.log k.drawn k.served k.out k.owner j) z (record { fit = fit_first k.log v.claims known.fit; at = tt }))
@@ -490,8 +490,8 @@ module _ (about : About) where
         claimed = (let t = total_set claims_of s.views id v both at in let y = total_set claims_of vs other u spent there in let g = length-append v.claims u.claims in let h = k.claimed in omega (arith, t, y, g, h));
         apart = λ x. (let t = total_set (claims_by x) s.views id v both at in let y = total_set (claims_by x) vs other u spent there in let g = times_both x v.claims u.claims in let h = k.apart x in omega (arith, t, y, g, h));
         within = k.within;
-        each = seats_stay (Knows about k.log k.drawn k.served k.out k.owner) vs other spent (record { fit = tt; at = tt })
-            (λ j d _ e. seats_stay (Knows about k.log k.drawn k.served k.out k.owner) s.views id both
+        each = places_stay (Knows about k.log k.drawn k.served k.out k.owner) vs other spent (record { fit = tt; at = tt })
+            (λ j d _ e. places_stay (Knows about k.log k.drawn k.served k.out k.owner) s.views id both
             (record { fit = fit_both k.log v.claims u.claims known.fit known'.fit; at = subst (IsAt k.log k.drawn k.served k.out k.owner id (v.claims ++ u.claims)) (sym idle) tt })
             (λ i y _ l. k.each i y l) j d e);
       }
@@ -563,7 +563,7 @@ module _ (about : About) where
       let at = final.1.1 in
       let spent = doing Idle [] in
       let vs : List Doing = set s.views id spent in
-      let le = total_le active claims_of vs (seats_stay (λ j d. active d ≤ claims_of d) s.views id spent (omega arith) (λ j d _ e. going_at k.log k.drawn k.served k.out k.owner j d.claims d.stage (k.each j d e).at)) in
+      let le = total_le active claims_of vs (places_stay (λ j d. active d ≤ claims_of d) s.views id spent (omega arith) (λ j d _ e. going_at k.log k.drawn k.served k.out k.owner j d.claims d.stage (k.each j d e).at)) in
       let a = total_set active s.views id v spent at in
       let b = total_set claims_of s.views id v spent at in
       let c = k.claimed in let d = k.waits in let g = ap going idle in

@@ -144,7 +144,7 @@ passes_on session reading asked tried number sessions front calls calls' stopped
           (below_both sessions (marks_by number (own m).seen) t.marks p.earlier (below_own sessions session t.marks below ours.by));
     }
 
--- how a seat is seen
+-- how a place is seen
 abbrev pub at_pass : TableId → ℕ → ℕ → Sat → AtPass
 at_pass table number sessions m = record { table = table; limits = (own m).limits; number = number; sessions = sessions; seen = (own m).seen }
 
@@ -224,16 +224,16 @@ new_more counted k (q ∷ qs) p a e = (a.0, new_more counted (suc k) qs p a.1 (e
 
 pub new_pass : (limits : Limits) (i n : ℕ) (m m' : Sat) → IsLegalLog limits [] → m ≡ (doing Idle (blank_claims limits i (n - i)), []) → i < n → m' ≡ (doing Idle (first_claims m.0.claims), [])
     → IsPass i 0 0 0 false m' × (own m' ≡ claim limits i [])
-new_pass limits i n m m' legal seat l is =
-    let e : m' ≡ (doing Idle (claim limits i [] ∷ []), []) = is ∙ ap (λ (cs : List Claim). (doing Idle (first_claims cs), [])) (ap (λ (z : Sat). z.0.claims) seat ∙ blank_cut limits i n l) in
+new_pass limits i n m m' legal place l is =
+    let e : m' ≡ (doing Idle (claim limits i [] ∷ []), []) = is ∙ ap (λ (cs : List Claim). (doing Idle (first_claims cs), [])) (ap (λ (z : Sat). z.0.claims) place ∙ blank_cut limits i n l) in
     subst (λ (z : Sat). IsPass i 0 0 0 false z × (own z ≡ claim limits i [])) (sym e)
     (record { idle = refl; number_is = refl; front_is = refl; calls_is = refl; stopped_is = refl; legal = legal; earlier = tt }, refl)
 
 pub new_rest : (limits : Limits) (i n : ℕ) (m m' : Sat) → m ≡ (doing Idle (blank_claims limits i (n - i)), []) → i < n → m' ≡ (doing m.0.stage (later_claims m.0.claims), m.1)
     → m' ≡ (doing Idle (blank_claims limits (i + 1) (n - (i + 1))), [])
-new_rest limits i n m m' seat l is =
+new_rest limits i n m m' place l is =
     let up : suc i ≡ i + 1 = omega arith in
-    is ∙ (ap (λ (z : Sat). (doing z.0.stage (later_claims z.0.claims), z.1)) seat
+    is ∙ (ap (λ (z : Sat). (doing z.0.stage (later_claims z.0.claims), z.1)) place
     ∙ (ap (λ (cs : List Claim). (doing Idle (later_claims cs), [])) (blank_cut limits i n l) ∙ ap (λ (j : ℕ). (doing Idle (blank_claims limits j (n - j)), [])) up))
 
 pub are_of : (counted : AtCounted) (number : ℕ) (passes : List AtPass) → AreNewPasses counted number passes → AreOf counted.table passes
@@ -304,7 +304,7 @@ each_of P n (m ∷ ms) is none = (
   each_of P n ms is (λ k far. (none_of k m ms (none k far)).1),
 )
 
--- the seat of one pass more
+-- the place of one pass more
 pub gathers : (m u m' : Sat) (p : AtPass) (ps all : List AtPass) → IsIdle u → own u ≡ claim_of p → m' ≡ (doing m.0.stage (m.0.claims ++ u.0.claims), m.1)
     → ((about : About) (log : List Mark) → AllFit about log m.0.claims → PassesFit about log (ps ++ p ∷ []) → PassesFit about log all)
     → (about : About) (log : List Mark) → AllFit about log m'.0.claims → PassesFit about log ps → PassesFit about log all

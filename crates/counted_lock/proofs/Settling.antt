@@ -186,7 +186,7 @@ pub adds_spent : (limits : Limits) (log : List Mark) (asked : MarkStep) (turn : 
     → trial.spent ≡ true → Adds limits log asked turn trial core [] trial.tally
 adds_spent limits log asked turn trial core s on = spent_step limits log asked turn trial core s (s.trial_is.spent_is.0 on) s.step
 
--- what the seat knows then
+-- what the place knows then
 pub settles_none : (asked : MarkStep) (turn : Turn) (trial : Trial) (core : AtCore) (m : Sat) → Works m ((0, None) ∷ []) → Adds (own m).limits (own m).seen asked turn trial core [] trial.tally
     → Settles trial asked turn core None m m
 settles_none asked turn trial core m works adds = record {

@@ -28,7 +28,7 @@ use Rattle.counted_lock.specs.Taking.{TakesTurn}
 use Rattle.counted_lock.specs.Turns.{WantsMemoryAt}
 use Rattle.counted_lock.proofs.LogLemmas.{joined_log, keeps_legal, stopped_log, moment_log}
 
--- the core's contract, at the run that the seat has seen
+-- the core's contract, at the run that the place has seen
 pub stepped : (m m1 : Sat) (cored : Cored) (after : AtCore) (trial : Trial) (session : SessionId) (reading : ℕ) (asked : MarkStep) (turn : Turn) → Enters m m1 cored → trial.session ≡ session
     → trial.reading ≡ reading → trial.tally ≡ cored.tally → IsTrial cored.core asked trial
     → ((history : History) → IsLegal cored.core.limits history → StandsFor cored.core history → IsStep cored.core history session (moment_of cored.core.moment reading) asked turn after)

@@ -1,4 +1,4 @@
--- Sums over all seats, and the marks of one pass.
+-- Sums over all places, and the marks of one pass.
 use Rattle.std.proofs.Common.{◌≡◌, ◌≢◌, ◌≤◌, ◌<◌, ℕ, zero, suc, ◌+◌, Bool, true, false, nat_eq, if◌then◌else◌, List, [], ◌∷◌, ◌++◌, length, set, sym, refl, ap, ◌∙◌, subst, arith, ⊎_elim}
 use Rattle.std.proofs.lemmas.Bool.Decides.{nat_tests}
 use Rattle.std.proofs.lemmas.List.Elements.{filter-append}
@@ -64,10 +64,10 @@ put_else f i c j other = go (ℕ_discrete j i)
     go (yes e) = absurd (other e)
     go (no _) = refl
 
--- what holds of each seat, after a change of one
-pub seats_stay : (K : ℕ → Doing → Type 0) (vs : List Doing) (me : ℕ) (w : Doing) → K me w → ((j : ℕ) (d : Doing) → j ≢ me → get_elem? vs j ≡ some d → K j d)
+-- what holds of each place, after a change of one
+pub places_stay : (K : ℕ → Doing → Type 0) (vs : List Doing) (me : ℕ) (w : Doing) → K me w → ((j : ℕ) (d : Doing) → j ≢ me → get_elem? vs j ≡ some d → K j d)
     → (j : ℕ) (d : Doing) → get_elem? (set vs me w) j ≡ some d → K j d
-seats_stay K vs me w mine others j d e = ⊎_elim (λ (t : (j ≡ me) × (w ≡ d)). subst (λ (x : ℕ × Doing). K x.0 x.1) (λ i. (sym t.0 i, t.1 i)) mine)
+places_stay K vs me w mine others j d e = ⊎_elim (λ (t : (j ≡ me) × (w ≡ d)). subst (λ (x : ℕ × Doing). K x.0 x.1) (λ i. (sym t.0 i, t.1 i)) mine)
     (λ (t : (j ≢ me) × (get_elem? vs j ≡ some d)). others j d t.0 t.1) (at_set vs me j w d e)
 
 -- one mark of another pass

@@ -1,4 +1,4 @@
--- What a seat knows once the core is out of the slot.
+-- What a place knows once the core is out of the slot.
 use Rattle.std.proofs.Common.{◌≡◌, List, [], ◌∷◌, Option, Some, None, sym, ap, ◌∙◌, subst}
 use Rattle.atomic_table.specs.Table.{rest}
 use Rattle.cache_policy.specs.declared.mark.Mark.{Mark}
@@ -28,14 +28,14 @@ pub enters : (m0 m m' m'' : Sat) (r : Option Cored) (core : Cored) (t : Takes m 
 enters m0 m m' m'' r core t same e now is =
     let bare : rest m'.1 ≡ [] = ap rest (ap (λ (z : Sat). z.1) t.works) in
     let this : core ≡ t.core = let a = is_core m m' r t e in cc (a, is) in
-    let seat : m'' ≡ (doing (Working (number m')) (own m' ∷ []), (0, None) ∷ []) = now ∙ (λ i. (ap (λ (z : Sat). z.0) t.works i, (0, None) ∷ bare i)) in
-    let mine : own m'' ≡ own m' = ap own seat in
-    let turn : number m'' ≡ number m' = ap number seat in
+    let place : m'' ≡ (doing (Working (number m')) (own m' ∷ []), (0, None) ∷ []) = now ∙ (λ i. (ap (λ (z : Sat). z.0) t.works i, (0, None) ∷ bare i)) in
+    let mine : own m'' ≡ own m' = ap own place in
+    let turn : number m'' ≡ number m' = ap number place in
     record {
       more = t.more;
       foreign = subst (λ (c : Claim). marks_by c.number t.more ≡ []) same t.foreign;
       seen = mine ∙ (t.seen ∙ ap (λ (c : Claim). saw c t.more) same);
-      works = seat ∙ (λ i. (doing (Working (sym turn i)) (sym mine i ∷ []), (0, None) ∷ []));
+      works = place ∙ (λ i. (doing (Working (sym turn i)) (sym mine i ∷ []), (0, None) ∷ []));
       legal = subst (λ (z : Limits × List Mark). IsLegalLog z.0 z.1) (λ i. (ap (λ (c : Claim). c.limits) same i, ap (λ (c : Claim). c.seen) (sym mine) i)) t.legal;
       limits_is = ap (λ (z : Cored). z.core.limits) this ∙ (t.limits_is ∙ ap (λ (c : Claim). c.limits) same);
       stands = subst (λ (z : Cored × List Mark). Stands z.0 z.1) (λ i. (sym this i, ap (λ (c : Claim). c.seen) (sym mine) i)) t.stands;

@@ -1,4 +1,4 @@
--- What a seat knows of its pass. This is the project's own.
+-- What a place knows of its pass. This is the project's own.
 use Rattle.std.specs.Prelude.{ℕ, List, [], ◌∷◌, Option}
 use Rattle.atomic_table.specs.Table.{Me}
 use Rattle.cache_policy.specs.declared.life.Limits.{Limits}
@@ -17,7 +17,7 @@ abbrev pub first_of_claims : List Claim → Claim
 first_of_claims [] = claim no_limits 0 []
 first_of_claims (c ∷ cs) = c
 
--- what a seat knows and holds
+-- what a place knows and holds
 abbrev pub Sat : Type 0
 Sat = Me (Option Cored) Doing
 

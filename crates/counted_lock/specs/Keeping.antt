@@ -1,4 +1,4 @@
--- Private: what a pass, the lock and the seats of passes keep.
+-- Private: what a pass, the lock and the places of passes keep.
 use Rattle.std.specs.Prelude.{◌≡◌, ◌<◌, ℕ, Bool, List, [], ◌∷◌, length, ⊤}
 use Rattle.std.specs.List.{AllByRecursion}
 use Rattle.atomic_table.specs.Seated.{TableId}

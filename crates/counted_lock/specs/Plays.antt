@@ -27,11 +27,11 @@ number_of Idle = 0
 number_of (Waiting n) = n
 number_of (Working n) = n
 
--- the number that the seat drew
+-- the number that the place drew
 abbrev pub number : Sat → ℕ
 number m = number_of m.0.stage
 
--- the seat of one pass, which has no number; which waits for its number; which works, with this in hand
+-- the place of one pass, which has no number; which waits for its number; which works, with this in hand
 abbrev pub IsIdle : Sat → Type 0
 IsIdle m = m ≡ (doing Idle (own m ∷ []), [])
 
@@ -78,7 +78,7 @@ pub record Gives (m m' : Sat) : Type 0 where
 abbrev pub gave : Step (Option Cored) → Sat → ℕ → Sat → Type 0
 gave st m found m' = Gives m m'
 
--- the first claim goes to another seat
+-- the first claim goes to another place
 abbrev pub first_claims : List Claim → List Claim
 first_claims [] = []
 first_claims (c ∷ cs) = c ∷ []
@@ -91,9 +91,9 @@ later_claims (c ∷ cs) = cs
 abbrev pub no_mark : Mark
 no_mark = record { session = record { pass = 0; count = 0 }; step = Stop; reply = answer.Done; moment = 0 }
 
--- the seat is one of this table, which has three words and one slot
-pub record IsSeatOf (table seat : TableId) : Type 0 where
-  pub same : seat ≡ table
+-- the place is one of this table, which has three words and one slot
+pub record IsOfTable (table place : TableId) : Type 0 where
+  pub same : place ≡ table
   pub words : table.words ≡ 3
   pub slots : table.slots ≡ 1
 
@@ -107,7 +107,7 @@ pub record Enters (m m' : Sat) (core : Cored) : Type 0 where
   pub limits_is : core.core.limits ≡ (own m).limits
   pub stands : Stands core (own m').seen
 
--- the seat that has the claims of n passes
+-- the place that has the claims of n passes
 pub record IsPlace (n : ℕ) (m : Sat) : Type 0 where
   pub idle : m.0.stage ≡ Idle
   pub empty : m.1 ≡ []

@@ -54,7 +54,7 @@ abbrev pub IsSlot : Limits → List (maybe.Option (Option Cored)) → List Mark 
 IsSlot limits homes log drawn served true = (homes ≡ none ∷ []) × (served < drawn)
 IsSlot limits homes log drawn served false = IsHome limits homes log
 
--- a number that waits is drawn and not served yet, and is one seat's alone
+-- a number that waits is drawn and not served yet, and is one place's alone
 pub record WaitsAt (drawn served : ℕ) (out : Bool) (owner : ℕ → ℕ) (j : ℕ) (claims : List Claim) (n : ℕ) : Type 0 where
   pub later : served ≤ n
   pub drawn_is : n < drawn
@@ -63,7 +63,7 @@ pub record WaitsAt (drawn served : ℕ) (out : Bool) (owner : ℕ → ℕ) (j : 
   pub one : Claim
   pub claims_are : claims ≡ one ∷ []
 
--- the seat that has the core has seen the whole run
+-- the place that has the core has seen the whole run
 pub record WorksAt (log : List Mark) (drawn served : ℕ) (out : Bool) (owner : ℕ → ℕ) (j : ℕ) (claims : List Claim) (n : ℕ) : Type 0 where
   pub now : n ≡ served
   pub drawn_is : n < drawn
@@ -82,7 +82,7 @@ pub record Knows (about : About) (log : List Mark) (drawn served : ℕ) (out : B
   pub fit : AllFit about log v.claims
   pub at : IsAt log drawn served out owner j v.claims v.stage
 
--- over all seats
+-- over all places
 abbrev pub total : (Doing → ℕ) → List Doing → ℕ
 total f [] = 0
 total f (v ∷ vs) = f v + total f vs

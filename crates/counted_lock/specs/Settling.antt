@@ -57,7 +57,7 @@ pub record Stepped (limits : Limits) (log : List Mark) (asked : MarkStep) (turn 
   pub limits_is : core.limits ≡ limits
   pub trial_is : IsTrial before asked trial
 
--- The seat that works has added these marks, for which the core stands: one where there is another tally then, and else none.
+-- The place that works has added these marks, for which the core stands: one where there is another tally then, and else none.
 pub record Settles (trial : Trial) (asked : MarkStep) (turn : Turn) (core : AtCore) (made : Option Tally) (m m' : Sat) : Type 0 where
   pub marks : List Mark
   pub many : length marks ≡ one_if (is_some made)

@@ -14,7 +14,7 @@ use Rattle.counted_lock.specs.Plays.{IsIdle}
 use Rattle.counted_lock.specs.Claims.{Sat, own}
 use Rattle.counted_lock.specs.Turns.{WantsMemoryAt}
 
--- The seat saw the marks of others behind those that it had seen, and then its own.
+-- The place saw the marks of others behind those that it had seen, and then its own.
 pub record TakesTurn (session : SessionId) (reading : ℕ) (asked : MarkStep) (m : Sat) (tried : Tried) (m' : Sat) : Type 0 where
   pub others : List Mark
   pub foreign : marks_by (own m).number others ≡ []

@@ -1,5 +1,7 @@
 //! The table that threads share. One word counts the numbers that were drawn, one those that were
-//! served, and one the marks. The slot has the core, but for the time of a turn.
+//! served, and one the marks (log entries). The slot has the core, but for the time of a turn.
+//! Begin with `OneRun`, whose rule `Kept` (`specs/Rule`) ties the words to one legal run.
+
 use agent_core::Core;
 use atomic_table::{Seat, Table, TableRule};
 use cache_policy::{Limits, Mark, Tally};
@@ -52,11 +54,11 @@ pub enum Stage {
     Working(u64),
 }
 
-/// What a seat at the table knows. No value of it is made.
+/// What a place at the table knows. No value of it is made.
 pub struct Doing {
     /// Where its turn is.
     pub stage: Stage,
-    /// What the passes of this seat have seen.
+    /// What the passes of this place have seen.
     pub claims: LinkedList<Claim>,
 }
 
@@ -74,5 +76,5 @@ impl TableRule<Option<Cored>, Doing, About> for OneRun {
 /// The table.
 pub type Board = Table<Option<Cored>, Doing, About, OneRun, Global>;
 
-/// A seat at the table.
+/// A place at the table.
 pub type Place = Seat<Option<Cored>, Doing>;

@@ -1,3 +1,8 @@
+//! The counted lock: a core at which threads take turns in the order of the numbers that they draw.
+//! It is shared by `&self`, and the core is in one turn's hands at a time. Begin with
+//! `Counted::new`, which makes all passes (workers' tokens), and `Counted::close`; a desk (cache
+//! handle) goes by `attempt`, which is `Tries` of `specs/Trying`.
+
 ghost use Rattle.std.specs.Prelude.{◌≡◌, ◌+◌, ◌<◌, ◌≤◌, ◌^◌, ℕ, List, length, IfOk, IfErr};
 ghost use Rattle.std.specs.Prelude.{vec_len};
 ghost use Rattle.cache_policy.specs.declared.mark.Mark.{Mark as AnyMark};
@@ -11,7 +16,7 @@ ghost use Rattle.counted_lock.specs.Keeping.{PassesFit};
 ghost use Rattle.counted_lock.specs.Trying.{Tries};
 
 use crate::board::{About, Board, Cored, MARKS, Place};
-use crate::front::Front;
+use crate::monitor::Monitor;
 use crate::pass::CountedPass;
 use crate::plays::{Cut, Glue};
 use crate::steps::{enter, leave};
@@ -29,7 +34,7 @@ use std::time;
 #[derive(Drop)]
 pub struct Counted {
     table: Board,
-    pub(crate) front: Front,
+    pub(crate) monitor: Monitor,
 }
 
 impl Model for Counted {
@@ -67,7 +72,7 @@ impl Counted {
             tally: Tally::new(),
         }));
         let about = About { limits, passes };
-        let Ok((table, mut seat)) = Board::new(alloc, &[0, 0, 0], slots, &about) else {
+        let Ok((table, mut place)) = Board::new(alloc, &[0, 0, 0], slots, &about) else {
             return Err(AllocError);
         };
         let mut all = Vec::with_capacity(alloc, passes as usize)?;
@@ -78,20 +83,20 @@ impl Counted {
                 front: 0,
                 calls: 0,
                 stopped: false,
-                seat: table.shared.split_seat::<Cut>(&mut seat),
+                place: table.shared.split_seat::<Cut>(&mut place),
             };
             all.push_reserved(pass);
         }
         Ok((
             Counted {
                 table,
-                front: Front::new(),
+                monitor: Monitor::new(),
             },
             all,
         ))
     }
 
-    /// Tries a step once, at the front. Where the seat is held it is replied Stand.
+    /// Tries a step once, in the monitor. Where the seat is held it is replied Stand.
     pub(crate) fn attempt<W: Wait + time::Clock, C: Clock>(
         &self,
         rt: &W,
@@ -113,7 +118,7 @@ impl Counted {
             made,
             front,
             stopped,
-        } = take_turn(rt, &self.table, &mut pass.seat, clock, session, step);
+        } = take_turn(rt, &self.table, &mut pass.place, clock, session, step);
         pass.calls = raised(pass.calls, made);
         pass.front = front;
         pass.stopped = stopped;
@@ -125,11 +130,11 @@ impl Counted {
         requires own { pass.old.table ≡ self.now.table }
         ensures looks { HasLooked pass.old pass.new }
     {
-        let _here = self.front.come(rt);
-        let cored = enter(rt, &self.table, &mut pass.seat);
+        let _here = self.monitor.enter(rt);
+        let cored = enter(rt, &self.table, &mut pass.place);
         pass.front = cored.tally.marks;
         pass.stopped = cored.core.stopped();
-        leave(&self.table, &mut pass.seat, cored);
+        leave(&self.table, &mut pass.place, cored);
     }
 
     /// Closes with all its passes, and gives what was done.
@@ -138,9 +143,9 @@ impl Counted {
         requires own { AreOf self.table passes.items }
         ensures { IsClosed self passes.items result }
     {
-        let Counted { table, front: _ } = self;
-        let seat = gather(&table, passes);
-        let mut closed = table.close_with(seat);
+        let Counted { table, monitor: _ } = self;
+        let place = gather(&table, passes);
+        let mut closed = table.close_with(place);
         let marks = closed.word(MARKS);
         let cored = closed.take(0);
         closed.free();
@@ -161,7 +166,7 @@ fn raised(calls: u64, made: bool) -> u64
     calls + u64::from(made)
 }
 
-/// The seats of all passes, as one.
+/// The places of all passes, as one.
 fn gather(board: &Board, mut passes: Vec<CountedPass>) -> Place
     requires some { 0 < vec_len passes }
     requires words { 0 < board.now.shared.table_id.words }
@@ -175,9 +180,11 @@ fn gather(board: &Board, mut passes: Vec<CountedPass>) -> Place
     let Some(first) = passes.pop() else {
         unreachable!()
     };
-    let mut seat = first.into_seat();
+    let mut place = first.into_place();
     while let Some(pass) = passes.pop() {
-        board.shared.join_seat::<Glue>(&mut seat, pass.into_seat());
+        board
+            .shared
+            .join_seat::<Glue>(&mut place, pass.into_place());
     }
-    seat
+    place
 }

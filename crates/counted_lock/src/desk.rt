@@ -1,3 +1,7 @@
+//! A session's desk (cache handle) at the counted lock. A turn draws a number, reads the clock and
+//! steps the core while it has it, and wakes others where they may go on; a step that has to stand
+//! is tried again by a new number. Begin with `turn`, and with `CountedTurn` of `specs/Turns`.
+
 ghost use Rattle.std.specs.Prelude.{◌≡◌, ◌+◌, ◌<◌, ◌≤◌, ◌^◌, ◌-◌, true, None, Some, IfErr};
 ghost use Rattle.std.specs.Option.{is_some};
 ghost use Rattle.cache_policy.specs.declared.mark.MarkStep.{MarkStep as AskedStep};
@@ -90,7 +94,7 @@ impl<'a, W: Wait + time::Clock, C: Clock> CountedDesk<'a, W, C> {
         pass
     }
 
-    /// Tries a step once, at the front.
+    /// Tries a step once, in the monitor.
     fn attempt(&mut self, step: Step) -> Result<Reply, Refused>
         ensures tries { TriesAt C.readings self.old (asked_step step)
             (mark_step self.old.session step) (turn_of result) self.new }
@@ -162,16 +166,16 @@ impl<'a, W: Wait + time::Clock, C: Clock> Desk for CountedDesk<'a, W, C> {
     /// has passed, and tries again.
     fn turn(&mut self, step: Step) -> Result<Reply, Refused> {
         let (rt, counted) = (self.rt, self.counted);
-        let front = &counted.front;
+        let monitor = &counted.monitor;
         let opening = Opening::of(&step);
         let wakes = may_end_stands(&step);
-        let mut here = front.come(rt);
+        let mut entered = monitor.enter(rt);
         let mut stood = match self.attempt(step)? {
             Reply::Stand(stood) => stood,
             reply => {
-                drop(here);
+                drop(entered);
                 if wakes {
-                    front.wake();
+                    monitor.wake();
                 }
                 return Ok(reply);
             }
@@ -180,7 +184,7 @@ impl<'a, W: Wait + time::Clock, C: Clock> Desk for CountedDesk<'a, W, C> {
             unreachable!()
         };
         for _ in rt.forever() {
-            here = front.stand(rt, here);
+            entered = monitor.wait(rt, entered);
             match self.try_again(&opening, stood)? {
                 Reply::Stand(still) => stood = still,
                 reply => return Ok(reply),

@@ -10,7 +10,7 @@
 mod board;
 mod counted;
 mod desk;
-mod front;
+mod monitor;
 mod pass;
 mod plays;
 mod settle;

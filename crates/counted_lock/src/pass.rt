@@ -1,3 +1,7 @@
+//! A worker's pass (worker's token): its number, its counts, and what it knows at the table of the
+//! one run. Plain numbers in memory; the run that it has seen is there for contracts alone. Begin
+//! with `CountedPass::keeps`; `IsSeen` of `specs/Passes` says what a pass always knows.
+
 ghost use Rattle.std.specs.Prelude.{◌≡◌, length};
 ghost use Rattle.counted_lock.specs.Logs.{is_stopped};
 ghost use Rattle.counted_lock.specs.Passes.{mine, IsSeen};
@@ -19,7 +23,7 @@ pub struct CountedPass {
     /// How many marks it made.
     pub(crate) calls: u64,
     pub(crate) stopped: bool,
-    pub(crate) seat: Place,
+    pub(crate) place: Place,
 }
 
 impl Model for CountedPass {
@@ -30,15 +34,15 @@ impl Model for CountedPass {
     ghost Value = { AtPass };
 
     ghost view = { λ pass. record {
-      table = pass.seat.table_id;
-      limits = (own pass.seat.me).limits;
+      table = pass.place.table_id;
+      limits = (own pass.place.me).limits;
       number = pass.number;
       sessions = pass.sessions;
-      seen = (own pass.seat.me).seen;
+      seen = (own pass.place.me).seen;
     } };
 
     ghost invariant = { λ pass.
-        IsPass pass.number pass.sessions pass.front pass.calls pass.stopped pass.seat.me };
+        IsPass pass.number pass.sessions pass.front pass.calls pass.stopped pass.place.me };
 }
 
 impl CountedPass {
@@ -92,12 +96,12 @@ impl CountedPass {
     ghost use Rattle.counted_lock.specs.Claims.{own};
     ghost use Rattle.counted_lock.specs.Keeping.{claim_of};
 
-    pub(crate) fn into_seat(self) -> Place
+    pub(crate) fn into_place(self) -> Place
         ensures table { result.table_id ≡ self.table }
         ensures idle { IsIdle result.me }
         ensures own { own result.me ≡ claim_of self }
     {
-        let CountedPass { seat, .. } = self;
-        seat
+        let CountedPass { place, .. } = self;
+        place
     }
 }

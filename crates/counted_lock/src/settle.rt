@@ -1,6 +1,10 @@
+//! The mark (log entry) of a step that the core has answered, counted on the table exactly where
+//! the step made one. It raises the word of the marks, in the turn that has the core. Begin with
+//! `Settles` of `specs/Settling`.
+
 ghost use Rattle.std.specs.Prelude.{◌≡◌, [], ◌∷◌, None};
 ghost use Rattle.cache_policy.specs.Turns.{mark_step, turn_of};
-ghost use Rattle.counted_lock.specs.Plays.{Works, IsSeatOf};
+ghost use Rattle.counted_lock.specs.Plays.{Works, IsOfTable};
 ghost use Rattle.counted_lock.specs.Claims.{own};
 ghost use Rattle.counted_lock.specs.Settling.{Stepped, Settles};
 
@@ -16,20 +20,20 @@ use std::snapshot::Snapshot;
 /// the tally with it.
 pub(crate) fn settle(
     board: &Board,
-    seat: &mut Place,
+    place: &mut Place,
     core: &Core,
     trial: &Trial,
     asked: &Snapshot<Step>,
     answer: &Result<Reply, Refused>,
 ) -> Option<Tally>
-    requires own { IsSeatOf board.now.shared.table_id seat.old.table_id }
-    requires works { Works seat.old.me ((0, None) ∷ []) }
-    requires by { trial.now.session.pass ≡ (own seat.old.me).number }
-    requires step { Stepped (own seat.old.me).limits (own seat.old.me).seen
+    requires own { IsOfTable board.now.shared.table_id place.old.table_id }
+    requires works { Works place.old.me ((0, None) ∷ []) }
+    requires by { trial.now.session.pass ≡ (own place.old.me).number }
+    requires step { Stepped (own place.old.me).limits (own place.old.me).seen
         (mark_step trial.now.session asked.now.value) (turn_of answer.now) trial.now core.now }
-    ensures own { seat.new.table_id ≡ seat.old.table_id }
+    ensures own { place.new.table_id ≡ place.old.table_id }
     ensures settles { Settles trial.now (mark_step trial.now.session asked.now.value)
-        (turn_of answer.now) core.now result seat.old.me seat.new.me }
+        (turn_of answer.now) core.now result place.old.me place.new.me }
 {
     match answer {
         Err(_) => None,
@@ -40,7 +44,7 @@ pub(crate) fn settle(
                     return None;
                 }
                 let tally = trial.counted(reply);
-                count::<Brand>(board, seat, trial.session, asked, reply, core.moment());
+                count::<Brand>(board, place, trial.session, asked, reply, core.moment());
                 Some(tally)
             }
         },

@@ -1,5 +1,7 @@
-//! What is noted of a step before the core takes it, so that its mark can be counted without a copy
-//! of the step.
+//! What is noted of a step before the core takes it, so that its mark (log entry) can be counted
+//! without a copy of the step. Pure. Begin with `Trial::of`; `IsTrial` and `tally_with` of
+//! `specs/Settling` are its two calls.
+
 ghost use Rattle.std.specs.Prelude.{◌≡◌, Ok};
 ghost use Rattle.cache_policy.specs.Turns.{mark_step, turn_of};
 ghost use Rattle.agent_core.specs.Recording.{reply_of};

@@ -1,4 +1,6 @@
-//! The daemon over links in memory: what it answers, and with what status and summary it ends.
+//! The daemon over links in memory: what it answers, and with what status and summary it ends. Its
+//! workers are threads, but links and machine are in memory. Begin with `ROWS`, and with
+//! `AT_TWO_DOORS` for restricted sessions.
 
 use crate::serving::{host_of, parts, planned, preset_rules};
 use agent_ports::{

@@ -1,4 +1,5 @@
-//! The line of a load beside that of a plain fold over the words that it is made of.
+//! The line of a load beside that of a plain fold over the words that it is made of. The fold knows
+//! the cache's policy by `ListBook` and a few lines of its own. Begin with `Put` and `ask`.
 
 ghost use Rattle.std.specs.Prelude.{◌≤◌};
 ghost use Rattle.cache_policy.specs.declared.bounds.TheConstants.{MAX_MOMENT};

@@ -1,4 +1,6 @@
-//! Sessions over links at passes of the counted lock.
+//! Sessions over links at passes (worker's tokens) of the counted lock, one after another and at
+//! once. Links and machine are in memory, and the other daemon tests take theirs from here. Begin
+//! with `parts` and `ROWS`.
 
 ghost use Rattle.std.specs.Prelude.{◌≡◌, ◌+◌, ◌<◌, ◌≤◌, length, vec_len, IfOk, IsSome};
 ghost use Rattle.counted_lock.specs.Passes.{AreOf};

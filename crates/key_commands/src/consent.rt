@@ -1,4 +1,6 @@
-//! The user's consent, as a part of a request.
+//! The user's consent, as a part (action) of a request: DELETE_KEY asks for it unless `--force` is
+//! given. It takes the seat (lock: the right to prompt) at the desk (cache handle), and calls the
+//! prompter and the client. Begin with `consent`; it is `Consents` (`specs/KeyParts`).
 
 ghost use Rattle.std.specs.Prelude.{◌≡◌, None, Some};
 ghost use Rattle.agent_ask.specs.Prompters.{IsShut};
@@ -40,10 +42,7 @@ pub(crate) fn consent<L: Link, D: Desk, P: Prompter>(
     match asking.options.mode() {
         PinMode::Ask => {
             hold_seat(None, held, desk)?;
-            match held.ticket() {
-                Some(ticket) => ask_consent(asking, ticket, conn, prompter),
-                None => unreachable!(),
-            }
+            ask_consent(asking, held.ticket(), conn, prompter)
         }
         PinMode::Cancel => Err(Refusal::Agent(Code::Cancelled)),
         PinMode::Error | PinMode::Loopback => Err(Refusal::Agent(Code::NoPinentry)),

@@ -1,4 +1,6 @@
-//! DELETE_KEY.
+//! DELETE_KEY: the user's consent, the removal of the key's file, and then of its passphrase from
+//! the cache. It works on the desk (cache handle), the prompter, the client and the keys. Begin
+//! with `delete_key`; its events are `DeleteKeyReplies` (`specs/Exchanges`).
 
 ghost use Rattle.std.specs.Prelude.{◌≡◌, None, Ok};
 ghost use Rattle.agent_ask.specs.Seats.{IsReady};

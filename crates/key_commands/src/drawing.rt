@@ -1,4 +1,6 @@
-//! Draws of random bytes, as parts of a request.
+//! Draws of random bytes, as parts (actions) of a request. They call the dice alone; what was drawn
+//! is overwritten when it is dropped. Begin with `draw` and `Drawn`; a draw is `Draws`
+//! (`specs/Parts`).
 
 ghost use Rattle.std.specs.Prelude.{◌≡◌, replicate};
 ghost use Rattle.key_commands.specs.Parts.{Draws};

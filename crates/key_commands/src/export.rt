@@ -1,4 +1,6 @@
-//! EXPORT_KEY: a clear key, wrapped under the session's key.
+//! EXPORT_KEY: a clear key, wrapped under the session's key (RFC 3394). It works on the desk (cache
+//! handle), the prompter, the client and the keys, and only reads the key's file. Begin with
+//! `export_key`; its events are `ExportKeyReplies` (`specs/Exchanges`).
 
 ghost use Rattle.std.specs.Prelude.{◌≡◌, None};
 ghost use Rattle.agent_ask.specs.Seats.{IsReady};

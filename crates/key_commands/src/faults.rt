@@ -1,3 +1,6 @@
+//! What is wrong with a key's file, as the code that refuses its request (libgpg-error). Pure. It
+//! has one function, `fault_code`, which `specs/Faults` defines.
+
 ghost use Rattle.std.specs.Prelude.{◌≡◌};
 ghost use Rattle.key_commands.specs.Faults.{fault_code};
 

@@ -1,4 +1,6 @@
-//! What key files say, and how they are written over: the one place that knows their formats.
+//! What key files say, and how they are written over: the one place that knows their formats
+//! (GnuPG's agent/keyformat.txt). Pure but for the memory that it takes. Begin with `file_key` and
+//! `rewrite`; `FileSays` and `Rewrites` (`specs/Files`) define them.
 
 ghost use Rattle.std.specs.Prelude.{◌≡◌, ◌≤◌, ◌⊎◌, false, length, Some, Ok, Err, IfOk, IfErr};
 ghost use Rattle.std.specs.Prelude.{IfSome};

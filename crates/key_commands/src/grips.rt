@@ -1,3 +1,6 @@
+//! The keys that one HAVEKEY names, by their keygrips of 20 bytes. A list of fixed room, which
+//! takes no memory: a line has no more. Begin with `Grips`, which contracts see as a list.
+
 ghost use Rattle.std.specs.Prelude.{◌≡◌, ◌==◌, ◌≤◌, ◌++◌, ◌∷◌, [], true, false, length, map};
 ghost use Rattle.key_commands.specs.declared.grips.TheConstants.{MAX_GRIPS};
 

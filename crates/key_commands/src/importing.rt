@@ -1,4 +1,7 @@
-//! IMPORT_KEY.
+//! IMPORT_KEY: a wrapped key of the client becomes a file, protected by a passphrase, which is
+//! cached under a drawn nonce. It works on the connection, the desk (cache handle), the prompter,
+//! the keys and the dice. Begin with `import_key`; its events are `ImportKeyReplies`
+//! (`specs/Exchanges`).
 
 ghost use Rattle.std.specs.Prelude.{◌≡◌, ◌≤◌, length, take, drop, None};
 ghost use Rattle.agent_ask.specs.Seats.{IsReady};

@@ -1,4 +1,6 @@
-//! What the client is told and asked, as parts of a request.
+//! What the client is told and asked, as parts (actions) of a request: the status INQUIRE_MAXLEN
+//! and an inquiry (Assuan manual, "server responses"). It works on the connection alone. Begin with
+//! `ask_client`; its events are `AsksSecret` (`specs/Passphrases`).
 
 ghost use Rattle.std.specs.Prelude.{[]};
 ghost use Rattle.assuan_line.specs.Lines.{IsLine};

@@ -1,5 +1,6 @@
-//! Calls of the keys, as parts of a request. What is read of a file is overwritten when it is
-//! dropped.
+//! Calls of the keys, as parts (actions) of a request: a file is looked for, read, replaced or
+//! removed. What is read of a file is overwritten when it is dropped. Begin with `read_file` and
+//! `replace_file`; the parts are `ReadsFile` and `Replaces` (`specs/KeyParts`).
 
 ghost use Rattle.std.specs.Prelude.{◌≡◌, ◌≤◌, length, Ok, Err, IfOk, IfErr};
 ghost use Rattle.agent_ports.specs.declared.keys.TheConstants.{MAX_KEY_FILE_LEN};

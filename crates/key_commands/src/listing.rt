@@ -1,4 +1,7 @@
-//! HAVEKEY and KEYINFO: which keys there are, and what is known of them.
+//! HAVEKEY and KEYINFO: which keys there are, and what is known of them. They call the keys, look
+//! at the desk (cache handle) whether a passphrase is cached, and write status lines. Begin with
+//! `has_one`, `key_info` and `list_keys`; these are `HasOne` (`specs/KeyParts`), `KeyInfoReplies`
+//! and `ListKeysReplies` (`specs/Exchanges`).
 
 ghost use Rattle.std.specs.Prelude.{◌≡◌, None, Some};
 ghost use Rattle.agent_ports.specs.Sides.{Side};

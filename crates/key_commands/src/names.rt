@@ -1,3 +1,7 @@
+//! The commands on keys by their names (GnuPG manual, "Agent's Assuan protocol"), for the reader
+//! and for HELP. Pure; a command is found in any case of its letters. Begin with `KEY_COMMANDS`;
+//! `specs/Names` has the table again, and `key_commands_are_as_defined` ties them.
+
 ghost use Rattle.std.specs.Prelude.{◌≡◌, map};
 ghost use Rattle.key_commands.specs.Names.{commands_on_keys, key_command_named};
 ghost use Rattle.key_commands.specs.declared.names.TheConstants.{KEY_COMMANDS};

@@ -1,4 +1,6 @@
-//! A new passphrase for a key: from the user, or the client itself.
+//! A new passphrase for a key: from the user, or the client itself. It takes turns at the desk
+//! (cache handle), and calls the prompter and the client. Begin with `new_passphrase`, which is
+//! `NewPassphrase` (`specs/Passphrases`), and `renewed_passphrase`, which PASSWD wants.
 
 ghost use Rattle.std.specs.Prelude.{◌≡◌};
 ghost use Rattle.agent_ask.specs.PartStates.{DoesWithClient};

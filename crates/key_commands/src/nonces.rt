@@ -1,4 +1,6 @@
-//! Passphrases that are cached under a nonce.
+//! Passphrases that are cached under a nonce (`--cache-nonce`, `--passwd-nonce`). One turn at the
+//! desk (cache handle), and none where no nonce is named. It has one function, `look_for_nonce`,
+//! which is `LooksForNonce` (`specs/Passphrases`).
 
 ghost use Rattle.std.specs.Prelude.{◌≡◌};
 ghost use Rattle.key_commands.specs.Passphrases.{LooksForNonce};

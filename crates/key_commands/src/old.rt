@@ -1,4 +1,7 @@
-//! The old passphrase of a key: from the cache, the user, or the client itself.
+//! The old passphrase of a key: from the cache, the user, or the client itself. It takes turns at
+//! the desk (cache handle), and calls the prompter and the client; the key is opened in memory.
+//! Begin with `old_passphrase`, and with `verified_passphrase` for a PASSWD --verify;
+//! `specs/Passphrases` defines both.
 
 ghost use Rattle.std.specs.Prelude.{◌≡◌, IfOk, None};
 ghost use Rattle.agent_ask.specs.Seats.{IsReady};

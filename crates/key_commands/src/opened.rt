@@ -1,4 +1,7 @@
-//! Keys that a passphrase opens.
+//! Keys that a passphrase opens, and the test of a prompt by which it does. Ciphers over memory of
+//! their own, and no port; a clear key is overwritten when it is dropped. Begin with `OpensKey`,
+//! the `Test` that a prompt is given, and `try_pass`; definitions are in `specs/Trials` and
+//! `specs/Passphrases`.
 
 ghost use Rattle.std.specs.Prelude.{◌≡◌, IfOk, IfSome};
 ghost use Rattle.secret_file.specs.Opens.{FitsFile};

@@ -1,4 +1,7 @@
-//! PASSWD: a key's passphrase is changed, or only asked for and tried.
+//! PASSWD: a key's passphrase is changed, or only asked for and tried (`--verify`). It works on the
+//! connection, the desk (cache handle), the prompter, the keys and the dice. Begin with
+//! `change_passphrase` and `verify_key`; these are `PasswdReplies` and `VerifyReplies`
+//! (`specs/Exchanges`).
 
 ghost use Rattle.std.specs.Prelude.{◌≡◌, ◌≤◌, None, length};
 ghost use Rattle.agent_ask.specs.Seats.{IsReady};

@@ -1,4 +1,6 @@
-//! Prompts for the passphrase of a key, as parts of a request that holds a ticket.
+//! Prompts for the passphrase of a key, as parts (actions) of a request that holds a ticket
+//! (permit). They call the prompter and the client. Begin with `prompt_old` and `prompt_new`, whose
+//! events are `PromptsOld` and `PromptsNew` (`specs/Passphrases`).
 
 ghost use Rattle.std.specs.Prelude.{◌≡◌, IfOk, is_some, true};
 ghost use Rattle.agent_ask.specs.Prompters.{IsShut};
@@ -37,9 +39,6 @@ pub(crate) fn prompt_old<L: Link, P: Prompter>(
     ensures shut { IsShut (P.at prompter.new) }
     ensures usable { IfOk result (λ opened. IsUsable opened.key) }
 {
-    let Some(ticket) = held.ticket() else {
-        unreachable!()
-    };
     let spec = prompt_spec(
         &described(asking.options, old_description(asking.grip)),
         &field_text(),
@@ -53,7 +52,7 @@ pub(crate) fn prompt_old<L: Link, P: Prompter>(
         locked,
         opened: None,
     };
-    match ask_user(ticket, &spec, &plan, &mut test, conn, prompter) {
+    match ask_user(held.ticket(), &spec, &plan, &mut test, conn, prompter) {
         Asked::Pin(pin) => match test.into_opened() {
             Some(key) => Ok(OpenedKey { key, by: Some(pin) }),
             None => unreachable!(),
@@ -78,9 +77,6 @@ pub(crate) fn prompt_new<L: Link, P: Prompter>(
         held.now conn.old prompter.old result conn.new prompter.new }
     ensures shut { IsShut (P.at prompter.new) }
 {
-    let Some(ticket) = held.ticket() else {
-        unreachable!()
-    };
     let spec = prompt_spec(
         &new_description(asking.grip),
         &field_text(),
@@ -89,7 +85,7 @@ pub(crate) fn prompt_new<L: Link, P: Prompter>(
         asking.options,
     );
     let plan = ask_plan(&Text::new(), true, 1, asking.rules, asking.options);
-    match ask_user(ticket, &spec, &plan, &mut AnyPin, conn, prompter) {
+    match ask_user(held.ticket(), &spec, &plan, &mut AnyPin, conn, prompter) {
         Asked::Pin(pin) => Ok(pin),
         asked => Err(pin_refusal(asked)),
     }

@@ -1,4 +1,6 @@
-//! A clear key's new file, and the passphrase that opens it.
+//! A clear key's new file, and the passphrase that opens it (GnuPG's agent/keyformat.txt). It
+//! computes; only the keeping of a passphrase takes a turn at the desk (cache handle). Begin with
+//! `protected_key`; it is `Protects`, and the keeping `KeepsNew` (`specs/KeyParts`).
 
 ghost use Rattle.std.specs.Prelude.{◌≡◌, ◌≤◌, length, take, drop, IfOk, OnOk};
 ghost use Rattle.agent_ports.specs.declared.keys.TheConstants.{MAX_KEY_FILE_LEN};

@@ -1,3 +1,7 @@
+//! A line with a command on keys, read as its request or as the code that refuses it (GnuPG manual,
+//! "Agent's Assuan protocol"). Pure. Begin with `read_key`, or with `read_key_cut` for a line that
+//! is cut already; both give `key_request_of` the line (`specs/Requests`).
+
 ghost use Rattle.std.specs.Prelude.{◌≡◌, ℕ, List};
 ghost use Rattle.std.specs.Option.{option_map};
 ghost use Rattle.assuan_text.specs.Options.{options_of, arguments_of};

@@ -1,4 +1,7 @@
 //! A key that comes in: it is received from the client, and named, and there has to be room for it.
+//! It works on the connection, asks the keys and the desk (cache handle), and changes no file.
+//! Begin with `receive_key`; `specs/KeyParts` defines each part (action), as `ReceivesKey` and
+//! `IsFree`.
 
 ghost use Rattle.std.specs.Prelude.{◌≡◌, ◌≤◌, length, IfOk};
 ghost use Rattle.assuan_server.specs.Connections.{IsOpen};

@@ -1,4 +1,6 @@
-//! What is written for a request, once all else is done for it.
+//! What is written for a request, once all else is done for it (Assuan manual, "server responses").
+//! It writes on the connection alone. Begin with `respond`; what it writes is `RespondsTo`
+//! (`specs/Replies`).
 
 ghost use Rattle.std.specs.Prelude.{◌≡◌, ℕ, List};
 ghost use Rattle.assuan_escape.specs.Escapes.{hex_text};

@@ -1,3 +1,7 @@
+//! The requests on keys (GnuPG manual, "Agent's Assuan protocol"), as lines are read: keygrips,
+//! nonces and options, and no passphrase. Plain data. Begin with `KeyRequest`; which one a line is
+//! says `key_request_of` (`specs/Requests`).
+
 use crate::Grips;
 use agent_ports::Grip;
 use assuan_server::Code;

@@ -1,4 +1,7 @@
-//! A request on keys, carried out and answered.
+//! A request on keys, carried out and answered. It works on all that a session has: the connection,
+//! the desk (cache handle), the prompter, the keys, the dice and the session's wrapping keys, and
+//! it leaves no ticket (permit) out. Begin with `run_key`; what is done is `KeyExchange`
+//! (`specs/Exchanges`).
 
 ghost use Rattle.std.specs.Prelude.{◌≡◌, None};
 ghost use Rattle.agent_ask.specs.Prompters.{IsShut};

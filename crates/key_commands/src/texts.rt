@@ -1,4 +1,6 @@
-//! What is written and shown of a key.
+//! What is written and shown of a key: its name in the cache, the line of KEYINFO, and the
+//! descriptions of its prompts. Pure but for `write_info`, which writes on the connection. Begin
+//! with `key_id` and `described`; `specs/Lines` defines each text.
 
 ghost use Rattle.std.specs.Prelude.{◌≡◌, ◌≤◌, ◌++◌, ℕ, List, length, false};
 ghost use Rattle.agent_ports.specs.declared.link.WriteFault.{WriteFault as Fault};

@@ -1,4 +1,6 @@
-//! Turns at the desk, as parts of a request.
+//! Turns at the desk (cache handle), as parts (actions) of a request: a key's passphrase is looked
+//! for, kept or cleared, and the seat (lock: the right to prompt) taken. Nothing but the desk is
+//! called. Begin with `ask_cache`; the parts are `TakesTurn` and `TakesTurns` (`specs/Steps`).
 
 ghost use Rattle.std.specs.Prelude.{◌≡◌, true, None};
 ghost use Rattle.assuan_escape.specs.Escapes.{hex_text};

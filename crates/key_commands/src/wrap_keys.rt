@@ -1,3 +1,8 @@
+//! The wrapping keys of a session, one for each direction (RFC 3394), and KEYWRAP_KEY, which draws
+//! and tells them. It draws from the dice where the direction has no key yet, and then keeps that
+//! for the session. Begin with `WrapKeys` and `wrapping_key`; what that does is `KeyWrapReplies`
+//! (`specs/Exchanges`).
+
 ghost use Rattle.std.specs.Prelude.{◌≡◌, None, Some};
 ghost use Rattle.std.specs.Option.{option_copied};
 ghost use Rattle.agent_ports.specs.KeyFiles.{KeyFiles as Files};

@@ -1,4 +1,6 @@
-//! Keys under a session's wrapping key.
+//! Keys under a session's wrapping key: padded to whole blocks and wrapped by RFC 3394, and read
+//! back. It computes, in memory that is overwritten. Begin with `wrapped_key` and `unwrapped_key`;
+//! `specs/Wrapping` says what they give.
 
 ghost use Rattle.std.specs.Prelude.{◌≡◌, ◌==◌, ◌≤◌, ◌⊎◌, ◌↔◌, length, IfOk, IfErr, IfSome, IfNone};
 ghost use Rattle.std.specs.Prelude.{IsTrue, OnOk};

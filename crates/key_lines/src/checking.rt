@@ -1,3 +1,7 @@
+//! The check of all lines of a file before its key is read: each has its form, and one at most
+//! begins a `Key`. Pure, line by line and without memory. Begin with `check_lines`; `line_fault` of
+//! `specs/Faults` says which fault is the first.
+
 ghost use Rattle.std.specs.Prelude.{◌≡◌, ◌||◌, not, Some, None, IfErr, OnOk, List, length};
 ghost use Rattle.std.specs.List.{list_any};
 ghost use Rattle.key_lines.specs.Items.{is_comment, is_key};

@@ -1,3 +1,6 @@
+//! Why a file is no key file in the extended format, and how that is printed. Plain data. Begin
+//! with `LinesFault`; `IsFault` of `specs/KeyFile` says which one a file has.
+
 ghost use Rattle.std.specs.Prelude.{◌≡◌};
 ghost use Rattle.key_lines.specs.declared.fault.LinesFault.TheVariants.{NoMemory};
 

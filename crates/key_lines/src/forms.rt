@@ -1,3 +1,7 @@
+//! What one line of a key file is: a comment, more of an item, or the beginning of one (GnuPG's
+//! notes on the format of private keys, keyformat.txt). Pure, over slices. Begin with `line_form`,
+//! and with its namesake in `specs/Items`.
+
 ghost use Rattle.std.specs.Prelude.{◌≡◌, true, false, slice_index, MatchOption};
 ghost use Rattle.std.specs.Char.{is_ascii_alphabetic};
 ghost use Rattle.std.specs.List.{list_all};

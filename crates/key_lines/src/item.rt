@@ -1,3 +1,7 @@
+//! The `Key` item within a file: where its first line stands, its value over all its lines, and
+//! what comes behind. Only the value is copied, into bytes that are overwritten. Begin with
+//! `cut_at_key`; definitions begin in `specs/KeyItem`.
+
 ghost use Rattle.std.specs.Prelude.{◌≡◌, true, false, IfOk, MatchOption};
 ghost use Rattle.std.specs.List.{concat};
 ghost use Rattle.key_lines.specs.Lines.{lines_of};

@@ -1,3 +1,7 @@
+//! A key file in the extended format, read, and written with another key. It takes memory for the
+//! key and the bytes around its item, and touches no file. Begin with `read_lines` and
+//! `KeyLines::with_key`; `IsKeyFile` and `with_key` of `specs/KeyFile` say what they give.
+
 ghost use Rattle.std.specs.Prelude.{◌≡◌, ◌⊎◌, ◌≤◌, false, ℕ, List, ◌∷◌, ◌++◌, codes, length, Some};
 ghost use Rattle.std.specs.Prelude.{Result, IfOk, IfErr};
 ghost use Rattle.sexp_canonical.specs.View.{tree_of};

@@ -1,3 +1,7 @@
+//! The key that the value of its item is: one advanced expression with blanks around it, not too
+//! long for a canonical file. It takes memory for the expression alone. Begin with `key_in`;
+//! `IsKeyText` of `specs/KeyText` says what it reads.
+
 ghost use Rattle.std.specs.Prelude.{◌≡◌, ◌⊎◌, ◌+◌, ◌≤◌, length, drop, Result, IfOk, IfErr};
 ghost use Rattle.std.specs.List.{prefix_len};
 ghost use Rattle.assuan_text.specs.Blanks.{is_blank};

@@ -1,3 +1,7 @@
+//! Laws of key files: one answer at most, and another key that was put in is read again. Functions
+//! without a body, whose contracts are facts about the definitions; they touch nothing. Begin with
+//! `Answers` of `specs/KeyFile` and `Canon` of `specs/Canon`.
+
 ghost use Rattle.std.specs.Prelude.{◌≡◌, ◌≤◌, false, Some, ℕ, List, length, Option, Result};
 ghost use Rattle.sexp_canonical.specs.View.{tree_of};
 ghost use Rattle.sexp_canonical.specs.Spelling.{most_bytes, most_depth, spelling_of, depth};

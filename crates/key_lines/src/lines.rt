@@ -1,3 +1,7 @@
+//! A file cut into lines with their ends, LF or CR LF, and the text of each. Pure, over slices.
+//! Begin with `next_line`; `lines_of` and `line_text` of `specs/Lines` say the same of a whole
+//! file.
+
 ghost use Rattle.std.specs.Prelude.{◌≡◌, ◌==◌, ◌+◌, ◌<◌, ◌≤◌, [], ◌∷◌, ◌++◌, length, MatchOption};
 ghost use Rattle.std.specs.Prelude.{min};
 ghost use Rattle.std.specs.List.{position_or_len};

@@ -1,4 +1,5 @@
-//! Why a call on the files came to nothing.
+//! Why a call on the files came to nothing. Plain data, made of the system's errors and a lack of
+//! memory. Begin with `Fault`; `count_fault` is where each one raises its port's count.
 
 ghost use Rattle.std.specs.Prelude.{◌≡◌, ◌↔◌, ◌≤◌};
 ghost use Rattle.std.specs.IoError.{error_kind};

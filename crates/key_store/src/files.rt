@@ -1,4 +1,6 @@
-//! One file, read and replaced whole.
+//! One file, read and replaced whole. It touches the file's folder: the lock, a new file beside the
+//! old one, syncs and the rename. Begin with `read_file` and `replace_file`; tests show what they
+//! do, since no contract says what files hold.
 
 ghost use Rattle.std.specs.Prelude.{◌≤◌, length, IfOk, IsTrue};
 ghost use Rattle.std.specs.Io.KnownBytes.{Consumes, IsAtEnd};

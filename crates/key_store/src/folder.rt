@@ -1,3 +1,7 @@
+//! The port of private keys over the folder of a home directory. It touches that folder, and the
+//! files to which links there lead; changes hold its lock. Begin with `read_key` and `replace_key`,
+//! each a few calls of `files`; the clauses are those of `Keys`, with the files left unknown.
+
 ghost use Rattle.std.specs.Prelude.{◌≡◌, ◌≤◌, length, None, IfOk};
 ghost use Rattle.std.specs.List.Sorted.{IsStrictlySortedBy};
 ghost use Rattle.agent_ports.specs.KeyFiles.{grip_cmp};

@@ -1,4 +1,5 @@
-//! The names of the files.
+//! The names of the files. Pure, but for the memory of a path. Begin with `grip_of_name`, which
+//! says which names in the folder are those of keys.
 
 ghost use Rattle.std.specs.Prelude.{◌≡◌, ◌++◌, ℕ, List, codes, string_bytes, length, IsSome};
 ghost use Rattle.std.specs.Prelude.{IfSome, IfOk};

@@ -1,3 +1,8 @@
+//! The port of the trust list over `trustlist.txt` of a home directory. It touches that file and
+//! the lock of its folder, and replaces no other list than the one that it found. Begin with
+//! `read_list` and `replace_list`; the clauses are those of `TrustFile`, with the file left
+//! unknown.
+
 ghost use Rattle.std.specs.Prelude.{◌≡◌, ◌≤◌, length, None, IfOk};
 ghost use Rattle.trust_list.specs.declared.TheConstants.{MAX_TRUST_FILE_LEN};
 

@@ -1,3 +1,6 @@
+//! Tests of the advanced form of S-expressions: what each text is read as, and which fault stands
+//! where. Begin with `Row` and `first_wrong`.
+
 use sexp_advanced::{
     AdvFault, atoms_are_spelled, first_faults_stay, one_answer, read_advanced,
     what_follows_does_not_matter, write_advanced, written_is_read,

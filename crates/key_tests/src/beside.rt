@@ -1,4 +1,6 @@
-//! Folders in which another program is at work beside.
+//! Folders in which another program is at work beside: it takes a name, changes a file or holds a
+//! lock between two calls of the store. The files are the system's, seen through `Beside`, which
+//! does that at a given call. Begin with `Beside`.
 
 use agent_ports::{Grip, KeyDone, KeyNames, KeyRead, Keys, TrustFile};
 use key_store::{FolderKeys, FolderTrust};

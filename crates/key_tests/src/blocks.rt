@@ -1,3 +1,6 @@
+//! Tests of AES-128 by outside vectors (FIPS 197, appendices B and C.1), and that a key isn't
+//! printed. Begin with `known_blocks`.
+
 use aes_block::{Aes128, xor};
 use std::test::Fail;
 

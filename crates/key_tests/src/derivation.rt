@@ -1,3 +1,6 @@
+//! Tests of the key derivation S2K (RFC 4880, 3.7.1.3) by outside vectors of SHA-1 (RFC 3174, 7.3),
+//! whose texts are copies of a salt and a passphrase. Begin with `hashes_one_copy`.
+
 use s2k_derive::{count_of, derive};
 
 // The message of the second test of RFC 3174, 7.3, as one copy of salt and passphrase.

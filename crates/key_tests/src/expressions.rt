@@ -1,3 +1,6 @@
+//! Tests of canonical S-expressions: read, copied and written again, at the limits of depth and
+//! length, and the places of faults. Begin with `a_text_is_read_copied_and_written_again`.
+
 use sexp_canonical::{
     Bytes, Items, Sexp, SexpFault, append, append_atom, lists_are_their_items,
     no_spelling_begins_another, numerals_are_decimal, one_answer, read, write,

@@ -1,3 +1,6 @@
+//! Tests of extended key files (GnuPG's agent/keyformat.txt): the key that each has, its first
+//! fault, and that a changed key leaves every other byte. Begin with `Row` and `Change`.
+
 use key_lines::{LinesFault, read_lines};
 use sexp_advanced::AdvFault;
 use sexp_canonical::write;

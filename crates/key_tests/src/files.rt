@@ -1,3 +1,6 @@
+//! Tests of protected key files by what other programs made: OpenSSL, Python's `cryptography` and
+//! GnuPG 2.2.40. Begin with `Row` and `first_wrong`, and with `a_file_of_gnupg_opens_to_its_key`.
+
 use secret_file::{
     Locked, Opened, Unlocked, key_of, one_answer, protect, protect_cbc, unprotect,
     unprotect_is_three_calls,

@@ -1,3 +1,6 @@
+//! Tests of a folder of key files, on the system's own files: what each call answers, and what else
+//! may lie there. Begin with `Asked` and `first_wrong`.
+
 use agent_ports::{Grip, KeyDone, KeyNames, KeyRead, Keys, MAX_KEY_FILE_LEN};
 use key_store::FolderKeys;
 use std::alloc::{AllocError, Global};

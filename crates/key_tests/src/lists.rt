@@ -1,3 +1,7 @@
+//! Tests of a key's lists: which expressions are keys, their first faults, and the lists and the
+//! grip that each has. Begin with `a_clear_key_has_its_lists_and_its_grip` and
+//! `keys_and_first_faults`.
+
 use sexp_canonical::{Items, Sexp, read};
 use sexp_keys::{Algorithm, KeyFault, KeyList, one_answer};
 use std::test::*;

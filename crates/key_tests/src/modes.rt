@@ -1,3 +1,6 @@
+//! Tests of the modes of AES-128 by outside vectors: CBC (SP 800-38A, F.2) and OCB (RFC 7253, A,
+//! and OpenSSL 3). Begin with `SEALED`, a row a nonce and its ciphertext.
+
 use aes_modes::{cbc_decrypt, cbc_encrypt, ocb_decrypt, ocb_encrypt};
 use std::alloc::AllocError;
 use std::test::Fail;

@@ -1,3 +1,6 @@
+//! Tests of the trust list's file, on the system's own files: read, made and replaced, also where
+//! another program changes it in between. Begin with `first_wrong` and `Beside`.
+
 use agent_ports::{TrustDone, TrustFile, TrustRead};
 use key_store::FolderTrust;
 use std::alloc::{AllocError, Global};

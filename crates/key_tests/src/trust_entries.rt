@@ -1,3 +1,6 @@
+//! Tests of what the text of a trust list says of a certificate (GnuPG manual, "Agent
+//! Configuration"), and of new entries up to the longest file. Begin with `FILES`, a row a text.
+
 use agent_ports::Grip;
 use std::alloc::{AllocError, Global};
 use std::test::Fail;

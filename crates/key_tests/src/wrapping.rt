@@ -1,3 +1,6 @@
+//! Tests of the key wrap by an outside vector (RFC 3394, 4.1), and of its faults. Begin with
+//! `known_key`.
+
 use key_wrap::{WrapFault, unwrap, wrap};
 use std::test::Fail;
 

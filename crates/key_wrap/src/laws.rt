@@ -1,3 +1,6 @@
+//! A law: unwrapping undoes wrapping. A function without a body, whose contract is a fact about
+//! `wrapped_of` and `unwrapped_of` of `specs/KeyWrap`; it touches nothing.
+
 ghost use Rattle.std.specs.Prelude.{◌≡◌, ◌%◌, ◌≤◌, ℕ, List, length, IsTrue};
 ghost use Rattle.std.specs.List.{concat};
 ghost use Rattle.aes_block.specs.Aes.{IsBytes};

@@ -1,4 +1,6 @@
-//! Passes over the registers.
+//! Passes over the registers (RFC 3394, 2.2.1 and 2.2.2), six of a wrapping and six of an
+//! unwrapping. They work in place on the caller's blocks, by a cipher that they were lent. Begin
+//! with `wrap_passes`, and with its namesake in `specs/KeyWrap`.
 
 ghost use Rattle.std.specs.Prelude.{◌≡◌, ◌+◌, ◌*◌, ◌^◌, ◌<◌, ◌≤◌, ◌++◌, length, take, drop, IfOk};
 ghost use Rattle.std.specs.List.{concat};

@@ -1,3 +1,6 @@
+//! Tests of a client's side of the protocol, over children in memory: what each answer is, in any
+//! pieces, at each limit, and cut behind each byte. Begin with `talk` and `check`.
+
 ghost use Rattle.std.specs.Prelude.{◌≡◌};
 ghost use Rattle.assuan_client.specs.Answers.{state_after};
 

@@ -1,3 +1,6 @@
+//! Tests of escapes (Assuan manual, "client requests"): bytes, their escapes, and what these mean.
+//! Begin with `ESCAPES` and `MEANINGS`.
+
 use assuan_escape::{
     data_lines_are_the_only_ones, data_of, escape_into, escapes_are_undone, full_line, unescape,
     upper_hex,

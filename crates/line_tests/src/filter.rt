@@ -1,3 +1,6 @@
+//! A test of line filters: whether a line is skipped may depend on those before it. Begin with
+//! `FirstTwo`, a filter that has a state.
+
 ghost use Rattle.std.specs.Prelude.{length, nat_lt};
 
 use agent_ports::MemSource;

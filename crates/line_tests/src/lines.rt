@@ -1,3 +1,6 @@
+//! Tests of the line reader: the same lines come of the same bytes in any pieces, with few reads,
+//! and before a fault that stands behind them. Begin with `answers` and `given`.
+
 ghost use Rattle.std.specs.Prelude.{◌≡◌};
 
 use agent_ports::{Got, MemSink, MemSource, Sent, Source};

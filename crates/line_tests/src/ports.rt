@@ -1,3 +1,7 @@
+//! Tests of the outside in memory: sources, sinks, links, clocks, launchers, dice, keys and
+//! listeners do as they were planned, and fail where they were told to. Begin with
+//! `a_source_gives_its_bytes_in_pieces_and_fails_when_it_is_to`.
+
 ghost use Rattle.std.specs.Prelude.{IsSome};
 
 use agent_ports::{

@@ -1,3 +1,6 @@
+//! Tests of the pinentry that answers by a script: what its rows say to which input, which scripts
+//! are refused, and its status. Begin with `ROWS`.
+
 use agent_ports::{MemLink, MemSink, MemSource};
 use pinentry_script::{BAD_SCRIPT, run_script};
 use std::alloc::{AllocError, Global};

@@ -1,3 +1,7 @@
+//! Tests of a server's side of the protocol: which lines are written, how much of them goes where a
+//! write fails, and what requests and inquiries come to in any pieces. Begin with `SAYINGS` and
+//! `ASKINGS`.
+
 ghost use Rattle.std.specs.Prelude.{◌≡◌};
 ghost use Rattle.assuan_server.specs.Connections.{IsOpen};
 

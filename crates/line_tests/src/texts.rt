@@ -1,3 +1,6 @@
+//! Tests of how lines are cut and which form they have: words, data lines, and those that are
+//! ignored. Begin with `LINES` and `FORMS`.
+
 use assuan_text::{
     arguments, command_and_rest, escaped_part, first_word, found, found_in_any_case, has_option,
     has_pair, is_idle, is_ignored, last_option, last_value, next_word, number_of, without_blanks,

@@ -1,3 +1,7 @@
+//! Passphrases and texts with what the check and the quality bar say of each, as tables. They touch
+//! nothing; begin with a row of the first one: a passphrase, the two minimums, and whether it meets
+//! them.
+
 use super::*;
 
 #[test]

@@ -1,3 +1,7 @@
+//! The steps of a run, taken one after another until a reply ends it. It makes contacts by the
+//! connector, and overwrites a passphrase that it held. Begin with `come_to`; what it does is
+//! `ComesTo` (`specs/Runs`), and what each reply makes of it is in `verdict.rt`.
+
 ghost use Rattle.std.specs.Prelude.{◌≡◌, List};
 ghost use Rattle.passphrase_client.specs.Runs.{ComesTo, DoesStep, Reply};
 ghost use Rattle.passphrase_talk.specs.Visits.{Visits};

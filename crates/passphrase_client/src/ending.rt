@@ -1,3 +1,6 @@
+//! What a run comes to, its status, and why an agent refused, by the codes of libgpg-error. Pure.
+//! Begin with `Ending` and `cause_of`; `specs/Endings` defines both.
+
 ghost use Rattle.std.specs.Prelude.{◌≡◌};
 ghost use Rattle.passphrase_client.specs.Endings.{status_of, cause_of, cause_by};
 ghost use Rattle.passphrase_client.specs.Endings.{cause_of_ask, cause_of_lifetime, cause_of_preset};

@@ -1,3 +1,7 @@
+//! The passphrase of `--store`, read from standard input: one line of at most 255 bytes. It reads,
+//! and overwrites what it read. Begin with `take_secret`; what it takes is `TakesSecret`
+//! (`specs/Inputs`).
+
 ghost use Rattle.std.specs.Prelude.{◌≡◌, ◌≤◌, ◌<◌, ◌++◌, length, take, [], MatchResult, IfSome, IfOk};
 ghost use Rattle.std.specs.Prelude.{IfErr, Err};
 ghost use Rattle.agent_ports.specs.Counts.{Rose};

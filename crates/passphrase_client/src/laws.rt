@@ -1,3 +1,7 @@
+//! Laws on what a run writes: a passphrase was an agent's reply, and without one nothing is
+//! written. Nothing runs; each contract is a fact about the definitions. Begin with
+//! `what_is_given_was_answered`; definitions are in `specs/Laws` and `specs/Runs`.
+
 ghost use Rattle.std.specs.Prelude.{◌≡◌, ◌≢◌, ◌⊎◌, List, ℕ};
 ghost use Rattle.agent_ports.specs.Counts.{Rose};
 ghost use Rattle.passphrase_client.specs.Laws.{WasAnswered, WasRefused};

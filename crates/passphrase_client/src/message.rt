@@ -1,3 +1,7 @@
+//! What a user is told of a run's end, as one line on the error stream. It writes there alone; a
+//! write that fails is told to nobody. Begin with `tell`; the sentences are `message_of`
+//! (`specs/Messages`).
+
 ghost use Rattle.std.specs.Prelude.{◌≡◌, ◌≤◌, ◌++◌, ◌∷◌, [], codes, decimal, MatchOption};
 ghost use Rattle.std.specs.List.{flat_map};
 ghost use Rattle.agent_ports.specs.Writing.{Writes};

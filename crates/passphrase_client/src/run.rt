@@ -1,3 +1,7 @@
+//! The command `passphrase`, and the same as an askpass: words read, a task carried out, its
+//! passphrase written. It works on the connector and the three standard streams. Begin with
+//! `run_passphrase`; what a run is says `RunsBy` (`specs/Runs`), and its status `specs/Endings`.
+
 ghost use Rattle.std.specs.Prelude.{◌≡◌, ◌≤◌, cond, map, string_bytes};
 ghost use Rattle.agent_ports.specs.Writing.{Writes};
 ghost use Rattle.passphrase_client.specs.Runs.{RunsBy, RunsAskpass, HasRun, HasTold, HasRefused};

@@ -1,3 +1,6 @@
+//! The steps of an act: which requests are made, of which agent, in which order. Pure. Begin with
+//! `steps_of`, which `specs/Steps` defines; `course.rt` takes them.
+
 ghost use Rattle.std.specs.Prelude.{◌≡◌, Bool};
 ghost use Rattle.std.specs.Option.{is_some};
 ghost use Rattle.passphrase_client.specs.Steps.{steps_of, steps_to_give, looks, forgets};

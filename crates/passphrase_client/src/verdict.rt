@@ -1,3 +1,6 @@
+//! What an agent's reply makes of a run: a further step, a passphrase to hold or to give, or its
+//! end. Pure. Begin with `judge`; `verdict` (`specs/Verdicts`) defines it, step by step.
+
 ghost use Rattle.std.specs.Prelude.{◌≡◌};
 ghost use Rattle.passphrase_client.specs.Verdicts.{verdict, look_verdict, looks_alone, matters};
 ghost use Rattle.passphrase_client.specs.Verdicts.{missed_verdict, found_verdict, ask_verdict};

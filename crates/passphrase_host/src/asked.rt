@@ -1,5 +1,6 @@
-//! Which agents are asked: those that answer, and one that is started where none does.
-//! Begin with `find_agents`.
+//! Which agents are asked: those that answer, and one that is started where none does. It works on
+//! sockets, files and processes by `reach.rt`, `set_up.rt` and `starting.rt`. Begin with
+//! `find_agents`.
 
 use crate::failure::{Failure, said};
 use crate::folders::{absolute, gnupg_home, own_folder};

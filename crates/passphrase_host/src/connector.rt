@@ -1,3 +1,8 @@
+//! The agents of this machine, found, started where none answers, and connected to. It works on
+//! sockets, processes, the environment and files, and counts what fails. Begin with
+//! `SystemConnector::new`; the promise is that of `Connector` (`passphrase_talk`), and how agents
+//! are found is in `asked.rt`.
+
 ghost use Rattle.std.specs.Prelude.{◌≡◌, ◌≤◌, None, string_bytes};
 ghost use Rattle.agent_ports.specs.Counts.{Rose};
 ghost use Rattle.session_options.specs.OptionValues.{words_of};

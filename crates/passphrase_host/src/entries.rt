@@ -1,4 +1,5 @@
-//! An environment of a test's own.
+//! An environment of a test's own, in place of the system's: a list of texts `NAME=VALUE`. It is
+//! part of no program, and touches nothing. Begin with `Entries`.
 
 ghost use Rattle.std.specs.Io.{WritesAtMost};
 

@@ -1,3 +1,6 @@
+//! Why there is no agent or no connection: a reason in words, or no memory for them. Plain data,
+//! and the conversions of the system's errors. Begin with `Failure`.
+
 use std::alloc::AllocError;
 use std::io;
 use std::io::ErrorKind;

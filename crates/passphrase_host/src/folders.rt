@@ -1,5 +1,5 @@
-//! The folders that the environment names, and paths as a user writes them.
-//! Begin with `absolute`.
+//! The folders that the environment names, and paths as a user writes them. It reads the
+//! environment and the name of the current folder, and opens no file. Begin with `absolute`.
 
 use crate::failure::if_there;
 use std::alloc::{AllocError, Global};

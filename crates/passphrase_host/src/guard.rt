@@ -1,5 +1,6 @@
 //! A program that is left beside a prompt: where this one ends before the prompt does, or is
-//! stopped, it ends the pinentry and sets the terminal right. Begin with `Guard::of_pinentry`.
+//! stopped, it ends the pinentry and sets the terminal right. It is a script of the shell in a
+//! process of its own, and is handed no passphrase. Begin with `Guard::of_pinentry`.
 
 use crate::process_state::is_younger;
 use child_environment::hand_on;

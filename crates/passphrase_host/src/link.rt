@@ -1,3 +1,7 @@
+//! One connection to an agent, as a link whose failed calls are counted. It reads and writes a
+//! socket, by `Wire`, which knows its time. Begin with `AgentLink`; the promise is that of `Link`
+//! (`agent_ports`).
+
 ghost use Rattle.std.specs.Prelude.{◌≡◌, length, None, refl};
 
 use crate::reach::Ahead;

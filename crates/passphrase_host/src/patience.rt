@@ -1,3 +1,6 @@
+//! How long an agent is waited for, by what is asked of it and by `--timeout`. It reads the
+//! system's clock. Begin with `Limits` and `Deadline`.
+
 use std::rt::Clock;
 use std::time::{Duration, Instant};
 

@@ -1,4 +1,5 @@
-//! What the system says of a process (proc(5), `stat`). Begin with `Field`.
+//! What the system says of a process (proc(5), `stat`): its terminal, and when it was started. It
+//! reads files below `/proc`, and nothing else. Begin with `Field` and `is_younger`.
 
 use crate::failure::if_there;
 use std::alloc::{AllocError, Global};

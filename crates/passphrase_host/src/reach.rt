@@ -1,4 +1,6 @@
-//! Connections to the agent of a folder. Begin with `reach`, and with `greet` for whether it answers.
+//! Connections to the agent of a folder, by its socket or by a file that names one. It opens
+//! sockets and reads the greeting (Assuan manual, "server responses"). Begin with `reach`, and with
+//! `greet` for whether it answers.
 
 use crate::failure::{Failure, if_there, said};
 use crate::patience::Deadline;

@@ -1,5 +1,6 @@
 //! A file in a socket's place that says where the socket is (Assuan manual, "Socket wrappers",
-//! `assuan_sock_set_sockaddr_un`). Begin with `named_socket`.
+//! `assuan_sock_set_sockaddr_un`). It computes on the file's text, and reads variables of the
+//! environment that stand in it. Begin with `named_socket`.
 
 use crate::folders::variable;
 use std::alloc::{AllocError, Global};

@@ -1,5 +1,6 @@
 //! Whether an agent of this repository is to answer for a folder, and by which program it is
-//! started: `gpg-agent`'s stand-in, which is a script. Begin with `starter`.
+//! started: `gpg-agent`'s stand-in, which is a script. It reads GnuPG's option files and looks at
+//! programs, and changes nothing. Begin with `set_up` and `stand_in`.
 
 use crate::failure::if_there;
 use crate::folders::joined;

@@ -1,5 +1,6 @@
 //! Where the socket of a folder's agent is (GnuPG common/homedir.c, `_gnupg_socketdir_internal`).
-//! Begin with `socket_paths`.
+//! It reads the environment and `/proc/self/status`, and looks at folders below `/run` and
+//! `/var/run`; none is made. Begin with `socket_paths`.
 
 use crate::failure::if_there;
 use crate::folders::{default_home, joined};

@@ -1,5 +1,6 @@
 //! Starts an agent by gpg-agent's stand-in, makes the folder of its own for it, and asks who the
-//! clients of one are that has no answer. Begin with `start`.
+//! clients of one are that has no answer. It runs programs with a few variables of the environment,
+//! and writes that folder and a file with its mark. Begin with `start`.
 
 use crate::failure::{Failure, if_there, said};
 use crate::folders::joined;

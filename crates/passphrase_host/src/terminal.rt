@@ -1,5 +1,6 @@
-//! The terminal and the locale that the agent is told, as GnuPG's programs tell them.
-//! Begin with `environment_of`.
+//! The terminal and the locale that the agent is told, as GnuPG's programs tell them. It reads the
+//! environment and the names of the standard streams in `/proc/self/fd`. Begin with
+//! `environment_of`.
 
 ghost use Rattle.std.specs.Prelude.{◌≡◌, false};
 ghost use Rattle.session_options.specs.Text.{has_line_end, ends_line};

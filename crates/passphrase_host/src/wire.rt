@@ -1,3 +1,7 @@
+//! A connection to an agent below its link: reads and writes that wait only while there is time. It
+//! works on a socket and the clock, and says once on the error stream that another prompt is open.
+//! Begin with `Wire`; its tests show how long it waits and what it says.
+
 ghost use Rattle.std.specs.Prelude.{◌≤◌, length, IfOk, IfSome};
 
 use crate::patience::Deadline;

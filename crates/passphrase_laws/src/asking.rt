@@ -1,3 +1,7 @@
+//! A law on requests: the line that `passphrase` sends is read by the agent as the user's words
+//! mean it. Nothing runs. Definitions are in `specs/Asking`; the line is `line_of_request` of
+//! `passphrase_words`, and its reader `request_of` of `agent_commands`.
+
 ghost use Rattle.agent_commands.specs.Requests.{get_passphrase, request_of};
 ghost use Rattle.agent_commands.specs.declared.request.Request.TheVariants.{Cache};
 ghost use Rattle.passphrase_laws.specs.Asking.{Says, fields_of, is_quiet, repeats_of};

@@ -1,3 +1,6 @@
+//! A law on the agent's exchange for a GET_PASSPHRASE with `--data`: by which line it ends, to its
+//! client's reader. Nothing runs. Definitions are in `specs/Exchanges`.
+
 ghost use Rattle.agent_commands.specs.Exchanges.{LineExchange};
 ghost use Rattle.agent_commands.specs.Parts.{CacheEvent};
 ghost use Rattle.agent_commands.specs.Requests.{GetFields, get_passphrase, request_of};

@@ -1,3 +1,6 @@
+//! Laws on replies: what the agent writes, its client reads as the passphrase or error that was
+//! meant. Nothing runs. Begin with `a_passphrase_is_read`; definitions are in `specs/Readings`.
+
 ghost use Rattle.std.specs.Prelude.{List, true, ℕ};
 ghost use Rattle.agent_commands.specs.Answers.{IsPassphrase};
 ghost use Rattle.assuan_client.specs.Answers.{success_of};

@@ -1,3 +1,7 @@
+//! Laws on the whole road, from a request to what its client is told: those of `asking.rt`,
+//! `exchange.rt` and `reading.rt`, joined. Nothing runs. Begin with
+//! `a_task_is_told_what_its_request_came_to`; definitions are in `specs/Roads`.
+
 ghost use Rattle.agent_commands.specs.Exchanges.{LineExchange};
 ghost use Rattle.agent_commands.specs.Parts.{CacheEvent};
 ghost use Rattle.agent_commands.specs.Requests.{GetFields, get_passphrase, request_of};

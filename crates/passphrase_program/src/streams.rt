@@ -1,3 +1,6 @@
+//! The standard streams that were closed as the program began, each held by a file in its place. It
+//! opens `/dev/null`, before anything else is opened. Begin with `Streams::hold`.
+
 use std::fs::{File, OpenOptions};
 use std::os::fd::AsFd;
 

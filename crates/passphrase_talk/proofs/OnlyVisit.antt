@@ -11,8 +11,8 @@ use Rattle.passphrase_talk.specs.Turns.{Said, Hello, OptionLine, Request, End, C
 use Rattle.passphrase_talk.specs.Visits.{Talk}
 use Rattle.passphrase_talk.specs.declared.told.Loss.{Loss}
 use Rattle.passphrase_talk.specs.declared.told.Told.{Told}
-use Rattle.passphrase_talk.proofs.Alike.{Alike, is_fault, SaidAlike, answered_alike, exchanged_alike}
-use Rattle.passphrase_talk.proofs.Alike as alike
+use Rattle.assuan_client.proofs.Alike.{Alike, is_fault, SaidAlike, answered_alike, exchanged_alike}
+use Rattle.assuan_client.proofs.Alike as alike
 use Rattle.passphrase_talk.proofs.Ending.{EndsBy, behind, before, Ends, last_of, dialogue_ends}
 
 -- the last answer is no failure

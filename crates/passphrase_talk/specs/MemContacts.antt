@@ -4,8 +4,8 @@ use Rattle.std.specs.Option.{option_map}
 use Rattle.std.specs.declared.alloc.Global.{Global}
 use Rattle.agent_ports.specs.Plans.{Plan}
 use Rattle.agent_ports.specs.Sides.{Side}
-use Rattle.agent_ports.specs.declared.mem_link.MemLink.{MemLink}
-use Rattle.agent_ports.specs.declared.mem_link.PlannedLink.{PlannedLink}
+use Rattle.agent_ports.specs.declared.mem.link.MemLink.{MemLink}
+use Rattle.agent_ports.specs.declared.mem.link.PlannedLink.{PlannedLink}
 use Rattle.passphrase_talk.specs.Contacts.{Contact, Sought, Opening}
 use Rattle.passphrase_talk.specs.declared.connector.Place.{Place}
 use Rattle.passphrase_talk.specs.declared.connector.Waits.{Waits}

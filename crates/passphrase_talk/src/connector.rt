@@ -1,3 +1,7 @@
+//! The port to the agents of a machine: which answer, a connection to one, and how long an answer
+//! may take. A trait and what it speaks of; `SystemConnector` (`passphrase_host`) is the real one.
+//! Begin with `Connector`; `specs/Contacts` says what its calls do to what contracts see.
+
 ghost use Rattle.std.specs.Prelude.{◌≡◌, ◌≤◌, ◌+◌, IfOk, Err, MatchResult, List, ℕ};
 ghost use Rattle.std.specs.Option.{option_map};
 ghost use Rattle.agent_ports.specs.Counts.{Rose, RoseBy};

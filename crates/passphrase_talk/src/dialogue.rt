@@ -1,3 +1,8 @@
+//! The dialogue of one contact: the greeting, options, one request, and the inquiries that come
+//! before its answer (Assuan manual, "server responses"). It writes and reads by a `Peer`, and
+//! tells the connector of a pinentry. Begin with `lead`; its rule is `IsDialogue`
+//! (`specs/Dialogues`).
+
 ghost use Rattle.std.specs.Prelude.{◌≡◌, ◌<◌, [], true, OnOk};
 ghost use Rattle.std.specs.List.{flat_map};
 ghost use Rattle.assuan_client.specs.Answers.{state_after};

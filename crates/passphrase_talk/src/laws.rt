@@ -1,4 +1,6 @@
-//! Laws: each function's contract is a fact about the definitions.
+//! Laws: each function's contract is a fact about the definitions. Nothing runs. Begin with
+//! `a_passphrase_is_the_reply`; what they speak of is `Talk` (`specs/Visits`) and `IsDialogue`
+//! (`specs/Dialogues`).
 
 ghost use Rattle.std.specs.Prelude.{◌≡◌, ◌++◌, ◌∷◌, [], ℕ, false, List, Option, Some};
 ghost use Rattle.passphrase_talk.specs.Dialogues.{IsDialogue, told_of, is_failure, has_cancel};

@@ -1,3 +1,7 @@
+//! A connector over links in memory, for tests: it says what was sought, opened and written. It
+//! takes memory alone, and fails where it was told to. Begin with `MemConnector::new`; what it
+//! shows to contracts is `specs/MemContacts`.
+
 ghost use Rattle.std.specs.Prelude.{◌≡◌, ◌≤◌, ◌↔◌, ◌⊎◌, IsTrue, IsErr, IfOk, MatchResult, Some};
 ghost use Rattle.std.specs.Prelude.{Err, IfSome, [], map, reverse, slice_get, codes, refl};
 ghost use Rattle.std.specs.Bool.{OnTrue, OnFalse};

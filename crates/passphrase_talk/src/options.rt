@@ -1,3 +1,7 @@
+//! What an agent is told before a user may have to type: that a pinentry's launch is to be said,
+//! the terminal, and the locale (GnuPG manual, "Agent OPTION"). Pure. Begin with `setting_line`;
+//! the lines are `option_lines` (`specs/Dialogues`).
+
 ghost use Rattle.std.specs.Prelude.{◌≡◌, ◌≤◌, ◌+◌, ◌++◌, length, false};
 ghost use Rattle.assuan_line.specs.Lines.{IsLine};
 ghost use Rattle.assuan_text.specs.LineEnds.{has_lf};

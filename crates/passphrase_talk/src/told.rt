@@ -1,3 +1,7 @@
+//! What a contact with an agent comes to: a passphrase, OK, an error, or how the agent was lost.
+//! Plain data; a passphrase in it is overwritten when it is dropped. Begin with `Told`; which
+//! answer is which says `told_of` (`specs/Dialogues`).
+
 use cache_policy::Secret;
 
 /// What a contact with an agent comes to. It may hold a passphrase, so it isn't printed.

@@ -1,3 +1,7 @@
+//! One contact with an agent, whole: connected, one dialogue, and left again. It calls the
+//! connector, and its link by a `Peer`. Begin with `visit`; what it does is `Visits`
+//! (`specs/Visits`).
+
 ghost use Rattle.std.specs.Prelude.{◌≡◌};
 ghost use Rattle.passphrase_talk.specs.Visits.{Visits};
 

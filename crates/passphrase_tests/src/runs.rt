@@ -1,4 +1,5 @@
-//! Whole runs over agents in memory, in rows.
+//! Whole runs over agents in memory, in rows: status, output, what is said on the error stream, and
+//! what the last agent was written. Begin with `Row` and `first_wrong`.
 
 use agent_ports::{MemSink, MemSource, PlannedLink};
 use arrayvec::ArrayVec;

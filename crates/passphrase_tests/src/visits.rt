@@ -1,4 +1,5 @@
-//! Contacts with agents in memory, in rows.
+//! Contacts with agents in memory, in rows: what is told, and what the agent was written, with
+//! reads of each length. Begin with `Row` and `first_wrong`.
 
 ghost use Rattle.std.specs.Prelude.{◌≡◌, ◌≤◌, length};
 ghost use Rattle.session_options.specs.declared.TheConstants.{MAX_VALUE_LEN};

@@ -1,4 +1,5 @@
 //! Command lines and words of an askpass, in rows: what is said of them, and the requests of them.
+//! Pure. Begin with `FAULTS` and `REQUESTS`.
 
 use cache_policy::Secret;
 use passphrase_words::{Request, Task, USAGE, Wanted, WordsFault, read_askpass, read_words};

@@ -1,3 +1,6 @@
+//! Why words aren't read, and what a user is told of it. Pure. Begin with `WordsFault`; each
+//! sentence is `fault_text` (`specs/Faults`).
+
 ghost use Rattle.std.specs.Prelude.{◌≡◌, ◌++◌};
 ghost use Rattle.passphrase_words.specs.Faults.{fault_text};
 

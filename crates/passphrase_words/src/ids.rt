@@ -1,3 +1,6 @@
+//! The names of passphrases: the id that a word is, and the one that an askpass makes of its text,
+//! by SHA-1. Pure. Begin with `id_of` and `askpass_id`; the form of an id is `is_id` (`specs/Ids`).
+
 ghost use Rattle.std.specs.Prelude.{◌≡◌, true, false, codes, ◌++◌, IfOk, IfErr, length};
 ghost use Rattle.std.specs.Prelude.{None, Some, MatchResult};
 ghost use Rattle.std.specs.List.{list_all};

@@ -1,3 +1,6 @@
+//! A law on command lines: each is read one way. Nothing runs. How one is read says `Reads`
+//! (`specs/Words`).
+
 ghost use Rattle.std.specs.Prelude.{◌≡◌, ℕ, List};
 ghost use Rattle.passphrase_words.specs.Refusals.{Refuses};
 ghost use Rattle.passphrase_words.specs.Tasks.{WantedValue};

@@ -1,3 +1,7 @@
+//! The requests of `passphrase` to an agent, as lines (GnuPG manual, "Agent's Assuan protocol":
+//! GET_PASSPHRASE, PRESET_PASSPHRASE, CLEAR_PASSPHRASE). Pure; digits of a secret are overwritten.
+//! Begin with `Task::line`; the lines are `line_of_request` (`specs/Requests`).
+
 ghost use Rattle.std.specs.Prelude.{◌≡◌, ◌≤◌, false, length, decimal};
 ghost use Rattle.std.specs.List.{flat_map};
 ghost use Rattle.assuan_line.specs.Lines.{IsLine};

@@ -1,3 +1,6 @@
+//! Which options and operands go together, and the task that they make. Pure. Begin with
+//! `task_from`; which task it is says `IsTask` (`specs/Rules`).
+
 ghost use Rattle.std.specs.Prelude.{◌≡◌, ◌↔◌, true, false, get_or, [], length, map};
 ghost use Rattle.std.specs.Prelude.{string_bytes, is_some, IsOk, IfOk, IfErr, MatchOption};
 ghost use Rattle.std.specs.Prelude.{MatchResult, None, Some, IfSome};

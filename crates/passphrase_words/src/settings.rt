@@ -1,3 +1,7 @@
+//! The options that a command line begins with, each with its value, which is the next word or
+//! stands behind a `=`, and where they end. Pure. Begin with `next_setting` and `check_each`;
+//! definitions are in `specs/Parts` and `specs/Spelling`.
+
 ghost use Rattle.std.specs.Prelude.{◌≡◌, ◌∷◌, [], ◌<◌, ◌↔◌, true, false, length, map, None};
 ghost use Rattle.std.specs.Prelude.{string_bytes};
 ghost use Rattle.std.specs.Prelude.{MatchOption, MatchResult, IsOk, Some};

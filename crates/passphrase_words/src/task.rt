@@ -1,3 +1,7 @@
+//! What is to be done for an id: an act, its folder and time, and the texts of its prompt. Plain
+//! data, which borrows the words. Begin with `Task`; contracts see it as a `TaskValue`
+//! (`specs/Tasks`).
+
 ghost use Rattle.std.specs.Prelude.{◌≡◌};
 ghost use Rattle.passphrase_words.specs.Texts.{Fits};
 

@@ -1,3 +1,7 @@
+//! The prompt and the description as words of a request, escaped, and whether a line of 1,000 bytes
+//! has room for them (Assuan manual, "client requests"). Pure. Begin with `texts_of`, which
+//! `specs/Texts` defines.
+
 ghost use Rattle.std.specs.Prelude.{◌≡◌, ◌≤◌, ◌<◌, ◌∷◌, ◌++◌, codes, decimal, length, IfOk, IfErr};
 ghost use Rattle.std.specs.List.{flat_map};
 ghost use Rattle.std.specs.Option.{option_map};

@@ -1,3 +1,6 @@
+//! The words of a command line and of an askpass, read as what they ask for, and the lines of use.
+//! Pure. Begin with `read_words` and `read_askpass`; how they are read says `specs/Words`.
+
 ghost use Rattle.std.specs.Prelude.{◌≡◌, ◌∷◌, [], ℕ, List, Some, None, IfOk, IfErr, MatchResult};
 ghost use Rattle.std.specs.Prelude.{map, string_bytes};
 ghost use Rattle.passphrase_words.specs.Faults.{fault_text};

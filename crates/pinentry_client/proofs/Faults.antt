@@ -14,6 +14,7 @@ use Rattle.assuan_client.specs.Skipping.{Tally}
 use Rattle.assuan_client.specs.Writing.{Command, IsUnanswered}
 use Rattle.assuan_client.specs.declared.answer.Answer.{Answer}
 use Rattle.assuan_client.specs.declared.answer.Answer.TheVariants as answer
+use Rattle.assuan_client.proofs.Alike.{is_fault}
 use Rattle.pinentry_client.specs.Answers.{greeted, accepted, pid_after, data_of, process_of, pin_outcome, pin_error, consent_of, consent_error}
 use Rattle.pinentry_client.specs.Talking.{TellsSetting, unsent, sent, Sets, done, next, StartTalk, greets, Settles, answered, inquired, ErrorTalk, none, shown, PinTalk, ConsentTalk, outcome_by}
 use Rattle.pinentry_client.specs.Talking.{ChildReplies}
@@ -30,11 +31,6 @@ faults conn = conn.input.faults + conn.output.faults
 -- it grew, and rose where the call failed
 abbrev pub Grew : Bool → Connection → Connection → Type 0
 Grew failed before after = RoseBy (cond failed 1 0) (faults before) (faults after)
-
-abbrev pub is_fault : Answer → Bool
-is_fault answer.ReadFault = true
-is_fault answer.WriteFault = true
-is_fault _ = false
 
 abbrev pub is_failure : Trouble → Bool
 is_failure Failed = true

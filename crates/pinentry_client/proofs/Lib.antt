@@ -1,11 +1,8 @@
-mod NoLines
 mod Talks
 mod Readiness
 mod Faults
 pub mod Calling
 mod WholeLemmas
-mod OnlyTook
-mod Alike
 mod OnlyTalk
 mod OnlyDialogue
 mod Spending

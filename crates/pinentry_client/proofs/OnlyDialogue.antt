@@ -14,7 +14,7 @@ use Rattle.pinentry_client.specs.Talking.{StartTalk, PinTalk, ConsentTalk}
 use Rattle.pinentry_client.specs.Whole.{Questions, Dialogue, AskAlike}
 use Rattle.pinentry_client.specs.declared.answers.Trouble.{Trouble}
 use Rattle.pinentry_client.specs.declared.answers.Trouble.TheVariants.{Failed, Broken}
-use Rattle.pinentry_client.proofs.Alike.{Alike}
+use Rattle.assuan_client.proofs.Alike.{Alike}
 use Rattle.pinentry_client.proofs.Calling.{pin_is_failed, consent_is_failed, start_is_failed}
 use Rattle.pinentry_client.proofs.Faults.{fails_by, pin_failed, consent_failed}
 use Rattle.pinentry_client.proofs.OnlyTalk.{CameAlike, start_alike, pin_alike, consent_alike}

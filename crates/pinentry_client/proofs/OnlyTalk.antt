@@ -18,8 +18,8 @@ use Rattle.pinentry_client.specs.declared.answers.Trouble.{Trouble}
 use Rattle.pinentry_client.specs.declared.answers.Trouble.TheVariants.{Failed, Broken}
 use Rattle.pinentry_client.specs.declared.settings.Setting.{Setting}
 use Rattle.pinentry_client.specs.declared.settings.Setting.TheVariants as setting
-use Rattle.pinentry_client.proofs.Alike.{Alike, goes_on, SaidAlike, answered_alike, exchanged_alike}
-use Rattle.pinentry_client.proofs.Faults.{is_fault, fails_by, fails_at, pin_failed, consent_failed, trouble_fails}
+use Rattle.assuan_client.proofs.Alike.{Alike, is_fault, goes_on, SaidAlike, answered_alike, exchanged_alike}
+use Rattle.pinentry_client.proofs.Faults.{fails_by, fails_at, pin_failed, consent_failed, trouble_fails}
 
 -- the same came of it, and the connections go on alike where it is well
 pub record CameAlike {T : Type 0} (well : T → Bool) (end last : T) (one two : Connection) : Type 0 where

@@ -30,7 +30,7 @@ use Rattle.pinentry_client.specs.declared.answers.Trouble.{Trouble}
 use Rattle.pinentry_client.specs.declared.answers.Trouble.TheVariants.{Failed, Broken}
 use Rattle.pinentry_client.specs.declared.settings.Setting.{Setting}
 use Rattle.pinentry_client.specs.declared.settings.Setting.TheVariants as setting
-use Rattle.pinentry_client.proofs.Alike.{both_known}
+use Rattle.assuan_client.proofs.Alike.{both_known}
 
 -- so many bytes were taken as the connection may take fewer
 pub record Took (rest : List ℕ) (before after : Connection) : Type 0 where

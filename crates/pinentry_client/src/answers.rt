@@ -1,3 +1,7 @@
+//! What a pinentry's answers mean: to its greeting, to a setting, to GETPIN and to CONFIRM
+//! (pinentry manual, "protocol"; the numbers of errors are libgpg-error's). Pure. Begin with
+//! `pin_outcome` and `consent_of`; each function is its namesake in `specs/Answers`.
+
 ghost use Rattle.std.specs.Prelude.{◌≡◌, []};
 ghost use Rattle.assuan_text.specs.Numbers.{number_of};
 ghost use Rattle.pinentry_client.specs.Answers.{greeted, accepted, pid_after, trouble_of};

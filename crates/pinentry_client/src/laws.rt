@@ -1,4 +1,6 @@
-//! Laws: each function's contract is a fact about the definitions.
+//! Laws: each function's contract is a fact about the definitions. They have no bodies and touch
+//! nothing. Begin with `a_prompt_has_its_child` (`specs/Children`) and `a_dialogue_has_one_outcome`
+//! (`specs/Whole`).
 
 ghost use Rattle.std.specs.List.{count_by};
 ghost use Rattle.std.specs.Prelude.{◌≡◌, ◌+◌, ℕ, List, length, Option, Some};

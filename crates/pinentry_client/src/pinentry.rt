@@ -1,3 +1,7 @@
+//! A pinentry as the prompter of `agent_ask`: a child that is started for each prompt and finished
+//! behind it. It uses the launcher that it was lent and the child's link, nothing else. Begin with
+//! `start`, `getpin` and `shut`; `PinentryDoes` of `specs/Dialogues` says what each call does.
+
 ghost use Rattle.std.specs.Prelude.{◌≡◌, false, None, is_some};
 ghost use Rattle.pinentry_client.specs.Dialogues.{SaysBye, stays_ready, stays_open, opened_of};
 

@@ -1,3 +1,7 @@
+//! What a pinentry is told before a prompt, a line for each setting in a fixed order: terminal and
+//! locale, timeout, texts. Pure, without memory. Begin with `setting_line`; `IsSettingLine` of
+//! `specs/Settings` says which line each one has.
+
 ghost use Rattle.std.specs.Prelude.{◌≡◌, ◌≤◌, ◌+◌, ◌++◌, length, false};
 ghost use Rattle.assuan_line.specs.Lines.{IsLine};
 ghost use Rattle.assuan_text.specs.LineEnds.{has_lf};

@@ -1,3 +1,8 @@
+//! The talk with a pinentry's process, command by command: greeting and settings, GETPIN, CONFIRM,
+//! and the inquiries that it makes meanwhile, as for the quality of a text. It touches the child's
+//! connection alone. Begin with `start_talk` and `pin_talk`, and with their contracts in
+//! `specs/Talking`.
+
 ghost use Rattle.std.specs.Prelude.{◌≡◌, ◌≢◌, ◌≤◌, ◌<◌, ◌*◌, true, false, length, min, OnOk};
 ghost use Rattle.assuan_client.specs.Answers.{state_after};
 ghost use Rattle.assuan_client.specs.declared.answer.State.TheVariants as state;

@@ -1,3 +1,6 @@
+//! How a session of the scripted pinentry ended, and the exit status for it. Plain data. Begin with
+//! `ScriptEnd`; `status_of` of `specs/Sessions` has the numbers.
+
 ghost use Rattle.std.specs.Prelude.{◌≡◌};
 ghost use Rattle.pinentry_script.specs.Sessions.{status_of};
 

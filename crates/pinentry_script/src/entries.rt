@@ -1,3 +1,7 @@
+//! The lines of a script: which ones there are, the process number, and the answers in their order.
+//! Pure, over slices of the file. Begin with `next_answer`; `entries_of` and `answers_in` of
+//! `specs/Entries` say what a file holds.
+
 ghost use Rattle.std.specs.Prelude.{◌≡◌, ◌<◌, ◌∷◌, [], true, false, length, MatchOption, IfSome};
 ghost use Rattle.std.specs.Prelude.{map, drop};
 ghost use Rattle.std.specs.Option.{option_map, is_some};

@@ -1,3 +1,6 @@
+//! What is said to a line of the agent, and its writing. It writes to the link alone, and takes no
+//! memory. Begin with `write_response`; `says` of `specs/Responses` has the lines of each response.
+
 ghost use Rattle.std.specs.Prelude.{◌≡◌};
 ghost use Rattle.std.specs.List.{flat_map};
 ghost use Rattle.agent_ports.specs.Writing.{Writes};

@@ -1,3 +1,7 @@
+//! A whole session of the scripted pinentry: the file checked, the greeting, and line after line up
+//! to the end. It reads and writes the link alone, and takes memory for its reader. Begin with
+//! `run_script`; `RunsSession` of `specs/Sessions` says what is written.
+
 ghost use Rattle.std.specs.Prelude.{◌≡◌, true, false, [], None};
 ghost use Rattle.assuan_line.specs.Next.{next_of};
 ghost use Rattle.assuan_line.specs.Reading.{HasRead};

@@ -1,3 +1,7 @@
+//! The state of a scripted session, and what each line of the agent makes of it. Pure: it goes on
+//! through the script's answers, and reads and writes nothing. Begin with `Session::turn`, and with
+//! `turn_of` of `specs/Turns`.
+
 ghost use Rattle.std.specs.Prelude.{◌≡◌, false, length, map};
 ghost use Rattle.std.specs.List.{before_first};
 ghost use Rattle.assuan_text.specs.Options.{arguments_of};

@@ -1,3 +1,7 @@
+//! The seat (the prompt's lock): the number of the ticket (permit) that is out, if one is. A value
+//! of its owner's, the cache core, at which nobody waits. Begin with `Seat::take` and `Seat::give`,
+//! whose clauses say all of it.
+
 ghost use Rattle.std.specs.Prelude.{◌≡◌, ◌↔◌, None, Some, IsNone, IsSome, IfSome, IsTrue};
 ghost use Rattle.std.specs.Bool.{OnTrue, OnFalse};
 

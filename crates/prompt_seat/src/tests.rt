@@ -1,3 +1,6 @@
+//! The seat (the prompt's lock) and its tickets (permits) in one run: one is out at a time, and
+//! another seat's ticket frees none. It touches values alone.
+
 use super::*;
 use std::test::Fail;
 

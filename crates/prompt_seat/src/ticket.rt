@@ -1,3 +1,7 @@
+//! A ticket (permit): the right to prompt, which has to be given back, since it can't be dropped.
+//! Plain data. Begin with `Ticket::number`; only `Seat::take` makes one, and only `Seat::give` ends
+//! one.
+
 ghost use Rattle.std.specs.Prelude.{◌≡◌};
 
 use std::marker::Model;

@@ -1,3 +1,7 @@
+//! Laws of key files: one answer at most, and `unprotect` as three calls in a row. Functions
+//! without a body, whose contracts are facts about the definitions; they touch nothing. Begin with
+//! `Answers` of `specs/Answers` and `Opens` of `specs/Opens`.
+
 ghost use Rattle.std.specs.Prelude.{◌≡◌, ℕ, List, IsTrue};
 ghost use Rattle.sexp_keys.specs.Key.{Key};
 ghost use Rattle.sexp_keys.specs.declared.fault.KeyFault.{KeyFault};

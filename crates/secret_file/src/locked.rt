@@ -1,3 +1,7 @@
+//! A protected key that waits for its passphrase: its protection is read once, and it is opened as
+//! often as it is asked. It takes memory for the clear key, which is overwritten. Begin with
+//! `Locked::open`; `AnswersOpening` of `specs/Answers` says what comes of it.
+
 ghost use Rattle.std.specs.Prelude.{◌≡◌, ◌≤◌, ◌⊎◌, length, IfOk, IfErr};
 ghost use Rattle.s2k_derive.specs.declared.TheConstants.{MAX_PASSPHRASE_LEN, MAX_COUNT};
 ghost use Rattle.sexp_canonical.specs.Spelling.{most_bytes};

@@ -1,4 +1,6 @@
-//! The parts of a list, from its front.
+//! The parts of a list, from its front, and arrays of a given length. Pure, over slices; only
+//! `front_of` takes memory, for the expression that it reads. Begin with `split_atom`; the clauses
+//! need no definitions.
 
 ghost use Rattle.std.specs.Prelude.{◌≡◌, ◌≤◌, ℕ, List, [], ◌∷◌, ◌++◌, length, take, IfOk, IfErr};
 ghost use Rattle.std.specs.Prelude.{IfSome, IfNone};

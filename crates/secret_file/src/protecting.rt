@@ -1,4 +1,7 @@
-//! A clear key is protected.
+//! A clear key is protected: its secret parameters are spelled, encrypted under the passphrase's
+//! key, and put in a file's list. It takes memory, and overwrites keys and clear texts; salts and
+//! vectors are the caller's. Begin with `protect`; `protected_file` of `specs/Protects` is the
+//! file.
 
 ghost use Rattle.std.specs.Prelude.{◌≡◌, ◌≤◌, ◌%◌, ◌+◌, ◌<◌, ℕ, [], ◌∷◌, ◌++◌, length, IfOk};
 ghost use Rattle.std.specs.Prelude.{IfSome, OnOk, IsTrue};

@@ -1,4 +1,6 @@
-//! How a protected key is protected.
+//! How a protected key is protected: the name of the protection, the salt and count by which a
+//! passphrase gives the key, and what is encrypted. Pure, over slices of the key's lists. Begin
+//! with `protection_of`; `IsProtection` of `specs/Protection` has the form.
 
 ghost use Rattle.std.specs.Prelude.{◌≡◌, ℕ, List, [], ◌∷◌, drop, length, IfOk, IfErr, IfSome};
 ghost use Rattle.std.specs.Prelude.{IfNone, IsTrue, ◌↔◌};

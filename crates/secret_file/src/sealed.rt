@@ -1,4 +1,6 @@
-//! What is encrypted by OCB: the secret parameters of a key.
+//! What is encrypted by OCB: the secret parameters of a key. It decrypts in memory that is
+//! overwritten, and touches nothing else. Begin with `unsealed_key`; `AreSealed` of `specs/Opens`
+//! says which bytes open, and `IsOpening` of `specs/Steps` to which key.
 
 ghost use Rattle.std.specs.Prelude.{◌≡◌, ◌<◌, ◌≤◌, ℕ, List, [], ◌∷◌, ◌++◌, length, false, IsTrue};
 ghost use Rattle.std.specs.Prelude.{IfOk, IfErr, IfSome, IfNone};

@@ -1,4 +1,6 @@
-//! What is decrypted by CBC: the secret parameters of a key, and the digest of the clear key.
+//! What is decrypted by CBC: the secret parameters of a key, and the digest of the clear key. It
+//! decrypts in memory that is overwritten, and touches nothing else. Begin with `decrypted_key`;
+//! `AreSecrets` and `IsOpening` of `specs/Steps` say which bytes open, and to which key.
 
 ghost use Rattle.std.specs.Prelude.{◌≡◌, ◌↔◌, ◌≤◌, ◌%◌, ℕ, List, length, IfOk, IfErr, IfSome};
 ghost use Rattle.std.specs.Prelude.{IfNone, IsTrue};

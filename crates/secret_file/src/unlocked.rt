@@ -1,3 +1,7 @@
+//! A protected file opened by a passphrase, in one call. It takes memory for the key, which is
+//! overwritten, and touches no file. Begin with `unprotect`; `Opens` of `specs/Opens` says which
+//! key a file opens to, and `Answers` of `specs/Answers` which fault comes first.
+
 ghost use Rattle.std.specs.Prelude.{◌≡◌, ◌≤◌, ◌⊎◌, ℕ, length, IfOk, IfErr};
 ghost use Rattle.s2k_derive.specs.declared.TheConstants.{MAX_PASSPHRASE_LEN};
 ghost use Rattle.sexp_keys.specs.Key.{Key};

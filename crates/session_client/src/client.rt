@@ -1,3 +1,7 @@
+//! The client as a command sees it: told of a prompt, or asked for a passphrase. A call reads and
+//! writes the client's connection, whatever that is. Begin with `Client::ask` and the promise below
+//! it; `LeftBy` of `specs/Asking` says how an answer leaves the connection.
+
 ghost use Rattle.session_client.specs.Lines.{Lines, Views, IsOpen};
 ghost use Rattle.session_client.specs.Asking.{TellsClient, LeftBy};
 

@@ -1,3 +1,6 @@
+//! The errors of the agent, each with its number and description of libgpg-error. Plain data. Begin
+//! with `Code`, whose variants say when each is answered; `specs/Codes` has the numbers and texts.
+
 ghost use Rattle.std.specs.Prelude.{◌≡◌, ◌≤◌, ◌<◌, ◌^◌, length};
 ghost use Rattle.session_client.specs.Codes.{code_of, error_description};
 ghost use Rattle.session_client.specs.Refusals.{refusal_code};

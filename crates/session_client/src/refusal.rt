@@ -1,3 +1,7 @@
+//! Why a request isn't carried out: an error of the agent, one of its pinentry, or a client that
+//! gave nothing. Plain data, the error type of commands. Begin with `Refusal`; what a server says
+//! to it stands in `assuan_server`.
+
 ghost use Rattle.std.specs.Prelude.{◌≡◌};
 ghost use Rattle.session_client.specs.Refusals.{gone_by};
 

@@ -1,3 +1,7 @@
+//! Client errors: what came of a question to the client in place of an answer, down to a lost
+//! connection. Plain data. Begin with `Unheard`; `refusal_code` of `specs/Refusals` says by which
+//! error each is answered.
+
 /// How the client's connection was lost.
 #[derive(Clone, Copy, PartialEq, Eq)]
 pub enum Gone {

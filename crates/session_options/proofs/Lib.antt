@@ -1,2 +1,3 @@
 mod Spelling
 mod WorkedExamples
+pub mod NoLines

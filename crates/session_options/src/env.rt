@@ -1,3 +1,7 @@
+//! Where a pinentry is to ask: terminal and locale, as words that lie in the value itself. Plain
+//! data; its type keeps the ends of lines out, so that no word of a client adds a command to a
+//! pinentry. Begin with `Env`; `words_of` of `specs/OptionValues` is what contracts see.
+
 ghost use Rattle.std.specs.Prelude.{◌≡◌, [], false};
 ghost use Rattle.session_options.specs.Text.{has_line_end};
 

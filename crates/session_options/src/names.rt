@@ -1,3 +1,6 @@
+//! The table of the options that a client may set, by name. Pure. Begin with `OptionName::named`,
+//! and with `named` of `specs/Table`.
+
 ghost use Rattle.std.specs.Prelude.{◌≡◌};
 
 use assuan_text::found;

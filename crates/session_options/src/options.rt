@@ -1,3 +1,7 @@
+//! The option values of a session: what OPTION sets and RESET takes back (GnuPG manual, "Agent
+//! OPTION"). It works on its own fields, without memory. Begin with `Options::set`, and with
+//! `applied` of `specs/OptionValues`, which it is.
+
 ghost use Rattle.std.specs.Prelude.{◌≡◌, ◌≢◌, ℕ, List, [], ◌∷◌, ◌++◌, true, false, slice_index};
 ghost use Rattle.std.specs.List.{list_any, list_all};
 ghost use Rattle.session_options.specs.Counts.{IsS2kCount};

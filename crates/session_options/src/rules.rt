@@ -1,3 +1,7 @@
+//! What the agent was started with: lifetimes, limits, programs and folders, each with its default
+//! and its range (GnuPG manual, "Agent Options"). Plain data, whose type keeps the ranges. Begin
+//! with `Rules`; `default_rules` of `specs/Defaults` has the defaults.
+
 ghost use Rattle.std.specs.Prelude.{◌≡◌, ◌≤◌, length};
 ghost use Rattle.session_options.specs.declared.TheConstants.{MAX_VALUE_LEN};
 ghost use Rattle.session_options.specs.Counts.{IsS2kCount, IsWorkers};

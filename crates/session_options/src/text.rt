@@ -1,3 +1,6 @@
+//! The text of an OPTION line, as a name and a value, and which values can be kept as words. Pure,
+//! over slices and without memory. Begin with `name_and_value`; definitions begin in `specs/Text`.
+
 ghost use Rattle.std.specs.Prelude.{◌≡◌, ◌≤◌, ◌↔◌, true, false, length, IsSome, IfSome};
 ghost use Rattle.std.specs.List.{position_or_len};
 ghost use Rattle.assuan_text.specs.Blanks.{without_blanks};

@@ -1,3 +1,6 @@
+//! The values of two options: the pinentry-mode by its name, and the count of bytes to hash. Pure.
+//! Begin with `mode_of`; both functions are their namesakes in `specs/Table`.
+
 ghost use Rattle.std.specs.Prelude.{◌≡◌};
 ghost use Rattle.assuan_text.specs.Numbers.{number_of};
 ghost use Rattle.session_options.specs.Table.{mode_of, count_for};

@@ -1,3 +1,7 @@
+//! The bytes of the advanced form by their kinds: blanks, bytes of tokens, hexadecimal digits, and
+//! what an item may begin with. Pure. Begin with `class_of`; each function is its namesake in
+//! `specs/Bytes`.
+
 ghost use Rattle.std.specs.Prelude.{◌≡◌, ◌<◌, IfSome};
 ghost use Rattle.sexp_advanced.specs.Bytes.{is_space_byte, is_token_mark, is_token_start};
 ghost use Rattle.sexp_advanced.specs.Bytes.{is_token_byte, hex_value, without_front, class_of};

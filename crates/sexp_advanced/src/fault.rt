@@ -1,3 +1,6 @@
+//! Why no expression in the advanced form was read, and how that is printed. Plain data. Begin with
+//! `AdvFault`; `IsFirstAdvFault` of `specs/Reading` says which one a text has.
+
 ghost use Rattle.std.specs.Prelude.{◌≡◌};
 ghost use Rattle.sexp_advanced.specs.declared.fault.AdvFault.TheVariants.{NoMemory};
 

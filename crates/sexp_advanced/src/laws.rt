@@ -1,3 +1,8 @@
+//! Laws of reading and writing: one answer, what is written is read, first faults stay, and atoms
+//! are those of the grammar. Functions without a body, whose contracts are facts about the
+//! definitions; they touch nothing. Begin with `written_is_read`; the grammar stands in
+//! `specs/Grammar`.
+
 ghost use Rattle.std.specs.Prelude.{◌≡◌, ◌↔◌, ◌≤◌, [], ◌++◌, ℕ, List, length, Result};
 ghost use Rattle.sexp_canonical.specs.View.{tree_of};
 ghost use Rattle.sexp_canonical.specs.Spelling.{most_depth, depth};

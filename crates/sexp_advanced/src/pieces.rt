@@ -1,3 +1,7 @@
+//! Atoms between two marks, taken apart byte by byte: hexadecimal digits, or a quoted text with its
+//! escapes. Pure, over slices. Begin with `piece_at`, and with its namesake in `specs/Pieces`; the
+//! standard's own words for these atoms are in `specs/Grammar`.
+
 ghost use Rattle.std.specs.Prelude.{◌≡◌, ◌<◌, ◌≤◌, ◌⊎◌, MatchBool};
 ghost use Rattle.std.specs.Int.{is_in_range};
 ghost use Rattle.sexp_advanced.specs.Pieces.{low_digit, pair, hex_escape, second_octal};

@@ -1,3 +1,7 @@
+//! Reading the advanced form, sign by sign, with the open lists on a stack in memory. It takes
+//! memory for the expression and those lists alone. Begin with `read_advanced`; `IsExpression` and
+//! `IsFirstAdvFault` of `specs/Reading` say what it gives.
+
 ghost use Rattle.std.specs.Prelude.{◌≡◌, ◌⊎◌, ◌≤◌, [], ◌++◌, ℕ, List, length, take, drop, Some};
 ghost use Rattle.std.specs.Prelude.{Result, IfOk, IfErr};
 ghost use Rattle.sexp_canonical.specs.View.{tree_of};

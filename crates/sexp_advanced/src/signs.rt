@@ -1,3 +1,7 @@
+//! One sign of the advanced form at a time: a parenthesis, or an atom in any of its four spellings.
+//! It takes memory for the atom's bytes, which are overwritten. Begin with `sign_at`; `IsAt` of
+//! `specs/Signs` says which sign stands where.
+
 ghost use Rattle.std.specs.Prelude.{◌≡◌, ◌⊎◌, IfOk, IfErr};
 ghost use Rattle.sexp_advanced.specs.Bytes.{class_of, is_token_byte, front_of, without_front};
 ghost use Rattle.sexp_advanced.specs.Signs.{sign, IsAt, IsDelimited, IsVerbatim};

@@ -1,3 +1,7 @@
+//! Writing the advanced form, on one line. It takes memory for the text, which is handed out, and
+//! for the lists that are begun, and calls itself nowhere. Begin with `write_advanced`;
+//! `advanced_of` of `specs/Writing` is the text.
+
 ghost use Rattle.std.specs.Prelude.{◌≡◌, ◌+◌, ◌-◌, ◌*◌, ◌<◌, ◌≤◌, [], ◌∷◌, ◌++◌, length, IfOk};
 ghost use Rattle.std.specs.Prelude.{OnOk};
 ghost use Rattle.sexp_canonical.specs.Tree.{leaf, row};

@@ -1,3 +1,7 @@
+//! The bytes of atoms and of written texts: a vector that is overwritten when it is dropped, and
+//! where it was when it grows, since a secret key may lie in it. It works on its own memory. Begin
+//! with `Bytes::extend_from_slice`; contracts see a list.
+
 ghost use Rattle.std.specs.Prelude.{◌≡◌, [], ◌++◌, length, replicate, OnOk, OnErr};
 
 use std::alloc::{AllocError, Global};

@@ -1,3 +1,6 @@
+//! A copy of an expression of any depth. It takes memory for the copy and for the lists that are
+//! begun, and no stack. Begin with `Sexp::copy`, whose clause says all.
+
 ghost use Rattle.std.specs.Prelude.{◌≡◌, ◌++◌, ◌+◌, ◌*◌, ◌<◌, IfOk};
 ghost use Rattle.sexp_canonical.specs.View.{trees};
 ghost use Rattle.sexp_canonical.specs.declared.tree.Sexp.{Sexp};

@@ -1,3 +1,6 @@
+//! Why no canonical expression was read, and how that is printed. Plain data. Begin with
+//! `SexpFault`; `IsFirstSexpFault` of `specs/Reading` says which one a text has.
+
 ghost use Rattle.std.specs.Prelude.{◌≡◌};
 ghost use Rattle.sexp_canonical.specs.declared.fault.SexpFault.TheVariants.{NoMemory};
 

@@ -1,3 +1,7 @@
+//! Laws of the canonical form: no spelling begins another, one answer, and lists and lengths are
+//! what they seem. Functions without a body, whose contracts are facts about the definitions; they
+//! touch nothing. Begin with `no_spelling_begins_another`.
+
 ghost use Rattle.std.specs.Prelude.{◌≡◌, ◌↔◌, ◌+◌, ◌^◌, ◌<◌, ◌≤◌, [], ◌∷◌, ◌++◌, ℕ, List, length};
 ghost use Rattle.std.specs.Prelude.{All, Result};
 ghost use Rattle.std.specs.Fmt.{decimal};

@@ -1,3 +1,7 @@
+//! The length of a canonical form that isn't written. Pure, without memory, on a stack of one call
+//! for each open list within the limit. Begin with `spelled_len`; `IsReadable` of `specs/Spelling`
+//! has the limits.
+
 ghost use Rattle.std.specs.Prelude.{◌≡◌, ◌-◌, ◌≤◌, length, SomeIff};
 ghost use Rattle.std.specs.List.{flat_map};
 ghost use Rattle.sexp_canonical.specs.Tree.{leaf, row};

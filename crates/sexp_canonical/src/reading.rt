@@ -1,3 +1,7 @@
+//! Reading the canonical form, with the open lists on a stack in memory. It takes memory for the
+//! expression and those lists alone. Begin with `read`; `ReadsCanonical` of `specs/Reading` has
+//! both its answers, an expression and a fault.
+
 ghost use Rattle.std.specs.Prelude.{◌≡◌, ◌⊎◌, ◌+◌, ◌-◌, ◌*◌, ◌++◌, ◌<◌, ◌≤◌, ℕ, List, length, take};
 ghost use Rattle.std.specs.Prelude.{drop, Result, IfOk, IfErr, MatchOption};
 ghost use Rattle.sexp_canonical.specs.Reading.{ReadsCanonical, IsFirstSexpFault, IsLengthFault};

@@ -1,3 +1,7 @@
+//! S-expressions in memory: atoms, and lists of any depth. They work on their own memory, and are
+//! dropped without a call for each level. Begin with `Sexp`; contracts see a `Tree` by `tree_of`
+//! (`specs/View`), as definitions of keys do.
+
 ghost use Rattle.std.specs.Prelude.{◌≡◌, ◌<◌, [], ◌∷◌, ◌++◌, IfOk, vec_len, vec_capacity};
 ghost use Rattle.sexp_canonical.specs.Tree.{list_of, items};
 ghost use Rattle.sexp_canonical.specs.Dropping.{drop_steps};

@@ -1,3 +1,7 @@
+//! Writing the canonical form of an expression, of an atom or of several. It appends to its
+//! caller's text, and takes memory for the lists that are begun, and no stack. Begin with `append`;
+//! `spelling_of` of `specs/Spelling` is the text.
+
 ghost use Rattle.std.specs.Prelude.{◌≡◌, ◌+◌, ◌*◌, ◌<◌, ◌≤◌, [], ◌∷◌, ◌++◌, IfOk, OnOk};
 ghost use Rattle.std.specs.List.{flat_map};
 ghost use Rattle.sexp_canonical.specs.Tree.{leaf, list_of, node_count};

@@ -1,3 +1,6 @@
+//! The four algorithms whose keys are read, with the names of their parameters (keyformat.txt).
+//! Plain tables. Begin with `Algorithm::of`; each function is its namesake in `specs/Names`.
+
 ghost use Rattle.std.specs.Prelude.{◌≡◌, map};
 ghost use Rattle.sexp_keys.specs.Names.{algorithm_name, algorithm_of, public_names, secret_names};
 

@@ -1,3 +1,6 @@
+//! Why an expression is no private key, and how that is printed. Plain data. Begin with `KeyFault`;
+//! which fault comes first says `IsFirstKeyFault` of `specs/Faults`.
+
 ghost use Rattle.std.specs.Prelude.{◌≡◌};
 ghost use Rattle.sexp_keys.specs.declared.fault.KeyFault.TheVariants.{NoMemory};
 

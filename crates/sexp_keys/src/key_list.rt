@@ -1,3 +1,7 @@
+//! A private key, read from its expression: algorithm, public and secret parameters, and what
+//! follows. It takes memory for its copies of the lists, which are overwritten. Begin with
+//! `KeyList::of`; `IsKey` of `specs/Key` says which key an expression is.
+
 ghost use Rattle.std.specs.Prelude.{◌≡◌, ◌⊎◌, ◌↔◌, Result, IfOk, IfErr, IsSome, IfSome, IsTrue};
 ghost use Rattle.sexp_canonical.specs.View.{tree_of, trees};
 ghost use Rattle.sexp_keys.specs.Key.{Key, IsKey, clear_with};

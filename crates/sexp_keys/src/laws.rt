@@ -1,3 +1,7 @@
+//! A law: an expression is one key or has one first fault, and a key's expression is that key. A
+//! function without a body, whose contract is a fact about `specs/Key` and `specs/Faults`; it
+//! touches nothing.
+
 ghost use Rattle.std.specs.Prelude.{◌≡◌, Result};
 ghost use Rattle.sexp_canonical.specs.Tree.{Tree};
 ghost use Rattle.sexp_keys.specs.Key.{Key, IsFormed, IsKey, key_tree};

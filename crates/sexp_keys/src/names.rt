@@ -1,4 +1,6 @@
-//! The names of a key: of its form and of its algorithm.
+//! The names of a key: of its form and of its algorithm. Pure, over slices of the expression. Begin
+//! with `names_of`; `HasNames` of `specs/Named` says what it finds, and `named_fault` of
+//! `specs/Faults` the fault.
 
 ghost use Rattle.std.specs.Prelude.{◌≡◌, ◌∷◌, Some, IfOk, IfErr};
 ghost use Rattle.sexp_canonical.specs.Tree.{leaf};

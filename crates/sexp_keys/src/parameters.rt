@@ -1,4 +1,6 @@
-//! The parameters of a key, and the lists of a protected one.
+//! The parameters of a key, and the lists of a protected one. Pure, over slices of the expression.
+//! Begin with `parts_of`; most functions are their namesakes in `specs/Parameters`, and `AreParts`
+//! stands in `specs/Named`.
 
 ghost use Rattle.std.specs.Prelude.{◌≡◌, List, map, IfSome, IfNone};
 ghost use Rattle.std.specs.List.{list_all};

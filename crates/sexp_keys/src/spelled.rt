@@ -1,4 +1,6 @@
-//! The lists of a key.
+//! The lists of a key, as it is named, sent, hashed and kept in files. Each takes memory for its
+//! text alone. Begin with `KeyList::public_list` and `KeyList::grip`; `specs/Lists` says what each
+//! list is.
 
 ghost use Rattle.std.specs.Prelude.{◌≡◌, ◌<◌, ◌≤◌, ◌∷◌, ◌++◌, length, IfOk, IfNone, IfSome, OnOk};
 ghost use Rattle.std.specs.Prelude.{IsTrue};

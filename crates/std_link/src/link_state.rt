@@ -1,3 +1,7 @@
+//! How a reader and a writer of std are used as a link: a read again after a signal, a write in as
+//! many pieces as it takes, and a flush. It touches those two and its own counts of faults. Begin
+//! with `LinkState::read` and `LinkState::put`, which both adapters call.
+
 ghost use Rattle.std.specs.Prelude.{◌≡◌, ◌≤◌, ◌<◌, ◌↔◌, ◌⊎◌, true, false, length, take, IfSome};
 ghost use Rattle.std.specs.Prelude.{IfNone};
 ghost use Rattle.std.specs.Io.KnownBytes.{Keeps, Appends, Consumes, IsAtEnd};

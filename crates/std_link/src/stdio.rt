@@ -1,3 +1,7 @@
+//! A reader and a writer as one link, as standard input and output are. It owns both, and touches
+//! nothing else. Begin with `StdLink::read` and `StdLink::put`, whose clauses say what was taken
+//! and given; the tests below have readers and writers that stop short.
+
 ghost use Rattle.std.specs.Prelude.{◌≡◌, ◌≤◌, ◌<◌, ◌↔◌, ◌⊎◌, None, false, length, refl, take, true};
 ghost use Rattle.std.specs.Io.KnownBytes.{Appends, Consumes, IsAtEnd};
 ghost use Rattle.agent_ports.specs.Counts.{Rose};

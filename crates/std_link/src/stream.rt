@@ -1,3 +1,7 @@
+//! A stream that is read and written as one link, as a socket is. It owns the stream, and touches
+//! nothing else. Begin with `StreamLink::read` and `StreamLink::put`; the work is done in
+//! `link_state`.
+
 ghost use Rattle.std.specs.Prelude.{◌≡◌, ◌≤◌, ◌<◌, ◌↔◌, ◌⊎◌, None, false, length, refl, take, true};
 ghost use Rattle.std.specs.Io.KnownBytes.{Appends, Consumes, IsAtEnd};
 ghost use Rattle.agent_ports.specs.Counts.{Rose};

@@ -1,3 +1,7 @@
+//! A new entry at the end of a trust list (GnuPG manual, "Agent's Assuan protocol", MARKTRUSTED).
+//! It takes memory for the new file alone, and touches none on disk. Begin with `add_trust`;
+//! `with_entry` of `specs/Trust` is the file.
+
 ghost use Rattle.std.specs.Prelude.{◌≡◌, ◌<◌, ◌≤◌, ◌↔◌, length, vec_len, IfOk};
 ghost use Rattle.trust_list.specs.Trust.{missing_end, with_entry, IsNewFlag};
 

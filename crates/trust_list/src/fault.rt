@@ -1,3 +1,6 @@
+//! Why an entry isn't added, and how that is printed. Plain data. Begin with `TrustFault`; the
+//! clauses of `add_trust` say when each one comes.
+
 ghost use Rattle.std.specs.Prelude.{◌≡◌};
 ghost use Rattle.trust_list.specs.declared.fault.TrustFault.TheVariants.{NoMemory};
 

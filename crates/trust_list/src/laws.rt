@@ -1,3 +1,7 @@
+//! Laws of trust lists: what an entry says, that the first one decides, and what a new one changes.
+//! Functions without a body, whose contracts are facts about the definitions; they touch nothing.
+//! Begin with `entries_are_read`; `specs/Written` says how an entry is written.
+
 ghost use Rattle.std.specs.Prelude.{◌≡◌, ◌≢◌, ◌↔◌, ℕ, List, Bool, true, length, Some, None};
 ghost use Rattle.std.specs.List.{All, slice_split};
 ghost use Rattle.hex.specs.Hex.{IsBytes, encode_upper};

@@ -1,4 +1,5 @@
-//! What one line of the file says.
+//! What one line of the file says. Pure, over slices. Begin with `judgement_of`; each function is
+//! its namesake in `specs/Entries`, over the line's words.
 
 ghost use Rattle.std.specs.Prelude.{◌≡◌};
 ghost use Rattle.std.specs.Str.{bytes_eq};

@@ -1,3 +1,7 @@
+//! Waiting for the next client, through faults that pass and up to a stop. It touches the listening
+//! socket, and sets the limits of a client's waits. Begin with `accept_next`; no clause speaks of
+//! it, and tests show which faults pass.
+
 use crate::path::SocketName;
 use std::io::ErrorKind;
 use std::os::unix::net::{UnixListener, UnixStream};

@@ -1,4 +1,6 @@
-//! Why there is no socket in a folder, and how that is said on the error stream.
+//! Why there is no socket in a folder, and how that is said on the error stream. Plain data. Begin
+//! with `BindFault`: a folder that others may change has no socket, beside whatever the system
+//! refuses.
 
 use std::fmt::{Display, Formatter};
 use std::{fmt, io};

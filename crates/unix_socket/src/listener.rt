@@ -1,3 +1,7 @@
+//! A Unix socket as the agent's listener: each client is a link, and a stop wakes all workers. It
+//! is shared by `&self`, counts faults in each worker's ear (fault counter), and removes its socket
+//! in the end. Begin with `SocketListener::bind` and `next`; the clauses are those of `Listener`.
+
 ghost use Rattle.std.specs.Prelude.{◌≡◌, ⊤, IfOk};
 ghost use Rattle.agent_ports.specs.Listening.{NothingFailed};
 

@@ -1,3 +1,7 @@
+//! Where the sockets lie, and how one is made that nobody but its owner can reach or replace. It
+//! makes the folder, a fresh folder in it and the socket, and moves that into its place. Begin with
+//! `bind_at`; tests show what it does, since no clause speaks of files.
+
 use crate::fault::BindFault;
 use std::alloc::Global;
 use std::fs::{DirBuilder, Files, Permissions};

@@ -1,3 +1,7 @@
+//! The listener over the system's own sockets, in a folder of the test's own below the temporary
+//! one: owners and modes, stops, wrong paths, long waits. They make folders and sockets, and remove
+//! them. Begin with `a_client_gets_its_answers_over_the_owners_socket`.
+
 use crate::SocketName::{Extra, Standard};
 use crate::accepting::{AcceptFault, limit_waits};
 use crate::{BindFault, SocketEar, SocketListener};

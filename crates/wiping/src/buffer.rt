@@ -1,3 +1,7 @@
+//! A buffer of at most `N` bytes in the value itself, which is overwritten: the place for lines,
+//! secrets and what is made of them. No memory is taken. Begin with `Wiped::of` and `Wiped::clear`;
+//! contracts see a list of bytes.
+
 ghost use Rattle.std.specs.Prelude.{◌≡◌, ◌↔◌, ◌+◌, ◌<◌, ◌≤◌, [], ◌∷◌, ◌++◌, length, IsOk, IsTrue};
 ghost use Rattle.std.specs.Prelude.{OnOk, OnErr, IsSome, IfSome};
 

@@ -1,3 +1,7 @@
+//! Overwriting bytes so that the optimiser keeps it, and overwriting the stack below a caller.
+//! `wipe` touches its bytes, `wipe_stack` a frame of its own. Begin with the comment at `wipe`,
+//! which says why it is written so; the machine's side of it has no proof.
+
 ghost use Rattle.std.specs.Prelude.{◌≡◌, length, replicate};
 
 use std::hint;

@@ -1,3 +1,7 @@
+//! The calls of the buffer and of both overwritings, once each, and how many bytes a buffer takes.
+//! They touch values of their own, and the stack below them. Begin with the buffer that is filled
+//! up.
+
 use super::*;
 use std::test::Fail;
 

@@ -1,4 +1,6 @@
-//! The calls of the trust file, as parts of a request.
+//! The calls of the trust file, as parts (actions) of a request: it is read, and put in place anew.
+//! Nothing but the file is called. Begin with `trusted_now` and `store_unsaid`; these are
+//! `TrustedNow` and `StoresUnsaid` (`specs/TrustExchanges`).
 
 ghost use Rattle.std.specs.Prelude.{◌≡◌, IfOk, IfErr};
 ghost use Rattle.agent_origin.specs.TrustExchanges.{Stores, StoresUnsaid, TrustedNow};

@@ -1,4 +1,6 @@
-//! MARKTRUSTED.
+//! MARKTRUSTED: two consents of the user under one ticket (permit), and then an entry in the trust
+//! list. It works on the desk (cache handle), the prompter, the client and the trust file. Begin
+//! with `mark_trusted`; its events are `Marked` (`specs/TrustExchanges`).
 
 ghost use Rattle.std.specs.Prelude.{◌≡◌, None, Some};
 ghost use Rattle.agent_ask.specs.PartStates.{NoTurn};
@@ -81,10 +83,7 @@ fn ask<L: Link, D: Desk, P: Prompter, T: TrustFile>(
     match marking.options.mode() {
         PinMode::Ask => {
             hold_seat(None, held, desk)?;
-            match held.ticket() {
-                Some(ticket) => mark_consented(marking, ticket, conn, prompter, trust),
-                None => unreachable!(),
-            }
+            mark_consented(marking, held.ticket(), conn, prompter, trust)
         }
         PinMode::Cancel => Err(Refusal::Agent(Code::Cancelled)),
         PinMode::Error | PinMode::Loopback => Err(Refusal::Agent(Code::NoPinentry)),

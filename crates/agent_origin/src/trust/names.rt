@@ -1,3 +1,8 @@
+//! The commands on the trust list by their names (GnuPG manual, "Agent's Assuan protocol"), for the
+//! reader and for HELP. Pure; a command is found in any case of its letters. Begin with
+//! `TRUST_COMMANDS`; `specs/TrustNames` has the table again, and `trust_commands_are_as_defined`
+//! ties them.
+
 ghost use Rattle.std.specs.Prelude.{◌≡◌, map};
 ghost use Rattle.agent_origin.specs.TrustNames.{commands_on_trust, trust_command_named};
 ghost use Rattle.agent_origin.specs.declared.trust.names.TheConstants.{TRUST_COMMANDS};

@@ -1,4 +1,6 @@
-//! What the user is asked.
+//! What the user is asked by MARKTRUSTED: whether the certificate is trusted, and whether its
+//! fingerprint is right. Pure. Begin with `trust_question`; `specs/TrustExchanges` defines both
+//! texts.
 
 ghost use Rattle.std.specs.Prelude.{◌≡◌};
 ghost use Rattle.agent_origin.specs.TrustExchanges.{trust_question, fingerprint_question};

@@ -1,3 +1,7 @@
+//! A line with a command on the trust list, read as its request or as the code that refuses it.
+//! Pure. Begin with `read_trust`, or with `read_trust_cut` for a line that is cut already; both
+//! give `trust_request_of` the line (`specs/TrustRequests`).
+
 ghost use Rattle.std.specs.Prelude.{◌≡◌, ◌≤◌, length};
 ghost use Rattle.assuan_text.specs.Options.{arguments_of};
 ghost use Rattle.assuan_text.specs.Words.{words};

@@ -1,4 +1,5 @@
-//! What is written for a request, once all else is done for it.
+//! What is written for a request, once all else is done for it: OK, or its error line. It writes on
+//! the connection alone. It has one function, `respond`, which also says how the session goes on.
 
 ghost use Rattle.std.specs.Prelude.{◌≡◌};
 ghost use Rattle.agent_commands.specs.Steps.{RespondsTo, ok_by};

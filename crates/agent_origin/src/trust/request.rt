@@ -1,3 +1,7 @@
+//! The requests on the trust list (GnuPG manual, "Agent's Assuan protocol"), as lines are read: a
+//! fingerprint, what it is trusted for, and its owner's name. Plain data of fixed size. Begin with
+//! `TrustRequest`; which one a line is says `trust_request_of` (`specs/TrustRequests`).
+
 ghost use Rattle.std.specs.Prelude.{◌≡◌};
 ghost use Rattle.agent_origin.specs.TrustExchanges.{flag_of};
 

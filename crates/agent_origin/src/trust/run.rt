@@ -1,4 +1,6 @@
-//! A request on the trust list, carried out and answered.
+//! A request on the trust list, carried out and answered. It works on the connection, the desk
+//! (cache handle), the prompter and the trust file, and leaves no ticket (permit) out. Begin with
+//! `run_trust`; what it does is `AnswersTrust` (`specs/TrustExchanges`).
 
 ghost use Rattle.std.specs.Prelude.{◌≡◌, None};
 ghost use Rattle.agent_ask.specs.Prompters.{IsShut};

@@ -1,3 +1,7 @@
+//! The options of the agent by their names, and what each takes: a flag, a path, or a number
+//! between bounds. Pure. Begin with the table `FORMS`; `specs/Forms` has it again, with what a
+//! value of each form is.
+
 ghost use Rattle.std.specs.Prelude.{◌≡◌, Some};
 ghost use Rattle.std.specs.Option.{option_map};
 ghost use Rattle.assuan_text.specs.Rows.{found, rows_of};

@@ -1,3 +1,7 @@
+//! The options that words gave, as clap reads them: each once, and with a value where it takes one.
+//! It takes memory, and calls nothing else. Begin with `Given::read`; what it gives of which words
+//! says `specs/Options`.
+
 ghost use Rattle.std.specs.Prelude.{◌≡◌, ◌&&◌, ℕ, IfOk, IfErr, true, false, List, [], map};
 ghost use Rattle.std.specs.Prelude.{string_bytes, is_some};
 ghost use Rattle.std.specs.List.{list_all};

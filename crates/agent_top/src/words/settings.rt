@@ -1,3 +1,6 @@
+//! A law on the words of the command line, which ties how they are read to how a user spells them.
+//! Nothing runs. The settings that words spell are in `specs/Settings`.
+
 ghost use Rattle.std.specs.Prelude.{◌≡◌, true, ℕ, List};
 ghost use Rattle.std.specs.List.{list_all};
 ghost use Rattle.agent_top.specs.Forms.{fits};

@@ -1,3 +1,7 @@
+//! What is kept of an inquiry's bytes: all of them in memory up to a limit, a secret in place, or
+//! their number alone. Each works on its own bytes, and overwrites them where it keeps some. Begin
+//! with `Buffer::add`; `specs/Buffers` says what each has of the bytes that came.
+
 ghost use Rattle.std.specs.Prelude.{◌≡◌, ◌≤◌, ◌<◌, ◌+◌, ◌++◌, [], false, ℕ, List, length, vec_len};
 ghost use Rattle.std.specs.Prelude.{OnOk, OnErr, MatchOption};
 ghost use Rattle.cache_policy.specs.declared.secret.TheConstants.{MAX_SECRET_LEN};

@@ -1,3 +1,7 @@
+//! How an inquiry ends that has no bytes for its caller, once for all kinds of inquiry. Pure, but
+//! that the line which ended it is overwritten. Begin with `end_of`; `ComesTo` of `specs/Inquiries`
+//! says which end that line is.
+
 ghost use Rattle.std.specs.Prelude.{◌≡◌, ℕ, List, codes, OnOk, IfErr, MatchResult};
 ghost use Rattle.assuan_server.specs.Failures.{without};
 ghost use Rattle.assuan_server.specs.Inquiries.{ComesTo, IsWord};

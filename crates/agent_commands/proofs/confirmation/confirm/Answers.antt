@@ -1,6 +1,5 @@
-use Rattle.std.proofs.Common.{◌≡◌, Some, sym, ap, ◌∙◌, inl, inr, refl}
+use Rattle.std.proofs.Common.{sym, ◌∙◌, inl, inr, refl}
 use Rattle.std.proofs.lemmas.Result.{err_from_is_err_and}
-use Rattle.std.specs.Option.{option_copied}
 use Rattle.agent_ask.specs.Parts.{refuses}
 use Rattle.agent_ask.proofs.PartsDone.{part_then, part_stops, part_still, part_turned}
 use Rattle.agent_commands.proofs.Carrying.{beside_prompter, seat_turn}
@@ -13,11 +12,10 @@ returns-in_err-hold_seat-in-Ask-clause-confirms g c =
     rw (sym c.mode.ensures ∙ c.in-Ask.is, c.requires.none, p.1, p.2)
     (part_stops (part_turned c.requires.open turn))
 
-pub returns-in-Some-clause-confirms : goal.returns-in-Some-clause-confirms
-returns-in-Some-clause-confirms g c =
-    let held : c.hold_seat.new.held ≡ Some c.in-Some.ticket.now = sym c.ticket.ensures ∙ ap option_copied c.in-Some.is in
+pub returns-in_ok-hold_seat-in-Ask-clause-confirms : goal.returns-in_ok-hold_seat-in-Ask-clause-confirms
+returns-in_ok-hold_seat-in-Ask-clause-confirms g c =
     rw (sym c.mode.ensures ∙ c.in-Ask.is, c.requires.none)
-    (part_then (part_turned c.requires.open (seat_turn c.in_ok-hold_seat-in-Ask.ensures.taken)) (rw held (beside_prompter g.D.Desk.turned g.P.Prompter.prompted c.hold_seat.new.desk c.ask_consent.ensures.agrees)))
+    (part_then (part_turned c.requires.open (seat_turn c.in_ok-hold_seat-in-Ask.ensures.taken)) (rw (← c.ticket.ensures) (beside_prompter g.D.Desk.turned g.P.Prompter.prompted c.hold_seat.new.desk c.ask_consent.ensures.agrees)))
 
 pub returns-in-Cancel-clause-confirms : goal.returns-in-Cancel-clause-confirms
 returns-in-Cancel-clause-confirms g c =

@@ -10,5 +10,5 @@ fetch_add-requires g c = (
   search rules,
   search rules,
   marks _ _ _ _ g.J.Naming.mark c.requires.works (ap (λ (m : Mark). m.session.pass) c.requires.named ∙ c.requires.by)
-      (subst (λ (m : Mark). IsLegalLog (own c.args.seat.now.me).limits ((own c.args.seat.now.me).seen ++ m ∷ [])) (sym c.requires.named) c.requires.legal),
+      (subst (λ (m : Mark). IsLegalLog (own c.args.place.now.me).limits ((own c.args.place.now.me).seen ++ m ∷ [])) (sym c.requires.named) c.requires.legal),
 )

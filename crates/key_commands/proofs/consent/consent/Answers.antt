@@ -1,6 +1,5 @@
-use Rattle.std.proofs.Common.{◌≡◌, Some, sym, ap, ◌∙◌, inl, inr, refl}
+use Rattle.std.proofs.Common.{sym, ◌∙◌, inl, inr, refl}
 use Rattle.std.proofs.lemmas.Result.{err_from_is_err_and}
-use Rattle.std.specs.Option.{option_copied}
 use Rattle.agent_ask.specs.Parts.{returns, refuses}
 use Rattle.agent_ask.proofs.PartsDone.{part_then, part_stops, part_turned, part_still}
 use Rattle.key_commands.proofs.Partial.{beside_prompter}
@@ -18,11 +17,10 @@ returns-in_err-hold_seat-in-Ask-clause-consents g c =
     rw (c.if-force.false, sym c.mode.ensures ∙ c.in-Ask.is, c.requires.none, p.1, p.2)
     (part_stops (part_turned c.requires.open turn))
 
-pub returns-in-Some-clause-consents : goal.returns-in-Some-clause-consents
-returns-in-Some-clause-consents g c =
-    let held : c.hold_seat.new.held ≡ Some c.in-Some.ticket.now = sym c.ticket.ensures ∙ ap option_copied c.in-Some.is in
+pub returns-in_ok-hold_seat-in-Ask-clause-consents : goal.returns-in_ok-hold_seat-in-Ask-clause-consents
+returns-in_ok-hold_seat-in-Ask-clause-consents g c =
     rw (c.if-force.false, sym c.mode.ensures ∙ c.in-Ask.is, c.requires.none)
-    (part_then (part_turned c.requires.open (seat_turn c.in_ok-hold_seat-in-Ask.ensures.taken)) (rw held (beside_prompter c.ask_consent.ensures.agrees)))
+    (part_then (part_turned c.requires.open (seat_turn c.in_ok-hold_seat-in-Ask.ensures.taken)) (rw (← c.ticket.ensures) (beside_prompter c.ask_consent.ensures.agrees)))
 
 pub returns-in-Cancel-clause-consents : goal.returns-in-Cancel-clause-consents
 returns-in-Cancel-clause-consents g c =

@@ -8,30 +8,30 @@ use Rattle.key_commands.proofs.AtPrompt.{opened_last, opens_last, spec_says, pla
 use Rattle.key_commands.proofs.prompting.prompt_old.Goals as goal
 
 pub pin_refusal-requires : goal.pin_refusal-requires
-pin_refusal-requires g c = pin_refuses c.ask_user.result c.ask_user.ensures.unheard c.in_default-ask_user.not-Pin
+pin_refusal-requires g c = pin_refuses c.ask_user.result c.ask_user.ensures.unheard c.in_default.not-Pin
 
-pub unreachable-requires-in-None : goal.unreachable-requires-in-None
-unreachable-requires-in-None g c =
+pub unreachable-requires : goal.unreachable-requires
+unreachable-requires g c =
     let last = opened_last (λ test. test.locked.now) (λ test. test.opened) (c.in-Pin.ensures.accepted c.in-Pin.pin refl) in
     cc (last.is, c.into_opened.ensures, c.in-None.is)
 
-pub returns-in-Some-into_opened-clause-prompts : goal.returns-in-Some-into_opened-clause-prompts
-returns-in-Some-into_opened-clause-prompts g c =
+pub returns-in-Some-clause-prompts : goal.returns-in-Some-clause-prompts
+returns-in-Some-clause-prompts g c =
     let last = opened_last (λ test. test.locked.now) (λ test. test.opened) (c.in-Pin.ensures.accepted c.in-Pin.pin refl) in
     let spec = spec_says (rw c.old_description.ensures at c.described.ensures) c.field_text.ensures c.prompt_spec-spec.ensures in
     let plan = plan_says c.args.asking.now.rules.now c.args.asking.now.options.now false 0 c.ask_plan-plan.ensures c.new.ensures in
-    rw (← c.ticket.ensures, c.in-Some.is)
-    (prompt_gave connection_views (DoesBesideKeys g.P.Prompter.prompted) (λ same. same) each_prompted c.in-Pin.ensures.asked c.in-Pin.ensures.left (λ events prompts. opens_by c.prompt_spec-spec.result spec (planned plan prompts) (opens_last last c.in-Some-into_opened.ensures).0))
+    rw (← c.ticket.ensures)
+    (prompt_gave connection_views (DoesBesideKeys g.P.Prompter.prompted) (λ same. same) each_prompted c.in-Pin.ensures.asked c.in-Pin.ensures.left (λ events prompts. opens_by c.prompt_spec-spec.result spec (planned plan prompts) (opens_last last c.in-Some.ensures).0))
 
-pub returns-in-Some-into_opened-clause-usable : goal.returns-in-Some-into_opened-clause-usable
-returns-in-Some-into_opened-clause-usable g c =
+pub returns-in-Some-clause-usable : goal.returns-in-Some-clause-usable
+returns-in-Some-clause-usable g c =
     let last = opened_last (λ test. test.locked.now) (λ test. test.opened) (c.in-Pin.ensures.accepted c.in-Pin.pin refl) in
-    (opens_last last c.in-Some-into_opened.ensures).1
+    (opens_last last c.in-Some.ensures).1
 
-pub returns-in_default-ask_user-clause-prompts : goal.returns-in_default-ask_user-clause-prompts
-returns-in_default-ask_user-clause-prompts g c =
+pub returns-in_default-clause-prompts : goal.returns-in_default-clause-prompts
+returns-in_default-clause-prompts g c =
     let spec = spec_says (rw c.old_description.ensures at c.described.ensures) c.field_text.ensures c.prompt_spec-spec.ensures in
     let plan = plan_says c.args.asking.now.rules.now c.args.asking.now.options.now false 0 c.ask_plan-plan.ensures c.new.ensures in
-    rw (← c.ticket.ensures, c.in-Some.is)
+    rw (← c.ticket.ensures)
     (prompt_refused connection_views (DoesBesideKeys g.P.Prompter.prompted) (λ same. same) each_prompted c.ask_user.ensures.asked c.pin_refusal.ensures c.ask_user.ensures.left
     (λ events prompts. refused c.prompt_spec-spec.result spec (planned plan prompts) c.pin_refusal.ensures))

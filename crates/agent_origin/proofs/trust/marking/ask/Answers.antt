@@ -1,6 +1,5 @@
-use Rattle.std.proofs.Common.{◌≡◌, Some, sym, ap, ◌∙◌, inl, inr, refl}
+use Rattle.std.proofs.Common.{sym, ◌∙◌, inl, inr, refl}
 use Rattle.std.proofs.lemmas.Result.{err_from_is_err_and}
-use Rattle.std.specs.Option.{option_copied}
 use Rattle.agent_ask.specs.Parts.{refuses}
 use Rattle.agent_ask.proofs.PartsDone.{part_then, part_stops, part_still, part_turned}
 use Rattle.agent_commands.proofs.Carrying.{seat_turn}
@@ -14,12 +13,11 @@ returns-in_err-hold_seat-in-Ask-clause-asks g c = λ keys dice.
     rw (sym c.mode.ensures ∙ c.in-Ask.is, p.1, p.2)
     (part_stops (part_turned c.requires.open turn))
 
-pub returns-in-Some-clause-asks : goal.returns-in-Some-clause-asks
-returns-in-Some-clause-asks g c = λ keys dice.
-    let held : c.hold_seat.new.held ≡ Some c.in-Some.ticket.now = sym c.ticket.ensures ∙ ap option_copied c.in-Some.is in
+pub returns-in_ok-hold_seat-in-Ask-clause-asks : goal.returns-in_ok-hold_seat-in-Ask-clause-asks
+returns-in_ok-hold_seat-in-Ask-clause-asks g c = λ keys dice.
     rw (sym c.mode.ensures ∙ c.in-Ask.is)
     (part_then (part_turned c.requires.open (seat_turn c.in_ok-hold_seat-in-Ask.ensures.taken))
-    (rw held (beside_desk g.D.Desk.turned g.P.Prompter.prompted c.hold_seat.new.desk c.mark_consented.ensures.marks keys dice)))
+    (rw (← c.ticket.ensures) (beside_desk g.D.Desk.turned g.P.Prompter.prompted c.hold_seat.new.desk c.mark_consented.ensures.marks keys dice)))
 
 pub returns-in-Cancel-clause-asks : goal.returns-in-Cancel-clause-asks
 returns-in-Cancel-clause-asks g c = λ keys dice.

@@ -19,8 +19,8 @@ invariant_of-pass g c =
 pub returns-clause-tries : goal.returns-clause-tries
 returns-clause-tries g c =
     let by : c.args.session.pass ≡ c.pass.inside.number = first_of (search rules, cc, grind (arith, common_steps)) in
-    let was : at_pass c.pass.inside.seat.table_id c.pass.inside.number c.pass.inside.sessions c.pass.inside.seat.me ≡ c.args.pass.now = first_of (search rules, cc) in
+    let was : at_pass c.pass.inside.place.table_id c.pass.inside.number c.pass.inside.sessions c.pass.inside.place.me ≡ c.args.pass.now = first_of (search rules, cc) in
     subst (λ (z : AtPass × AtPass). Tries c.args.session (g.C.Clock.readings c.args.clock.now) (g.C.Clock.readings c.take_turn-answer.new.clock) (mark_step c.args.session c.args.step) z.0
     (turn_of c.take_turn-answer.result.answer) z.1)
-    (λ i. (was i, ap (λ (t : TableId). at_pass t c.pass.inside.number c.pass.inside.sessions c.take_turn-answer.new.seat.me) (sym c.take_turn-answer.ensures.own) i))
-    (tries c.pass.inside.seat.table_id _ _ _ _ _ _ _ _ _ _ _ _ c.pass.invariant by c.take_turn-answer.ensures.read c.take_turn-answer.ensures.takes)
+    (λ i. (was i, ap (λ (t : TableId). at_pass t c.pass.inside.number c.pass.inside.sessions c.take_turn-answer.new.place.me) (sym c.take_turn-answer.ensures.own) i))
+    (tries c.pass.inside.place.table_id _ _ _ _ _ _ _ _ _ _ _ _ c.pass.invariant by c.take_turn-answer.ensures.read c.take_turn-answer.ensures.takes)
