@@ -2,7 +2,7 @@
 use Rattle.std.proofs.Common.{◌≡◌, ◌≤◌, ℕ, List, [], ◌∷◌, ◌++◌, Option, Some, None, Result, Ok, Err, refl, arith}
 use Rattle.cache_policy.specs.declared.mark.MarkStep.{MarkStep}
 use Rattle.cache_policy.specs.declared.mark.MarkStep.TheVariants.{Close}
-use Rattle.cache_policy.specs.Turns.{Turn, Open, FitsStep}
+use Rattle.cache_policy.specs.Turns.{Turn, Open, Done, FitsStep}
 use Rattle.session_client.specs.Lines.{Lines, Views, IsOpen}
 use Rattle.session_client.specs.declared.refusal.Refusal.{Refusal}
 use Rattle.session_client.specs.declared.unheard.Gone.{Gone}
@@ -10,9 +10,9 @@ use Rattle.agent_ask.specs.Answering.{ReaderLeft, FaultsCounted}
 use Rattle.agent_ask.specs.Further.{FurtherEvent, EventOf, world_with}
 use Rattle.agent_ask.specs.Parts.{PartOf, ◌>>=◌, goes_on, stops}
 use Rattle.agent_ask.specs.PartStates.{PartState, part_state, gone_in, DoesPart, NoTurn, NoEnd, DoesWithClient, DoesTurn, DoesTurns, still, one}
-use Rattle.agent_ask.specs.Seats.{Gives, TakesTicket, GivesTicket, opened as ticket_opened, interrupted as ticket_refused, taken, refused, unheld, given}
+use Rattle.agent_ask.specs.Seats.{Gives, TakesTicket, GivesTicket, Changed, ChangesCache, opened as ticket_opened, interrupted as ticket_refused, taken, refused, unheld, given, changed, unchanged}
 use Rattle.agent_ask.specs.SessionEvents.{AnyEvent, cache_turn}
-use Rattle.agent_ask.specs.TurnParts.{Seats, Closes, closed}
+use Rattle.agent_ask.specs.TurnParts.{Seats, Changes, Closes, closed}
 use Rattle.agent_ask.specs.TurnParts as turns
 use Rattle.agent_ask.proofs.Beside.{done_in}
 use Rattle.agent_ask.proofs.Doing.{done_none, done_then, done_turned}
@@ -145,6 +145,16 @@ module _ {T O F D : Type 0} {turned : D → MarkStep → Turn → D → Type 0} 
       → DoesTurn turned (Seats {T = T} {O = O} {F = F} step) None desk result after now
   ticket_taken (taken wants) = opened_by wants.turned_so wants.fits wants.gives
   ticket_taken (refused wants) = refused_by wants.turned_so wants.fits wants.gives
+
+module _ {T O F D : Type 0} {turned : D → MarkStep → Turn → D → Type 0} {desk now : D} {held : Option ℕ} where
+  changed_by : {step : MarkStep} {turn : Turn} {result : Result (Unit {0}) Refusal} → turned desk step turn now → FitsStep step turn → Changed turn result
+      → DoesTurn turned (Changes {T = T} {O = O} {F = F} step) held desk result held now
+  changed_by {step} turned_so fits changed = record { step = step; turn = Done; turned_so = turned_so; does = turns.Changes.done fits; on = refl }
+  changed_by {step} {turn} turned_so fits (unchanged by) = record { step = step; turn = turn; turned_so = turned_so; does = turns.Changes.interrupted fits by; on = refl }
+
+  -- a request changed the cache, or is refused
+  pub cache_changed : {step : MarkStep} {result : Result (Unit {0}) Refusal} → ChangesCache turned step desk result now → DoesTurn turned (Changes {T = T} {O = O} {F = F} step) held desk result held now
+  cache_changed changes = changed_by changes.turned_so changes.fits changes.gives
 
 -- a request gave its ticket back
 pub ticket_given : {T O F D : Type 0} {turned : D → MarkStep → Turn → D → Type 0} {desk now : D} {keep : Option (List ℕ)} {before : Option ℕ} → GivesTicket turned keep before desk now

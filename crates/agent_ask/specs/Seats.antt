@@ -1,9 +1,9 @@
--- How a request comes by the ticket of a prompt. This is the project's own.
+-- How a request comes by the ticket of a prompt, and changes the cache. This is the project's own.
 use Rattle.std.specs.Prelude.{◌≡◌, ℕ, List, Option, Some, None, Result, Ok, Err}
 use Rattle.cache_policy.specs.Desks.{AtDesk}
 use Rattle.cache_policy.specs.declared.mark.MarkStep.{MarkStep}
-use Rattle.cache_policy.specs.declared.mark.MarkStep.TheVariants.{Close}
-use Rattle.cache_policy.specs.Turns.{Turn, Open, FitsStep}
+use Rattle.cache_policy.specs.declared.mark.MarkStep.TheVariants.{Close, Put, Clear, Flush, Stop}
+use Rattle.cache_policy.specs.Turns.{Turn, Open, Done, FitsStep}
 use Rattle.session_client.specs.declared.code.Code.{Code}
 use Rattle.session_client.specs.declared.refusal.Refusal.{Refusal}
 use Rattle.session_client.specs.declared.refusal.Refusal.TheVariants.{Agent}
@@ -32,6 +32,26 @@ pub data GivesTicket {D : Type 0} (turned : D → MarkStep → Turn → D → Ty
   unheld : {desk : D} → GivesTicket turned keep None desk desk
   given : {ticket : ℕ} {desk now : D} (turn : Turn) → turned desk (Close ticket keep) turn now → FitsStep (Close ticket keep) turn
       → GivesTicket turned keep (Some ticket) desk now
+
+-- a step that changes the cache, and gives no ticket back
+abbrev pub IsChange : MarkStep → Type 0
+IsChange (Put id mode life secret) = Unit {0}
+IsChange (Clear id mode) = Unit {0}
+IsChange Flush = Unit {0}
+IsChange Stop = Unit {0}
+IsChange _ = ⊥
+
+-- what a turn gives that changes the cache: that it is changed, or why the request is refused
+pub data Changed : Turn → Result (Unit {0}) Refusal → Type 0 where
+  changed : Changed Done (Ok tt)
+  unchanged : {turn : Turn} {code : Code} → Interrupts turn code → Changed turn (Err (Agent code))
+
+-- it was changed by one turn at a desk
+pub record ChangesCache {D : Type 0} (turned : D → MarkStep → Turn → D → Type 0) (step : MarkStep) (desk : D) (result : Result (Unit {0}) Refusal) (now : D) : Type 0 where
+  pub turn : Turn
+  pub turned_so : turned desk step turn now
+  pub fits : FitsStep step turn
+  pub gives : Changed turn result
 
 -- Between the parts of a request that holds this ticket: no other is out, and no prompt is open.
 pub record IsReady (desk : AtDesk) (prompter : AtPrompter) (ticket : Option ℕ) : Type 0 where

@@ -17,13 +17,12 @@ ghost use Rattle.agent_commands.specs.States.{prompt_state};
 ghost use Rattle.agent_commands.specs.Steps.{CacheAsks, DoesAtDesk, DoesAtPrompter, IsGet};
 ghost use Rattle.agent_commands.specs.Steps.{PassphraseOf};
 
-use crate::command::change;
 use crate::found::Found;
 use crate::inquiry::ask_client;
 use crate::{CacheCommand, Texts};
 use agent_ask::{
-    AnyPin, Asked, Held, Prompter, ask_plan, ask_user, close, hold_seat, pin_refusal, prompt_spec,
-    without_memory,
+    AnyPin, Asked, Held, Prompter, ask_plan, ask_user, change, close, hold_seat, pin_refusal,
+    prompt_spec, without_memory,
 };
 use agent_ports::Link;
 use assuan_server::{Code, Conn};

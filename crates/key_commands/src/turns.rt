@@ -14,7 +14,7 @@ ghost use Rattle.key_commands.specs.Lines.{grip_text};
 ghost use Rattle.key_commands.specs.Steps.{TakesTurn, TakesTurns};
 
 use crate::texts::{key_id, nonce_id};
-use agent_ask::{Held, hold_seat, without_memory};
+use agent_ask::{Held, change, hold_seat, without_memory};
 use agent_ports::Grip;
 use assuan_server::Code;
 use cache_policy::{CacheId, Desk, Life, Mode, Refused, Reply, Secret, Step, Under, Way};
@@ -82,17 +82,13 @@ pub(crate) fn keep_pass<D: Desk>(
         (Changes (put_key grip.now pass.now)) held.now desk.old result held.now desk.new }
     ensures out { (D.at desk.new).out ≡ held.now }
 {
-    match desk.turn(Step::Put {
+    let step = Step::Put {
         id: key_id(grip),
         mode: Mode::Normal,
         life: Life::Default,
         secret: pass.copy(),
-    }) {
-        Ok(Reply::Done) => Ok(()),
-        Ok(Reply::Stopping) => Err(Refusal::Agent(Code::Cancelled)),
-        Ok(_) => unreachable!(),
-        Err(Refused { step }) => Err(without_memory(step)),
-    }
+    };
+    change(step, desk)
 }
 
 /// Keeps a passphrase under a nonce.
@@ -107,17 +103,13 @@ pub(crate) fn keep_by_nonce<D: Desk>(
         held.now desk.old result held.now desk.new }
     ensures out { (D.at desk.new).out ≡ held.now }
 {
-    match desk.turn(Step::Put {
+    let step = Step::Put {
         id: nonce_id(nonce),
         mode: Mode::Nonce,
         life: Life::Default,
         secret: pass.copy(),
-    }) {
-        Ok(Reply::Done) => Ok(()),
-        Ok(Reply::Stopping) => Err(Refusal::Agent(Code::Cancelled)),
-        Ok(_) => unreachable!(),
-        Err(Refused { step }) => Err(without_memory(step)),
-    }
+    };
+    change(step, desk)
 }
 
 /// Whether a key's passphrase is cached. It isn't used, and lives no longer by this.
@@ -145,13 +137,9 @@ pub(crate) fn clear_pass<D: Desk>(grip: &Grip, held: &Held, desk: &mut D) -> Res
         (Changes (Clear (grip_text grip.now) Normal)) held.now desk.old result held.now desk.new }
     ensures out { (D.at desk.new).out ≡ held.now }
 {
-    match desk.turn(Step::Clear {
+    let step = Step::Clear {
         id: key_id(grip),
         mode: Mode::Normal,
-    }) {
-        Ok(Reply::Done) => Ok(()),
-        Ok(Reply::Stopping) => Err(Refusal::Agent(Code::Cancelled)),
-        Ok(_) => unreachable!(),
-        Err(Refused { step }) => Err(without_memory(step)),
-    }
+    };
+    change(step, desk)
 }
