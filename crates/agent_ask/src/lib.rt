@@ -43,4 +43,4 @@ pub use session_client::{Gone, MAX_NOTE_LEN};
 pub use spec::{AskPlan, PromptSpec};
 pub use test::{Test, Tested};
 pub use tries::MAX_TRIES;
-pub use turns::change;
+pub use turns::{ask_cache, change};

@@ -3,7 +3,6 @@ use Rattle.std.specs.Prelude.{◌≡◌, ℕ, Bool, List, decimal, Option, None,
 use Rattle.agent_ask.specs.Events.{Call}
 use Rattle.agent_ask.specs.Further.{FurtherEvent}
 use Rattle.agent_ask.specs.Parts.{Refuses}
-use Rattle.agent_ask.specs.TurnParts.{Asks}
 use Rattle.agent_ask.specs.PartReplies.{RespondsBy, CarriesBy}
 use Rattle.agent_ask.specs.PartStates.{PartState, part_state, DoesPart, NoTurn, NoEnd, DoesTurns}
 use Rattle.assuan_server.specs.Clients.{connection_views}
@@ -61,10 +60,6 @@ AsksNobody (GetPassphrase plain check no_ask repeat quality id texts) = ⊥
 AsksNobody (PresetPassphrase id life secret) = ⊥
 AsksNobody (GetConfirmation description) = ⊥
 AsksNobody _ = Unit {0}
-
--- a turn that asks the cache, as a part of a request on it
-abbrev pub CacheAsks : MarkStep → CachePart (Option (List ℕ))
-CacheAsks step = Asks step
 
 module _ {A : Type 0} (part : CachePart A) where
   -- a part in which no prompter is called, of a request that holds no ticket

@@ -77,6 +77,8 @@ impl<'a, R: rt::Clock + rt::Env + Processes + Files<File = File> + Net + Eprint>
 
     ghost reason = { λ c. string_bytes c.reason };
 
+    ghost launches = { λ _. None };
+
     fn find(&mut self, folder: Option<&str>, seconds: Option<u32>) -> Result<Agents, Unmet> {
         self.limits = Limits::new(seconds);
         match find_agents(self.rt, self.alloc, folder, self.limits) {
