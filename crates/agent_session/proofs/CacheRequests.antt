@@ -52,7 +52,7 @@ use Rattle.agent_origin.specs.declared.kept.Kept.{Kept}
 use Rattle.agent_session.proofs.Asides.{secret_limit}
 use Rattle.agent_session.proofs.Explained.{Explained, replied, failed, silent, after_these, IsLast}
 use Rattle.agent_session.proofs.Explaining.{Caused, CausedRefusal, ClientSays, cut, client_said, Comes, IsExplained, Explains, Anything, bind, whatever, returned, refused, or_otherwise, is_wanted}
-use Rattle.agent_session.proofs.Explaining.{interrupts, looks, seats, changes, closes_of, closes_explained}
+use Rattle.agent_session.proofs.Explaining.{interrupts, looks, seats, changes, closes_explained}
 use Rattle.agent_session.proofs.KeyParts.{Either, prompt_silent, refused_any, agrees}
 use Rattle.agent_session.proofs.KeyRequests.{if_needed, or_else_explained}
 use Rattle.agent_session.proofs.Replying.{IsReply, reply_ok, reply_closing, reply_help, reply_cache, reply_passphrase}
@@ -73,64 +73,60 @@ module _ (rules : Rules) (kept : Kept) (whole : List (EventWith FurtherEvent)) (
   Here = Explained whole (IsCaused whole rules kept request)
 
   -- what is done so comes to a good value, or to a refusal that has its cause
-  abbrev EachOf : {A : Type 0} → CachePart A → (A → Type 0) → Type 0
-  EachOf {A} part Good = (before : Option ℕ) (events : List (EventWith FurtherEvent)) (result : Result A Refusal) (after : Option ℕ) → part before events result after → StandIn events whole
-      → Comes whole (IsCaused whole rules kept request) Good events result
-
   abbrev ExplainsHere : {A : Type 0} → CachePart A → (A → Type 0) → Type 0
   ExplainsHere part Good = Explains whole (IsCaused whole rules kept request) part Good
 
   -- a part, and then what follows whatever it came to
-  then : {A B : Type 0} {part : CachePart A} {next : A → CachePart B} (Good : B → Type 0) → ExplainsHere part Anything → ((value : A) → ExplainsHere (next value) Good) → ExplainsHere (part >>= next) Good
-  then Good first next = bind Anything Good first (λ value any. next value)
+  then : {A B : Type 0} {part : CachePart A} {next : A → CachePart B} {Good : B → Type 0} → ExplainsHere part Anything → ((value : A) → ExplainsHere (next value) Good) → ExplainsHere (part >>= next) Good
+  then first next = bind first (λ value any. next value)
 
   done : {A : Type 0} (value : A) → ExplainsHere (Returns value) Anything
   done value = returned Anything value tt
 
   -- ---- the client
 
-  writes_of : EachOf (client.Writes (limit_line MAX_SECRET_LEN)) Anything
+  writes_of : ExplainsHere (client.Writes (limit_line MAX_SECRET_LEN)) Anything
   writes_of before events result after client.written stands = record { silent = (secret_limit, tt); explained = tt }
   writes_of before events result after (client.cut unsent is) stands = record { silent = (tt, tt); explained = cut }
 
-  inquires_of : EachOf (client.Inquires session_lines (codes "PASSPHRASE") MAX_SECRET_LEN) Anything
+  inquires_of : ExplainsHere (client.Inquires session_lines (codes "PASSPHRASE") MAX_SECRET_LEN) Anything
   inquires_of before events result after (client.given is) stands = record { silent = (tt, tt); explained = tt }
   inquires_of before events result after (client.not_given is) stands = record { silent = (tt, tt); explained = client_said (said is (has_first stands)) }
 
   asks_passphrase : ExplainsHere AsksPassphrase Anything
-  asks_passphrase = then Anything (record { of = writes_of }) (λ told. record { of = inquires_of })
+  asks_passphrase = then writes_of (λ told. inquires_of)
 
   -- ---- the cache
 
   wants_prompt : (id : Option (List ℕ)) → ExplainsHere (WantsPrompt id) Anything
-  wants_prompt None = then Anything (seats rules kept request whole _ refl) (λ seated. done None)
+  wants_prompt None = then (seats rules kept request whole _ refl) (λ seated. done None)
   wants_prompt (Some id) = whatever _ (looks rules kept request whole (ask_or_open id) refl)
 
   by_client_itself : (id : Option (List ℕ)) → ExplainsHere (ByClient id) Anything
-  by_client_itself None = then Anything asks_passphrase (λ secret. then Anything (done tt) (λ any. done secret))
-  by_client_itself (Some id) = then Anything asks_passphrase (λ secret. then Anything (changes rules kept request whole _ refl) (λ stored. done secret))
+  by_client_itself None = then asks_passphrase (λ secret. then (done tt) (λ any. done secret))
+  by_client_itself (Some id) = then asks_passphrase (λ secret. then (changes rules kept request whole _ refl) (λ stored. done secret))
 
   -- ---- prompts
 
   module _ (texts : Texts) (check quality : Bool) (repeat : ℕ) (asks : AsksAny rules kept.options request (plan_of rules kept.options texts.error check repeat)) where
-    prompts_any_of : EachOf (PromptsAny rules kept.options texts check quality repeat) Anything
+    prompts_any_of : ExplainsHere (PromptsAny rules kept.options texts check quality repeat) Anything
     prompts_any_of before events result after (passphrases.given spec is prompt) stands = record { silent = prompt_silent prompt.in_session; explained = tt }
     prompts_any_of before events result after (passphrases.refused spec is prompt other refusal) stands = refused_any rules kept request whole Anything asks prompt refusal stands
 
     by_user : (id : Option (List ℕ)) → ExplainsHere (ByUser rules kept.options texts check quality repeat id) Anything
     by_user id =
-        then Anything (wants_prompt id) (λ cached. or_otherwise Anything cached _ (λ some is. tt)
-        (λ none. then Anything (record { of = prompts_any_of }) (λ pin. then Anything (closes_explained (Some pin)) (λ closed. done pin))))
+        then (wants_prompt id) (λ cached. or_otherwise Anything cached _ (λ some is. tt)
+        (λ none. then prompts_any_of (λ pin. then (closes_explained (Some pin)) (λ closed. done pin))))
 
   -- ---- replies
 
   answered : {given : CacheReply} → IsReply given.text → IsLast given.went → ExplainsHere (Returns given) Answers
   answered {given} reply last = returned Answers given (reply, last)
 
-  tells_of : (plain : Bool) (secret : List ℕ) → EachOf (TellsPassphrase plain secret) IsReply
+  tells_of : (plain : Bool) (secret : List ℕ) → ExplainsHere (TellsPassphrase plain secret) IsReply
   tells_of plain secret before events result after (tells answer) stands = record { silent = tt; explained = reply_passphrase plain secret _ answer }
 
-  tells_info_of : (what : Info) → EachOf (TellsInfo rules what) IsReply
+  tells_info_of : (what : Info) → ExplainsHere (TellsInfo rules what) IsReply
   tells_info_of what before events result after (tells is) stands = record { silent = tt; explained = info_reply rules what is }
 
   -- ---- the commands
@@ -150,14 +146,14 @@ module _ (rules : Rules) (kept : Kept) (whole : List (EventWith FurtherEvent)) (
 
     looks_for : (id : Option (List ℕ)) → fields.id ≡ id → ExplainsHere (LooksFor id) (Either rules kept request whole Anything HasNone)
     looks_for None same = returned _ None (without_id fields is_get same, λ quiet. no_id fields is_get quiet same)
-    looks_for (Some id) same = record { of = λ before events result after looked stands. looks_of id same looked stands }
+    looks_for (Some id) same = λ before events result after looked stands. looks_of id same looked stands
 
     by_cache : is_quiet fields.no_ask fields.texts ≡ true → ExplainsHere (ByCache fields.id) Anything
-    by_cache quiet = bind _ Anything (looks_for fields.id refl) (λ cached so. if_needed rules kept request whole Anything HasNone code.NoData cached so (λ none. none.1 quiet))
+    by_cache quiet = bind (looks_for fields.id refl) (λ cached so. if_needed rules kept request whole Anything HasNone code.NoData cached so (λ none. none.1 quiet))
 
     without_prompt : (way : PinMode) → (HasNoEntry whole request → ExplainsHere (Uncached fields.id way) Anything) → ExplainsHere (WithoutPrompt fields.id way) Anything
     without_prompt way other =
-        bind _ Anything (looks_for fields.id refl) (λ cached so. or_else_explained rules kept request whole Anything HasNone cached _ so (λ none. other none.0))
+        bind (looks_for fields.id refl) (λ cached so. or_else_explained rules kept request whole Anything HasNone cached _ so (λ none. other none.0))
 
     as_client_wants : (way : PinMode) → kept.options.mode ≡ way → (texts : Texts) → fields.texts ≡ Some texts → ExplainsHere (as_wanted rules kept.options fields way texts) Anything
     as_client_wants mode.Ask same texts is = by_user texts fields.check fields.quality fields.repeat (wanted fields is_get is) fields.id
@@ -179,13 +175,13 @@ module _ (rules : Rules) (kept : Kept) (whole : List (EventWith FurtherEvent)) (
   option_said text is_option option_answer.NotSupported is after = refused Answers (Agent code.NotSupported) (IsUnsupported.option (option is_option is))
 
   confirms : (description : ArrayVec ℕ) → request ≡ Cache (command.GetConfirmation description) → (way : PinMode) → kept.options.mode ≡ way → ExplainsHere (confirms_by rules kept.options way description) Anything
-  confirms description is mode.Ask same = then Anything (seats rules kept request whole _ refl) (λ seated. agrees rules kept request whole description.items)
+  confirms description is mode.Ask same = then (seats rules kept request whole _ refl) (λ seated. agrees rules kept request whole description.items)
   confirms description is mode.Cancel same = refused Anything (Agent code.Cancelled) (by_mode same (HasNoEntry.of_consent (confirmation is)))
   confirms description is mode.Error same = refused Anything (Agent code.NoPinentry) (inl (by_mode same (HasNoEntry.of_consent (confirmation is))))
   confirms description is mode.Loopback same = refused Anything (Agent code.NoPinentry) (inl (IsUnprompted.of_consent (confirmation is) same))
 
   changed : {step : MarkStep} → closes step ≡ None → {given : CacheReply} → IsReply given.text → IsLast given.went → ExplainsHere (ChangeReplies step given) Answers
-  changed keeps reply last = then Answers (changes rules kept request whole _ keeps) (λ made. answered reply last)
+  changed keeps reply last = then (changes rules kept request whole _ keeps) (λ made. answered reply last)
 
   replies : (asked : CacheCommand) → request ≡ Cache asked → ExplainsHere (CacheReplies rules kept.options asked) Answers
   replies command.Nop is = answered reply_ok tt
@@ -194,15 +190,15 @@ module _ (rules : Rules) (kept : Kept) (whole : List (EventWith FurtherEvent)) (
   replies command.Help is = answered reply_help tt
   replies (command.SetOption text) is = option_said text is (applied kept.options text.items).answer refl _
   replies (command.SetKeyDesc text) is = answered reply_ok tt
-  replies (command.GetInfo what) is = bind IsReply Answers (record { of = tells_info_of what }) (λ text reply. answered reply tt)
+  replies (command.GetInfo what) is = bind (tells_info_of what) (λ text reply. answered reply tt)
   replies (command.GetPassphrase plain check no_ask repeat quality id texts) is =
       let fields : GetFields = record { plain = plain; check = check; no_ask = no_ask; repeat = repeat; quality = quality; id = id; texts = texts } in
-      then Answers (found fields is no_ask texts refl (λ quiet. quiet)) (λ secret. bind IsReply Answers (record { of = tells_of plain secret }) (λ text reply. answered reply tt))
+      then (found fields is no_ask texts refl (λ quiet. quiet)) (λ secret. bind (tells_of plain secret) (λ text reply. answered reply tt))
   replies (command.PresetPassphrase id life secret) is =
-      then Answers (bind _ Anything (is_wanted code.NotSupported rules.allow_preset (λ none. preset is none)) (λ allowed so. then Anything
+      then (bind (is_wanted code.NotSupported rules.allow_preset (λ none. preset is none)) (λ allowed so. then
       (or_otherwise Anything secret AsksPassphrase (λ some is. tt) (λ none. asks_passphrase)) (λ given. changes rules kept request whole _ refl))) (λ stored. answered reply_ok tt)
   replies (command.ClearPassphrase id cleared) is = changed refl reply_ok tt
-  replies (command.GetConfirmation description) is = then Answers (confirms description is kept.options.mode refl) (λ agreed. answered reply_ok tt)
+  replies (command.GetConfirmation description) is = then (confirms description is kept.options.mode refl) (λ agreed. answered reply_ok tt)
   replies command.ReloadAgent is = changed refl reply_ok tt
   replies command.KillAgent is = changed refl reply_closing tt
 
@@ -232,8 +228,8 @@ module _ (rules : Rules) (kept : Kept) (whole : List (EventWith FurtherEvent)) (
       → part None events result held → taken.Closes None held back (Ok tt) None → (IsExplained whole (IsCaused whole rules kept request) Good result → Here last went) → StandIn (events ++ (back ++ last)) whole
       → Here (events ++ (back ++ last)) went
   in_exchange {Good} explains {events} {back} {last} {result} {held} does closes ends stands =
-      let first : Comes whole (IsCaused whole rules kept request) Good events result = explains.of None events result held does (stand_left events _ stands) in
-      let close : Comes whole (IsCaused whole rules kept request) Anything back (Ok tt) = closes_of None held back (Ok tt) None closes (stand_left back last (stand_right events _ stands)) in
+      let first : Comes whole (IsCaused whole rules kept request) Good events result = explains None events result held does (stand_left events _ stands) in
+      let close : Comes whole (IsCaused whole rules kept request) Anything back (Ok tt) = closes_explained None held back (Ok tt) None closes (stand_left back last (stand_right events _ stands)) in
       after_these _ _ events first.silent (after_these _ _ back close.silent (ends first.explained))
 
   exchange_explained : {part : CachePart CacheReply} → ExplainsHere part Answers → {events : List (EventWith FurtherEvent)} {after : OptionValues} {went : Went}

@@ -401,8 +401,8 @@ module _ (one_canon : (file : List ℕ) (a b : Option (List ℕ)) → Canon file
     opens_read : (before after : Option ℕ) (second third : List Event) (opened : _) → rest ≡ second ++ third → OldPassphrase rules kept.options grip old key before second (Ok opened) after
         → OpensRead whole rules kept.options request grip opened.key
     opens_read before after second third opened rest_is does =
-        let comes = (old_passphrase rules kept request whole grip (changes asked_so) key.is_clear key old
-        (λ nonce same. of_change (subst (λ n. on_keys request ≡ Some (on.Passwd grip n new false)) same asked_so)) is_read (λ locked is_locked by_id by_key. changed _ asked_so is_locked by_id by_key)).of before second (Ok opened) after does
+        let comes = old_passphrase rules kept request whole grip (changes asked_so) key.is_clear key old
+        (λ nonce same. of_change (subst (λ n. on_keys request ≡ Some (on.Passwd grip n new false)) same asked_so)) is_read (λ locked is_locked by_id by_key. changed _ asked_so is_locked by_id by_key) before second (Ok opened) after does
         (stand_left second third (subst (λ r. StandIn r whole) rest_is rest_stands)) in
         comes.explained
 

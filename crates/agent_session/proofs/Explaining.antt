@@ -23,8 +23,8 @@ use Rattle.agent_commands.specs.Events.{EventWith}
 use Rattle.agent_commands.specs.declared.request.Request.{Request}
 use Rattle.key_commands.specs.Parts.{Part, Finds, Draws}
 use Rattle.agent_ask.specs.ClientParts.{Writes, Inquires, AsksClient}
-use Rattle.agent_ask.specs.Parts.{◌>>=◌, Returns, Refuses, needed, or_else, unless, wanted}
-use Rattle.agent_ask.proofs.Within.{Within, Joins, weaker, returned_so, refused_so}
+use Rattle.agent_ask.specs.Parts.{◌>>=◌, Returns, returns, Refuses, refuses, needed, or_else, unless, wanted}
+use Rattle.agent_ask.proofs.Within.{Joins}
 use Rattle.agent_ask.proofs.Within as within
 use Rattle.agent_ask.specs.Interrupts.{Interrupts}
 use Rattle.agent_ask.specs.Interrupts as turns
@@ -72,11 +72,12 @@ module _ (whole : List (EventWith FurtherEvent)) (Causes : Code → Origin → T
     pub silent : AllByRecursion AnswersNothing events
     pub explained : IsExplained Good result
 
+  -- a part each of whose outcomes is so
   abbrev pub ExplainLaw : {A : Type 0} → (A → Type 0) → Part A
   ExplainLaw Good before events result after = StandIn events whole → Comes Good events result
 
   abbrev pub Explains : {A : Type 0} → Part A → (A → Type 0) → Type 0
-  Explains part Good = Within part (ExplainLaw Good)
+  Explains {A} part Good = (before : Option ℕ) (events : List (EventWith FurtherEvent)) (result : Result A Refusal) (after : Option ℕ) → part before events result after → ExplainLaw Good before events result after
 
 module _ {whole : List (EventWith FurtherEvent)} {Causes : Code → Origin → Type 0} where
   -- a part, and then what follows on its value
@@ -90,24 +91,22 @@ module _ {whole : List (EventWith FurtherEvent)} {Causes : Code → Origin → T
     alone = λ {before} {after} {events} {why} first stands. let one : Comes whole Causes First events (Err why) = first stands in record { silent = one.silent; explained = one.explained };
   }
 
-  pub bind : {A B : Type 0} {part : Part A} {next : A → Part B} (First : A → Type 0) (Good : B → Type 0) → Explains whole Causes part First → ((value : A) → First value → Explains whole Causes (next value) Good)
+  pub bind : {A B : Type 0} {part : Part A} {next : A → Part B} {First : A → Type 0} {Good : B → Type 0} → Explains whole Causes part First → ((value : A) → First value → Explains whole Causes (next value) Good)
       → Explains whole Causes (part >>= next) Good
-  bind First Good first then = within.bind explained_join first (λ value. record { of = λ before events result after does good. (then value good).of before events result after does })
+  bind first then = (within.bind explained_join (record { of = first }) (λ value. record { of = λ before events result after does good. then value good before events result after does })).of
 
   -- a part whatever value it comes to
   pub whatever : {A : Type 0} {part : Part A} (Good : A → Type 0) → Explains whole Causes part Good → Explains whole Causes part Anything
-  whatever Good = weaker (record {
-    of = λ before events result after explains stands.
-        let comes : Comes whole Causes Good events result = explains stands in
-        record { silent = comes.silent; explained = any_value whole Causes Good result comes.explained };
-  })
+  whatever Good explains before events result after does stands =
+      let comes : Comes whole Causes Good events result = explains before events result after does stands in
+      record { silent = comes.silent; explained = any_value whole Causes Good result comes.explained }
 
   module _ {A : Type 0} (Good : A → Type 0) where
     pub returned : (value : A) → Good value → Explains whole Causes (Returns value) Good
-    returned value good = returned_so value (λ held stands. record { silent = tt; explained = good })
+    returned value good _ _ _ _ returns stands = record { silent = tt; explained = good }
 
     pub refused : (why : Refusal) → CausedRefusal whole Causes why → Explains whole Causes (Refuses why) Good
-    refused why caused = refused_so why (λ held stands. record { silent = tt; explained = caused })
+    refused why caused _ _ _ _ refuses stands = record { silent = tt; explained = caused }
 
     pub is_needed : (why : Code) (value : Option A) → (value ≡ None → Causes why OfAgent) → ((some : A) → value ≡ Some some → Good some) → Explains whole Causes (needed why value) Good
     is_needed why None caused good = refused (Agent why) (caused refl)
@@ -126,13 +125,9 @@ module _ {whole : List (EventWith FurtherEvent)} {Causes : Code → Origin → T
   is_wanted why false caused = refused (λ done. false ≡ true) (Agent why) (caused refl)
 
   module _ (keep : Option (List ℕ)) where
-    pub closes_of : (before : Option ℕ) (events : List (EventWith FurtherEvent)) (result : Result (Unit {0}) Refusal) (after : Option ℕ) → Closes keep before events result after
-        → StandIn events whole → Comes whole Causes Anything events result
-    closes_of before events result after taken.unheld stands = record { silent = tt; explained = tt }
-    closes_of before events result after (taken.closed turn can) stands = record { silent = (tt, tt); explained = tt }
-
     pub closes_explained : Explains whole Causes (Closes keep) Anything
-    closes_explained = record { of = closes_of }
+    closes_explained before events result after taken.unheld stands = record { silent = tt; explained = tt }
+    closes_explained before events result after (taken.closed turn can) stands = record { silent = (tt, tt); explained = tt }
 
 module _ (rules : Rules) (kept : Kept) (request : Request) (whole : List (EventWith FurtherEvent)) where
   abbrev pub Caused : Code → Type 0
@@ -160,63 +155,39 @@ module _ (rules : Rules) (kept : Kept) (request : Request) (whole : List (EventW
     found : {grant : Grant} → Has (cache_turn step (Given grant)) whole → FoundBy step (Some grant.entry.secret)
 
   module _ (step : MarkStep) (keeps : closes step ≡ None) where
-    looks_of : (before : Option ℕ) (events : List (EventWith FurtherEvent)) (result : Result (Option (List ℕ)) Refusal) (after : Option ℕ) → Asks step before events result after
-        → StandIn events whole → Comes whole (IsCaused whole rules kept request) (FoundBy step) events result
-    looks_of before events result after (taken.given can) stands = record { silent = (tt, tt); explained = found (has_first stands) }
-    looks_of before events result after (taken.empty can) stands = record { silent = (tt, tt); explained = found_none (none_given Empty tt (has_first stands)) }
-    looks_of before events result after (taken.opened {ticket} can) stands = record { silent = (tt, tt); explained = found_none (none_given (Open ticket) tt (has_first stands)) }
-    looks_of before events result after (taken.interrupted can why) stands = record { silent = (tt, tt); explained = interrupts step keeps why stands }
-
     pub looks : Explains whole (IsCaused whole rules kept request) (Asks step) (FoundBy step)
-    looks = record { of = looks_of }
-
-    seats_of : (before : Option ℕ) (events : List (EventWith FurtherEvent)) (result : Result (Unit {0}) Refusal) (after : Option ℕ) → Seats step before events result after
-        → StandIn events whole → Comes whole (IsCaused whole rules kept request) Anything events result
-    seats_of before events result after (taken.opened can) stands = record { silent = (tt, tt); explained = tt }
-    seats_of before events result after (taken.interrupted can why) stands = record { silent = (tt, tt); explained = interrupts step keeps why stands }
+    looks before events result after (taken.given can) stands = record { silent = (tt, tt); explained = found (has_first stands) }
+    looks before events result after (taken.empty can) stands = record { silent = (tt, tt); explained = found_none (none_given Empty tt (has_first stands)) }
+    looks before events result after (taken.opened {ticket} can) stands = record { silent = (tt, tt); explained = found_none (none_given (Open ticket) tt (has_first stands)) }
+    looks before events result after (taken.interrupted can why) stands = record { silent = (tt, tt); explained = interrupts step keeps why stands }
 
     pub seats : Explains whole (IsCaused whole rules kept request) (Seats step) Anything
-    seats = record { of = seats_of }
-
-    changes_of : (before : Option ℕ) (events : List (EventWith FurtherEvent)) (result : Result (Unit {0}) Refusal) (after : Option ℕ) → Changes step before events result after
-        → StandIn events whole → Comes whole (IsCaused whole rules kept request) Anything events result
-    changes_of before events result after (taken.done can) stands = record { silent = (tt, tt); explained = tt }
-    changes_of before events result after (taken.interrupted can why) stands = record { silent = (tt, tt); explained = interrupts step keeps why stands }
+    seats before events result after (taken.opened can) stands = record { silent = (tt, tt); explained = tt }
+    seats before events result after (taken.interrupted can why) stands = record { silent = (tt, tt); explained = interrupts step keeps why stands }
 
     pub changes : Explains whole (IsCaused whole rules kept request) (Changes step) Anything
-    changes = record { of = changes_of }
+    changes before events result after (taken.done can) stands = record { silent = (tt, tt); explained = tt }
+    changes before events result after (taken.interrupted can why) stands = record { silent = (tt, tt); explained = interrupts step keeps why stands }
 
   module _ (grip : Grip) where
-    peeks_of : (before : Option ℕ) (events : List (EventWith FurtherEvent)) (result : Result Bool Refusal) (after : Option ℕ) → Peeks (grip_text grip) Normal before events result after
-        → StandIn events whole → Comes whole (IsCaused whole rules kept request) Anything events result
-    peeks_of before events result after taken.peeked stands = record { silent = (tt, tt); explained = tt }
-    peeks_of before events result after (taken.interrupted can why) stands = record { silent = (tt, tt); explained = interrupts _ refl why stands }
-
     pub peeks : Explains whole (IsCaused whole rules kept request) (Peeks (grip_text grip) Normal) Anything
-    peeks = record { of = peeks_of }
+    peeks before events result after taken.peeked stands = record { silent = (tt, tt); explained = tt }
+    peeks before events result after (taken.interrupted can why) stands = record { silent = (tt, tt); explained = interrupts _ refl why stands }
 
   -- ---- the client
 
   module _ (text : List ℕ) (status : IsStatus text) where
-    writes_of : (before : Option ℕ) (events : List (EventWith FurtherEvent)) (result : Result (Unit {0}) Refusal) (after : Option ℕ) → Writes text before events result after
-        → StandIn events whole → Comes whole (IsCaused whole rules kept request) Anything events result
-    writes_of before events result after client_parts.written stands = record { silent = (status, tt); explained = tt }
-    writes_of before events result after (client_parts.cut unsent is) stands = record { silent = (tt, tt); explained = cut }
-
     pub writes : Explains whole (IsCaused whole rules kept request) (Writes text) Anything
-    writes = record { of = writes_of }
+    writes before events result after client_parts.written stands = record { silent = (status, tt); explained = tt }
+    writes before events result after (client_parts.cut unsent is) stands = record { silent = (tt, tt); explained = cut }
 
   module _ (word : List ℕ) (limit : ℕ) where
-    pub inquires_of : (before : Option ℕ) (events : List (EventWith FurtherEvent)) (result : Result (List ℕ) Refusal) (after : Option ℕ) → Inquires session_lines word limit before events result after
-        → StandIn events whole → Comes whole (IsCaused whole rules kept request) (IsSent whole word limit) events result
-    inquires_of before events result after (client_parts.given is) stands = record { silent = (tt, tt); explained = sent is (has_first stands) }
-    inquires_of before events result after (client_parts.not_given is) stands = record { silent = (tt, tt); explained = client_said (said is (has_first stands)) }
-
-    inquires : Explains whole (IsCaused whole rules kept request) (Inquires session_lines word limit) (IsSent whole word limit)
-    inquires = record { of = inquires_of }
+    pub inquires : Explains whole (IsCaused whole rules kept request) (Inquires session_lines word limit) (IsSent whole word limit)
+    inquires before events result after (client_parts.given is) stands = record { silent = (tt, tt); explained = sent is (has_first stands) }
+    inquires before events result after (client_parts.not_given is) stands = record { silent = (tt, tt); explained = client_said (said is (has_first stands)) }
 
     pub asks_client : limit < 2 ^ 64 → Explains whole (IsCaused whole rules kept request) (AsksClient session_lines (limit_line limit) word limit) (IsSent whole word limit)
-    asks_client small = bind Anything (IsSent whole word limit) (writes (limit_line limit) (limit_status limit small)) (λ told good. inquires)
+    asks_client small = bind (writes (limit_line limit) (limit_status limit small)) (λ told good. inquires)
 
   -- ---- the keys and the dice
 
@@ -226,21 +197,13 @@ module _ (rules : Rules) (kept : Kept) (request : Request) (whole : List (EventW
   IsFound grip false = IsUnread whole grip
 
   module _ (grip : Grip) where
-    finds_of : (before : Option ℕ) (events : List (EventWith FurtherEvent)) (result : Result Bool Refusal) (after : Option ℕ) → Finds grip before events result after
-        → StandIn events whole → Comes whole (IsCaused whole rules kept request) (IsFound grip) events result
-    finds_of before events result after (parts.found {file}) stands = record { silent = (tt, tt); explained = (file, has_first stands) }
-    finds_of before events result after parts.absent stands = record { silent = (tt, tt); explained = has_first stands }
-    finds_of before events result after parts.faulted stands = record { silent = (tt, tt); explained = one _ tt (has_first stands) }
-    finds_of before events result after parts.no_memory stands = record { silent = (tt, tt); explained = one _ tt (has_first stands) }
-
     pub finds : Explains whole (IsCaused whole rules kept request) (Finds grip) (IsFound grip)
-    finds = record { of = finds_of }
+    finds before events result after (parts.found {file}) stands = record { silent = (tt, tt); explained = (file, has_first stands) }
+    finds before events result after parts.absent stands = record { silent = (tt, tt); explained = has_first stands }
+    finds before events result after parts.faulted stands = record { silent = (tt, tt); explained = one _ tt (has_first stands) }
+    finds before events result after parts.no_memory stands = record { silent = (tt, tt); explained = one _ tt (has_first stands) }
 
   module _ (count : ℕ) where
-    draws_of : (before : Option ℕ) (events : List (EventWith FurtherEvent)) (result : Result (List ℕ) Refusal) (after : Option ℕ) → Draws count before events result after
-        → StandIn events whole → Comes whole (IsCaused whole rules kept request) (IsDrawn whole count) events result
-    draws_of before events result after (parts.drawn long) stands = record { silent = (tt, tt); explained = record { long = long; has = has_first stands } }
-    draws_of before events result after parts.faulted stands = record { silent = (tt, tt); explained = one (Further (Dice (NotDrawn count))) tt (has_first stands) }
-
     pub draws : Explains whole (IsCaused whole rules kept request) (Draws count) (IsDrawn whole count)
-    draws = record { of = draws_of }
+    draws before events result after (parts.drawn long) stands = record { silent = (tt, tt); explained = record { long = long; has = has_first stands } }
+    draws before events result after parts.faulted stands = record { silent = (tt, tt); explained = one (Further (Dice (NotDrawn count))) tt (has_first stands) }

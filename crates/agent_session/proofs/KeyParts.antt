@@ -54,7 +54,7 @@ use Rattle.agent_session.specs.Causes.{protection, faulty, HasCall, GivesNone, G
 use Rattle.agent_session.specs.Causes as causes
 use Rattle.agent_session.specs.Completeness.{AnswersNothing}
 use Rattle.agent_origin.specs.declared.kept.Kept.{Kept}
-use Rattle.agent_session.proofs.Explaining.{Caused, CausedRefusal, client_said, Comes, Explains, Anything, returned, FoundBy, found, found_none, looks, seats, changes, closes_of, out_of_memory_first, out_of_memory_second}
+use Rattle.agent_session.proofs.Explaining.{Caused, CausedRefusal, client_said, Comes, Explains, Anything, returned, FoundBy, found, found_none, looks, seats, changes, closes_explained, out_of_memory_first, out_of_memory_second}
 use Rattle.agent_session.proofs.Faulty.{file_fault_said, locked_fault_said}
 use Rattle.agent_session.proofs.Faulty as said
 use Rattle.agent_session.proofs.Prompted as prompted
@@ -184,36 +184,24 @@ module _ (rules : Rules) (kept : Kept) (request : Request) (whole : List (EventW
   comes_by_nonce {grip} {locked} (Some id) pass names by secret is = comes_of (ComesBy whole rules kept.options request grip locked) by (λ grant has. causes.cached_by_nonce (names id refl) has) secret is
 
   module _ (grip : Grip) where
-    takes_seat_of : (before : Option ℕ) (events : List (EventWith FurtherEvent)) (result : Result (Unit {0}) Refusal) (after : Option ℕ) → TakesSeat grip before events result after
-        → StandIn events whole → ComesHere Anything events result
-    takes_seat_of None events result after does stands = (seats rules kept request whole _ refl).of None events result after does stands
-    takes_seat_of (Some ticket) events result after does stands = (returned Anything tt tt).of (Some ticket) events result after does stands
-
     pub takes_seat : ExplainsHere (TakesSeat grip) Anything
-    takes_seat = record { of = takes_seat_of }
+    takes_seat None events result after does stands = seats rules kept request whole _ refl None events result after does stands
+    takes_seat (Some ticket) events result after does stands = returned Anything tt tt (Some ticket) events result after does stands
 
   module _ (grip : Grip) (pass : List ℕ) where
-    keeps_new_of : (before : Option ℕ) (events : List (EventWith FurtherEvent)) (result : Result (Unit {0}) Refusal) (after : Option ℕ) → KeepsNew grip pass before events result after
-        → StandIn events whole → ComesHere Anything events result
-    keeps_new_of None events result after does stands = (changes rules kept request whole _ refl).of None events result after does stands
-    keeps_new_of (Some ticket) events result after does stands = closes_of (Some pass) (Some ticket) events result after does stands
-
     pub keeps_new : ExplainsHere (KeepsNew grip pass) Anything
-    keeps_new = record { of = keeps_new_of }
+    keeps_new None events result after does stands = changes rules kept request whole _ refl None events result after does stands
+    keeps_new (Some ticket) events result after does stands = closes_explained (Some pass) (Some ticket) events result after does stands
 
   -- ---- locked keys
 
   module _ (grip : Grip) (unlocks : Unlocks request grip) (key : Key) (is_read : IsRead whole grip (Ok key)) (closed : key.is_clear ≡ false) where
-    locks_of : (before : Option ℕ) (events : List (EventWith FurtherEvent)) (result : Result LockedKey Refusal) (after : Option ℕ) → Locks key before events result after
-        → StandIn events whole → ComesHere (IsReadLocked whole grip) events result
-    locks_of before events result after (passphrases.is_locked same locked) stands =
-        record { silent = tt; explained = record { key = subst (λ k. IsRead whole grip (Ok k)) (sym same) is_read; protection = locked } }
-    locks_of before events result after (passphrases.has_fault {fault} is) stands =
-        record { silent = tt; explained = fault_caused fault (locked_fault_said key fault is) (λ why so. protection unlocks is_read closed is so) }
-    locks_of before events result after passphrases.no_memory stands = record { silent = (tt, tt); explained = out_of_memory_first rules kept request whole stands }
-
     pub locks : ExplainsHere (Locks key) (IsReadLocked whole grip)
-    locks = record { of = locks_of }
+    locks before events result after (passphrases.is_locked same locked) stands =
+        record { silent = tt; explained = record { key = subst (λ k. IsRead whole grip (Ok k)) (sym same) is_read; protection = locked } }
+    locks before events result after (passphrases.has_fault {fault} is) stands =
+        record { silent = tt; explained = fault_caused fault (locked_fault_said key fault is) (λ why so. protection unlocks is_read closed is so) }
+    locks before events result after passphrases.no_memory stands = record { silent = (tt, tt); explained = out_of_memory_first rules kept request whole stands }
 
   -- a value that is so, or there is none, and then this holds
   abbrev pub Either : {A : Type 0} → (A → Type 0) → Type 0 → Option A → Type 0
@@ -222,14 +210,10 @@ module _ (rules : Rules) (kept : Kept) (request : Request) (whole : List (EventW
 
   module _ (grip : Grip) (unlocks : Unlocks request grip) (locked : LockedKey) (is_locked : IsReadLocked whole grip locked) where
     module _ (pass : List ℕ) (comes : ComesBy whole rules kept.options request grip locked pass) where
-      tries_of : (before : Option ℕ) (events : List (EventWith FurtherEvent)) (result : Result (Option _) Refusal) (after : Option ℕ) → TriesPassphrase locked pass before events result after
-          → StandIn events whole → ComesHere (Either (λ opened. OpensHere grip opened.key) (¬ OpensBy locked pass)) events result
-      tries_of before events result after (passphrases.opens to) stands = record { silent = tt; explained = opens is_locked comes to }
-      tries_of before events result after (passphrases.stays closed) stands = record { silent = tt; explained = closed }
-      tries_of before events result after passphrases.no_memory stands = record { silent = (tt, tt); explained = out_of_memory_first rules kept request whole stands }
-
       pub tries : ExplainsHere (TriesPassphrase locked pass) (Either (λ opened. OpensHere grip opened.key) (¬ OpensBy locked pass))
-      tries = record { of = tries_of }
+      tries before events result after (passphrases.opens to) stands = record { silent = tt; explained = opens is_locked comes to }
+      tries before events result after (passphrases.stays closed) stands = record { silent = tt; explained = closed }
+      tries before events result after passphrases.no_memory stands = record { silent = (tt, tt); explained = out_of_memory_first rules kept request whole stands }
 
     -- no passphrase was found, or one that doesn't open it
     abbrev pub NoneOpens : Option (List ℕ) → Type 0
@@ -247,22 +231,18 @@ module _ (rules : Rules) (kept : Kept) (request : Request) (whole : List (EventW
     pub tries_found : (pass : Option (List ℕ)) → ((secret : List ℕ) → pass ≡ Some secret → ComesBy whole rules kept.options request grip locked secret)
         → ExplainsHere (TriesFound locked pass) (Either (λ opened. OpensHere grip opened.key) (NoneOpens pass))
     tries_found None comes = returned (Either (λ opened. OpensHere grip opened.key) (NoneOpens None)) None (λ secret is. absurd (cc is))
-    tries_found (Some pass) comes = record { of = tried_of pass (comes pass refl) }
+    tries_found (Some pass) comes = tried_of pass (comes pass refl)
 
     -- ---- prompts for passphrases
 
-    prompts_old_of : (before : Option ℕ) (events : List (EventWith FurtherEvent)) (result : Result _ Refusal) (after : Option ℕ) → PromptsOld rules kept.options grip locked before events result after
-        → StandIn events whole → ComesHere (λ opened. OpensHere grip opened.key) events result
-    prompts_old_of before events result after (passphrases.opens_by spec is prompt to) stands =
+    pub prompts_old : ExplainsHere (PromptsOld rules kept.options grip locked) (λ opened. OpensHere grip opened.key)
+    prompts_old before events result after (passphrases.opens_by spec is prompt to) stands =
         record { silent = prompt_silent prompt.in_session; explained = opens is_locked (causes.typed_by_user (has_prompt prompt stands)) to }
-    prompts_old_of before events result after (passphrases.refused {answer} {why} spec is prompt refusal) stands = record {
+    prompts_old before events result after (passphrases.refused {answer} {why} spec is prompt refusal) stands = record {
       silent = prompt_silent prompt.in_session;
       explained = pin_caused prompt.in_session stands answer why (pin_shows prompt.asks)
           (λ bad. causes.at_prompt (causes.opening unlocks is_locked (subst (HasPrompt whole (old_plan rules kept.options) (OpensBy locked)) bad (has_prompt prompt stands)))) refusal;
     }
-
-    pub prompts_old : ExplainsHere (PromptsOld rules kept.options grip locked) (λ opened. OpensHere grip opened.key)
-    prompts_old = record { of = prompts_old_of }
 
   -- a prompt at which every passphrase is right, and that gave none
   pub refused_any : {A : Type 0} (Good : A → Type 0) {spec : PromptSpec} {plan : AskPlan} {shown : List (EventWith FurtherEvent)} {answer : Asked} {why : Refusal} → AsksAny rules kept.options request plan
@@ -274,22 +254,14 @@ module _ (rules : Rules) (kept : Kept) (request : Request) (whole : List (EventW
   }
 
   module _ (grip : Grip) (asks : AsksAny rules kept.options request (new_plan rules kept.options)) where
-    prompts_new_of : (before : Option ℕ) (events : List (EventWith FurtherEvent)) (result : Result (List ℕ) Refusal) (after : Option ℕ) → PromptsNew rules kept.options grip before events result after
-        → StandIn events whole → ComesHere Anything events result
-    prompts_new_of before events result after (passphrases.given spec is prompt) stands = record { silent = prompt_silent prompt.in_session; explained = tt }
-    prompts_new_of before events result after (passphrases.refused spec is prompt enough refusal) stands = refused_any Anything asks prompt refusal stands
-
     pub prompts_new : ExplainsHere (PromptsNew rules kept.options grip) Anything
-    prompts_new = record { of = prompts_new_of }
-
-  agrees_of : (question : List ℕ) (before : Option ℕ) (events : List (EventWith FurtherEvent)) (result : Result (Unit {0}) Refusal) (after : Option ℕ)
-      → AgreesTo session_lines rules kept.options question before events result after → StandIn events whole → ComesHere Anything events result
-  agrees_of question before events result after (consent.consents spec is prompt) stands = record { silent = prompt_silent prompt.in_session; explained = tt }
-  agrees_of question before events result after (consent.refused {answer} {why} spec is prompt refusal) stands =
-      record { silent = prompt_silent prompt.in_session; explained = consent_caused prompt.in_session stands answer why (consent_shows prompt.asks) refusal }
+    prompts_new before events result after (passphrases.given spec is prompt) stands = record { silent = prompt_silent prompt.in_session; explained = tt }
+    prompts_new before events result after (passphrases.refused spec is prompt enough refusal) stands = refused_any Anything asks prompt refusal stands
 
   pub agrees : (question : List ℕ) → ExplainsHere (AgreesTo session_lines rules kept.options question) Anything
-  agrees question = record { of = agrees_of question }
+  agrees question before events result after (consent.consents spec is prompt) stands = record { silent = prompt_silent prompt.in_session; explained = tt }
+  agrees question before events result after (consent.refused {answer} {why} spec is prompt refusal) stands =
+      record { silent = prompt_silent prompt.in_session; explained = consent_caused prompt.in_session stands answer why (consent_shows prompt.asks) refusal }
 
   -- ---- key files
 
@@ -302,17 +274,13 @@ module _ (rules : Rules) (kept : Kept) (request : Request) (whole : List (EventW
   read_caused grip key_read.NoMemory absent is stands = let same : code.NoMemory ≡ _ = cc in subst CausedHere same (one _ tt (has_first stands))
 
   module _ (grip : Grip) (judges : Judges request grip) (lacks : IsUnread whole grip → LacksKeys whole (on_keys request)) where
-    reads_file_of : (before : Option ℕ) (events : List (EventWith FurtherEvent)) (result : Result _ Refusal) (after : Option ℕ) → ReadsFile grip before events result after
-        → StandIn events whole → ComesHere (λ file. IsReadOf whole grip file.bytes × IsRead whole grip (Ok file.key)) events result
-    reads_file_of before events result after (parts.is_key is says) stands = record { silent = (tt, tt); explained = (read_of is (has_first stands), read is says (has_first stands)) }
-    reads_file_of before events result after (parts.faulty {file} {fault} is says) stands =
-        record { silent = (tt, tt); explained = fault_caused fault (file_fault_said file fault says) (λ why so. causes.file judges (read is says (has_first stands)) so) }
-    reads_file_of before events result after (parts.no_memory is) stands = record { silent = (tt, (tt, tt)); explained = out_of_memory_second rules kept request whole stands }
-    reads_file_of before events result after (parts.unread {answer} is) stands =
-        record { silent = (tt, tt); explained = read_caused grip answer (λ absent. lacks (subst (λ a. Has (Further (Keys (Read grip a))) whole) absent (has_first stands))) is stands }
-
     pub reads_file : ExplainsHere (ReadsFile grip) (λ file. IsReadOf whole grip file.bytes × IsRead whole grip (Ok file.key))
-    reads_file = record { of = reads_file_of }
+    reads_file before events result after (parts.is_key is says) stands = record { silent = (tt, tt); explained = (read_of is (has_first stands), read is says (has_first stands)) }
+    reads_file before events result after (parts.faulty {file} {fault} is says) stands =
+        record { silent = (tt, tt); explained = fault_caused fault (file_fault_said file fault says) (λ why so. causes.file judges (read is says (has_first stands)) so) }
+    reads_file before events result after (parts.no_memory is) stands = record { silent = (tt, (tt, tt)); explained = out_of_memory_second rules kept request whole stands }
+    reads_file before events result after (parts.unread {answer} is) stands =
+        record { silent = (tt, tt); explained = read_caused grip answer (λ absent. lacks (subst (λ a. Has (Further (Keys (Read grip a))) whole) absent (has_first stands))) is stands }
 
   module _ (grip : Grip) (lacks : IsUnremoved whole grip → LacksKeys whole (on_keys request)) where
     removal_caused : (answer : KeyDone) (why : Code) {more : List (EventWith FurtherEvent)} → change_fault answer ≡ Some why → StandIn (Further (Keys (Removed grip answer)) ∷ more) whole → CausedHere why
@@ -321,13 +289,9 @@ module _ (rules : Rules) (kept : Kept) (request : Request) (whole : List (EventW
     removal_caused key_done.Failed why is stands = let same : code.General ≡ why = cc in subst CausedHere same (one _ tt (has_first stands))
     removal_caused key_done.NoMemory why is stands = let same : code.NoMemory ≡ why = cc in subst CausedHere same (one _ tt (has_first stands))
 
-    removes_of : (before : Option ℕ) (events : List (EventWith FurtherEvent)) (result : Result (Unit {0}) Refusal) (after : Option ℕ) → Removes grip before events result after
-        → StandIn events whole → ComesHere Anything events result
-    removes_of before events result after parts.done stands = record { silent = (tt, tt); explained = tt }
-    removes_of before events result after (parts.not_done {answer} {code = why} is) stands = record { silent = (tt, tt); explained = removal_caused answer why is stands }
-
     pub removes : ExplainsHere (Removes grip) Anything
-    removes = record { of = removes_of }
+    removes before events result after parts.done stands = record { silent = (tt, tt); explained = tt }
+    removes before events result after (parts.not_done {answer} {code = why} is) stands = record { silent = (tt, tt); explained = removal_caused answer why is stands }
 
   -- a file that is replaced needn't be there
   module _ (there : (grip : Grip) (file : List ℕ) → Has (Further (Keys (Replaced grip file key_done.Absent))) whole → ⊥) (grip : Grip) (file : List ℕ) where
@@ -338,10 +302,6 @@ module _ (rules : Rules) (kept : Kept) (request : Request) (whole : List (EventW
     replacement_caused key_done.Failed why is stands = let same : code.General ≡ why = cc in subst CausedHere same (one _ tt (has_first stands))
     replacement_caused key_done.NoMemory why is stands = let same : code.NoMemory ≡ why = cc in subst CausedHere same (one _ tt (has_first stands))
 
-    replaces_of : (before : Option ℕ) (events : List (EventWith FurtherEvent)) (result : Result (Unit {0}) Refusal) (after : Option ℕ) → Replaces grip file before events result after
-        → StandIn events whole → ComesHere Anything events result
-    replaces_of before events result after parts.done stands = record { silent = (tt, tt); explained = tt }
-    replaces_of before events result after (parts.not_done {answer} {code = why} is) stands = record { silent = (tt, tt); explained = replacement_caused answer why is stands }
-
     pub replaces : ExplainsHere (Replaces grip file) Anything
-    replaces = record { of = replaces_of }
+    replaces before events result after parts.done stands = record { silent = (tt, tt); explained = tt }
+    replaces before events result after (parts.not_done {answer} {code = why} is) stands = record { silent = (tt, tt); explained = replacement_caused answer why is stands }

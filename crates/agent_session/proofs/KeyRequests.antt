@@ -37,7 +37,7 @@ use Rattle.key_commands.specs.Parts.{Part, read_fault}
 use Rattle.agent_ask.specs.Parts.{Returns, needed, or_else, wanted}
 use Rattle.agent_ask.specs.Parts as chain
 use Rattle.key_commands.specs.Parts as small
-use Rattle.key_commands.specs.Passphrases.{OpensBy, ClientOld, UncachedOld, OpensLocked, OldPassphrase, VerifiesPassphrase, ClientNew, NewPassphrase, ask_key, way_of}
+use Rattle.key_commands.specs.Passphrases.{ClientOld, UncachedOld, OpensLocked, OldPassphrase, VerifiesPassphrase, ClientNew, NewPassphrase, ask_key, way_of}
 use Rattle.key_commands.specs.Wrapping.{WrappedSays}
 use Rattle.key_commands.specs.Wrapping as wrapping
 use Rattle.session_client.specs.declared.refusal.Refusal.{Refusal}
@@ -54,10 +54,10 @@ use Rattle.agent_session.specs.Completeness.{IsStatus}
 use Rattle.agent_origin.specs.declared.kept.Kept.{Kept}
 use Rattle.agent_session.proofs.Explaining.{Caused, Comes, Explains, Anything, IsFound, bind, whatever, returned, refused, is_needed, or_otherwise, is_wanted, seats, changes, peeks, closes_explained}
 use Rattle.agent_session.proofs.Asides.{info_status, limit_status}
-use Rattle.agent_session.proofs.Explaining.{writes, inquires_of, asks_client, finds, draws, out_of_memory_first, out_of_memory_second, FoundBy, looks}
+use Rattle.agent_session.proofs.Explaining.{writes, inquires, asks_client, finds, draws, out_of_memory_first, out_of_memory_second, looks}
 use Rattle.agent_session.proofs.Faulty.{first_fault_said}
 use Rattle.agent_session.proofs.KeyParts.{Either, fault_caused, looks_for_nonce, takes_seat, keeps_new, locks, tries, tries_found, prompts_old, prompts_new, agrees, reads_file, removes, replaces}
-use Rattle.agent_session.proofs.KeyParts.{OpensHere, comes_of, comes_by_nonce, FoundByNonce, nonce_none, none_opens, nonce_none_opens, NoneOpens}
+use Rattle.agent_session.proofs.KeyParts.{OpensHere, comes_of, comes_by_nonce, FoundByNonce, nonce_none, none_opens, nonce_none_opens}
 use Rattle.agent_session.proofs.Replying.{IsReply, reply_ok, reply_status, reply_nonce, reply_keys}
 use Rattle.agent_session.proofs.Standing.{has_first, has_in, has_right}
 
@@ -76,70 +76,46 @@ module _ (rules : Rules) (kept : Kept) (request : Request) (whole : List (EventW
 
   -- ---- parts that only want memory
 
-  tells_of : (bytes : List ℕ) (before : Option ℕ) (events : List (EventWith FurtherEvent)) (result : Result (List ℕ) Refusal) (after : Option ℕ) → Tells bytes before events result after → StandIn events whole
-      → ComesHere IsReply events result
-  tells_of bytes before events result after (tells answer) stands = record { silent = tt; explained = reply_keys answer }
-
   told : (bytes : List ℕ) → ExplainsHere (Tells bytes) IsReply
-  told bytes = record { of = tells_of bytes }
+  told bytes before events result after (tells answer) stands = record { silent = tt; explained = reply_keys answer }
 
   module _ (key : Key) (pass salt iv : List ℕ) (count : ℕ) where
     abbrev IsProtected : List ℕ → Type 0
     IsProtected list = list ≡ protected_file key (ocb_protection key pass salt iv count None) None
 
-    protects_of : (before : Option ℕ) (events : List (EventWith FurtherEvent)) (result : Result (List ℕ) Refusal) (after : Option ℕ) → Protects key pass salt iv count before events result after
-        → StandIn events whole → ComesHere IsProtected events result
-    protects_of before events result after parts.made stands = record { silent = tt; explained = refl }
-    protects_of before events result after parts.no_memory stands = record { silent = (tt, tt); explained = out_of_memory_first rules kept request whole stands }
-
     protects : ExplainsHere (Protects key pass salt iv count) IsProtected
-    protects = record { of = protects_of }
-
-  names_key_of : (key : Key) (before : Option ℕ) (events : List (EventWith FurtherEvent)) (result : Result Grip Refusal) (after : Option ℕ) → NamesKey key before events result after → StandIn events whole
-      → ComesHere (λ grip. grip.0 ≡ grip_of key) events result
-  names_key_of key before events result after (parts.named is) stands = record { silent = tt; explained = is }
-  names_key_of key before events result after parts.no_memory stands = record { silent = (tt, tt); explained = out_of_memory_first rules kept request whole stands }
+    protects before events result after parts.made stands = record { silent = tt; explained = refl }
+    protects before events result after parts.no_memory stands = record { silent = (tt, tt); explained = out_of_memory_first rules kept request whole stands }
 
   names_key : (key : Key) → ExplainsHere (NamesKey key) (λ grip. grip.0 ≡ grip_of key)
-  names_key key = record { of = names_key_of key }
-
-  wraps_key_of : (wrap : List ℕ) (key : Key) (before : Option ℕ) (events : List (EventWith FurtherEvent)) (result : Result (List ℕ) Refusal) (after : Option ℕ) → WrapsKey wrap key before events result after
-      → StandIn events whole → ComesHere Anything events result
-  wraps_key_of wrap key before events result after parts.is_wrapped stands = record { silent = tt; explained = tt }
-  wraps_key_of wrap key before events result after parts.no_memory stands = record { silent = (tt, tt); explained = out_of_memory_first rules kept request whole stands }
+  names_key key before events result after (parts.named is) stands = record { silent = tt; explained = is }
+  names_key key before events result after parts.no_memory stands = record { silent = (tt, tt); explained = out_of_memory_first rules kept request whole stands }
 
   wraps_key : (wrap : List ℕ) (key : Key) → ExplainsHere (WrapsKey wrap key) Anything
-  wraps_key wrap key = record { of = wraps_key_of wrap key }
+  wraps_key wrap key before events result after parts.is_wrapped stands = record { silent = tt; explained = tt }
+  wraps_key wrap key before events result after parts.no_memory stands = record { silent = (tt, tt); explained = out_of_memory_first rules kept request whole stands }
 
   -- nothing was found under a nonce, or something
   abbrev Overlooked : Option (List ℕ) → Option (List ℕ) → Type 0
   Overlooked id None = ByNonce whole (GivesNone whole) id
   Overlooked id (Some pass) = ⊤
 
-  looks_over_of : (nonce : Option (List ℕ)) (before : Option ℕ) (events : List (EventWith FurtherEvent)) (result : Result (Option (List ℕ)) Refusal) (after : Option ℕ) → LooksOver nonce before events result after
-      → StandIn events whole → ComesHere (Overlooked nonce) events result
-  looks_over_of id before events result after parts.no_nonce stands = record { silent = tt; explained = tt }
-  looks_over_of id before events result after (parts.given can) stands = record { silent = (tt, tt); explained = tt }
-  looks_over_of id before events result after parts.empty stands = record { silent = (tt, tt); explained = none_given Empty tt (has_first stands) }
-  looks_over_of id before events result after parts.stopping stands = record { silent = (tt, tt); explained = none_given Stopping tt (has_first stands) }
-  looks_over_of id before events result after parts.no_memory stands = record { silent = (tt, tt); explained = one (cache_turn _ Refused) refl (has_first stands) }
-
   looks_over : (nonce : Option (List ℕ)) → ExplainsHere (LooksOver nonce) (Overlooked nonce)
-  looks_over nonce = record { of = looks_over_of nonce }
+  looks_over id before events result after parts.no_nonce stands = record { silent = tt; explained = tt }
+  looks_over id before events result after (parts.given can) stands = record { silent = (tt, tt); explained = tt }
+  looks_over id before events result after parts.empty stands = record { silent = (tt, tt); explained = none_given Empty tt (has_first stands) }
+  looks_over id before events result after parts.stopping stands = record { silent = (tt, tt); explained = none_given Stopping tt (has_first stands) }
+  looks_over id before events result after parts.no_memory stands = record { silent = (tt, tt); explained = one (cache_turn _ Refused) refl (has_first stands) }
 
   -- ---- what is known of keys
 
   tells_info : (grip : Grip) (key : Key) → ExplainsHere (TellsKeyInfo grip key) IsStatus
-  tells_info grip key = bind Anything IsStatus (peeks rules kept request whole grip) (λ cached any. returned IsStatus _ (info_status grip cached key.is_clear))
-
-  lists_of : (before : Option ℕ) (events : List (EventWith FurtherEvent)) (result : Result (List Grip) Refusal) (after : Option ℕ) → ListsGrips before events result after → StandIn events whole
-      → ComesHere Anything events result
-  lists_of before events result after (parts.listed is) stands = record { silent = (tt, tt); explained = tt }
-  lists_of before events result after parts.faulted stands = record { silent = (tt, tt); explained = one _ tt (has_first stands) }
-  lists_of before events result after parts.no_memory stands = record { silent = (tt, tt); explained = one _ tt (has_first stands) }
+  tells_info grip key = bind (peeks rules kept request whole grip) (λ cached any. returned IsStatus _ (info_status grip cached key.is_clear))
 
   lists : ExplainsHere ListsGrips Anything
-  lists = record { of = lists_of }
+  lists before events result after (parts.listed is) stands = record { silent = (tt, tt); explained = tt }
+  lists before events result after parts.faulted stands = record { silent = (tt, tt); explained = one _ tt (has_first stands) }
+  lists before events result after parts.no_memory stands = record { silent = (tt, tt); explained = one _ tt (has_first stands) }
 
   unlisted_caused : (grip : Grip) (answer : KeyRead) {why : Code} {more : List (EventWith FurtherEvent)} → answer ≢ key_read.Absent → read_fault answer ≡ Some why
       → StandIn (Further (Keys (Read grip answer)) ∷ more) whole → CausedHere why
@@ -148,27 +124,23 @@ module _ (rules : Rules) (kept : Kept) (request : Request) (whole : List (EventW
   unlisted_caused grip key_read.Failed other is stands = let same : code.General ≡ _ = cc in subst CausedHere same (one _ tt (has_first stands))
   unlisted_caused grip key_read.NoMemory other is stands = let same : code.NoMemory ≡ _ = cc in subst CausedHere same (one _ tt (has_first stands))
 
-  reads_listed_of : (grip : Grip) (before : Option ℕ) (events : List (EventWith FurtherEvent)) (result : Result (Option Key) Refusal) (after : Option ℕ) → ReadsListed grip before events result after
-      → StandIn events whole → ComesHere Anything events result
-  reads_listed_of grip before events result after (parts.is_key is says) stands = record { silent = (tt, tt); explained = tt }
-  reads_listed_of grip before events result after (parts.faulty is says) stands = record { silent = (tt, tt); explained = tt }
-  reads_listed_of grip before events result after parts.absent stands = record { silent = (tt, tt); explained = tt }
-  reads_listed_of grip before events result after (parts.no_memory is) stands = record { silent = (tt, (tt, tt)); explained = out_of_memory_second rules kept request whole stands }
-  reads_listed_of grip before events result after (parts.unread {answer} other is) stands = record { silent = (tt, tt); explained = unlisted_caused grip answer other is stands }
-
   reads_listed : (grip : Grip) → ExplainsHere (ReadsListed grip) Anything
-  reads_listed grip = record { of = reads_listed_of grip }
+  reads_listed grip before events result after (parts.is_key is says) stands = record { silent = (tt, tt); explained = tt }
+  reads_listed grip before events result after (parts.faulty is says) stands = record { silent = (tt, tt); explained = tt }
+  reads_listed grip before events result after parts.absent stands = record { silent = (tt, tt); explained = tt }
+  reads_listed grip before events result after (parts.no_memory is) stands = record { silent = (tt, (tt, tt)); explained = out_of_memory_second rules kept request whole stands }
+  reads_listed grip before events result after (parts.unread {answer} other is) stands = record { silent = (tt, tt); explained = unlisted_caused grip answer other is stands }
 
   writes_info : (grip : Grip) (key : Option Key) → ExplainsHere (WritesInfo grip key) Anything
   writes_info grip None = returned Anything tt tt
-  writes_info grip (Some key) = bind IsStatus Anything (tells_info grip key) (λ line status. writes rules kept request whole line status)
+  writes_info grip (Some key) = bind (tells_info grip key) (λ line status. writes rules kept request whole line status)
 
   tells_listed : (grip : Grip) → ExplainsHere (TellsListed grip) Anything
-  tells_listed grip = bind Anything Anything (reads_listed grip) (λ key any. writes_info grip key)
+  tells_listed grip = bind (reads_listed grip) (λ key any. writes_info grip key)
 
   writes_infos : (grips : List Grip) → ExplainsHere (WritesInfos grips) Anything
   writes_infos [] = returned Anything tt tt
-  writes_infos (grip ∷ more) = bind Anything Anything (tells_listed grip) (λ told any. writes_infos more)
+  writes_infos (grip ∷ more) = bind (tells_listed grip) (λ told any. writes_infos more)
 
   -- one of them is there, or all are absent, those among them that were read earlier
   abbrev unread : Grip → EventWith FurtherEvent
@@ -191,17 +163,13 @@ module _ (rules : Rules) (kept : Kept) (request : Request) (whole : List (EventW
   has_one_of earlier (grip ∷ more) lacks before events result after (chain.stops small.no_memory) stands = record { silent = (tt, tt); explained = one _ tt (has_in stands (has_right (map unread earlier) here)) }
 
   has_one : (grips : List Grip) → (AreUnread whole grips → CausedHere code.NoSecKey) → ExplainsHere (HasOneKey grips) Anything
-  has_one grips lacks = record { of = has_one_of [] grips lacks }
+  has_one grips lacks = has_one_of [] grips lacks
 
   -- ---- wrapped keys
 
-  asks_key_data_of : (before : Option ℕ) (events : List (EventWith FurtherEvent)) (result : Result (List ℕ) Refusal) (after : Option ℕ) → AsksKeyData before events result after
-      → StandIn events whole → ComesHere (IsSent whole (codes "KEYDATA") max_key_data) events result
-  asks_key_data_of before events result after (parts.asked inquires) stands = inquires_of rules kept request whole (codes "KEYDATA") max_key_data before events result before inquires stands
-  asks_key_data_of before events result after (parts.no_memory at_end) stands = record { silent = (tt, (tt, tt)); explained = out_of_memory_second rules kept request whole stands }
-
   asks_key_data : ExplainsHere AsksKeyData (IsSent whole (codes "KEYDATA") max_key_data)
-  asks_key_data = record { of = asks_key_data_of }
+  asks_key_data before events result after (parts.asked does) stands = inquires rules kept request whole (codes "KEYDATA") max_key_data before events result before does stands
+  asks_key_data before events result after (parts.no_memory at_end) stands = record { silent = (tt, (tt, tt)); explained = out_of_memory_second rules kept request whole stands }
 
   module _ (wrap wrapped : List ℕ) (drawn : kept.wraps.import ≡ Some wrap) (sent : IsSent whole (codes "KEYDATA") max_key_data wrapped) where
     wrapped_caused : {why : Code} → WrappedSays wrap wrapped (Err why) → CausedHere why
@@ -213,24 +181,19 @@ module _ (rules : Rules) (kept : Kept) (request : Request) (whole : List (EventW
     wrapped_caused (wrapping.checked are (wrapping.protected padded is locked)) = faulty (key_data (data_says drawn sent (wrapping.checked are (wrapping.protected padded is locked))))
     wrapped_caused (wrapping.checked are (wrapping.long padded is clear much)) = faulty (key_data (data_says drawn sent (wrapping.checked are (wrapping.long padded is clear much))))
 
-    unwraps_of : (before : Option ℕ) (events : List (EventWith FurtherEvent)) (result : Result Key Refusal) (after : Option ℕ) → Unwraps wrap wrapped before events result after → StandIn events whole
-        → ComesHere (λ key. KeyDataSays whole rules kept request (Ok key)) events result
-    unwraps_of before events result after (parts.is_key says) stands = record { silent = tt; explained = data_says drawn sent says }
-    unwraps_of before events result after (parts.refused says) stands = record { silent = tt; explained = wrapped_caused says }
-    unwraps_of before events result after parts.no_memory stands = record { silent = (tt, tt); explained = out_of_memory_first rules kept request whole stands }
-
     unwraps : ExplainsHere (Unwraps wrap wrapped) (λ key. KeyDataSays whole rules kept request (Ok key))
-    unwraps = record { of = unwraps_of }
+    unwraps before events result after (parts.is_key says) stands = record { silent = tt; explained = data_says drawn sent says }
+    unwraps before events result after (parts.refused says) stands = record { silent = tt; explained = wrapped_caused says }
+    unwraps before events result after parts.no_memory stands = record { silent = (tt, tt); explained = out_of_memory_first rules kept request whole stands }
 
   receives_key : (wrap : List ℕ) → kept.wraps.import ≡ Some wrap → ExplainsHere (ReceivesKey wrap) (λ key. KeyDataSays whole rules kept request (Ok key))
   receives_key wrap drawn =
-      bind Anything (λ key. KeyDataSays whole rules kept request (Ok key)) (writes rules kept request whole (limit_line max_key_data) (limit_status max_key_data (omega arith)))
-      (λ told any. bind (IsSent whole (codes "KEYDATA") max_key_data) (λ key. KeyDataSays whole rules kept request (Ok key)) asks_key_data (λ wrapped sent. unwraps wrap wrapped drawn sent))
+      bind (writes rules kept request whole (limit_line max_key_data) (limit_status max_key_data (omega arith))) (λ told any. bind asks_key_data (λ wrapped sent. unwraps wrap wrapped drawn sent))
 
   is_free : (force : Bool) {key : Key} (grip : Grip) {id : Option (List ℕ)} → on_keys request ≡ Some (on.ImportKey force id) → KeyDataSays whole rules kept request (Ok key) → grip.0 ≡ grip_of key
       → ExplainsHere (IsFree force grip) Anything
   is_free true grip asked says named = returned Anything tt tt
-  is_free false grip asked says named = bind (IsFound rules kept request whole grip) Anything (finds rules kept request whole grip) (λ found so. free found so)
+  is_free false grip asked says named = bind (finds rules kept request whole grip) (λ found so. free found so)
     where
       free : (found : Bool) → IsFound rules kept request whole grip found → ExplainsHere (wanted code.FileExists (not found)) Anything
       free true so = refused Anything (Agent code.FileExists) (there asked says named so.1)
@@ -251,17 +214,14 @@ module _ (rules : Rules) (kept : Kept) (request : Request) (whole : List (EventW
     client_old : kept.options.mode ≡ mode.Loopback → ExplainsHere (ClientOld rules kept.options grip locked) (λ opened. Opens grip opened.key)
     unfolding ClientOld
     client_old loopback =
-        bind (IsSent whole (codes "PASSPHRASE") MAX_SECRET_LEN) (λ opened. Opens grip opened.key) (asks_client rules kept request whole (codes "PASSPHRASE") MAX_SECRET_LEN (omega arith))
-        (λ pass sent. bind (Either rules kept request whole (λ opened. Opens grip opened.key) (¬ OpensBy locked pass)) (λ opened. Opens grip opened.key)
-        (tries rules kept request whole grip unlocks locked is_locked pass (causes.sent_by_client loopback sent))
-        (λ tried so. bind (λ opened. Opens grip opened.key) (λ opened. Opens grip opened.key)
-        (if_needed (λ opened. Opens grip opened.key) (¬ OpensBy locked pass) code.BadPass tried so (λ closed. stays loopback unlocks is_locked sent closed))
-        (λ opened opens. bind Anything (λ opened. Opens grip opened.key) (changes rules kept request whole _ refl)
+        bind (asks_client rules kept request whole (codes "PASSPHRASE") MAX_SECRET_LEN (omega arith))
+        (λ pass sent. bind (tries rules kept request whole grip unlocks locked is_locked pass (causes.sent_by_client loopback sent))
+        (λ tried so. bind (if_needed _ _ code.BadPass tried so (λ closed. stays loopback unlocks is_locked sent closed)) (λ opened opens. bind (changes rules kept request whole _ refl)
         (λ kept_so any. returned (λ opened. Opens grip opened.key) opened opens))))
 
     uncached_old : (way : PinMode) → kept.options.mode ≡ way → HasNoEntry whole request → ExplainsHere (UncachedOld rules kept.options grip way locked) (λ opened. Opens grip opened.key)
     uncached_old mode.Ask is unmet =
-        bind Anything (λ opened. Opens grip opened.key) (takes_seat rules kept request whole grip) (λ seated any. prompts_old rules kept request whole grip unlocks locked is_locked)
+        bind (takes_seat rules kept request whole grip) (λ seated any. prompts_old rules kept request whole grip unlocks locked is_locked)
     uncached_old mode.Cancel is unmet = refused (λ opened. Opens grip opened.key) (Agent code.Cancelled) (by_mode is unmet)
     uncached_old mode.Error is unmet = refused (λ opened. Opens grip opened.key) (Agent code.NoPinentry) (inl (by_mode is unmet))
     uncached_old mode.Loopback is unmet = client_old is
@@ -271,19 +231,11 @@ module _ (rules : Rules) (kept : Kept) (request : Request) (whole : List (EventW
         → ExplainsHere (OpensLocked rules kept.options grip nonce locked) (λ opened. Opens grip opened.key)
     unfolding OpensLocked
     opens_locked nonce names unmet =
-        bind (FoundByNonce rules kept request whole nonce) (λ opened. Opens grip opened.key) (looks_for_nonce rules kept request whole nonce)
-        (λ by_nonce by. bind (Either rules kept request whole (λ opened. Opens grip opened.key) (NoneOpens rules kept request whole grip unlocks locked is_locked by_nonce))
-        (λ opened. Opens grip opened.key)
-        (tries_found rules kept request whole grip unlocks locked is_locked by_nonce (comes_by_nonce rules kept request whole nonce by_nonce names by))
-        (λ first so. or_else_explained (λ opened. Opens grip opened.key) (NoneOpens rules kept request whole grip unlocks locked is_locked by_nonce) first _ so
-        (λ first_closed. bind (FoundBy rules kept request whole (ask_key grip (way_of kept.options.mode))) (λ opened. Opens grip opened.key) (looks rules kept request whole _ refl)
-        (λ cached given. bind (Either rules kept request whole (λ opened. Opens grip opened.key) (NoneOpens rules kept request whole grip unlocks locked is_locked cached))
-        (λ opened. Opens grip opened.key)
-        (tries_found rules kept request whole grip unlocks locked is_locked cached
+        bind (looks_for_nonce rules kept request whole nonce)
+        (λ by_nonce by. bind (tries_found rules kept request whole grip unlocks locked is_locked by_nonce (comes_by_nonce rules kept request whole nonce by_nonce names by)) (λ first so. or_else_explained _ _ first _ so
+        (λ first_closed. bind (looks rules kept request whole _ refl) (λ cached given. bind (tries_found rules kept request whole grip unlocks locked is_locked cached
         (comes_of rules kept request whole (ComesBy whole rules kept.options request grip locked) given (λ grant has. causes.cached_by_key (way_of kept.options.mode) has)))
-        (λ second so. or_else_explained (λ opened. Opens grip opened.key) (NoneOpens rules kept request whole grip unlocks locked is_locked cached) second _ so
-        (λ second_closed. uncached_old kept.options.mode refl
-        (unmet (nonce_none_opens rules kept request whole nonce locked by_nonce by first_closed)
+        (λ second so. or_else_explained _ _ second _ so (λ second_closed. uncached_old kept.options.mode refl (unmet (nonce_none_opens rules kept request whole nonce locked by_nonce by first_closed)
         (none_opens rules kept request whole (ask_key grip (way_of kept.options.mode)) locked cached given second_closed))))))))
 
   module _ (grip : Grip) (unlocks : Unlocks request grip) where
@@ -292,16 +244,14 @@ module _ (rules : Rules) (kept : Kept) (request : Request) (whole : List (EventW
         → ExplainsHere (OldPassphrase rules kept.options grip id (record key { is_clear = clear })) (λ opened. Opens grip opened.key)
     old_passphrase true key id names is_read unmet = returned (λ opened. Opens grip opened.key) _ (is_clear is_read refl)
     old_passphrase false key id names is_read unmet =
-        bind (IsReadLocked whole grip) (λ opened. Opens grip opened.key) (locks rules kept request whole grip unlocks (record key { is_clear = false }) is_read refl)
-        (λ locked is_locked. opens_locked grip unlocks locked is_locked id names (unmet locked is_locked))
+        bind (locks rules kept request whole grip unlocks (record key { is_clear = false }) is_read refl) (λ locked is_locked. opens_locked grip unlocks locked is_locked id names (unmet locked is_locked))
 
     verifies_passphrase : (clear : Bool) (key : Key) → IsRead whole grip (Ok (record key { is_clear = clear }))
         → ((locked : LockedKey) → IsReadLocked whole grip locked → HasNoEntry whole request)
         → ExplainsHere (VerifiesPassphrase rules kept.options grip (record key { is_clear = clear })) (λ opened. Opens grip opened.key)
     verifies_passphrase true key is_read unmet = returned (λ opened. Opens grip opened.key) _ (is_clear is_read refl)
     verifies_passphrase false key is_read unmet =
-        bind (IsReadLocked whole grip) (λ opened. Opens grip opened.key) (locks rules kept request whole grip unlocks (record key { is_clear = false }) is_read refl)
-        (λ locked is_locked. uncached_old grip unlocks locked is_locked kept.options.mode refl (unmet locked is_locked))
+        bind (locks rules kept request whole grip unlocks (record key { is_clear = false }) is_read refl) (λ locked is_locked. uncached_old grip unlocks locked is_locked kept.options.mode refl (unmet locked is_locked))
 
   -- ---- a new passphrase
 
@@ -309,9 +259,8 @@ module _ (rules : Rules) (kept : Kept) (request : Request) (whole : List (EventW
     client_new : kept.options.mode ≡ mode.Loopback → ExplainsHere ClientNew Anything
     unfolding ClientNew
     client_new loopback =
-        bind (IsSent whole (codes "NEW_PASSPHRASE") MAX_SECRET_LEN) Anything (asks_client rules kept request whole (codes "NEW_PASSPHRASE") MAX_SECRET_LEN (omega arith))
-        (λ pass sent. bind (λ done. not (length pass == 0) ≡ true) Anything (is_wanted code.BadPass (not (length pass == 0))
-        (λ none. empty loopback (subst (IsSent whole (codes "NEW_PASSPHRASE") MAX_SECRET_LEN) (is_empty pass none) sent)))
+        bind (asks_client rules kept request whole (codes "NEW_PASSPHRASE") MAX_SECRET_LEN (omega arith))
+        (λ pass sent. bind (is_wanted code.BadPass (not (length pass == 0)) (λ none. empty loopback (subst (IsSent whole (codes "NEW_PASSPHRASE") MAX_SECRET_LEN) (is_empty pass none) sent)))
         (λ some so. returned Anything pass tt))
       where
         is_empty : (pass : List ℕ) → not (length pass == 0) ≡ false → pass ≡ []
@@ -325,7 +274,7 @@ module _ (rules : Rules) (kept : Kept) (request : Request) (whole : List (EventW
   new_passphrase : (way : PinMode) → ((values : OptionValues) → AsksAny rules values request (new_plan rules values)) → HasNoEntry whole request
       → Explains whole (IsCaused whole rules (in_mode way) request) (NewPassphrase rules (in_mode way).options grip) Anything
   new_passphrase mode.Ask asks unmet =
-      bind Anything Anything (takes_seat rules (in_mode mode.Ask) request whole grip) (λ seated any. prompts_new rules (in_mode mode.Ask) request whole grip (asks (in_mode mode.Ask).options))
+      bind (takes_seat rules (in_mode mode.Ask) request whole grip) (λ seated any. prompts_new rules (in_mode mode.Ask) request whole grip (asks (in_mode mode.Ask).options))
   new_passphrase mode.Cancel asks unmet = refused Anything (Agent code.Cancelled) (by_mode refl unmet)
   new_passphrase mode.Error asks unmet = refused Anything (Agent code.NoPinentry) (inl (by_mode refl unmet))
   new_passphrase mode.Loopback asks unmet = client_new rules (in_mode mode.Loopback) request whole grip refl
@@ -333,7 +282,7 @@ module _ (rules : Rules) (kept : Kept) (request : Request) (whole : List (EventW
   consents : (way : PinMode) (force : Bool) → on_keys request ≡ Some (on.DeleteKey grip force) → Explains whole (IsCaused whole rules (in_mode way) request) (Consents rules (in_mode way).options force grip) Anything
   consents way true asked = returned Anything tt tt
   consents mode.Ask false asked =
-      bind Anything Anything (seats rules (in_mode mode.Ask) request whole _ refl) (λ seated any. agrees rules (in_mode mode.Ask) request whole _)
+      bind (seats rules (in_mode mode.Ask) request whole _ refl) (λ seated any. agrees rules (in_mode mode.Ask) request whole _)
   consents mode.Cancel false asked = refused Anything (Agent code.Cancelled) (by_mode refl (HasNoEntry.of_consent (deletion asked)))
   consents mode.Error false asked = refused Anything (Agent code.NoPinentry) (inl (by_mode refl (HasNoEntry.of_consent (deletion asked))))
   consents mode.Loopback false asked = refused Anything (Agent code.NoPinentry) (inl (IsUnprompted.of_consent (deletion asked) refl))
@@ -353,59 +302,50 @@ module _ (rules : Rules) (kept : Kept) (request : Request) (whole : List (EventW
   have_key : (grips : List Grip) → on_keys request ≡ Some (on.HaveKey grips) → Explains whole (IsCaused whole rules kept request) (HaveKeyReplies rules kept.options kept.wraps grips) Replied
   unfolding HaveKeyReplies
   have_key grips asked =
-      bind Anything Replied (has_one rules kept request whole grips (λ each. subst (LacksKeys whole) (sym asked) each)) (λ one any. replied _ reply_ok)
+      bind (has_one rules kept request whole grips (λ each. subst (LacksKeys whole) (sym asked) each)) (λ one any. replied _ reply_ok)
 
   key_info : (grip : Grip) → on_keys request ≡ Some (on.KeyInfo grip) → Explains whole (IsCaused whole rules kept request) (KeyInfoReplies rules kept.options kept.wraps grip) Replied
   unfolding KeyInfoReplies
   key_info grip asked =
-      bind (λ file. IsReadOf whole grip file.bytes × IsRead whole grip (Ok file.key)) Replied (reads_file rules kept request whole grip (causes.tells asked) (λ absent. subst (LacksKeys whole) (sym asked) absent))
-      (λ file is_read. bind IsStatus Replied (tells_info rules kept request whole grip file.key) (λ line status. replied _ (reply_status _ status)))
+      bind (reads_file rules kept request whole grip (causes.tells asked) (λ absent. subst (LacksKeys whole) (sym asked) absent))
+      (λ file is_read. bind (tells_info rules kept request whole grip file.key) (λ line status. replied _ (reply_status _ status)))
 
   list_keys : Explains whole (IsCaused whole rules kept request) (ListKeysReplies rules kept.options kept.wraps) Replied
   unfolding ListKeysReplies
   list_keys =
-      bind Anything Replied (lists rules kept request whole)
-      (λ grips any. bind Anything Replied (writes_infos rules kept request whole grips) (λ written any. replied _ reply_ok))
+      bind (lists rules kept request whole) (λ grips any. bind (writes_infos rules kept request whole grips) (λ written any. replied _ reply_ok))
 
   key_wrap : (way : Direction) → Explains whole (IsCaused whole rules kept request) (KeyWrapReplies rules kept.options kept.wraps way) Replied
   unfolding KeyWrapReplies
   key_wrap way =
-      bind Anything Replied (or_otherwise Anything (wrap_key way kept.wraps) _ (λ some is. tt)
-      (λ none. whatever (IsDrawn whole 16) (draws rules kept request whole 16)))
-      (λ key any. bind IsReply Replied (told rules kept request whole key) (λ text is_reply. replied _ is_reply))
+      bind (or_otherwise Anything (wrap_key way kept.wraps) _ (λ some is. tt) (λ none. whatever (IsDrawn whole 16) (draws rules kept request whole 16)))
+      (λ key any. bind (told rules kept request whole key) (λ text is_reply. replied _ is_reply))
 
   export_key : (grip : Grip) (nonce : Option (List ℕ)) → on_keys request ≡ Some (on.ExportKey grip nonce)
       → Explains whole (IsCaused whole rules kept request) (ExportKeyReplies rules kept.options kept.wraps grip nonce) Replied
   unfolding ExportKeyReplies
   export_key grip id asked =
-      bind Anything Replied (is_needed Anything code.Parameter kept.wraps.export (λ none. no_export asked none) (λ some is. tt))
-      (λ wrap any. bind (λ file. IsReadOf whole grip file.bytes × IsRead whole grip (Ok file.key)) Replied
-      (reads_file rules kept request whole grip (causes.unlocks (exports asked)) (λ absent. subst (LacksKeys whole) (sym asked) absent))
-      (λ file is_read. bind (λ opened. OpensAs grip opened.key) Replied (old_passphrase rules kept request whole grip (exports asked) file.key.is_clear file.key id
-      (λ nonce same. of_export (subst (λ n. on_keys request ≡ Some (on.ExportKey grip n)) same asked)) is_read.1
-      (λ locked is_locked by_nonce by_key. exported _ asked is_locked by_nonce by_key))
-      (λ opened opens. bind Anything Replied (closes_explained opened.by)
-      (λ closed any. bind Anything Replied (wraps_key rules kept request whole wrap opened.key)
-      (λ wrapped any. bind IsReply Replied (told rules kept request whole wrapped) (λ text is_reply. replied _ is_reply))))))
+      bind (is_needed Anything code.Parameter kept.wraps.export (λ none. no_export asked none) (λ some is. tt))
+      (λ wrap any. bind (reads_file rules kept request whole grip (causes.unlocks (exports asked)) (λ absent. subst (LacksKeys whole) (sym asked) absent))
+      (λ file is_read. bind (old_passphrase rules kept request whole grip (exports asked) file.key.is_clear file.key id (λ nonce same. of_export (subst (λ n. on_keys request ≡ Some (on.ExportKey grip n)) same asked)) is_read.1 (λ locked is_locked by_nonce by_key. exported _ asked is_locked by_nonce by_key))
+      (λ opened opens. bind (closes_explained opened.by) (λ closed any. bind (wraps_key rules kept request whole wrap opened.key)
+      (λ wrapped any. bind (told rules kept request whole wrapped) (λ text is_reply. replied _ is_reply))))))
 
   verify : (grip : Grip) {old new : Option (List ℕ)} → on_keys request ≡ Some (on.Passwd grip old new true)
       → Explains whole (IsCaused whole rules kept request) (VerifyReplies rules kept.options kept.wraps grip) Replied
   unfolding VerifyReplies
   verify grip asked =
-      bind (λ file. IsReadOf whole grip file.bytes × IsRead whole grip (Ok file.key)) Replied
-      (reads_file rules kept request whole grip (causes.unlocks (causes.changes asked)) (λ absent. subst (LacksKeys whole) (sym asked) absent))
-      (λ file is_read. bind
-      (λ opened. OpensAs grip opened.key) Replied (verifies_passphrase rules kept request whole grip (causes.changes asked) file.key.is_clear file.key is_read.1 (λ locked is_locked. verified asked is_locked))
-      (λ opened opens. bind Anything Replied (closes_explained opened.by) (λ closed any. replied _ reply_ok)))
+      bind (reads_file rules kept request whole grip (causes.unlocks (causes.changes asked)) (λ absent. subst (LacksKeys whole) (sym asked) absent))
+      (λ file is_read. bind (verifies_passphrase rules kept request whole grip (causes.changes asked) file.key.is_clear file.key is_read.1 (λ locked is_locked. verified asked is_locked))
+      (λ opened opens. bind (closes_explained opened.by) (λ closed any. replied _ reply_ok)))
 
   delete_key : (grip : Grip) (force : Bool) → on_keys request ≡ Some (on.DeleteKey grip force) → Explains whole (IsCaused whole rules kept request) (DeleteKeyReplies rules kept.options kept.wraps force grip) Replied
   unfolding DeleteKeyReplies
   delete_key grip force asked =
-      bind (IsFound rules kept request whole grip) Replied (finds rules kept request whole grip)
-      (λ found so. bind (λ done. found ≡ true) Replied (is_wanted code.NoSecKey found (λ none. lacks found none so))
-      (λ some any. bind Anything Replied (consents rules kept request whole grip kept.options.mode force asked)
-      (λ agreed any. bind Anything Replied (removes rules kept request whole grip (λ absent. subst (LacksKeys whole) (sym asked) (inr absent)))
-      (λ removed any. bind Anything Replied (changes rules kept request whole _ refl) (λ cleared any. replied _ reply_ok)))))
+      bind (finds rules kept request whole grip) (λ found so. bind (is_wanted code.NoSecKey found (λ none. lacks found none so))
+      (λ some any. bind (consents rules kept request whole grip kept.options.mode force asked)
+      (λ agreed any. bind (removes rules kept request whole grip (λ absent. subst (LacksKeys whole) (sym asked) (inr absent)))
+      (λ removed any. bind (changes rules kept request whole _ refl) (λ cleared any. replied _ reply_ok)))))
     where
       lacks : (found : Bool) → found ≡ false → IsFound rules kept request whole grip found → LacksKeys whole (on_keys request)
       lacks true none so = absurd (cc none)
@@ -414,93 +354,68 @@ module _ (rules : Rules) (kept : Kept) (request : Request) (whole : List (EventW
   found_or_new : (grip : Grip) (force : Bool) (nonce : Option (List ℕ)) → on_keys request ≡ Some (on.ImportKey force nonce)
       → Explains whole (IsCaused whole rules kept request) (FoundOrNew rules kept.options nonce grip) Anything
   found_or_new grip force id asked =
-      bind (Overlooked rules kept request whole id) Anything (looks_over rules kept request whole id)
-      (λ found so. or_otherwise Anything found _ (λ some is. tt)
-      (λ none. new_passphrase rules kept request whole grip kept.options.mode (λ values. of_import asked) (imported asked (subst (Overlooked rules kept request whole id) none so))))
+      bind (looks_over rules kept request whole id)
+      (λ found so. or_otherwise Anything found _ (λ some is. tt) (λ none. new_passphrase rules kept request whole grip kept.options.mode (λ values. of_import asked) (imported asked (subst (Overlooked rules kept request whole id) none so))))
 
   -- PASSWD of a key
   module _ (grip : Grip) {old new : Option (List ℕ)} (asked : on_keys request ≡ Some (on.Passwd grip old new false)) where
     renews : Explains whole (IsCaused whole rules kept request) (RenewsPassphrase rules kept.options grip new) Anything
     renews =
-        bind (FoundByNonce rules kept request whole new) Anything (looks_for_nonce rules kept request whole new)
-        (λ found by. or_otherwise Anything found _ (λ some is. tt)
-        (λ none. new_passphrase rules kept request whole grip kept.options.mode (λ values. of_new asked) (renewed asked (nonce_none rules kept request whole new (subst (FoundByNonce rules kept request whole new) none by)))))
+        bind (looks_for_nonce rules kept request whole new)
+        (λ found by. or_otherwise Anything found _ (λ some is. tt) (λ none. new_passphrase rules kept request whole grip kept.options.mode (λ values. of_new asked) (renewed asked (nonce_none rules kept request whole new (subst (FoundByNonce rules kept request whole new) none by)))))
 
     module _ (key : Key) (opens : OpensRead whole rules kept.options request grip key) where
-      is_short_of : (before : Option ℕ) (events : List (EventWith FurtherEvent)) (result : Result (Unit {0}) Refusal) (after : Option ℕ) → IsShort key before events result after → StandIn events whole
-          → Comes whole (IsCaused whole rules kept request) Anything events result
-      is_short_of before events result after (parts.short few) stands = record { silent = tt; explained = tt }
-      is_short_of before events result after (parts.long many) stands = record { silent = tt; explained = long asked opens many }
-
       is_short : Explains whole (IsCaused whole rules kept request) (IsShort key) Anything
-      is_short = record { of = is_short_of }
+      is_short before events result after (parts.short few) stands = record { silent = tt; explained = tt }
+      is_short before events result after (parts.long many) stands = record { silent = tt; explained = long asked opens many }
 
       module _ (file : List ℕ) (is_read : IsReadOf whole grip file) (pass : List ℕ) where
         module _ (list : List ℕ) (is_list : IsListOf whole key pass kept.options.s2k_count list) where
-          rewrites_of : (before : Option ℕ) (events : List (EventWith FurtherEvent)) (result : Result (List ℕ) Refusal) (after : Option ℕ) → Rewrites file list before events result after
-              → StandIn events whole → Comes whole (IsCaused whole rules kept request) Anything events result
-          rewrites_of before events result after (files.canonical_file is) stands = record { silent = tt; explained = tt }
-          rewrites_of before events result after (files.extended_file other with_list few) stands = record { silent = tt; explained = tt }
-          rewrites_of before events result after (files.too_long new_file other with_list many) stands =
-              record { silent = tt; explained = long_file pass asked is_read other opens is_list with_list many }
-          rewrites_of before events result after (files.no_memory other) stands = record { silent = (tt, tt); explained = out_of_memory_first rules kept request whole stands }
-
           rewrites : Explains whole (IsCaused whole rules kept request) (Rewrites file list) Anything
-          rewrites = record { of = rewrites_of }
+          rewrites before events result after (files.canonical_file is) stands = record { silent = tt; explained = tt }
+          rewrites before events result after (files.extended_file other with_list few) stands = record { silent = tt; explained = tt }
+          rewrites before events result after (files.too_long new_file other with_list many) stands =
+              record { silent = tt; explained = long_file pass asked is_read other opens is_list with_list many }
+          rewrites before events result after (files.no_memory other) stands = record { silent = (tt, tt); explained = out_of_memory_first rules kept request whole stands }
 
   -- ---- key files that are replaced
 
   module _ (never_absent : (grip : Grip) (file : List ℕ) → Has (Further (Keys (Replaced grip file key_done.Absent))) whole → ⊥) where
     stores_key : (count : ℕ) (key : Key) (grip : Grip) (pass : List ℕ) → Explains whole (IsCaused whole rules kept request) (StoresKey count key grip pass) Anything
     stores_key count key grip pass =
-        bind (IsDrawn whole 32) Anything (draws rules kept request whole 32)
-        (λ drawn is_drawn. bind (IsProtected rules kept request whole key pass (take 8 drawn) (take 12 (drop 8 drawn)) count) Anything
-        (protects rules kept request whole key pass (take 8 drawn) (take 12 (drop 8 drawn)) count)
-        (λ file is_protected. bind Anything Anything (changes rules kept request whole _ refl)
-        (λ cached any. bind Anything Anything (replaces rules kept request whole never_absent grip file)
-        (λ replaced any. bind Anything Anything (keeps_new rules kept request whole grip pass)
-        (λ kept_so any. returned Anything (drop 20 drawn) tt)))))
+        bind (draws rules kept request whole 32) (λ drawn is_drawn. bind (protects rules kept request whole key pass (take 8 drawn) (take 12 (drop 8 drawn)) count)
+        (λ file is_protected. bind (changes rules kept request whole _ refl) (λ cached any. bind (replaces rules kept request whole never_absent grip file)
+        (λ replaced any. bind (keeps_new rules kept request whole grip pass) (λ kept_so any. returned Anything (drop 20 drawn) tt)))))
 
     import_key : (force : Bool) (nonce : Option (List ℕ)) → on_keys request ≡ Some (on.ImportKey force nonce)
         → Explains whole (IsCaused whole rules kept request) (ImportKeyReplies rules kept.options kept.wraps force nonce) Replied
     unfolding ImportKeyReplies
     import_key force id asked =
-        bind (λ wrap. kept.wraps.import ≡ Some wrap) Replied (is_needed (λ wrap. kept.wraps.import ≡ Some wrap) code.Parameter kept.wraps.import
-        (λ none. no_import asked none) (λ some is. is))
-        (λ wrap drawn. bind (λ key. KeyDataSays whole rules kept request (Ok key)) Replied (receives_key rules kept request whole wrap drawn)
-        (λ key says. bind (λ grip. grip.0 ≡ grip_of key) Replied (names_key rules kept request whole key)
-        (λ grip named. bind Anything Replied (is_free rules kept request whole force grip asked says named)
-        (λ free any. bind Anything Replied (found_or_new grip force id asked)
-        (λ pass any. bind Anything Replied (stores_key kept.options.s2k_count key grip pass)
-        (λ cache_nonce any. replied _ (reply_nonce _)))))))
+        bind (is_needed (λ wrap. kept.wraps.import ≡ Some wrap) code.Parameter kept.wraps.import (λ none. no_import asked none) (λ some is. is))
+        (λ wrap drawn. bind (receives_key rules kept request whole wrap drawn) (λ key says. bind (names_key rules kept request whole key)
+        (λ grip named. bind (is_free rules kept request whole force grip asked says named) (λ free any. bind (found_or_new grip force id asked)
+        (λ pass any. bind (stores_key kept.options.s2k_count key grip pass) (λ cache_nonce any. replied _ (reply_nonce _)))))))
 
     module _ (grip : Grip) {old new : Option (List ℕ)} (asked : on_keys request ≡ Some (on.Passwd grip old new false)) (file : List ℕ) (is_read : IsReadOf whole grip file) (key : Key)
         (opens : OpensRead whole rules kept.options request grip key) where
       rewrites_file : (pass : List ℕ) → Explains whole (IsCaused whole rules kept request) (RewritesFile rules kept.options grip file key pass) Anything
       unfolding RewritesFile
       rewrites_file pass =
-          bind (IsDrawn whole 20) Anything (draws rules kept request whole 20)
-          (λ drawn is_drawn. bind (IsProtected rules kept request whole key pass (take 8 drawn) (drop 8 drawn) kept.options.s2k_count) Anything
-          (protects rules kept request whole key pass (take 8 drawn) (drop 8 drawn) kept.options.s2k_count)
-          (λ list is_protected. bind Anything Anything (rewrites grip asked key opens file is_read pass list (protected is_drawn is_protected))
-          (λ new_file any. bind Anything Anything (replaces rules kept request whole never_absent grip new_file)
-          (λ replaced any. keeps_new rules kept request whole grip pass))))
+          bind (draws rules kept request whole 20) (λ drawn is_drawn. bind (protects rules kept request whole key pass (take 8 drawn) (drop 8 drawn) kept.options.s2k_count)
+          (λ list is_protected. bind (rewrites grip asked key opens file is_read pass list (protected is_drawn is_protected))
+          (λ new_file any. bind (replaces rules kept request whole never_absent grip new_file) (λ replaced any. keeps_new rules kept request whole grip pass))))
 
       changes_opened : Explains whole (IsCaused whole rules kept request) (ChangesOpened rules kept.options grip new file key) Anything
       changes_opened =
-          bind Anything Anything (is_short grip asked key opens)
-          (λ short any. bind Anything Anything (renews grip asked) (λ pass any. rewrites_file pass))
+          bind (is_short grip asked key opens) (λ short any. bind (renews grip asked) (λ pass any. rewrites_file pass))
 
     passwd : (grip : Grip) (nonce new_nonce : Option (List ℕ)) → on_keys request ≡ Some (on.Passwd grip nonce new_nonce false)
         → Explains whole (IsCaused whole rules kept request) (PasswdReplies rules kept.options kept.wraps grip nonce new_nonce) Replied
     unfolding PasswdReplies
     passwd grip id new_id asked =
-        bind (λ file. IsReadOf whole grip file.bytes × IsRead whole grip (Ok file.key)) Replied
-        (reads_file rules kept request whole grip (causes.unlocks (causes.changes asked)) (λ absent. subst (LacksKeys whole) (sym asked) absent))
-        (λ file is_read. bind (λ opened. OpensAs grip opened.key) Replied (old_passphrase rules kept request whole grip (causes.changes asked) file.key.is_clear file.key id
-        (λ nonce same. of_change (subst (λ n. on_keys request ≡ Some (on.Passwd grip n new_id false)) same asked)) is_read.1
-        (λ locked is_locked by_nonce by_key. changed _ asked is_locked by_nonce by_key))
-        (λ opened opens. bind Anything Replied (changes_opened grip asked file.bytes is_read.0 opened.key opens) (λ changed_so any. replied _ reply_ok)))
+        bind (reads_file rules kept request whole grip (causes.unlocks (causes.changes asked)) (λ absent. subst (LacksKeys whole) (sym asked) absent))
+        (λ file is_read. bind (old_passphrase rules kept request whole grip (causes.changes asked) file.key.is_clear file.key id (λ nonce same. of_change (subst (λ n. on_keys request ≡ Some (on.Passwd grip n new_id false)) same asked)) is_read.1 (λ locked is_locked by_nonce by_key. changed _ asked is_locked by_nonce by_key))
+        (λ opened opens. bind (changes_opened grip asked file.bytes is_read.0 opened.key opens) (λ changed_so any. replied _ reply_ok)))
 
     -- a request on keys, whose line may be refused
     module _ (line_caused : (why : Code) → IsRefusedBy request why → IsCaused whole rules kept request why OfAgent) where

@@ -122,8 +122,8 @@ module _ (rules : Rules) (kept : Kept) (request : Request) where
   export_key grip id asked _ _ _ (goes_on {first = a} {events = b} wants (goes_on {first = c} {events = d} (key_parts.is_key {key} found says) (goes_on {first = e} {events = f} {value = opened} does
       (goes_on closes (goes_on is_wrapped (goes_on (tells data_so) returns)))))) =
       let stands = stand_right a b (stand_all (a ++ b)) in
-      let comes = (old_passphrase rules kept request (a ++ b) grip (exports asked) key.is_clear key id (λ nonce same. of_export (subst (λ n. on_keys request ≡ Some (on.ExportKey grip n)) same asked)) (read found says (has_first stands))
-      (λ locked is_locked by_id by_key. exported _ asked is_locked by_id by_key)).of _ e (Ok opened) _ does
+      let comes = old_passphrase rules kept request (a ++ b) grip (exports asked) key.is_clear key id (λ nonce same. of_export (subst (λ n. on_keys request ≡ Some (on.ExportKey grip n)) same asked)) (read found says (has_first stands))
+      (λ locked is_locked by_id by_key. exported _ asked is_locked by_id by_key) _ e (Ok opened) _ does
       (stand_left e f (stand_right c d stands)) in
       wrapped opened.key asked (there_is _ kept.wraps.export _ _ _ wants) comes.explained data_so
 

@@ -143,26 +143,19 @@ module _ (rules : Rules) (kept : Kept) (other : Request) (request : TrustRequest
     consent_refused agreed.NoPinentry so = unopened so
     consent_refused (agreed.Heard heard) so = heard_refused heard so
 
-  agrees_of : (question : List ℕ) (before : Option ℕ) (events : List Event) (result : Result (Unit {0}) Refusal) (after : Option ℕ) → AgreesTo session_lines rules kept.options question before events result after → StandIn events within
-      → ComesHere Anything events result
-  agrees_of question before events result after (consent.consents spec is prompt) stands = record { silent = prompt_silent prompt.in_session; explained = tt }
-  agrees_of question before events result after (consent.refused {answer} spec is prompt refusal) stands = record {
+  agrees : (question : List ℕ) → ExplainsHere (AgreesTo session_lines rules kept.options question) Anything
+  agrees question before events result after (consent.consents spec is prompt) stands = record { silent = prompt_silent prompt.in_session; explained = tt }
+  agrees question before events result after (consent.refused {answer} spec is prompt refusal) stands = record {
     silent = prompt_silent prompt.in_session;
     explained = subst (λ o. IfSome o (CausedRefusal within Caused)) refusal (consent_refused prompt.in_session stands answer (consent_shows prompt.asks));
   }
 
-  agrees : (question : List ℕ) → ExplainsHere (AgreesTo session_lines rules kept.options question) Anything
-  agrees question = record { of = agrees_of question }
-
   -- ---- the trust file
 
-  reads_of : (before : Option ℕ) (events : List Event) (result : Result (List ℕ) Refusal) (after : Option ℕ) → ReadsFile before events result after → StandIn events within → ComesHere (IsReadTrust within) events result
-  reads_of before events result after (parts.has_read is) stands = record { silent = (tt, tt); explained = read_trust is (has_first stands) }
-  reads_of before events result after parts.faulted stands = record { silent = (tt, tt); explained = called_trust (Read read.Failed) tt (has_first (lift _ stands)) }
-  reads_of before events result after parts.no_memory stands = record { silent = (tt, tt); explained = one (trust_called (Read read.NoMemory)) tt (has_first (lift _ stands)) }
-
   reads_file : ExplainsHere ReadsFile (IsReadTrust within)
-  reads_file = record { of = reads_of }
+  reads_file before events result after (parts.has_read is) stands = record { silent = (tt, tt); explained = read_trust is (has_first stands) }
+  reads_file before events result after parts.faulted stands = record { silent = (tt, tt); explained = called_trust (Read read.Failed) tt (has_first (lift _ stands)) }
+  reads_file before events result after parts.no_memory stands = record { silent = (tt, tt); explained = one (trust_called (Read read.NoMemory)) tt (has_first (lift _ stands)) }
 
   lift_read : {file : List ℕ} → IsReadTrust within file → IsReadTrust whole file
   lift_read (read_trust is has) = read_trust is (has_in (lift within (stand_all within)) has)
@@ -186,7 +179,7 @@ module _ (rules : Rules) (kept : Kept) (other : Request) (request : TrustRequest
     trusted_now : ExplainsHere (TrustedNow fingerprint) Anything
     unfolding TrustedNow
     trusted_now =
-        bind (IsReadTrust within) Anything reads_file
+        bind reads_file
         (λ file is_read. is_unless (trust file fingerprint.0) _
         (λ no. denied (record { file = file; request_is = is_request; is_read = lift_read is_read; says_so = no }))
         (λ none. refused Anything (refusals.Agent code.NotTrusted) (unsaid (record { file = file; request_is = is_request; is_read = lift_read is_read; says_so = none }))))
@@ -200,21 +193,21 @@ module _ (rules : Rules) (kept : Kept) (other : Request) (request : TrustRequest
       stores : (file : List ℕ) → IsReadTrust within file → trust file fingerprint.0 ≡ None → ExplainsHere (Stores fingerprint purpose file) Anything
       unfolding Stores
       stores file is_read none =
-          bind Anything Anything (record { of = adds_of file fingerprint (flag_of purpose) (λ long. too_long is_request (again file is_read) none long) }) (λ new good. record { of = replaces_of new })
+          bind (adds_of file fingerprint (flag_of purpose) (λ long. too_long is_request (again file is_read) none long)) (λ new good. replaces_of new)
 
       stores_unsaid : ExplainsHere (StoresUnsaid fingerprint purpose) Anything
       unfolding StoresUnsaid
       stores_unsaid =
-          bind (IsReadTrust within) Anything reads_file
+          bind reads_file
           (λ file is_read. is_unless (trust file fingerprint.0) _ (λ no. denied_mark (says file (Some false) (lift_read is_read) no)) (λ none. stores file is_read none))
 
       consented : ExplainsHere (Consented rules kept.options fingerprint purpose name.items) Anything
       unfolding Consented
-      consented = bind Anything Anything (agrees (trust_question name.items)) (λ trusted good. bind Anything Anything (agrees (fingerprint_question fingerprint name.items)) (λ right fine. stores_unsaid))
+      consented = bind (agrees (trust_question name.items)) (λ trusted good. bind (agrees (fingerprint_question fingerprint name.items)) (λ right fine. stores_unsaid))
 
       asked : (file : List ℕ) → IsMarked whole request fingerprint purpose file None → (way : PinMode) → kept.options.mode ≡ way
           → ExplainsHere (asked_in rules kept.options fingerprint purpose name.items way) Anything
-      asked file is mode.Ask same = bind Anything Anything (record { of = seats_of }) (λ seated good. consented)
+      asked file is mode.Ask same = bind seats_of (λ seated good. consented)
       asked file is mode.Cancel same = refused Anything (refusals.Agent code.Cancelled) (by_mode is same)
       asked file is mode.Error same = refused Anything (refusals.Agent code.NoPinentry) (inl (error is same))
       asked file is mode.Loopback same = refused Anything (refusals.Agent code.NoPinentry) (inl (loopback is same))
@@ -287,28 +280,28 @@ module _ (rules : Rules) (kept : Kept) (other : Request) (request : TrustRequest
         → Comes whole WholeCaused Anything events result
     unfolding Marked
     marked_of before events result after (chain.stops does) stands =
-        let comes = reads_of rules kept other request whole whole (λ events so. so) before events _ after does stands in record { silent = comes.silent; explained = comes.explained }
+        let comes = reads_file rules kept other request whole whole (λ events so. so) before events _ after does stands in record { silent = comes.silent; explained = comes.explained }
     marked_of before events result after (chain.goes_on {value = file} (parts.has_read is) does) stands =
         let behind = behind_first stands in
         let lift : (some : List Event) → StandIn some behind.rest → StandIn some whole =
         λ some stands_so. subst (λ w. StandIn some w) (sym behind.is) (record { before = behind.first ∷ stands_so.before; after = stands_so.after; is = ap (λ e. behind.first ∷ e) stands_so.is }) in
         let again : (file : List ℕ) → IsReadTrust behind.rest file → IsReadAgain file whole = λ file there. subst (IsReadAgain file) (sym behind.is) (read_again there) in
-        let comes = (unless_marked rules kept other request whole behind.rest lift fingerprint purpose name is_request again file (read_trust is (has_first stands))).of
+        let comes = unless_marked rules kept other request whole behind.rest lift fingerprint purpose name is_request again file (read_trust is (has_first stands))
         _ _ result after does behind.stands in
         record { silent = (tt, comes.silent); explained = explained_behind lift result comes.explained }
 
   module _ (line_caused : (why : Code) → request ≡ Bad why → WholeCaused why Agent) where
     carried : (asked : TrustRequest) → request ≡ asked → Explains whole WholeCaused (Carried rules kept.options asked) Anything
     carried (IsTrusted fingerprint) is = trusted_now rules kept other request whole whole (λ events so. so) fingerprint is
-    carried (MarkTrusted fingerprint purpose name) is = record { of = marked_of fingerprint purpose name is }
+    carried (MarkTrusted fingerprint purpose name) is = marked_of fingerprint purpose name is
     carried (Bad why) is = refused Anything (refusals.Agent why) (line_caused why is)
 
     told_explained : {events : List Event} {went : Went} → Told rules kept.options request events went → StandIn events whole → Here events went
     told_explained (telling.answered events back does closes) stands =
-        let comes : Comes whole WholeCaused Anything events (Ok tt) = (carried request refl).of None events (Ok tt) _ does (stand_left events _ stands) in
+        let comes : Comes whole WholeCaused Anything events (Ok tt) = carried request refl None events (Ok tt) _ does (stand_left events _ stands) in
         after_these _ _ events comes.silent (after_these _ _ back (back_silent closes) (replied [] ok tt reply_ok tt))
     told_explained (telling.refused events back why does closes) stands =
-        let comes : Comes whole WholeCaused Anything events (Err why) = (carried request refl).of None events (Err why) _ does (stand_left events _ stands) in
+        let comes : Comes whole WholeCaused Anything events (Err why) = carried request refl None events (Err why) _ does (stand_left events _ stands) in
         after_these _ _ events comes.silent (after_these _ _ back (back_silent closes) (refusal_here why comes.explained))
 
     pub trust_explained : {events : List Event} {went : Went} → TrustExchange rules kept.options request events went → StandIn events whole → Here events went
