@@ -1,6 +1,5 @@
 -- What was done for a request stays so, whatever is done then; and the parts of requests on keys by which nothing is handed to the cache and the ticket stays.
-use Rattle.std.specs.List.{AllByRecursion}
-use Rattle.std.proofs.Common.{◌≡◌, ℕ, List, ◌++◌, codes, Option, Some, None, Result, Ok, refl, ap, ◌∙◌, append_assoc}
+use Rattle.std.proofs.Common.{◌≡◌, ℕ, List, ◌++◌, codes, Option, Some, None, Ok, refl, ap, ◌∙◌, append_assoc}
 use Rattle.agent_ask.specs.Further.{FurtherEvent}
 use Rattle.agent_ask.specs.declared.ask.Asked.{Asked}
 use Rattle.agent_ask.specs.declared.spec.AskPlan.{AskPlan}
@@ -25,14 +24,12 @@ use Rattle.agent_ask.specs.ClientParts as client_parts
 use Rattle.key_commands.specs.Parts as small
 use Rattle.key_commands.specs.Passphrases.{LooksForNonce, Locks, TriesPassphrase, OpensBy, ask_nonce}
 use Rattle.key_commands.specs.Passphrases as passphrases
-use Rattle.session_client.specs.declared.refusal.Refusal.{Refusal}
 use Rattle.agent_session.specs.Causes.{here, StandIn, HasPrompt, ComesBy, cached_by_nonce, cached_by_key, sent_by_client, typed_by_user, OpensRead, is_clear, opens, KeyDataSays, data_says, IsSent, sent, IsDrawn, IsRead, read, IsReadLocked}
 use Rattle.agent_session.specs.OwnPassphrases.{IsAbout, named, brought, WantsTicket, by_id, by_key, by_seat, unkept, HasTicket, has_ticket, IsAccepted, any, opening, IsGivenNew, given, NamesNew}
 use Rattle.agent_origin.specs.declared.kept.Kept.{Kept}
 use Rattle.session_options.specs.OptionValues.{OptionValues}
 use Rattle.session_options.specs.declared.rules.Rules.{Rules}
-use Rattle.agent_ask.proofs.Within.{HoldsOf}
-use Rattle.agent_session.proofs.OwnParts.{IsQuiet, Fit, Quiet, QuietWith}
+use Rattle.agent_session.proofs.OwnParts.{Quiet, QuietWith}
 use Rattle.agent_session.proofs.Standing.{has_left, has_right}
 
 pub stand_more : {E : Type 0} {part whole : List E} (more : List E) → StandIn part whole → StandIn part (whole ++ more)
@@ -101,86 +98,45 @@ module _ {rules : Rules} {kept : Kept} {request : Request} {prior : List (EventW
 
 -- ---- quiet parts
 
--- a question for what is cached, without a prompt, gives no ticket
-module _ (id : List ℕ) where
-  nonce_of : (before : Option ℕ) (events : List (EventWith FurtherEvent)) (result : Result (Option (List ℕ)) Refusal) (after : Option ℕ) → Asks (ask_nonce id) before events result after → Fit events
-      → AllByRecursion IsQuiet events × (after ≡ before)
-  nonce_of before events result after (turning.given can) fits = (((λ hands. elim hands [ ]), tt), refl)
-  nonce_of before events result after (turning.empty can) fits = (((λ hands. elim hands [ ]), tt), refl)
-  nonce_of before events result after (turning.opened can) fits = absurd can
-  nonce_of before events result after (turning.interrupted can why) fits = (((λ hands. elim hands [ ]), tt), refl)
-
-inquires_of : (word : List ℕ) (limit : ℕ) (prior : List (EventWith FurtherEvent)) (before : Option ℕ) (events : List (EventWith FurtherEvent)) (result : Result (List ℕ) Refusal) (after : Option ℕ)
-    → Inquires session_lines word limit before events result after → Fit events → AllByRecursion IsQuiet events × (after ≡ before) × HoldsOf (λ pass. IsSent (prior ++ events) word limit pass) result
-inquires_of word limit prior before events result after (client_parts.given is) fits = ((tt, tt), refl, sent is (has_right prior here))
-inquires_of word limit prior before events result after (client_parts.not_given is) fits = ((tt, tt), refl, tt)
-
 pub inquires_quiet : (word : List ℕ) (limit : ℕ) → QuietWith (Inquires session_lines word limit) (λ pass prior. IsSent prior word limit pass)
-inquires_quiet word limit = record { of = inquires_of word limit }
-
-draws_of : (count : ℕ) (prior : List (EventWith FurtherEvent)) (before : Option ℕ) (events : List (EventWith FurtherEvent)) (result : Result (List ℕ) Refusal) (after : Option ℕ) → Draws count before events result after → Fit events
-    → AllByRecursion IsQuiet events × (after ≡ before) × HoldsOf (λ bytes. IsDrawn (prior ++ events) count bytes) result
-draws_of count prior before events result after (small.drawn long) fits = ((tt, tt), refl, record { long = long; has = has_right prior here })
-draws_of count prior before events result after small.faulted fits = ((tt, tt), refl, tt)
+inquires_quiet word limit prior before events result after (client_parts.given is) fits = ((tt, tt), refl, sent is (has_right prior here))
+inquires_quiet word limit prior before events result after (client_parts.not_given is) fits = ((tt, tt), refl, tt)
 
 pub draws_quiet : (count : ℕ) → QuietWith (Draws count) (λ bytes prior. IsDrawn prior count bytes)
-draws_quiet count = record { of = draws_of count }
-
-reads_file_of : (grip : Grip) (prior : List (EventWith FurtherEvent)) (before : Option ℕ) (events : List (EventWith FurtherEvent)) (result : Result _ Refusal) (after : Option ℕ) → ReadsFile grip before events result after
-    → Fit events → AllByRecursion IsQuiet events × (after ≡ before) × HoldsOf (λ file. IsRead (prior ++ events) grip (Ok file.key)) result
-reads_file_of grip prior before events result after (parts.is_key is says) fits = ((tt, tt), refl, read is says (has_right prior here))
-reads_file_of grip prior before events result after (parts.faulty is says) fits = ((tt, tt), refl, tt)
-reads_file_of grip prior before events result after (parts.no_memory is) fits = ((tt, (tt, tt)), refl, tt)
-reads_file_of grip prior before events result after (parts.unread is) fits = ((tt, tt), refl, tt)
+draws_quiet count prior before events result after (small.drawn long) fits = ((tt, tt), refl, record { long = long; has = has_right prior here })
+draws_quiet count prior before events result after small.faulted fits = ((tt, tt), refl, tt)
 
 pub reads_file_quiet : (grip : Grip) → QuietWith (ReadsFile grip) (λ file prior. IsRead prior grip (Ok file.key))
-reads_file_quiet grip = record { of = reads_file_of grip }
-
-locks_of : (key : Key) (prior : List (EventWith FurtherEvent)) (before : Option ℕ) (events : List (EventWith FurtherEvent)) (result : Result LockedKey Refusal) (after : Option ℕ) → Locks key before events result after → Fit events
-    → AllByRecursion IsQuiet events × (after ≡ before) × HoldsOf (λ locked. (locked.key ≡ key) × IsLocked locked) result
-locks_of key prior before events result after (passphrases.is_locked same locked) fits = (tt, refl, (same, locked))
-locks_of key prior before events result after (passphrases.has_fault is) fits = (tt, refl, tt)
-locks_of key prior before events result after passphrases.no_memory fits = ((tt, tt), refl, tt)
+reads_file_quiet grip prior before events result after (parts.is_key is says) fits = ((tt, tt), refl, read is says (has_right prior here))
+reads_file_quiet grip prior before events result after (parts.faulty is says) fits = ((tt, tt), refl, tt)
+reads_file_quiet grip prior before events result after (parts.no_memory is) fits = ((tt, (tt, tt)), refl, tt)
+reads_file_quiet grip prior before events result after (parts.unread is) fits = ((tt, tt), refl, tt)
 
 pub locks_quiet : (key : Key) → QuietWith (Locks key) (λ locked prior. (locked.key ≡ key) × IsLocked locked)
-locks_quiet key = record { of = locks_of key }
+locks_quiet key prior before events result after (passphrases.is_locked same locked) fits = (tt, refl, (same, locked))
+locks_quiet key prior before events result after (passphrases.has_fault is) fits = (tt, refl, tt)
+locks_quiet key prior before events result after passphrases.no_memory fits = ((tt, tt), refl, tt)
 
 -- a key that the client sends
-key_data_of : (prior : List (EventWith FurtherEvent)) (before : Option ℕ) (events : List (EventWith FurtherEvent)) (result : Result (List ℕ) Refusal) (after : Option ℕ) → AsksKeyData before events result after → Fit events
-    → AllByRecursion IsQuiet events × (after ≡ before) × HoldsOf (λ bytes. IsSent (prior ++ events) (codes "KEYDATA") max_key_data bytes) result
-key_data_of prior before events result after (parts.asked does) fits = inquires_of (codes "KEYDATA") max_key_data prior before events result before does fits
-key_data_of prior before events result after (parts.no_memory at_end) fits = ((tt, (tt, tt)), refl, tt)
-
 pub key_data_quiet : QuietWith AsksKeyData (λ bytes prior. IsSent prior (codes "KEYDATA") max_key_data bytes)
-key_data_quiet = record { of = key_data_of }
-
-unwraps_of : (wrap wrapped : List ℕ) (prior : List (EventWith FurtherEvent)) (before : Option ℕ) (events : List (EventWith FurtherEvent)) (result : Result Key Refusal) (after : Option ℕ) → Unwraps wrap wrapped before events result after
-    → Fit events → AllByRecursion IsQuiet events × (after ≡ before) × HoldsOf (λ key. WrappedSays wrap wrapped (Ok key)) result
-unwraps_of wrap wrapped prior before events result after (parts.is_key says) fits = (tt, refl, says)
-unwraps_of wrap wrapped prior before events result after (parts.refused says) fits = (tt, refl, tt)
-unwraps_of wrap wrapped prior before events result after parts.no_memory fits = ((tt, tt), refl, tt)
+key_data_quiet prior before events result after (parts.asked does) fits = inquires_quiet (codes "KEYDATA") max_key_data prior before events result before does fits
+key_data_quiet prior before events result after (parts.no_memory at_end) fits = ((tt, (tt, tt)), refl, tt)
 
 pub unwraps_quiet : (wrap wrapped : List ℕ) → QuietWith (Unwraps wrap wrapped) (λ key prior. WrappedSays wrap wrapped (Ok key))
-unwraps_quiet wrap wrapped = record { of = unwraps_of wrap wrapped }
-
-names_of : (key : Key) (prior : List (EventWith FurtherEvent)) (before : Option ℕ) (events : List (EventWith FurtherEvent)) (result : Result Grip Refusal) (after : Option ℕ) → NamesKey key before events result after → Fit events
-    → AllByRecursion IsQuiet events × (after ≡ before) × HoldsOf (λ grip. grip.0 ≡ grip_of key) result
-names_of key prior before events result after (parts.named is) fits = (tt, refl, is)
-names_of key prior before events result after parts.no_memory fits = ((tt, tt), refl, tt)
+unwraps_quiet wrap wrapped prior before events result after (parts.is_key says) fits = (tt, refl, says)
+unwraps_quiet wrap wrapped prior before events result after (parts.refused says) fits = (tt, refl, tt)
+unwraps_quiet wrap wrapped prior before events result after parts.no_memory fits = ((tt, tt), refl, tt)
 
 pub names_quiet : (key : Key) → QuietWith (NamesKey key) (λ grip prior. grip.0 ≡ grip_of key)
-names_quiet key = record { of = names_of key }
+names_quiet key prior before events result after (parts.named is) fits = (tt, refl, is)
+names_quiet key prior before events result after parts.no_memory fits = ((tt, tt), refl, tt)
 
 -- a passphrase that opens a key
 module _ (locked : LockedKey) (pass : List ℕ) where
-  tries_of : (prior : List (EventWith FurtherEvent)) (before : Option ℕ) (events : List (EventWith FurtherEvent)) (result : Result (Option _) Refusal) (after : Option ℕ) → TriesPassphrase locked pass before events result after
-      → Fit events → AllByRecursion IsQuiet events × (after ≡ before) × HoldsOf (λ tried. (opened : _) → tried ≡ Some opened → OpensBy locked pass) result
-  tries_of prior before events result after (passphrases.opens to) fits = (tt, refl, λ opened is. (_, to))
-  tries_of prior before events result after (passphrases.stays closed) fits = (tt, refl, λ opened is. absurd (cc is))
-  tries_of prior before events result after passphrases.no_memory fits = ((tt, tt), refl, tt)
-
   pub tries_quiet : QuietWith (TriesPassphrase locked pass) (λ tried prior. (opened : _) → tried ≡ Some opened → OpensBy locked pass)
-  tries_quiet = record { of = tries_of }
+  tries_quiet prior before events result after (passphrases.opens to) fits = (tt, refl, λ opened is. (_, to))
+  tries_quiet prior before events result after (passphrases.stays closed) fits = (tt, refl, λ opened is. absurd (cc is))
+  tries_quiet prior before events result after passphrases.no_memory fits = ((tt, tt), refl, tt)
 
 module _ (rules : Rules) (kept : Kept) (request : Request) where
   -- what was found under the nonce of a new one
@@ -188,37 +144,24 @@ module _ (rules : Rules) (kept : Kept) (request : Request) where
   FoundNew None prior = Unit {0}
   FoundNew (Some pass) prior = IsGivenNew rules kept request prior pass
 
-  new_nonce_of : (id : List ℕ) → NamesNew request id → (prior : List (EventWith FurtherEvent)) (before : Option ℕ) (events : List (EventWith FurtherEvent)) (result : Result (Option (List ℕ)) Refusal) (after : Option ℕ)
-      → Asks (ask_nonce id) before events result after → Fit events → AllByRecursion IsQuiet events × (after ≡ before) × HoldsOf (λ found. FoundNew found (prior ++ events)) result
-  new_nonce_of id names prior before events result after (turning.given can) fits = (((λ hands. elim hands [ ]), tt), refl, given names (has_right prior here))
-  new_nonce_of id names prior before events result after (turning.empty can) fits = (((λ hands. elim hands [ ]), tt), refl, tt)
-  new_nonce_of id names prior before events result after (turning.opened can) fits = absurd can
-  new_nonce_of id names prior before events result after (turning.interrupted can why) fits = (((λ hands. elim hands [ ]), tt), refl, tt)
-
-  no_nonce_of : (prior : List (EventWith FurtherEvent)) (before : Option ℕ) (events : List (EventWith FurtherEvent)) (result : Result (Option (List ℕ)) Refusal) (after : Option ℕ)
-      → chain.Returns None before events result after → Fit events → AllByRecursion IsQuiet events × (after ≡ before) × HoldsOf (λ found. FoundNew found (prior ++ events)) result
-  no_nonce_of prior before events result after chain.returns fits = (tt, refl, tt)
-
   pub new_nonce_quiet : (id : Option (List ℕ)) → ((nonce : List ℕ) → id ≡ Some nonce → NamesNew request nonce) → QuietWith (LooksForNonce id) FoundNew
-  new_nonce_quiet None names = record { of = no_nonce_of }
-  new_nonce_quiet (Some id) names = record { of = new_nonce_of id (names id refl) }
-
-  looks_over_of : (id : Option (List ℕ)) → ((nonce : List ℕ) → id ≡ Some nonce → NamesNew request nonce) → (prior : List (EventWith FurtherEvent)) (before : Option ℕ) (events : List (EventWith FurtherEvent))
-      (result : Result (Option (List ℕ)) Refusal) (after : Option ℕ) → LooksOver id before events result after → Fit events
-      → AllByRecursion IsQuiet events × (after ≡ before) × HoldsOf (λ found. FoundNew found (prior ++ events)) result
-  looks_over_of id names prior before events result after parts.no_nonce fits = (tt, refl, tt)
-  looks_over_of id names prior before events result after (parts.given {nonce} can) fits = (((λ hands. elim hands [ ]), tt), refl, given (names nonce refl) (has_right prior here))
-  looks_over_of id names prior before events result after parts.empty fits = (((λ hands. elim hands [ ]), tt), refl, tt)
-  looks_over_of id names prior before events result after parts.stopping fits = (((λ hands. elim hands [ ]), tt), refl, tt)
-  looks_over_of id names prior before events result after parts.no_memory fits = (((λ hands. elim hands [ ]), tt), refl, tt)
+  new_nonce_quiet None names prior before events result after chain.returns fits = (tt, refl, tt)
+  new_nonce_quiet (Some id) names prior before events result after (turning.given can) fits = (((λ hands. elim hands [ ]), tt), refl, given (names id refl) (has_right prior here))
+  new_nonce_quiet (Some id) names prior before events result after (turning.empty can) fits = (((λ hands. elim hands [ ]), tt), refl, tt)
+  new_nonce_quiet (Some id) names prior before events result after (turning.opened can) fits = absurd can
+  new_nonce_quiet (Some id) names prior before events result after (turning.interrupted can why) fits = (((λ hands. elim hands [ ]), tt), refl, tt)
 
   pub looks_over_quiet : (id : Option (List ℕ)) → ((nonce : List ℕ) → id ≡ Some nonce → NamesNew request nonce) → QuietWith (LooksOver id) FoundNew
-  looks_over_quiet id names = record { of = looks_over_of id names }
+  looks_over_quiet id names prior before events result after parts.no_nonce fits = (tt, refl, tt)
+  looks_over_quiet id names prior before events result after (parts.given {nonce} can) fits = (((λ hands. elim hands [ ]), tt), refl, given (names nonce refl) (has_right prior here))
+  looks_over_quiet id names prior before events result after parts.empty fits = (((λ hands. elim hands [ ]), tt), refl, tt)
+  looks_over_quiet id names prior before events result after parts.stopping fits = (((λ hands. elim hands [ ]), tt), refl, tt)
+  looks_over_quiet id names prior before events result after parts.no_memory fits = (((λ hands. elim hands [ ]), tt), refl, tt)
 
-no_look_of : (before : Option ℕ) (events : List (EventWith FurtherEvent)) (result : Result (Option (List ℕ)) Refusal) (after : Option ℕ)
-    → chain.Returns None before events result after → Fit events → AllByRecursion IsQuiet events × (after ≡ before)
-no_look_of before events result after chain.returns fits = (tt, refl)
-
+-- a question for what is cached, without a prompt, gives no ticket
 pub looks_for_nonce_quiet : (id : Option (List ℕ)) → Quiet (LooksForNonce id)
-looks_for_nonce_quiet None = record { of = no_look_of }
-looks_for_nonce_quiet (Some id) = record { of = nonce_of id }
+looks_for_nonce_quiet None before events result after chain.returns fits = (tt, refl)
+looks_for_nonce_quiet (Some id) before events result after (turning.given can) fits = (((λ hands. elim hands [ ]), tt), refl)
+looks_for_nonce_quiet (Some id) before events result after (turning.empty can) fits = (((λ hands. elim hands [ ]), tt), refl)
+looks_for_nonce_quiet (Some id) before events result after (turning.opened can) fits = absurd can
+looks_for_nonce_quiet (Some id) before events result after (turning.interrupted can why) fits = (((λ hands. elim hands [ ]), tt), refl)

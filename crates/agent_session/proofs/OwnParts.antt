@@ -47,19 +47,16 @@ pub record Stays (Pre : Fact) : Type 0 where
   pub of : (prior more : List (EventWith FurtherEvent)) (held : Option ℕ) → Pre prior held → Pre (prior ++ more) held
 
 -- a part that hands nothing in, and leaves the ticket, by which something becomes so
-pub record QuietWith {A : Type 0} (part : Part A) (Extra : A → List (EventWith FurtherEvent) → Type 0) : Type 0 where
-  pub of : (prior : List (EventWith FurtherEvent)) (before : Option ℕ) (events : List (EventWith FurtherEvent)) (result : Result A Refusal) (after : Option ℕ) → part before events result after → Fit events
-      → AllByRecursion IsQuiet events × (after ≡ before) × HoldsOf (λ value. Extra value (prior ++ events)) result
+abbrev pub QuietWith : {A : Type 0} → Part A → (A → List (EventWith FurtherEvent) → Type 0) → Type 0
+QuietWith {A} part Extra = (prior : List (EventWith FurtherEvent)) (before : Option ℕ) (events : List (EventWith FurtherEvent)) (result : Result A Refusal) (after : Option ℕ) → part before events result after → Fit events
+    → AllByRecursion IsQuiet events × (after ≡ before) × HoldsOf (λ value. Extra value (prior ++ events)) result
 
 abbrev pub Quiet : {A : Type 0} → Part A → Type 0
-Quiet part = Within part (λ before events result after. Fit events → AllByRecursion IsQuiet events × (after ≡ before))
+Quiet {A} part = (before : Option ℕ) (events : List (EventWith FurtherEvent)) (result : Result A Refusal) (after : Option ℕ) → part before events result after → Fit events → AllByRecursion IsQuiet events × (after ≡ before)
 
 -- work in which nothing is handed in, and that leaves the ticket
 pub quiet_keeps : {A : Type 0} {part : Part A} → Keeps IsQuiet part → Quiet part
-quiet_keeps keeps = record { of = λ before events result after does fits. let so = keeps before events result after does in (each_fits IsQuiet tt so.0, so.1) }
-
-pub forget : {A : Type 0} {part : Part A} {Extra : A → List (EventWith FurtherEvent) → Type 0} → QuietWith part Extra → Quiet part
-forget quiet = record { of = λ before events result after does fits. let so = quiet.of [] before events result after does fits in (so.0, so.1) }
+quiet_keeps keeps before events result after does fits = let so = keeps before events result after does in (each_fits IsQuiet tt so.0, so.1)
 
 with_both : {A : Type 0} {Is : Type 0} (Extra : A → Type 0) (result : Result A Refusal) → Is → HoldsOf Extra result → HoldsOf (λ value. Is × Extra value) result
 with_both Extra (Ok value) is extra = (is, extra)
@@ -163,12 +160,12 @@ module _ (Stores : List (EventWith FurtherEvent) → MarkStep → Type 0) where
   module _ {Pre : Fact} (stays : Stays Pre) {A : Type 0} {part : Part A} where
     pub quiet_with : {Extra : A → List (EventWith FurtherEvent) → Type 0} → QuietWith part Extra → OwnSo Pre part (λ value prior held. Pre prior held × Extra value prior)
     quiet_with {Extra} quiet = owns (λ prior before events result after does fits pre.
-        let so = quiet.of prior before events result after does fits in
+        let so = quiet prior before events result after does fits in
         (quiet_are_own prior events so.0, with_both (λ value. Extra value (prior ++ events)) result (subst (Pre (prior ++ events)) (sym so.1) (stays.of prior events before pre)) so.2))
 
     pub quietly : Quiet part → OwnSo Pre part (λ value. Pre)
     quietly quiet = owns (λ prior before events result after does fits pre.
-        let so = quiet.of before events result after does fits in
+        let so = quiet before events result after does fits in
         (quiet_are_own prior events so.0, whatever result (subst (Pre (prior ++ events)) (sym so.1) (stays.of prior events before pre))))
 
   -- one of which each event is quiet
