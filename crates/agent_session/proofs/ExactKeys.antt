@@ -200,24 +200,19 @@ module _ (one_canon : (file : List ℕ) (a b : Option (List ℕ)) → Canon file
     has_of : (value : A) → Heeds deciding NoneDue (next value) NoneOwed → (before : Option ℕ) (events : List Event) (result : Result B Refusal) (after : Option ℕ) → Follows (needed given (Some value)) next before events result after
         → AllByRecursion Remembers events → (why : Code) → (Some value ≡ None) × (given ≡ why) ⊎ IsDecided deciding events why → SaysTo NoneOwed result why
     has_of value heeds before events result after (goes_on chain.returns does) remembers why (inl due) = absurd (cc (due.0))
-    has_of value heeds before events result after (goes_on {events = more} chain.returns does) remembers why (inr decided) = heeds.of before more result after does remembers why (inr decided)
+    has_of value heeds before events result after (goes_on {events = more} chain.returns does) remembers why (inr decided) = heeds before more result after does remembers why (inr decided)
     has_of value heeds before events result after (stops does) remembers why due = elim does [ ]
 
   import_key : (drawn : Option (List ℕ)) (wraps : WrapKeys) (force : Bool) (nonce : Option (List ℕ))
       → Heeds (by_import force drawn) (λ why. (drawn ≡ None) × (code.Parameter ≡ why)) (ImportKeyReplies rules options (record wraps { import = drawn }) force nonce) NoneOwed
   unfolding ImportKeyReplies
-  import_key None wraps force nonce = record { of = lacks_of (by_import force None) code.Parameter _ }
+  import_key None wraps force nonce = lacks_of (by_import force None) code.Parameter _
   import_key (Some wrap) wraps force nonce =
       let d = by_import force (Some wrap) in
-      record {
-        of =
-            has_of d code.Parameter _ wrap
-            (bind d NoneOwed (receives_key force wrap)
-            (λ key. bind d NoneOwed (alone d (so d (work.names_key (Alone d) (free d))))
-            (λ grip. bind d NoneOwed (is_free wrap force grip)
-            (λ unused. bind d NoneOwed (found_or_new d rules options grip nonce)
-            (λ pass. bind d NoneOwed (stores_key d rules options grip options.s2k_count key pass) (λ cache_nonce. alone d (returned (Alone d) _)))))));
-      }
+      has_of d code.Parameter _ wrap
+      (bind d NoneOwed (receives_key force wrap) (λ key. bind d NoneOwed (alone d (so d (work.names_key (Alone d) (free d))))
+      (λ grip. bind d NoneOwed (is_free wrap force grip) (λ unused. bind d NoneOwed (found_or_new d rules options grip nonce)
+      (λ pass. bind d NoneOwed (stores_key d rules options grip options.s2k_count key pass) (λ cache_nonce. alone d (returned (Alone d) _)))))))
 
   replies : (wraps : WrapKeys) (asked : KeyRequest) → Heeds (deciding_of wraps asked) (due_of wraps asked) (KeyReplies rules options wraps asked) NoneOwed
   replies wraps (on.HaveKey grips) = have_key wraps grips

@@ -383,7 +383,7 @@ module _ (one_canon : (file : List ℕ) (a b : Option (List ℕ)) → Canon file
     where
       decided_by : {key : Key} → IsRead whole grip (Ok key) → refusal_line why ≡ Some (failed code.BadSecKey)
       decided_by (read {answer} {file} found says has) =
-          (reads_file one_canon None IsDue grip).of None events (Err why) after does remembers code.BadSecKey
+          reads_file one_canon None IsDue grip None events (Err why) after does remembers code.BadSecKey
           (inr (decided_before ByRead events more behind.free
           (subst (λ w. IsDecided ByRead w code.BadSecKey) is (record { event = Further (Keys (Read grip answer)); has = has; decides = read_refuses IsDue answer file found (owes says refl) }))))
 

@@ -3,8 +3,8 @@ use Rattle.std.specs.List.{AllByRecursion}
 use Rattle.std.proofs.Common.{◌≡◌, ◌≢◌, ◌∙◌, ◌⊎◌, ℕ, List, [], ◌∷◌, ◌++◌, Option, Some, None, Result, Ok, Err, arith, refl, sym, ap, subst, inl, inr}
 use Rattle.std.specs.Option.{option_map}
 use Rattle.agent_ask.specs.Further.{Keys, Read, Removed, Trust}
-use Rattle.agent_ask.specs.Parts.{◌>>=◌, Refuses, needed, or_else}
-use Rattle.agent_ask.proofs.Within.{Within, Joins, weaker, returned_so, refused_so, or_otherwise}
+use Rattle.agent_ask.specs.Parts.{◌>>=◌, Refuses, refuses as refusing, returns, needed, or_else}
+use Rattle.agent_ask.proofs.Within.{Joins}
 use Rattle.agent_ask.proofs.Within as within
 use Rattle.agent_ask.specs.SessionEvents.{Received, Sent, Cut, Inquiry, CacheTurn, Further, said_last}
 use Rattle.agent_ask.specs.TrustCalls.{TrustCall}
@@ -94,7 +94,7 @@ module _ (deciding : Deciding) where
   HeedLaw Due Owed before events result after = AllByRecursion Remembers events → (why : Code) → Due why ⊎ IsDecided deciding events why → SaysTo Owed result why
 
   abbrev pub Heeds : {A : Type 0} → (Code → Type 0) → Part A → (A → Code → Type 0) → Type 0
-  Heeds Due part Owed = Within part (HeedLaw Due Owed)
+  Heeds {A} Due part Owed = (before : Option ℕ) (events : List Event) (result : Result A Refusal) (after : Option ℕ) → part before events result after → HeedLaw Due Owed before events result after
 
   due_then : (Due Mid : Code → Type 0) (some more : List Event) (why : Code) → (Due why ⊎ IsDecided deciding some why → Mid why) → Due why ⊎ IsDecided deciding (some ++ more) why → Mid why ⊎ IsDecided deciding more why
   due_then Due Mid some more why by_first (inl due) = inl (by_first (inl due))
@@ -112,7 +112,7 @@ module _ (deciding : Deciding) where
 
   pub bind : {A B : Type 0} {part : Part A} {next : A → Part B} {Due : Code → Type 0} (Mid : A → Code → Type 0) {Owed : B → Code → Type 0} → Heeds Due part Mid → ((value : A) → Heeds (Mid value) (next value) Owed)
       → Heeds Due (part >>= next) Owed
-  bind Mid = within.bind heed_joins
+  bind Mid first next = (within.bind heed_joins (record { of = first }) (λ value. record { of = next value })).of
 
   -- ---- single events
 
@@ -180,10 +180,10 @@ module _ (deciding : Deciding) where
         by_lost {at} (later has) decides = absurd (never_decided deciding last (each_free last each) {why = why} (record { event = at; has = has; decides = decides }))
     end_says why (forgot fits is memory) remembers decided = absurd (remembers.1.0 tt)
 
-    works_of : {part : Part A} → WorksSo IsSaidAlone part → (before : Option ℕ) (events : List Event) (result : Result A Refusal) (after : Option ℕ) → part before events result after → AllByRecursion Remembers events
-        → (why : Code) → NoneDue why ⊎ IsDecided deciding events why → SaysTo Owed result why
-    works_of work before events result after does remembers why (inl due) = absurd due
-    works_of work before events result after does remembers why (inr decided) =
+    -- a part that is work of such events
+    pub said_alone : {part : Part A} → WorksSo IsSaidAlone part → Heeds NoneDue part Owed
+    said_alone work before events result after does remembers why (inl due) = absurd due
+    said_alone work before events result after does remembers why (inr decided) =
         elim (has_split so.work so.last (subst (λ e. Has decided.event e) so.is decided.has)) [
           | inl has ↦ absurd (never_decided deciding so.work (each_free so.work so.each) {why = why} (record { event = decided.event; has = has; decides = decided.decides }))
           | inr has ↦ end_says why so.end (each_right Remembers so.work so.last (subst (AllByRecursion Remembers) so.is remembers)) (record { event = decided.event; has = has; decides = decided.decides })
@@ -192,10 +192,6 @@ module _ (deciding : Deciding) where
         so : WorksTo IsSaidAlone events result
         so = work.of before events result after does
 
-    -- a part that is work of such events
-    pub said_alone : {part : Part A} → WorksSo IsSaidAlone part → Heeds NoneDue part Owed
-    said_alone work = record { of = works_of work }
-
   -- nothing is due, and nothing decides the request
   undecided : {Is : Type 0} {why : Code} → NoneDue why ⊎ IsDecided deciding [] why → Is
   undecided (inl due) = absurd due
@@ -203,26 +199,26 @@ module _ (deciding : Deciding) where
 
   module _ {A : Type 0} where
     pub otherwise : (value : Option A) {other : Part A} → Heeds NoneDue other NoneOwed → Heeds NoneDue (or_else value other) NoneOwed
-    otherwise = or_otherwise (record { of = λ held result remembers why due. undecided due })
+    otherwise None other before events result after does remembers why due = other before events result after does remembers why due
+    otherwise (Some value) other _ _ _ _ returns remembers why due = undecided due
 
     -- a refusal that is due
     pub refuses_due : (given : Code) → Heeds {A = A} (λ why. given ≡ why) (Refuses (Agent given)) NoneOwed
-    refuses_due given = refused_so (Agent given) (λ held remembers why due. elim due [ inl is ↦ ap (λ c. Some (failed c)) is | inr decided ↦ absurd (never_decided deciding [] tt decided) ])
+    refuses_due given _ _ _ _ refusing remembers why due = elim due [ inl is ↦ ap (λ c. Some (failed c)) is | inr decided ↦ absurd (never_decided deciding [] tt decided) ]
 
     -- a value that has to be there, where it is due that it isn't
     pub is_needed : (given : Code) (value : Option A) → Heeds (λ why. (value ≡ None) × (given ≡ why)) (needed given value) NoneOwed
-    is_needed given None = refused_so (Agent given) (λ held remembers why due. elim due [ inl is ↦ ap (λ c. Some (failed c)) is.1 | inr decided ↦ absurd (never_decided deciding [] tt decided) ])
-    is_needed given (Some value) = returned_so value (λ held remembers why due. elim due [ inl is ↦ absurd (cc (is.0)) | inr decided ↦ never_decided deciding [] tt decided ])
+    is_needed given None _ _ _ _ refusing remembers why due = elim due [ inl is ↦ ap (λ c. Some (failed c)) is.1 | inr decided ↦ absurd (never_decided deciding [] tt decided) ]
+    is_needed given (Some value) _ _ _ _ returns remembers why due = elim due [ inl is ↦ absurd (cc (is.0)) | inr decided ↦ never_decided deciding [] tt decided ]
 
     -- what is never due
     pub undue : {part : Part A} {Due : Code → Type 0} {Owed : A → Code → Type 0} → ((why : Code) → Due why → ⊥) → Heeds NoneDue part Owed → Heeds Due part Owed
-    undue never = weaker (record { of = λ before events result after heeds remembers why due. elim due [ inl is ↦ absurd (never why is) | inr decided ↦ heeds remembers why (inr decided) ] })
+    undue never heeds before events result after does remembers why due = elim due [ inl is ↦ absurd (never why is) | inr decided ↦ heeds before events result after does remembers why (inr decided) ]
 
   -- ---- the client
 
   -- what is owed behind bytes of a key that were sent
-  pub inquires_of : (word : List ℕ) (limit : ℕ) (before : Option ℕ) (events : List Event) (result : Result (List ℕ) Refusal) (after : Option ℕ) → Inquires session_lines word limit before events result after
-      → AllByRecursion Remembers events → (why : Code) → NoneDue why ⊎ IsDecided deciding events why → SaysTo (λ bytes why. (limit ≡ max_key_data) × deciding.sent bytes why) result why
+  pub inquires_of : (word : List ℕ) (limit : ℕ) → Heeds NoneDue (Inquires session_lines word limit) (λ bytes why. (limit ≡ max_key_data) × deciding.sent bytes why)
   inquires_of word limit before events result after does remembers why (inl due) = absurd due
   inquires_of word limit before events result after (client_parts.given {bytes} is) remembers why (inr decided) = subst (λ r. SaidDecides deciding limit r why) is (decided_only decided)
   inquires_of word limit before events result after (client_parts.not_given {why = unheard} is) remembers why (inr decided) =
@@ -293,7 +289,7 @@ module _ (deciding : Deciding) {A : Type 0} {Due : Code → Type 0} {part : Part
     ]
 
     pub never_ok : {value : A} → part None events (Ok value) held → ⊥
-    never_ok {value} does = heeds.of None events (Ok value) held does (each_left Remembers events _ remembers) why before
+    never_ok {value} does = heeds None events (Ok value) held does (each_left Remembers events _ remembers) why before
 
     pub error_said : {refusal : Refusal} → refusal_line refusal ≡ line → part None events (Err refusal) held → HasError why OfAgent (events ++ (back ++ said_last line))
-    error_said {refusal} is does = said_error events back line why (sym is ∙ heeds.of None events (Err refusal) held does (each_left Remembers events _ remembers) why before)
+    error_said {refusal} is does = said_error events back line why (sym is ∙ heeds None events (Err refusal) held does (each_left Remembers events _ remembers) why before)

@@ -12,7 +12,6 @@ use Rattle.session_client.specs.declared.code.Code.{Code}
 use Rattle.session_client.specs.declared.code.Code.TheVariants as code
 use Rattle.key_lines.specs.Canon.{Canon}
 use Rattle.secret_file.specs.Answers.{IsLockedFault}
-use Rattle.secret_file.specs.Opens.{LockedKey}
 use Rattle.sexp_keys.specs.Key.{Key}
 use Rattle.sexp_keys.specs.declared.fault.KeyFault.{KeyFault}
 use Rattle.key_commands.specs.Lines.{max_key_data}
@@ -104,31 +103,23 @@ module _ (one_canon : (file : List ℕ) (a b : Option (List ℕ)) → Canon file
   unread_so key_read.Failed given why is refuses_so = absurd refuses_so
   unread_so key_read.NoMemory given why is refuses_so = absurd refuses_so
 
-  reads_file_of : (grip : Grip) (before : Option ℕ) (events : List Event) (result : Result _ Refusal) (after : Option ℕ) → ReadsFile grip before events result after → AllByRecursion Remembers events
-      → (why : Code) → NoneDue why ⊎ IsDecided (by_file wrap Owes) events why → SaysTo (λ file why. Owes file.key why) result why
-  reads_file_of grip before events result after does remembers why (inl due) = absurd due
-  reads_file_of grip before events result after (parts.is_key {answer} {file} {key} is says) remembers why (inr decided) = found_owed answer file key why is says (decided_only (by_file wrap Owes) decided)
-  reads_file_of grip before events result after (parts.faulty {answer} {file} {fault} is says) remembers why (inr decided) =
-      same_line (found_faulty answer file fault why is says (decided_only (by_file wrap Owes) decided))
-  reads_file_of grip before events result after (parts.no_memory is) remembers why (inr decided) = absurd (remembers.1.0 tt)
-  reads_file_of grip before events result after (parts.unread {answer} {code = given} is) remembers why (inr decided) = same_line (unread_so answer given why is (decided_only (by_file wrap Owes) decided))
-
   pub reads_file : (grip : Grip) → Heeds (by_file wrap Owes) NoneDue (ReadsFile grip) (λ file why. Owes file.key why)
-  reads_file grip = record { of = reads_file_of grip }
+  reads_file grip before events result after does remembers why (inl due) = absurd due
+  reads_file grip before events result after (parts.is_key {answer} {file} {key} is says) remembers why (inr decided) = found_owed answer file key why is says (decided_only (by_file wrap Owes) decided)
+  reads_file grip before events result after (parts.faulty {answer} {file} {fault} is says) remembers why (inr decided) =
+      same_line (found_faulty answer file fault why is says (decided_only (by_file wrap Owes) decided))
+  reads_file grip before events result after (parts.no_memory is) remembers why (inr decided) = absurd (remembers.1.0 tt)
+  reads_file grip before events result after (parts.unread {answer} {code = given} is) remembers why (inr decided) = same_line (unread_so answer given why is (decided_only (by_file wrap Owes) decided))
 
 -- the fault of its protection is due
 module _ (deciding : Deciding) (key : Key) where
-  locks_of : (before : Option ℕ) (events : List Event) (result : Result LockedKey Refusal) (after : Option ℕ) → Locks key before events result after → AllByRecursion Remembers events
-      → (why : Code) → IsUnlockable key why ⊎ IsDecided deciding events why → SaysTo NoneOwed result why
-  locks_of before events result after (passphrases.is_locked {locked} same is) remembers why (inl due) =
-      no_locked_fault locked due.fault is (subst (λ k. IsLockedFault k due.fault) (sym same) due.is)
-  locks_of before events result after (passphrases.is_locked same is) remembers why (inr decided) = never_decided deciding [] tt decided
-  locks_of before events result after (passphrases.has_fault {fault} is) remembers why (inl due) = same_line (ap (λ f. fault_code f) (one_locked_fault key fault due.fault due.closed is due.is) ∙ due.code_is)
-  locks_of before events result after (passphrases.has_fault is) remembers why (inr decided) = absurd (never_decided deciding [] tt decided)
-  locks_of before events result after passphrases.no_memory remembers why due = absurd (remembers.0 tt)
-
   pub locks : Heeds deciding (IsUnlockable key) (Locks key) NoneOwed
-  locks = record { of = locks_of }
+  locks before events result after (passphrases.is_locked {locked} same is) remembers why (inl due) =
+      no_locked_fault locked due.fault is (subst (λ k. IsLockedFault k due.fault) (sym same) due.is)
+  locks before events result after (passphrases.is_locked same is) remembers why (inr decided) = never_decided deciding [] tt decided
+  locks before events result after (passphrases.has_fault {fault} is) remembers why (inl due) = same_line (ap (λ f. fault_code f) (one_locked_fault key fault due.fault due.closed is due.is) ∙ due.code_is)
+  locks before events result after (passphrases.has_fault is) remembers why (inr decided) = absurd (never_decided deciding [] tt decided)
+  locks before events result after passphrases.no_memory remembers why due = absurd (remembers.0 tt)
 
 -- ---- keys that are deleted
 
@@ -152,26 +143,18 @@ module _ (wrap : Option (List ℕ)) where
   abbrev ByAbsence : Deciding
   ByAbsence = by_absence wrap
 
-  finds_of : (grip : Grip) (before : Option ℕ) (events : List Event) (result : Result Bool Refusal) (after : Option ℕ) → Finds grip before events result after → AllByRecursion Remembers events
-      → (why : Code) → NoneDue why ⊎ IsDecided ByAbsence events why → SaysTo IsLacking result why
-  finds_of grip before events result after does remembers why (inl due) = absurd due
-  finds_of grip before events result after small.found remembers why (inr decided) = decided_only ByAbsence decided
-  finds_of grip before events result after small.absent remembers why (inr decided) = decided_only ByAbsence decided
-  finds_of grip before events result after small.faulted remembers why (inr decided) = absurd (decided_only ByAbsence decided)
-  finds_of grip before events result after small.no_memory remembers why (inr decided) = absurd (decided_only ByAbsence decided)
-
   pub finds : (grip : Grip) → Heeds (by_absence wrap) NoneDue (Finds grip) IsLacking
-  finds grip = record { of = finds_of grip }
-
-  is_there_of : (there : Bool) (before : Option ℕ) (events : List Event) (result : Result (Unit {0}) Refusal) (after : Option ℕ) → wanted code.NoSecKey there before events result after
-      → AllByRecursion Remembers events → (why : Code) → IsLacking there why ⊎ IsDecided ByAbsence events why → SaysTo NoneOwed result why
-  is_there_of true before events result after returns remembers why (inl due) = due
-  is_there_of true before events result after returns remembers why (inr decided) = never_decided ByAbsence [] tt decided
-  is_there_of false before events result after refuses remembers why (inl due) = same_line due
-  is_there_of false before events result after refuses remembers why (inr decided) = absurd (never_decided ByAbsence [] tt decided)
+  finds grip before events result after does remembers why (inl due) = absurd due
+  finds grip before events result after small.found remembers why (inr decided) = decided_only ByAbsence decided
+  finds grip before events result after small.absent remembers why (inr decided) = decided_only ByAbsence decided
+  finds grip before events result after small.faulted remembers why (inr decided) = absurd (decided_only ByAbsence decided)
+  finds grip before events result after small.no_memory remembers why (inr decided) = absurd (decided_only ByAbsence decided)
 
   pub is_there : (there : Bool) → Heeds (by_absence wrap) (IsLacking there) (wanted code.NoSecKey there) NoneOwed
-  is_there there = record { of = is_there_of there }
+  is_there true before events result after returns remembers why (inl due) = due
+  is_there true before events result after returns remembers why (inr decided) = never_decided ByAbsence [] tt decided
+  is_there false before events result after refuses remembers why (inl due) = same_line due
+  is_there false before events result after refuses remembers why (inr decided) = absurd (never_decided ByAbsence [] tt decided)
 
   unremoved : (answer : KeyDone) (given why : Code) → change_fault answer ≡ Some given → RemovalRefuses answer why → given ≡ why
   unremoved key_done.Done given why is refuses_so = absurd refuses_so
@@ -179,14 +162,10 @@ module _ (wrap : Option (List ℕ)) where
   unremoved key_done.Failed given why is refuses_so = absurd refuses_so
   unremoved key_done.NoMemory given why is refuses_so = absurd refuses_so
 
-  removes_of : (grip : Grip) (before : Option ℕ) (events : List Event) (result : Result (Unit {0}) Refusal) (after : Option ℕ) → Removes grip before events result after → AllByRecursion Remembers events
-      → (why : Code) → NoneDue why ⊎ IsDecided ByAbsence events why → SaysTo NoneOwed result why
-  removes_of grip before events result after does remembers why (inl due) = absurd due
-  removes_of grip before events result after parts.done remembers why (inr decided) = decided_only ByAbsence decided
-  removes_of grip before events result after (parts.not_done {answer} {code = given} is) remembers why (inr decided) = same_line (unremoved answer given why is (decided_only ByAbsence decided))
-
   pub removes : (grip : Grip) → Heeds (by_absence wrap) NoneDue (Removes grip) NoneOwed
-  removes grip = record { of = removes_of grip }
+  removes grip before events result after does remembers why (inl due) = absurd due
+  removes grip before events result after parts.done remembers why (inr decided) = decided_only ByAbsence decided
+  removes grip before events result after (parts.not_done {answer} {code = given} is) remembers why (inr decided) = same_line (unremoved answer given why is (decided_only ByAbsence decided))
 
 -- ---- keys that come in
 
@@ -223,7 +202,7 @@ module _ (force : Bool) (wrap : List ℕ) where
   pub receives_key : Heeds ByImport NoneDue (ReceivesKey wrap) NoneOwed
   receives_key =
       bind ByImport NoneOwed (said_alone ByImport NoneOwed (work.keeps_works (IsSaidAlone ByImport) (work.writes (IsSaidAlone ByImport) (λ text. free ByImport) (free ByImport))))
-      (λ told. bind ByImport (λ bytes why. SentRefuses (Some wrap) bytes why) (record { of = asks_key_data_of }) (λ wrapped. record { of = unwraps_of wrapped }))
+      (λ told. bind ByImport (λ bytes why. SentRefuses (Some wrap) bytes why) asks_key_data_of (λ wrapped. unwraps_of wrapped))
 
 module _ (wrap : List ℕ) where
   -- it is there
@@ -251,4 +230,4 @@ module _ (wrap : List ℕ) where
 
   pub is_free : (force : Bool) (grip : Grip) → Heeds (by_import force (Some wrap)) NoneDue (IsFree force grip) NoneOwed
   is_free true grip = said_alone (by_import true (Some wrap)) NoneOwed (work.returned (IsSaidAlone (by_import true (Some wrap))) tt)
-  is_free false grip = bind Unforced IsTaken (record { of = looks_of grip }) (λ there. record { of = is_free_of there })
+  is_free false grip = bind Unforced IsTaken (looks_of grip) (λ there. is_free_of there)

@@ -167,12 +167,12 @@ module _ (fingerprint : Grip) (purpose : TrustPurpose) where
   stores_long : (file : List ℕ) → Heeds ByLong (IsLong file) (Stores fingerprint purpose file) NoneOwed
   unfolding Stores
   stores_long file =
-      bind ByLong NoneOwed (record { of = adds_long_of file }) (λ new. so ByLong (replaces_so ByLong (λ file answer why none. none) new))
+      bind ByLong NoneOwed (adds_long_of file) (λ new. so ByLong (replaces_so ByLong (λ file answer why none. none) new))
 
   unless_long_of : (file : List ℕ) (said : Option Bool) → trust file fingerprint.0 ≡ said → (before : Option ℕ) (events : List Event) (result : _) (after : Option ℕ)
       → unless_said said (Stores fingerprint purpose file) before events result after
       → AllByRecursion Remembers events → (why : Code) → IsLong file why ⊎ IsDecided ByLong events why → SaysTo NoneOwed result why
-  unless_long_of file None is before events result after does remembers why due = (stores_long file).of before events result after does remembers why due
+  unless_long_of file None is before events result after does remembers why due = stores_long file before events result after does remembers why due
   unless_long_of file (Some true) is before events result after chain.returns remembers why (inl long) = cc (is, long.0)
   unless_long_of file (Some true) is before events result after chain.returns remembers why (inr decided) = never_decided ByLong [] tt decided
   unless_long_of file (Some false) is before events result after chain.refuses remembers why (inl long) = absurd (cc (is, long.0))
@@ -180,7 +180,7 @@ module _ (fingerprint : Grip) (purpose : TrustPurpose) where
 
   stores_unsaid_long : Heeds ByLong NoneDue (StoresUnsaid fingerprint purpose) NoneOwed
   unfolding StoresUnsaid
-  stores_unsaid_long = bind ByLong IsLong (record { of = long_of }) (λ file. record { of = unless_long_of file (trust file fingerprint.0) refl })
+  stores_unsaid_long = bind ByLong IsLong long_of (λ file. unless_long_of file (trust file fingerprint.0) refl)
 
   -- what decides MARKTRUSTED stands behind its first read
   pub marked_long : (rules : Rules) (options : OptionValues) (name : List ℕ) (before : Option ℕ) (events : List Event) (result : _) (after : Option ℕ)
@@ -189,7 +189,7 @@ module _ (fingerprint : Grip) (purpose : TrustPurpose) where
   unfolding Marked
   marked_long rules options name before events result after (chain.goes_on {events = rest} {value = file} (parts.has_read is) does) remembers why first more same decided =
       let rest_is : more ≡ rest = cc same in
-      (unless ByLong (trust file fingerprint.0) (asked_so ByLong rules options fingerprint purpose name stores_unsaid_long options.mode)).of before rest result after does remembers.1 why
+      unless ByLong (trust file fingerprint.0) (asked_so ByLong rules options fingerprint purpose name stores_unsaid_long options.mode) before rest result after does remembers.1 why
       (inr (subst (λ m. IsDecided ByLong m why) rest_is decided))
   marked_long rules options name before events result after (chain.stops parts.faulted) remembers why first more same decided =
       let none : more ≡ [] = cc same in absurd (never_decided ByLong [] tt (subst (λ m. IsDecided ByLong m why) none decided))
