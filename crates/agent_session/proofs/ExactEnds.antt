@@ -17,7 +17,6 @@ use Rattle.assuan_server.specs.Written.{refusal_line}
 use Rattle.assuan_server.specs.declared.errors.Origin.TheVariants.{Agent}
 use Rattle.key_commands.specs.Events.{Event}
 use Rattle.agent_ask.specs.PartExchanges as part_exchanges
-use Rattle.key_commands.proofs.GoesOn.{goes_on_after}
 use Rattle.key_commands.specs.Exchanges.{KeyExchange}
 use Rattle.key_commands.specs.Parts.{key_went_after}
 use Rattle.key_commands.specs.declared.request.KeyRequest.{KeyRequest}
@@ -38,6 +37,7 @@ use Rattle.agent_origin.specs.SessionExchanges.{RequestExchange, cache, keys, we
 use Rattle.agent_origin.specs.declared.kept.Kept.{Kept}
 use Rattle.agent_session.specs.Causes.{here}
 use Rattle.agent_session.specs.Completeness.{HasError}
+use Rattle.agent_session.proofs.KeyCourses.{replies_ok}
 use Rattle.agent_session.proofs.Standing.{has_right}
 
 -- these events end so only where the client was told
@@ -98,7 +98,7 @@ same_end (Some how) = refl
 keys_told : (rules : Rules) (options : OptionValues) (wraps : WrapKeys) (asked : KeyRequest) {events : List Event} {after : WrapKeys} {went : KeyWent} → KeyExchange rules options wraps asked events after went
     → IsTold events (went_after_key went)
 keys_told rules options wraps asked (part_exchanges.answered events held reply does closes) is =
-    let on : went_after_key reply.went ≡ On = ap went_after_key (goes_on_after rules options wraps asked None held events reply does) in
+    let on : went_after_key reply.went ≡ On = ap went_after_key ((replies_ok rules options wraps asked).of None events (Ok reply) held does).1 in
     let never : On ≡ End TooLong = sym on ∙ is in
     absurd (cc never)
 keys_told rules options wraps asked (part_exchanges.refused events held why {back} does closes) is = refusal_told events back why (sym (same_end (gone_by why)) ∙ is)

@@ -2,7 +2,7 @@
 use Rattle.std.proofs.Common.{◌≡◌, ℕ, Bool, true, false, List, [], ◌∷◌, ◌++◌, Option, Some, None, Result, Ok, Err, refl, ap}
 use Rattle.std.specs.Prelude.{not, drop}
 use Rattle.agent_ask.specs.Further.{Keys, Replaced, Removed}
-use Rattle.agent_ask.proofs.Within.{values_so}
+use Rattle.agent_ask.proofs.Within.{Within, Yields, yields_then, returned_so, refused_so, values_so}
 use Rattle.agent_ask.specs.Parts.{◌>>=◌, goes_on, stops, Returns, returns}
 use Rattle.agent_ask.specs.SessionEvents.{Further}
 use Rattle.agent_ask.specs.TurnParts.{Changes, Closes}
@@ -48,7 +48,7 @@ use Rattle.agent_session.specs.Completeness as completeness
 use Rattle.agent_session.specs.Refusals.{IsAllowed, IsWorkStep, MayStore, exported, changed, imported, CourseBy}
 use Rattle.key_commands.specs.Lines.{of_passphrase, of_key_data, of_key}
 use Rattle.agent_session.proofs.Asides.{info_status, nonce_status, status_aside}
-use Rattle.agent_session.proofs.Courses.{AnyNonce, Ends, ends_with, EndsSo, working_ends, ends_working, bind_ends, made, makes, closed, unwrapped, kept, put, unput, cleared, uncleared, RepliesOk, ok_returns, ok_refuses, ok_then}
+use Rattle.agent_session.proofs.Courses.{AnyNonce, Ends, ends_with, EndsSo, working_ends, ends_working, bind_ends, made, makes, closed, unwrapped, kept, put, unput, cleared, uncleared}
 use Rattle.agent_session.proofs.Courses.{reply_ends_in_ok, ok_course, err_course, ends_said, gone_only, said_before, answer_heard}
 use Rattle.agent_session.proofs.KeyWorks.{FitsKeys, looks_nonce, old_here, verified_here, new_here, consents, tells_info, writes_infos, has_one}
 use Rattle.agent_session.proofs.Replying.{ends_in_ok, reply_keys}
@@ -229,26 +229,35 @@ module _ (request : Request) where
     replies (on.DeleteKey grip force) is = delete_key force grip
     replies (on.Bad why) is = ends_working request (refuses_by Fits (Agent why))
 
--- every reply ends in an OK line
-abbrev ReplyOk : Part KeyReply → Type 0
-ReplyOk = RepliesOk (λ reply. reply.text)
+-- every reply ends in an OK line, and the session goes on behind it
+abbrev pub IsGoodReply : KeyReply → Type 0
+IsGoodReply reply = EndsInOk reply.text × (reply.went ≡ key_went.On)
+
+abbrev pub ReplyOk : Part KeyReply → Type 0
+ReplyOk part = Within part (Yields IsGoodReply)
+
+ok_then : {A : Type 0} {part : Part A} {next : A → Part KeyReply} → ((value : A) → ReplyOk (next value)) → ReplyOk (part >>= next)
+ok_then = yields_then IsGoodReply
+
+ok_returns : {wraps : WrapKeys} {text : List ℕ} → EndsInOk text → ReplyOk (Returns (exchange.key_reply wraps text))
+ok_returns {wraps} {text} ends = returned_so (exchange.key_reply wraps text) (λ held. (ends, refl))
 
 -- what is known of a key, and an OK line
 info_ok_of : (grip : Grip) (key : Key) (wraps : WrapKeys) (before : Option ℕ) (events : List Event) (reply : KeyReply) (after : Option ℕ)
-    → (TellsKeyInfo grip key >>= λ line. Returns (exchange.key_reply wraps (line ++ ok))) before events (Ok reply) after → EndsInOk reply.text
-info_ok_of grip key wraps _ _ _ _ (goes_on (goes_on {value = cached} peeks line) returns) = info_told line
+    → (TellsKeyInfo grip key >>= λ line. Returns (exchange.key_reply wraps (line ++ ok))) before events (Ok reply) after → IsGoodReply reply
+info_ok_of grip key wraps _ _ _ _ (goes_on (goes_on {value = cached} peeks line) returns) = (info_told line, refl)
   where
     info_told : {before after : Option ℕ} {events : List Event} {line : List ℕ} → Returns (info_line grip cached key.is_clear) before events (Ok line) after → EndsInOk (line ++ ok)
     info_told returns = ends_in_ok (status_aside (info_status grip cached key.is_clear))
 
 tells_ok_of : (bytes : List ℕ) (make : List ℕ → WrapKeys) (before : Option ℕ) (events : List Event) (reply : KeyReply) (after : Option ℕ)
-    → (Tells bytes >>= λ text. Returns (exchange.key_reply (make text) text)) before events (Ok reply) after → EndsInOk reply.text
-tells_ok_of bytes make _ _ _ _ (goes_on (tells answers) returns) = reply_ends_in_ok (reply_keys answers)
+    → (Tells bytes >>= λ text. Returns (exchange.key_reply (make text) text)) before events (Ok reply) after → IsGoodReply reply
+tells_ok_of bytes make _ _ _ _ (goes_on (tells answers) returns) = (reply_ends_in_ok (reply_keys answers), refl)
 
 module _ (rules : Rules) (options : OptionValues) (wraps : WrapKeys) where
   have_key_ok : (grips : List Grip) → ReplyOk (HaveKeyReplies rules options wraps grips)
   unfolding HaveKeyReplies
-  have_key_ok grips = ok_then (λ one. ok_returns _ (ends_in_ok completeness.none))
+  have_key_ok grips = ok_then (λ one. ok_returns (ends_in_ok completeness.none))
 
   key_info_ok : (grip : Grip) → ReplyOk (KeyInfoReplies rules options wraps grip)
   unfolding KeyInfoReplies
@@ -256,7 +265,7 @@ module _ (rules : Rules) (options : OptionValues) (wraps : WrapKeys) where
 
   list_keys_ok : ReplyOk (ListKeysReplies rules options wraps)
   unfolding ListKeysReplies
-  list_keys_ok = ok_then (λ grips. ok_then (λ written. ok_returns _ (ends_in_ok completeness.none)))
+  list_keys_ok = ok_then (λ grips. ok_then (λ written. ok_returns (ends_in_ok completeness.none)))
 
   key_wrap_ok : (way : Direction) → ReplyOk (KeyWrapReplies rules options wraps way)
   unfolding KeyWrapReplies
@@ -264,7 +273,7 @@ module _ (rules : Rules) (options : OptionValues) (wraps : WrapKeys) where
 
   import_key_ok : (force : Bool) (id : Option (List ℕ)) → ReplyOk (ImportKeyReplies rules options wraps force id)
   unfolding ImportKeyReplies
-  import_key_ok force id = ok_then (λ wrap. ok_then (λ key. ok_then (λ grip. ok_then (λ free. ok_then (λ pass. ok_then (λ cache_nonce. ok_returns _ (ends_in_ok (status_aside (nonce_status cache_nonce)))))))))
+  import_key_ok force id = ok_then (λ wrap. ok_then (λ key. ok_then (λ grip. ok_then (λ free. ok_then (λ pass. ok_then (λ cache_nonce. ok_returns (ends_in_ok (status_aside (nonce_status cache_nonce)))))))))
 
   export_key_ok : (grip : Grip) (id : Option (List ℕ)) → ReplyOk (ExportKeyReplies rules options wraps grip id)
   unfolding ExportKeyReplies
@@ -272,17 +281,17 @@ module _ (rules : Rules) (options : OptionValues) (wraps : WrapKeys) where
 
   passwd_ok : (grip : Grip) (id new_id : Option (List ℕ)) → ReplyOk (PasswdReplies rules options wraps grip id new_id)
   unfolding PasswdReplies
-  passwd_ok grip id new_id = ok_then (λ file. ok_then (λ opened. ok_then (λ changed. ok_returns _ (ends_in_ok completeness.none))))
+  passwd_ok grip id new_id = ok_then (λ file. ok_then (λ opened. ok_then (λ changed. ok_returns (ends_in_ok completeness.none))))
 
   verify_ok : (grip : Grip) → ReplyOk (VerifyReplies rules options wraps grip)
   unfolding VerifyReplies
-  verify_ok grip = ok_then (λ file. ok_then (λ opened. ok_then (λ closed. ok_returns _ (ends_in_ok completeness.none))))
+  verify_ok grip = ok_then (λ file. ok_then (λ opened. ok_then (λ closed. ok_returns (ends_in_ok completeness.none))))
 
   delete_key_ok : (force : Bool) (grip : Grip) → ReplyOk (DeleteKeyReplies rules options wraps force grip)
   unfolding DeleteKeyReplies
-  delete_key_ok force grip = ok_then (λ there. ok_then (λ some. ok_then (λ agreed. ok_then (λ removed. ok_then (λ cleared. ok_returns _ (ends_in_ok completeness.none))))))
+  delete_key_ok force grip = ok_then (λ there. ok_then (λ some. ok_then (λ agreed. ok_then (λ removed. ok_then (λ cleared. ok_returns (ends_in_ok completeness.none))))))
 
-  replies_ok : (asked : KeyRequest) → ReplyOk (KeyReplies rules options wraps asked)
+  pub replies_ok : (asked : KeyRequest) → ReplyOk (KeyReplies rules options wraps asked)
   replies_ok (on.HaveKey grips) = have_key_ok grips
   replies_ok (on.KeyInfo grip) = key_info_ok grip
   replies_ok on.ListKeys = list_keys_ok
@@ -292,13 +301,13 @@ module _ (rules : Rules) (options : OptionValues) (wraps : WrapKeys) where
   replies_ok (on.Passwd grip old new true) = verify_ok grip
   replies_ok (on.Passwd grip old new false) = passwd_ok grip old new
   replies_ok (on.DeleteKey grip force) = delete_key_ok force grip
-  replies_ok (on.Bad why) = ok_refuses _
+  replies_ok (on.Bad why) = refused_so (Agent why) (λ held. tt)
 
 module _ (request : Request) (rules : Rules) (options : OptionValues) (wraps : WrapKeys) where
   module _ {asked : KeyRequest} (is : on_keys request ≡ Some asked) where
     pub key_course : {events : List Event} {after : WrapKeys} {went : KeyWent} → KeyExchange rules options wraps asked events after went → CourseBy request AnyNonce events
     key_course (part_exchanges.answered some held reply does closes_so) =
-        ok_course request ((replies_ok rules options wraps asked).of None some (Ok reply) held does) ((replies request rules options wraps asked is).of _ _ _ _ does) closes_so
+        ok_course request ((replies_ok rules options wraps asked).of None some (Ok reply) held does).0 ((replies request rules options wraps asked is).of _ _ _ _ does) closes_so
     key_course (part_exchanges.refused some held why does closes_so) = err_course request ((replies request rules options wraps asked is).of _ _ _ _ does) closes_so
 
     -- a client that is gone ends its session

@@ -1,5 +1,5 @@
 -- What a session does for a line has one answer, and each error line in it its cause.
-use Rattle.std.proofs.Common.{◌≡◌, ◌++◌, ℕ, List, [], ◌∷◌, Option, Some, None, refl, sym, subst}
+use Rattle.std.proofs.Common.{◌≡◌, ◌++◌, ℕ, List, [], ◌∷◌, Option, Some, None, Ok, refl, sym, subst}
 use Rattle.agent_ask.specs.Further.{FurtherEvent, Keys, Replaced}
 use Rattle.agent_ask.specs.SessionEvents.{Sent, Further}
 use Rattle.agent_ports.specs.declared.grip.Grip.{Grip}
@@ -20,7 +20,6 @@ use Rattle.agent_commands.specs.declared.went.Went.TheVariants.{On}
 use Rattle.key_commands.specs.Exchanges.{KeyExchange}
 use Rattle.agent_ask.specs.PartExchanges.{answered, refused}
 use Rattle.key_commands.specs.Parts.{refusal_events, key_went_after as key_went}
-use Rattle.key_commands.proofs.GoesOn.{goes_on_after}
 use Rattle.session_client.specs.declared.refusal.Refusal.{Refusal}
 use Rattle.key_commands.specs.declared.request.KeyRequest.{KeyRequest}
 use Rattle.key_commands.specs.declared.went.KeyWent.{KeyWent}
@@ -31,6 +30,7 @@ use Rattle.agent_origin.specs.SessionExchanges.{RequestExchange, cache, keys, Se
 use Rattle.agent_origin.specs.declared.kept.Kept.{Kept}
 use Rattle.agent_session.proofs.CacheRequests.{cache_explained, in_exchange, refusal_explained}
 use Rattle.agent_session.proofs.Explained.{Explained, replied, is_answered, is_caused, goes_on, went_on}
+use Rattle.agent_session.proofs.KeyCourses.{replies_ok}
 use Rattle.agent_session.proofs.KeyRequests.{replies}
 use Rattle.agent_session.proofs.LineFaults.{line_caused}
 use Rattle.agent_session.proofs.Standing.{stand_all}
@@ -55,7 +55,7 @@ module _ (rules : Rules) (kept : Kept) (request : Request) (whole : List (EventW
     keys_explained : (asked : KeyRequest) → on_keys request ≡ Some asked → {events : List (EventWith FurtherEvent)} {after : WrapKeys} {went : KeyWent}
         → KeyExchange rules kept.options kept.wraps asked events after went → StandIn events whole → Here events (went_after_key went)
     keys_explained asked is (answered events held reply {back} does closes) stands =
-        subst (λ w. Here (events ++ (back ++ Sent reply.text ∷ [])) (went_after_key w)) (sym (goes_on_after rules kept.options kept.wraps asked None held events reply does))
+        subst (λ w. Here (events ++ (back ++ Sent reply.text ∷ [])) (went_after_key w)) (sym (((replies_ok rules kept.options kept.wraps asked).of None events (Ok reply) held does).1))
         (in_exchange rules kept whole request (replies rules kept request whole never_absent line_caused asked is) does closes (λ good. replied [] reply.text tt good tt) stands)
     keys_explained asked is (refused events held why does closes) stands =
         in_exchange rules kept whole request (replies rules kept request whole never_absent line_caused asked is) does closes

@@ -2,7 +2,6 @@ pub mod AtPrompt
 pub mod Doing
 pub mod EachEvent
 pub mod EachRequest
-pub mod GoesOn
 pub mod KeyData
 pub mod KeyFiles
 pub mod ListedKeys
