@@ -6,6 +6,7 @@ import re
 import shutil
 import signal
 import subprocess
+import termios
 import time
 
 from scripted import LIMIT, as_bytes
@@ -15,6 +16,9 @@ GONE_WITHIN = 2
 
 # How many seconds a terminal has to show something.
 SHOWN_WITHIN = 30
+
+# Within how many seconds the guard of a prompt that is gone has ended, whatever it has to do.
+GUARDED = 1.5
 
 # prctl(2): a process that lost its parent becomes a child of this one.
 PR_SET_CHILD_SUBREAPER = 36
@@ -62,6 +66,14 @@ class Terminal:
         path.unlink(missing_ok=True)
         self.type("stty -a >modes.new; mv modes.new modes")
         return path.read_text() if within(SHOWN_WITHIN, path.exists) else ""
+
+    def echoes(self):
+        """Whether the terminal itself shows what is typed now."""
+        opened = os.open(self.call("display-message", "-p", "#{pane_tty}").strip(), os.O_RDONLY | os.O_NOCTTY)
+        try:
+            return bool(termios.tcgetattr(opened)[3] & termios.ECHO)
+        finally:
+            os.close(opened)
 
     def end(self):
         subprocess.run([*self.tmux, "kill-server"], check=False, capture_output=True)
@@ -265,6 +277,10 @@ class Interrupted:
         self.call(terminal, OTHER)
         if not terminal.shows("<OK>", GONE_WITHIN):
             return f"no further prompt is drawn: {terminal.screen().strip()!r}"
+        # By then no guard but its own has to do with the terminal.
+        time.sleep(GUARDED)
+        if terminal.echoes():
+            return "the terminal shows what is typed into the next prompt"
         terminal.type(SECRET)
         return ("" if terminal.shows(f"^{SECRET}$") else "the next prompt gives nothing") or self.nothing_kept(user) or self.leftovers()
 

@@ -1,8 +1,11 @@
 -- Parts of a request that were done, one after another, and those that stand beside a desk and further ends that they have nothing to do with.
-use Rattle.std.proofs.Common.{◌≡◌, ◌≤◌, ℕ, List, [], ◌∷◌, ◌++◌, Option, Some, None, Result, Ok, Err, refl, arith}
+use Rattle.std.proofs.Common.{◌≡◌, ◌≤◌, ℕ, true, List, [], ◌∷◌, ◌++◌, Option, Some, None, Result, Ok, Err, is_some, refl, arith}
 use Rattle.cache_policy.specs.declared.mark.MarkStep.{MarkStep}
-use Rattle.cache_policy.specs.declared.mark.MarkStep.TheVariants.{Close}
-use Rattle.cache_policy.specs.Turns.{Turn, Open, FitsStep}
+use Rattle.cache_policy.specs.declared.mark.MarkStep.TheVariants.{Ask, Close}
+use Rattle.cache_policy.specs.declared.mark.Way.{Way}
+use Rattle.cache_policy.specs.declared.mark.Way.TheVariants.{Quiet, Prompt}
+use Rattle.cache_policy.specs.declared.mode.Mode.{Mode}
+use Rattle.cache_policy.specs.Turns.{Turn, Given, Empty, Open, Done, FitsStep, opens}
 use Rattle.session_client.specs.Lines.{Lines, Views, IsOpen}
 use Rattle.session_client.specs.declared.refusal.Refusal.{Refusal}
 use Rattle.session_client.specs.declared.unheard.Gone.{Gone}
@@ -10,9 +13,10 @@ use Rattle.agent_ask.specs.Answering.{ReaderLeft, FaultsCounted}
 use Rattle.agent_ask.specs.Further.{FurtherEvent, EventOf, world_with}
 use Rattle.agent_ask.specs.Parts.{PartOf, ◌>>=◌, goes_on, stops}
 use Rattle.agent_ask.specs.PartStates.{PartState, part_state, gone_in, DoesPart, NoTurn, NoEnd, DoesWithClient, DoesTurn, DoesTurns, still, one}
-use Rattle.agent_ask.specs.Seats.{Gives, TakesTicket, GivesTicket, opened as ticket_opened, interrupted as ticket_refused, taken, refused, unheld, given}
+use Rattle.agent_ask.specs.Seats.{Gives, TakesTicket, GivesTicket, Changed, ChangesCache, Answered, AsksCache, opened as ticket_opened, interrupted as ticket_refused, taken, refused, unheld, given, changed, unchanged}
+use Rattle.agent_ask.specs.Seats.{found, none_found, prompt_opened, not_answered}
 use Rattle.agent_ask.specs.SessionEvents.{AnyEvent, cache_turn}
-use Rattle.agent_ask.specs.TurnParts.{Seats, Closes, closed}
+use Rattle.agent_ask.specs.TurnParts.{Asks, Seats, Changes, Closes, closed}
 use Rattle.agent_ask.specs.TurnParts as turns
 use Rattle.agent_ask.proofs.Beside.{done_in}
 use Rattle.agent_ask.proofs.Doing.{done_none, done_then, done_turned}
@@ -145,6 +149,41 @@ module _ {T O F D : Type 0} {turned : D → MarkStep → Turn → D → Type 0} 
       → DoesTurn turned (Seats {T = T} {O = O} {F = F} step) None desk result after now
   ticket_taken (taken wants) = opened_by wants.turned_so wants.fits wants.gives
   ticket_taken (refused wants) = refused_by wants.turned_so wants.fits wants.gives
+
+  changed_by : {held : Option ℕ} {step : MarkStep} {turn : Turn} {result : Result (Unit {0}) Refusal} → turned desk step turn now → FitsStep step turn → Changed turn result
+      → DoesTurn turned (Changes {T = T} {O = O} {F = F} step) held desk result held now
+  changed_by {step} turned_so fits changed = record { step = step; turn = Done; turned_so = turned_so; does = turns.Changes.done fits; on = refl }
+  changed_by {step} {turn} turned_so fits (unchanged by) = record { step = step; turn = turn; turned_so = turned_so; does = turns.Changes.interrupted fits by; on = refl }
+
+  -- a request changed the cache, or is refused
+  pub cache_changed : {held : Option ℕ} {step : MarkStep} {result : Result (Unit {0}) Refusal} → ChangesCache turned step desk result now → DoesTurn turned (Changes {T = T} {O = O} {F = F} step) held desk result held now
+  cache_changed changes = changed_by changes.turned_so changes.fits changes.gives
+
+  asked_by : {step : MarkStep} {turn : Turn} {before after : Option ℕ} {result : Result (Option (List ℕ)) Refusal} → turned desk step turn now → FitsStep step turn → Answered before turn result after
+      → DoesTurn turned (Asks {T = T} {O = O} {F = F} step) before desk result after now
+  asked_by {step} turned_so fits (found {grant}) = record { step = step; turn = Given grant; turned_so = turned_so; does = turns.Asks.given fits; on = refl }
+  asked_by {step} turned_so fits none_found = record { step = step; turn = Empty; turned_so = turned_so; does = turns.Asks.empty fits; on = refl }
+  asked_by {step} turned_so fits (prompt_opened {ticket}) = record { step = step; turn = Open ticket; turned_so = turned_so; does = turns.Asks.opened fits; on = refl }
+  asked_by {step} {turn} turned_so fits (not_answered by) = record { step = step; turn = turn; turned_so = turned_so; does = turns.Asks.interrupted fits by; on = refl }
+
+  -- a request asked the cache, or is refused
+  pub cache_asked : {step : MarkStep} {before after : Option ℕ} {result : Result (Option (List ℕ)) Refusal} → AsksCache turned step before desk result after now
+      → DoesTurn turned (Asks {T = T} {O = O} {F = F} step) before desk result after now
+  cache_asked asks = asked_by asks.turned_so asks.fits asks.gives
+
+-- only a question that may open a prompt is answered by a ticket
+pub wants_prompt : (id : List ℕ) (mode : Mode) (way : Way) (number : ℕ) → FitsStep (Ask id mode way None) (Open number) → opens (Ask id mode way None) ≡ true
+wants_prompt id mode Quiet number fits = absurd fits
+wants_prompt id mode Prompt number fits = refl
+
+-- and where such a one finds nothing, the request holds a ticket
+opened_by_asking : (id : List ℕ) (mode : Mode) {turn : Turn} {before after : Option ℕ} → FitsStep (Ask id mode Prompt None) turn → Answered before turn (Ok None) after → is_some after ≡ true
+opened_by_asking id mode fits none_found = absurd fits
+opened_by_asking id mode fits prompt_opened = refl
+
+pub seated_by_asking : {D : Type 0} {turned : D → MarkStep → Turn → D → Type 0} {id : List ℕ} {mode : Mode} {desk now : D} {before after : Option ℕ}
+    → AsksCache turned (Ask id mode Prompt None) before desk (Ok None) after now → is_some after ≡ true
+seated_by_asking {id} {mode} asks = opened_by_asking id mode asks.fits asks.gives
 
 -- a request gave its ticket back
 pub ticket_given : {T O F D : Type 0} {turned : D → MarkStep → Turn → D → Type 0} {desk now : D} {keep : Option (List ℕ)} {before : Option ℕ} → GivesTicket turned keep before desk now

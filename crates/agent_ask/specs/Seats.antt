@@ -1,9 +1,10 @@
--- How a request comes by the ticket of a prompt. This is the project's own.
+-- How a request comes by the ticket of a prompt, and how it asks the cache and changes it. This is the project's own.
 use Rattle.std.specs.Prelude.{◌≡◌, ℕ, List, Option, Some, None, Result, Ok, Err}
 use Rattle.cache_policy.specs.Desks.{AtDesk}
 use Rattle.cache_policy.specs.declared.mark.MarkStep.{MarkStep}
-use Rattle.cache_policy.specs.declared.mark.MarkStep.TheVariants.{Close}
-use Rattle.cache_policy.specs.Turns.{Turn, Open, FitsStep}
+use Rattle.cache_policy.specs.declared.mark.MarkStep.TheVariants.{Close, Put, Clear, Flush, Stop}
+use Rattle.cache_policy.specs.declared.grant.Grant.{Grant}
+use Rattle.cache_policy.specs.Turns.{Turn, Given, Empty, Open, Done, FitsStep}
 use Rattle.session_client.specs.declared.code.Code.{Code}
 use Rattle.session_client.specs.declared.refusal.Refusal.{Refusal}
 use Rattle.session_client.specs.declared.refusal.Refusal.TheVariants.{Agent}
@@ -32,6 +33,40 @@ pub data GivesTicket {D : Type 0} (turned : D → MarkStep → Turn → D → Ty
   unheld : {desk : D} → GivesTicket turned keep None desk desk
   given : {ticket : ℕ} {desk now : D} (turn : Turn) → turned desk (Close ticket keep) turn now → FitsStep (Close ticket keep) turn
       → GivesTicket turned keep (Some ticket) desk now
+
+-- a step that changes the cache, and gives no ticket back
+abbrev pub IsChange : MarkStep → Type 0
+IsChange (Put id mode life secret) = Unit {0}
+IsChange (Clear id mode) = Unit {0}
+IsChange Flush = Unit {0}
+IsChange Stop = Unit {0}
+IsChange _ = ⊥
+
+-- what a turn gives that changes the cache: that it is changed, or why the request is refused
+pub data Changed : Turn → Result (Unit {0}) Refusal → Type 0 where
+  changed : Changed Done (Ok tt)
+  unchanged : {turn : Turn} {code : Code} → Interrupts turn code → Changed turn (Err (Agent code))
+
+-- it was changed by one turn at a desk
+pub record ChangesCache {D : Type 0} (turned : D → MarkStep → Turn → D → Type 0) (step : MarkStep) (desk : D) (result : Result (Unit {0}) Refusal) (now : D) : Type 0 where
+  pub turn : Turn
+  pub turned_so : turned desk step turn now
+  pub fits : FitsStep step turn
+  pub gives : Changed turn result
+
+-- what a turn gives that asks the cache: its entry's passphrase, or none, and the ticket of a prompt, where it opens one; or why the request is refused
+pub data Answered : Option ℕ → Turn → Result (Option (List ℕ)) Refusal → Option ℕ → Type 0 where
+  found : {held : Option ℕ} {grant : Grant} → Answered held (Given grant) (Ok (Some grant.entry.secret)) held
+  none_found : {held : Option ℕ} → Answered held Empty (Ok None) held
+  prompt_opened : {ticket : ℕ} → Answered None (Open ticket) (Ok None) (Some ticket)
+  not_answered : {held : Option ℕ} {turn : Turn} {code : Code} → Interrupts turn code → Answered held turn (Err (Agent code)) held
+
+-- it was asked by one turn at a desk
+pub record AsksCache {D : Type 0} (turned : D → MarkStep → Turn → D → Type 0) (step : MarkStep) (before : Option ℕ) (desk : D) (result : Result (Option (List ℕ)) Refusal) (after : Option ℕ) (now : D) : Type 0 where
+  pub turn : Turn
+  pub turned_so : turned desk step turn now
+  pub fits : FitsStep step turn
+  pub gives : Answered before turn result after
 
 -- Between the parts of a request that holds this ticket: no other is out, and no prompt is open.
 pub record IsReady (desk : AtDesk) (prompter : AtPrompter) (ticket : Option ℕ) : Type 0 where

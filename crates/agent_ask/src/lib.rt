@@ -25,6 +25,7 @@ mod seat;
 mod spec;
 mod test;
 mod tries;
+mod turns;
 
 pub use agreeing::agree;
 pub use answering::unless_cut;
@@ -42,3 +43,4 @@ pub use session_client::{Gone, MAX_NOTE_LEN};
 pub use spec::{AskPlan, PromptSpec};
 pub use test::{Test, Tested};
 pub use tries::MAX_TRIES;
+pub use turns::{ask_cache, change};

@@ -6,9 +6,9 @@ use Rattle.agent_ask.specs.Further.{FurtherEvent, Prompt}
 use Rattle.agent_ask.specs.PartReplies.{reply_by, comes_to, stops_at}
 use Rattle.agent_ask.specs.Parts.{◌>>=◌, Returns, returns, refuses, goes_on}
 use Rattle.agent_ask.specs.PartStates.{PartState, part_state, gone_in, DoesPart, NoTurn, NoEnd, DoesTurn, DoesTurns}
-use Rattle.agent_ask.specs.Seats.{TakesTicket}
+use Rattle.agent_ask.specs.Seats.{TakesTicket, ChangesCache}
 use Rattle.agent_ask.specs.TurnParts.{Seats}
-use Rattle.agent_ask.proofs.PartsDone.{part_then, part_stops, part_turned, part_still, part_turns, part_in, ticket_taken}
+use Rattle.agent_ask.proofs.PartsDone.{part_then, part_stops, part_turned, part_still, part_turns, part_in, ticket_taken, cache_changed}
 use Rattle.agent_ask.proofs.Replying.{carries_in}
 use Rattle.assuan_server.specs.Clients.{connection_views}
 use Rattle.assuan_server.specs.Connections.{Connection, IsOpen}
@@ -27,7 +27,7 @@ use Rattle.agent_commands.specs.Outside.{DoesPrompts, prompts}
 use Rattle.agent_commands.specs.Parts.{CachePart}
 use Rattle.agent_commands.specs.Passphrases.{ByCache, WithoutPrompt, as_wanted, passphrase_by}
 use Rattle.agent_commands.specs.Requests.{GetFields}
-use Rattle.agent_commands.specs.Steps.{CacheChange, IsText, went_of, CarriesOut, DoesAtDesk, DoesAtPrompter, option_reply, info_response, TellsCached, cached, refused}
+use Rattle.agent_commands.specs.Steps.{IsText, went_of, CarriesOut, DoesAtDesk, DoesAtPrompter, option_reply, info_response, TellsCached, cached, refused}
 use Rattle.agent_commands.specs.declared.request.Info.{Info}
 use Rattle.agent_commands.specs.declared.request.Info.TheVariants as info
 use Rattle.agent_commands.specs.declared.request.Texts.{Texts}
@@ -105,13 +105,13 @@ module _ {D E : Type 0} (turned : D → MarkStep → Turn → D → Type 0) (fur
 
   -- a command that is one change of the cache
   pub change_done : {before : OptionValues} {desk now : D} {step : MarkStep} {reply : CacheReply} (answer : Response) → ((text : List ℕ) → IsText answer text → reply_by went_of answer before text ≡ reply)
-      → DoesTurn turned (CacheChange step) None desk (Ok tt) None now → CarriesOut turned further (ChangeReplies step reply) before (at_desk desk) (Ok answer) before None (at_desk now)
+      → ChangesCache turned step desk (Ok tt) now → CarriesOut turned further (ChangeReplies step reply) before (at_desk desk) (Ok answer) before None (at_desk now)
   change_done {now} answer is_reply turn =
-      comes_to {answer = answer} {held = None} {now = at_desk now} (λ text is. rw (is_reply text is) (part_then (part_turned going turn) (part_still going refl returns)))
+      comes_to {answer = answer} {held = None} {now = at_desk now} (λ text is. rw (is_reply text is) (part_then (part_turned going (cache_changed turn)) (part_still going refl returns)))
 
-  pub change_refused : {before : OptionValues} {desk now : D} {step : MarkStep} {reply : CacheReply} {why : Refusal} → DoesTurn turned (CacheChange step) None desk (Err why) None now
+  pub change_refused : {before : OptionValues} {desk now : D} {step : MarkStep} {reply : CacheReply} {why : Refusal} → ChangesCache turned step desk (Err why) now
       → CarriesOut turned further (ChangeReplies step reply) before (at_desk desk) (Err why) before None (at_desk now)
-  change_refused turn = stops_at (part_stops (part_turned going turn))
+  change_refused turn = stops_at (part_stops (part_turned going (cache_changed turn)))
 
   -- GET_PASSPHRASE of the cache alone
   quiet_by : (rules : Rules) (options : OptionValues) (fields : GetFields) (no_ask : Bool) (texts : Option Texts) → is_quiet no_ask texts ≡ true → {desk now : D} {result : Result (List ℕ) Refusal}

@@ -3,14 +3,12 @@ use Rattle.std.specs.Prelude.{◌≡◌, ℕ, Bool, List, decimal, Option, None,
 use Rattle.agent_ask.specs.Events.{Call}
 use Rattle.agent_ask.specs.Further.{FurtherEvent}
 use Rattle.agent_ask.specs.Parts.{Refuses}
-use Rattle.agent_ask.specs.TurnParts.{Asks, Changes}
 use Rattle.agent_ask.specs.PartReplies.{RespondsBy, CarriesBy}
 use Rattle.agent_ask.specs.PartStates.{PartState, part_state, DoesPart, NoTurn, NoEnd, DoesTurns}
 use Rattle.assuan_server.specs.Clients.{connection_views}
 use Rattle.assuan_server.specs.Connections.{Connection}
 use Rattle.assuan_server.specs.Written.{refusal_line}
 use Rattle.cache_policy.specs.declared.mark.MarkStep.{MarkStep}
-use Rattle.cache_policy.specs.declared.mark.MarkStep.TheVariants.{Put, Clear, Flush, Stop}
 use Rattle.cache_policy.specs.Turns.{Turn}
 use Rattle.session_client.specs.declared.code.Code.TheVariants as code
 use Rattle.session_client.specs.declared.refusal.Refusal.{Refusal}
@@ -51,14 +49,6 @@ went_of Bye = End ends.Bye
 went_of Killed = End ends.Killed
 went_of _ = On
 
--- a step that changes the cache, and gives no ticket back
-abbrev pub IsChange : MarkStep → Type 0
-IsChange (Put id mode life secret) = Unit {0}
-IsChange (Clear id mode) = Unit {0}
-IsChange Flush = Unit {0}
-IsChange Stop = Unit {0}
-IsChange _ = ⊥
-
 -- a GET_PASSPHRASE
 abbrev pub IsGet : CacheCommand → Type 0
 IsGet (GetPassphrase plain check no_ask repeat quality id texts) = Unit {0}
@@ -70,13 +60,6 @@ AsksNobody (GetPassphrase plain check no_ask repeat quality id texts) = ⊥
 AsksNobody (PresetPassphrase id life secret) = ⊥
 AsksNobody (GetConfirmation description) = ⊥
 AsksNobody _ = Unit {0}
-
--- turns as parts of a request on the cache
-abbrev pub CacheChange : MarkStep → CachePart (Unit {0})
-CacheChange step = Changes step
-
-abbrev pub CacheAsks : MarkStep → CachePart (Option (List ℕ))
-CacheAsks step = Asks step
 
 module _ {A : Type 0} (part : CachePart A) where
   -- a part in which no prompter is called, of a request that holds no ticket

@@ -5,11 +5,11 @@
 
 ghost use Rattle.std.specs.Prelude.{◌≡◌, ℕ, List, None, Some};
 ghost use Rattle.agent_ask.specs.Prompters.{IsShut};
-ghost use Rattle.agent_ask.specs.PartStates.{DoesTurn, DoesWithClient, NoEnd, part_state};
+ghost use Rattle.agent_ask.specs.PartStates.{DoesWithClient, NoEnd, part_state};
+ghost use Rattle.agent_ask.specs.Seats.{ChangesCache};
 ghost use Rattle.assuan_server.specs.Clients.{connection_views};
 ghost use Rattle.assuan_server.specs.Connections.{Connection, IsOpen};
 ghost use Rattle.cache_policy.specs.declared.mark.MarkStep.TheVariants.{Clear};
-ghost use Rattle.cache_policy.specs.Turns.{asked_step, wait_of};
 ghost use Rattle.session_options.specs.OptionValues.{OptionValues};
 ghost use Rattle.session_options.specs.declared.rules.Rules.{Rules as TheRules};
 ghost use Rattle.agent_commands.specs.Exchanges.{LineExchange, quiet_of};
@@ -18,8 +18,7 @@ ghost use Rattle.agent_commands.specs.Exchanges.{GivenOrAsked, Presets};
 ghost use Rattle.agent_commands.specs.Outside.{DoesPrompts, prompt_world, world};
 ghost use Rattle.agent_commands.specs.Requests.{request_of};
 ghost use Rattle.agent_commands.specs.States.{session_state, prompt_state, AnswersRequest};
-ghost use Rattle.agent_commands.specs.Steps.{AsksNobody, CacheChange, CarriesOut, DoesAtDesk};
-ghost use Rattle.agent_commands.specs.Steps.{IsChange};
+ghost use Rattle.agent_commands.specs.Steps.{AsksNobody, CarriesOut, DoesAtDesk};
 ghost use Rattle.agent_commands.specs.Steps.{TellsCached, info_response, option_reply};
 ghost use Rattle.agent_commands.specs.declared.request.Request.TheVariants as request;
 
@@ -29,10 +28,10 @@ use crate::passphrase::{by_cache, get_passphrase};
 use crate::read::text_of;
 use crate::response::{Response, respond};
 use crate::{CacheCommand, Info, QuietRequest, Went};
-use agent_ask::{Held, Prompter, close, without_memory};
+use agent_ask::{Held, Prompter, change, close};
 use agent_ports::Link;
 use assuan_server::{Code, Conn};
-use cache_policy::{CacheId, Desk, Life, Mode, Refused, Reply, Secret, Step};
+use cache_policy::{CacheId, Desk, Life, Mode, Secret, Step};
 use session_client::Refusal;
 use session_options::{OptionAnswer, Options, Rules};
 
@@ -249,8 +248,7 @@ fn given_or_asked<L: Link>(
 
 /// CLEAR_PASSPHRASE.
 fn clear<D: Desk>(id: &CacheId, mode: Mode, desk: &mut D) -> Result<(), Refusal>
-    ensures turn { DoesTurn D.turned
-        (CacheChange (Clear id.now mode)) None desk.old result None desk.new }
+    ensures turn { ChangesCache D.turned (Clear id.now mode) desk.old result desk.new }
     ensures out { (D.at desk.new).out ≡ (D.at desk.old).out }
 {
     let step = Step::Clear {
@@ -258,20 +256,4 @@ fn clear<D: Desk>(id: &CacheId, mode: Mode, desk: &mut D) -> Result<(), Refusal>
         mode,
     };
     change(step, desk)
-}
-
-/// Takes a turn that changes the cache.
-pub(crate) fn change<D: Desk>(step: Step, desk: &mut D) -> Result<(), Refusal>
-    requires changes { IsChange (asked_step step) }
-    requires first { wait_of step ≡ None }
-    ensures turn { DoesTurn D.turned
-        (CacheChange (asked_step step)) None desk.old result None desk.new }
-    ensures out { (D.at desk.new).out ≡ (D.at desk.old).out }
-{
-    match desk.turn(step) {
-        Ok(Reply::Done) => Ok(()),
-        Ok(Reply::Stopping) => Err(Refusal::Agent(Code::Cancelled)),
-        Ok(_) => unreachable!(),
-        Err(Refused { step }) => Err(without_memory(step)),
-    }
 }

@@ -12,18 +12,17 @@ ghost use Rattle.session_options.specs.declared.options.PinMode.TheVariants as p
 ghost use Rattle.agent_commands.specs.Outside.{DoesPrompts};
 ghost use Rattle.agent_commands.specs.Passphrases.{ByCache, ByClient, ByUser, KeepsUnder, LooksFor};
 ghost use Rattle.agent_commands.specs.Passphrases.{PromptsAny, Uncached, WantsPrompt};
-ghost use Rattle.agent_commands.specs.Passphrases.{WithoutPrompt, ask_or_open};
+ghost use Rattle.agent_commands.specs.Passphrases.{WithoutPrompt};
 ghost use Rattle.agent_commands.specs.States.{prompt_state};
-ghost use Rattle.agent_commands.specs.Steps.{CacheAsks, DoesAtDesk, DoesAtPrompter, IsGet};
+ghost use Rattle.agent_commands.specs.Steps.{DoesAtDesk, DoesAtPrompter, IsGet};
 ghost use Rattle.agent_commands.specs.Steps.{PassphraseOf};
 
-use crate::command::change;
 use crate::found::Found;
 use crate::inquiry::ask_client;
 use crate::{CacheCommand, Texts};
 use agent_ask::{
-    AnyPin, Asked, Held, Prompter, ask_plan, ask_user, close, hold_seat, pin_refusal, prompt_spec,
-    without_memory,
+    AnyPin, Asked, Held, Prompter, ask_cache, ask_plan, ask_user, change, close, hold_seat,
+    pin_refusal, prompt_spec, without_memory,
 };
 use agent_ports::Link;
 use assuan_server::{Code, Conn};
@@ -196,7 +195,7 @@ fn want_prompt<D: Desk>(
     id: &Option<CacheId>,
     held: &mut Held,
     desk: &mut D,
-) -> Result<Option<Found>, Refusal>
+) -> Result<Option<Secret>, Refusal>
     requires none { held.old ≡ None }
     requires out { (D.at desk.old).out ≡ held.old }
     ensures turn { DoesTurn D.turned
@@ -205,42 +204,11 @@ fn want_prompt<D: Desk>(
     ensures seated { result ≡ Ok None → is_some held.new ≡ true }
 {
     match id {
-        Some(id) => ask_or_open(id, held, desk),
+        Some(id) => ask_cache(id.copy(), Mode::User, Way::Prompt, held, desk),
         None => {
             hold_seat(None, held, desk)?;
             Ok(None)
         }
-    }
-}
-
-/// What is cached under an id, or else the seat for a prompt.
-fn ask_or_open<D: Desk>(
-    id: &CacheId,
-    held: &mut Held,
-    desk: &mut D,
-) -> Result<Option<Found>, Refusal>
-    requires none { held.old ≡ None }
-    requires out { (D.at desk.old).out ≡ held.old }
-    ensures turn { DoesTurn D.turned
-        (CacheAsks (ask_or_open id.now)) held.old desk.old result held.new desk.new }
-    ensures out { (D.at desk.new).out ≡ held.new }
-    ensures seated { result ≡ Ok None → is_some held.new ≡ true }
-{
-    match desk.turn(Step::Ask {
-        id: id.copy(),
-        mode: Mode::User,
-        way: Way::Prompt,
-        wait: None,
-    }) {
-        Ok(Reply::Given(grant)) => Ok(Some(Found::cached(grant))),
-        Ok(Reply::Open(ticket)) => {
-            held.put(ticket);
-            Ok(None)
-        }
-        Ok(Reply::Stopping) => Err(Refusal::Agent(Code::Cancelled)),
-        Ok(Reply::Late) => Err(Refusal::Agent(Code::Timeout)),
-        Ok(_) => unreachable!(),
-        Err(Refused { step }) => Err(without_memory(step)),
     }
 }
 
@@ -277,7 +245,7 @@ fn by_user<L: Link, D: Desk, P: Prompter>(
     ensures shut { IsShut (P.at prompter.new) }
 {
     if let Some(found) = want_prompt(id, held, desk)? {
-        return Ok(found);
+        return Ok(Found::own(found));
     }
     let pin = prompt(asking, held, conn, prompter)?;
     close(Some(pin.copy()), held, desk);

@@ -2,11 +2,7 @@
 use Rattle.std.proofs.Common.{◌≡◌, ℕ, List, [], true, false, Option, Some, None, Result, Ok, is_some, refl}
 use Rattle.agent_ports.specs.declared.grip.Grip.{Grip}
 use Rattle.cache_policy.specs.declared.mark.MarkStep.{MarkStep}
-use Rattle.cache_policy.specs.declared.mark.MarkStep.TheVariants.{Ask}
-use Rattle.cache_policy.specs.declared.mark.Way.{Way}
-use Rattle.cache_policy.specs.declared.mark.Way.TheVariants.{Quiet, Prompt}
-use Rattle.cache_policy.specs.declared.mode.Mode.{Mode}
-use Rattle.cache_policy.specs.Turns.{Turn, Open, FitsStep, opens}
+use Rattle.cache_policy.specs.Turns.{Turn}
 use Rattle.agent_ask.specs.Seats.{TakesTicket}
 use Rattle.agent_ask.proofs.PartsDone.{ticket_taken}
 use Rattle.agent_ask.specs.Parts.{returns}
@@ -16,11 +12,6 @@ use Rattle.agent_ask.specs.PartStates.{still, one}
 use Rattle.agent_ask.specs.TurnParts.{Seats, opened}
 use Rattle.key_commands.specs.Steps.{TakesTurn, TakesTurns}
 use Rattle.session_client.specs.declared.refusal.Refusal.{Refusal}
-
--- only a question that may open a prompt is answered by a ticket
-pub wants_prompt : (id : List ℕ) (mode : Mode) (way : Way) (number : ℕ) → FitsStep (Ask id mode way None) (Open number) → opens (Ask id mode way None) ≡ true
-wants_prompt id mode Quiet number fits = absurd fits
-wants_prompt id mode Prompt number fits = refl
 
 pub none_held : (held : Option ℕ) → is_some held ≡ false → held ≡ None
 none_held None is = refl

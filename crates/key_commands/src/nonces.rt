@@ -6,8 +6,7 @@ ghost use Rattle.std.specs.Prelude.{◌≡◌};
 ghost use Rattle.key_commands.specs.Passphrases.{LooksForNonce};
 ghost use Rattle.key_commands.specs.Steps.{TakesTurns};
 
-use crate::turns::ask_cache;
-use agent_ask::Held;
+use agent_ask::{Held, ask_cache};
 use cache_policy::{CacheId, Desk, Mode, Secret, Way};
 use session_client::Refusal;
 

@@ -1,57 +1,24 @@
 //! Turns at the desk (cache handle), as parts (actions) of a request: a key's passphrase is looked
-//! for, kept or cleared, and the seat (lock: the right to prompt) taken. Nothing but the desk is
-//! called. Begin with `ask_cache`; the parts are `TakesTurn` and `TakesTurns` (`specs/Steps`).
+//! at, kept or cleared, and the seat (lock: the right to prompt) taken. Nothing but the desk is
+//! called. Begin with `keep_pass`; the parts are `TakesTurn` and `TakesTurns` (`specs/Steps`).
 
-ghost use Rattle.std.specs.Prelude.{◌≡◌, true, None};
+ghost use Rattle.std.specs.Prelude.{◌≡◌};
 ghost use Rattle.assuan_escape.specs.Escapes.{hex_text};
 ghost use Rattle.cache_policy.specs.declared.life.Life.TheVariants.{Default};
-ghost use Rattle.cache_policy.specs.declared.mark.MarkStep.TheVariants.{Ask, Put, Clear};
+ghost use Rattle.cache_policy.specs.declared.mark.MarkStep.TheVariants.{Put, Clear};
 ghost use Rattle.cache_policy.specs.declared.mode.Mode.TheVariants.{Normal, Nonce};
-ghost use Rattle.cache_policy.specs.Turns.{asked_step, closes, opens};
-ghost use Rattle.agent_ask.specs.TurnParts.{Asks, Changes, Peeks};
+ghost use Rattle.cache_policy.specs.Turns.{asked_step, closes};
+ghost use Rattle.agent_ask.specs.TurnParts.{Changes, Peeks};
 ghost use Rattle.key_commands.specs.Passphrases.{TakesSeat, put_key};
 ghost use Rattle.key_commands.specs.Lines.{grip_text};
 ghost use Rattle.key_commands.specs.Steps.{TakesTurn, TakesTurns};
 
 use crate::texts::{key_id, nonce_id};
-use agent_ask::{Held, hold_seat, without_memory};
+use agent_ask::{Held, change, hold_seat, without_memory};
 use agent_ports::Grip;
 use assuan_server::Code;
-use cache_policy::{CacheId, Desk, Life, Mode, Refused, Reply, Secret, Step, Under, Way};
+use cache_policy::{Desk, Life, Mode, Refused, Reply, Secret, Step, Under};
 use session_client::Refusal;
-
-/// Asks for what is cached. Where that is wanted, it may open a prompt, whose ticket is held then.
-pub(crate) fn ask_cache<D: Desk>(
-    id: CacheId,
-    mode: Mode,
-    way: Way,
-    held: &mut Held,
-    desk: &mut D,
-) -> Result<Option<Secret>, Refusal>
-    requires out { (D.at desk.old).out ≡ held.old }
-    requires free { opens (Ask id mode way None) ≡ true → held.old ≡ None }
-    ensures turn { TakesTurn D.turned
-        (Asks (Ask id mode way None)) held.old desk.old result held.new desk.new }
-    ensures out { (D.at desk.new).out ≡ held.new }
-{
-    match desk.turn(Step::Ask {
-        id,
-        mode,
-        way,
-        wait: None,
-    }) {
-        Ok(Reply::Given(grant)) => Ok(Some(grant.secret().copy())),
-        Ok(Reply::Empty) => Ok(None),
-        Ok(Reply::Open(ticket)) => {
-            held.put(ticket);
-            Ok(None)
-        }
-        Ok(Reply::Stopping) => Err(Refusal::Agent(Code::Cancelled)),
-        Ok(Reply::Late) => Err(Refusal::Agent(Code::Timeout)),
-        Ok(_) => unreachable!(),
-        Err(Refused { step }) => Err(without_memory(step)),
-    }
-}
 
 /// Takes the seat for a prompt whose passphrase is this key's, unless a ticket is held.
 pub(crate) fn take_seat<D: Desk>(grip: &Grip, held: &mut Held, desk: &mut D) -> Result<(), Refusal>
@@ -82,17 +49,13 @@ pub(crate) fn keep_pass<D: Desk>(
         (Changes (put_key grip.now pass.now)) held.now desk.old result held.now desk.new }
     ensures out { (D.at desk.new).out ≡ held.now }
 {
-    match desk.turn(Step::Put {
+    let step = Step::Put {
         id: key_id(grip),
         mode: Mode::Normal,
         life: Life::Default,
         secret: pass.copy(),
-    }) {
-        Ok(Reply::Done) => Ok(()),
-        Ok(Reply::Stopping) => Err(Refusal::Agent(Code::Cancelled)),
-        Ok(_) => unreachable!(),
-        Err(Refused { step }) => Err(without_memory(step)),
-    }
+    };
+    change(step, desk)
 }
 
 /// Keeps a passphrase under a nonce.
@@ -107,17 +70,13 @@ pub(crate) fn keep_by_nonce<D: Desk>(
         held.now desk.old result held.now desk.new }
     ensures out { (D.at desk.new).out ≡ held.now }
 {
-    match desk.turn(Step::Put {
+    let step = Step::Put {
         id: nonce_id(nonce),
         mode: Mode::Nonce,
         life: Life::Default,
         secret: pass.copy(),
-    }) {
-        Ok(Reply::Done) => Ok(()),
-        Ok(Reply::Stopping) => Err(Refusal::Agent(Code::Cancelled)),
-        Ok(_) => unreachable!(),
-        Err(Refused { step }) => Err(without_memory(step)),
-    }
+    };
+    change(step, desk)
 }
 
 /// Whether a key's passphrase is cached. It isn't used, and lives no longer by this.
@@ -145,13 +104,9 @@ pub(crate) fn clear_pass<D: Desk>(grip: &Grip, held: &Held, desk: &mut D) -> Res
         (Changes (Clear (grip_text grip.now) Normal)) held.now desk.old result held.now desk.new }
     ensures out { (D.at desk.new).out ≡ held.now }
 {
-    match desk.turn(Step::Clear {
+    let step = Step::Clear {
         id: key_id(grip),
         mode: Mode::Normal,
-    }) {
-        Ok(Reply::Done) => Ok(()),
-        Ok(Reply::Stopping) => Err(Refusal::Agent(Code::Cancelled)),
-        Ok(_) => unreachable!(),
-        Err(Refused { step }) => Err(without_memory(step)),
-    }
+    };
+    change(step, desk)
 }

@@ -55,10 +55,10 @@ settled true task terminal at held reply what before after settles = inr (_, set
 emptied_gives : (at : Step) (failed : Option Ending) (secret : List ℕ) → verdict_is.Gives secret ≡ emptied_verdict at failed → ⊥
 emptied_gives at failed secret is = grind (arith, rules)
 
-emptied_holds : (at : Step) (failed : Option Ending) (secret : List ℕ) → verdict_is.Holds secret ≡ emptied_verdict at failed → ⊥
+pub emptied_holds : (at : Step) (failed : Option Ending) (secret : List ℕ) → verdict_is.Holds secret ≡ emptied_verdict at failed → ⊥
 emptied_holds at failed secret is = grind (arith, rules)
 
-emptied_notes : (at : Step) (failed : Option Ending) (it : Ending) → verdict_is.Notes it ≡ emptied_verdict at failed → ⊥
+pub emptied_notes : (at : Step) (failed : Option Ending) (it : Ending) → verdict_is.Notes it ≡ emptied_verdict at failed → ⊥
 emptied_notes at failed it is = grind (arith, rules)
 
 emptied_ask : (failed : Option Ending) → verdict_is.GoesOn ≡ emptied_verdict step.Ask failed → ⊥

@@ -53,10 +53,10 @@ step_notes : (empty : Bool) (task : TaskValue) (terminal : EnvWords) (at : Step)
 step_notes false task terminal at held reply it before after settles = verdict_notes task.act held at reply it settles.0
 step_notes true task terminal at held reply it before after settles = absurd (emptied_notes_none at _ it settles.2)
 
-first_noted : (noted : Option Ending) (later it : Ending) → first_of noted later ≡ Some it → (noted ≡ Some it) ⊎ (later ≡ it)
+pub first_noted : (noted : Option Ending) (later it : Ending) → first_of noted later ≡ Some it → (noted ≡ Some it) ⊎ (later ≡ it)
 first_noted noted later it is = grind (arith, rules)
 
-stop_is_noted : (at : Step) (noted : Option Ending) (it : Ending) → stops_at at noted ≡ Some it → noted ≡ Some it
+pub stop_is_noted : (at : Step) (noted : Option Ending) (it : Ending) → stops_at at noted ≡ Some it → noted ≡ Some it
 stop_is_noted at noted it is = grind (arith, rules)
 
 end_is : (act : Act) (noted : Option Ending) → ((it : Ending) → noted ≡ Some it → IsOfSteps it) → IsOfSteps (end_of act noted)

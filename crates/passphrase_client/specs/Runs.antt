@@ -27,13 +27,12 @@ use Rattle.passphrase_talk.specs.declared.connector.Unmet.{Unmet}
 use Rattle.passphrase_talk.specs.declared.connector.Unmet.TheVariants as unmet
 use Rattle.passphrase_talk.specs.declared.connector.Waits.TheVariants.{Answer}
 use Rattle.passphrase_talk.specs.declared.told.Told.{Told}
-use Rattle.passphrase_words.specs.Faults.{fault_text}
+use Rattle.passphrase_words.specs.Refusals.{Refuses, askpass_fault}
 use Rattle.passphrase_words.specs.Requests.{line_of_request, Clears as ClearsRequest}
 use Rattle.passphrase_words.specs.Tasks.{TaskValue, WantedValue, WantsHelp, WantsVersion, WantsTask}
 use Rattle.passphrase_words.specs.Words.{Reads, ReadsAskpass}
 use Rattle.passphrase_words.specs.declared.task.Act.{Act}
 use Rattle.passphrase_words.specs.declared.task.Act.TheVariants as act
-use Rattle.passphrase_words.specs.declared.fault.WordsFault.{WordsFault}
 use Rattle.passphrase_words.specs.declared.words.TheConstants.{USAGE}
 use Rattle.assuan_text.specs.LineEnds.{line_of}
 
@@ -161,23 +160,24 @@ pub record HasTold (text : List ℕ) (before after : World) (status : ℕ) : Typ
   pub says : Says (message_of (ending_of written) [] []) before.errors after.errors
   pub status_is : status ≡ status_of (ending_of written)
 
--- the words were refused, and nothing happened but that the error stream says why
-pub record HasRefused (before after : World) (status : ℕ) : Type 0 where
+-- the words were refused, and nothing happened but that the error stream says this of them
+pub record HasRefused (text : List ℕ) (before after : World) (status : ℕ) : Type 0 where
   pub contacts : after.contacts ≡ before.contacts
   pub input : after.input ≡ before.input
   pub output : after.output ≡ before.output
-  pub fault : WordsFault
-  pub says : Says (said (fault_text fault)) before.errors after.errors
+  pub says : Says (said text) before.errors after.errors
   pub status_is : status ≡ 2
 
--- A run of a command line, by what it is read as. It is refused where it is read as nothing.
+-- A run of a command line, by what it is read as. It is refused where it is read as nothing, by the first rule that it breaks.
 pub data RunsBy (words : List (List ℕ)) (terminal : EnvWords) (reason : List ℕ) (before after : World) (status : ℕ) : Type 0 where
-  refused : ((wanted : WantedValue) → Reads words wanted → ⊥) → HasRefused before after status → RunsBy words terminal reason before after status
+  refused : {text : List ℕ} → ((wanted : WantedValue) → Reads words wanted → ⊥) → Refuses words text → HasRefused text before after status
+      → RunsBy words terminal reason before after status
   helps : Reads words WantsHelp → HasTold USAGE.now before after status → RunsBy words terminal reason before after status
   tells_version : Reads words WantsVersion → HasTold VERSION.now before after status → RunsBy words terminal reason before after status
   runs : {task : TaskValue} → Reads words (WantsTask task) → HasRun task terminal reason before after status → RunsBy words terminal reason before after status
 
 -- a run of the words of an askpass
 pub data RunsAskpass (words : List (List ℕ)) (terminal : EnvWords) (reason : List ℕ) (before after : World) (status : ℕ) : Type 0 where
-  refused_askpass : ((task : TaskValue) → ReadsAskpass words task → ⊥) → HasRefused before after status → RunsAskpass words terminal reason before after status
+  refused_askpass : {text : List ℕ} → ((task : TaskValue) → ReadsAskpass words task → ⊥) → askpass_fault words ≡ Some text → HasRefused text before after status
+      → RunsAskpass words terminal reason before after status
   runs_askpass : {task : TaskValue} → ReadsAskpass words task → HasRun task terminal reason before after status → RunsAskpass words terminal reason before after status

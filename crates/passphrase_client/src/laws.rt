@@ -4,8 +4,8 @@
 
 ghost use Rattle.std.specs.Prelude.{◌≡◌, ◌≢◌, ◌⊎◌, List, ℕ};
 ghost use Rattle.agent_ports.specs.Counts.{Rose};
-ghost use Rattle.passphrase_client.specs.Laws.{WasAnswered};
-ghost use Rattle.passphrase_client.specs.Runs.{GoesTo, World};
+ghost use Rattle.passphrase_client.specs.Laws.{WasAnswered, WasRefused};
+ghost use Rattle.passphrase_client.specs.Runs.{GoesTo, HasRun, World};
 ghost use Rattle.passphrase_talk.specs.declared.told.Loss.{Loss};
 ghost use Rattle.passphrase_words.specs.Tasks.{TaskValue};
 ghost use Rattle.session_options.specs.OptionValues.{EnvWords};
@@ -41,4 +41,12 @@ pub fn each_failure_is_counted()
     ensures unwritten { (task : TaskValue) (terminal : EnvWords) (before after : World)
         → GoesTo task terminal before after Ending.Unwritten
         → Rose before.output.faults after.output.faults }
+{}
+
+/// A law: where the status is 1, there was no memory to find an agent; or an agent's reply refused
+/// a step of this run, by an error or by a passphrase that is empty or can't be one line, or there
+/// was no memory for a contact; or nobody was to be asked, and nothing is kept.
+pub fn what_is_refused_has_its_reply()
+    ensures { (task : TaskValue) (terminal : EnvWords) (reason : List ℕ) (before after : World)
+        → HasRun task terminal reason before after 1 → WasRefused task terminal before after }
 {}

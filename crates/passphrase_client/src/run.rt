@@ -2,7 +2,7 @@
 //! passphrase written. It works on the connector and the three standard streams. Begin with
 //! `run_passphrase`; what a run is says `RunsBy` (`specs/Runs`), and its status `specs/Endings`.
 
-ghost use Rattle.std.specs.Prelude.{◌≡◌, ◌≤◌, map, string_bytes};
+ghost use Rattle.std.specs.Prelude.{◌≡◌, ◌≤◌, cond, map, string_bytes};
 ghost use Rattle.agent_ports.specs.Writing.{Writes};
 ghost use Rattle.passphrase_client.specs.Runs.{RunsBy, RunsAskpass, HasRun, HasTold, HasRefused};
 ghost use Rattle.passphrase_client.specs.Runs.{GoesTo, TakesHeld, Says, given_text, ending_of};
@@ -25,7 +25,7 @@ use cache_policy::{MAX_SECRET_LEN, Secret};
 use passphrase_talk::{Connector, Unmet};
 use passphrase_words::{Act, Task, USAGE, Wanted, WordsFault, read_askpass, read_words};
 use std::alloc::Global;
-use wiping::Wiped;
+use wiping::{Wiped, wipe_stack};
 
 /// How many bytes are written at most: those of a passphrase, and its line feed.
 const MAX_WRITTEN: usize = MAX_SECRET_LEN + 1;
@@ -151,15 +151,13 @@ fn end_of_task<C: Connector, I: Source, O: Sink>(
         Err(why) => return end_of_unmet(why),
     };
     let steps = steps_of(task.act, agents);
-    let course = come_to(alloc, connector, task, steps, &held, None);
+    let mut course = come_to(alloc, connector, task, steps, &held, None);
     held.clear();
-    match course {
-        Course::Gives(mut secret) => {
-            let written = give(task.act, &secret, output);
-            secret.clear();
-            end_of(written)
-        }
-        Course::Ends(ending) => ending,
+    // Moves of the passphrase left copies below.
+    wipe_stack();
+    match &mut course {
+        Course::Gives(secret) => end_of(give(task.act, secret, output)),
+        Course::Ends(ending) => *ending,
     }
 }
 
@@ -175,27 +173,27 @@ fn held_for<I: Source>(act: Act, input: &mut I) -> Result<Secret, InputFault>
     }
 }
 
-/// Writes the passphrase at once, with its line feed where one is wanted.
-fn give<O: Sink>(act: Act, secret: &Secret, output: &mut O) -> Result<(), WriteFault>
-    ensures { Writes (given_text act secret.now) (O.output output.old) result
+/// Writes the passphrase at once, with its line feed where one is wanted, and overwrites it.
+fn give<O: Sink>(act: Act, secret: &mut Secret, output: &mut O) -> Result<(), WriteFault>
+    ensures { Writes (given_text act secret.old) (O.output output.old) result
         (O.output output.new) }
 {
-    match act {
-        Act::Give { feeds: false, .. } => put(output, secret.bytes()),
-        _ => put_line(output, secret),
+    let mut text: Wiped<MAX_WRITTEN> = Wiped::new();
+    text.try_extend_from_slice(secret.bytes()).unwrap();
+    secret.clear();
+    if feeds(act) {
+        text.push(b'\n');
     }
+    let written = put(output, text.bytes());
+    text.clear();
+    written
 }
 
-/// Writes the passphrase and a line feed, as one text.
-fn put_line<O: Sink>(output: &mut O, secret: &Secret) -> Result<(), WriteFault>
-    ensures { Writes (line_of secret.now) (O.output output.old) result (O.output output.new) }
+/// Whether a line feed is written behind a passphrase.
+fn feeds(act: Act) -> bool
+    ensures { (secret : List ℕ) → given_text act secret ≡ cond result (line_of secret) secret }
 {
-    let mut line: Wiped<MAX_WRITTEN> = Wiped::new();
-    line.try_extend_from_slice(secret.bytes()).unwrap();
-    line.push(b'\n');
-    let written = put(output, line.bytes());
-    line.clear();
-    written
+    !matches!(act, Act::Give { feeds: false, .. })
 }
 
 /// Writes a text that was asked for.

@@ -77,6 +77,8 @@ impl<'a, R: rt::Clock + rt::Env + Processes + Files<File = File> + Net + Eprint>
 
     ghost reason = { λ c. string_bytes c.reason };
 
+    ghost launches = { λ _. None };
+
     fn find(&mut self, folder: Option<&str>, seconds: Option<u32>) -> Result<Agents, Unmet> {
         self.limits = Limits::new(seconds);
         match find_agents(self.rt, self.alloc, folder, self.limits) {
@@ -111,9 +113,7 @@ impl<'a, R: rt::Clock + rt::Env + Processes + Files<File = File> + Net + Eprint>
     fn leave(&mut self, place: Place, link: AgentLink<'a, R>) {
         let (reads, writes) = link.faults();
         self.faults = self.faults.saturating_add(reads).saturating_add(writes);
-        if let Some(guard) = self.guard.take() {
-            guard.end();
-        }
+        self.release_guard(reads == 0 && writes == 0);
         if let Some(reason) = self.why_lost(place, &link) {
             self.reason = reason;
         }
@@ -129,9 +129,7 @@ impl<'a, R: rt::Clock + rt::Env + Processes + Files<File = File> + Net + Eprint>
     }
 
     fn launched(&mut self, text: &[u8]) {
-        if let Some(guard) = self.guard.take() {
-            guard.end();
-        }
+        self.release_guard(true);
         self.guard = Guard::of_pinentry(self.rt, self.alloc, text, self.env.ttyname.as_slice());
     }
 }
@@ -140,6 +138,18 @@ impl<R: rt::Clock + rt::Env + Processes + Files<File = File> + Net + Eprint> Sys
     '_,
     R,
 > {
+    /// The prompt is over, or isn't: then the guard ends it.
+    fn release_guard(&mut self, is_over: bool)
+        ensures faults { self.new.faults ≡ self.old.faults }
+        ensures env { self.new.env ≡ self.old.env }
+        ensures reason { self.new.reason ≡ self.old.reason }
+    {
+        match self.guard.take() {
+            Some(guard) if is_over => guard.end(),
+            guard => drop(guard),
+        }
+    }
+
     /// Notes why a call failed.
     fn fail(&mut self, failure: Failure) -> Unmet
         ensures failed { result ≡ Unmet.Fault → Rose self.old.faults self.new.faults }

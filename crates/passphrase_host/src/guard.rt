@@ -16,13 +16,16 @@ const SETSID: &str = "setsid";
 
 /// What the guard does, in the shell's words: `$1` is the pinentry's process, and `$2` the terminal,
 /// if any. A line on its input says that all is over; its end without one that this program has
-/// ended. A stopped program is seen by proc(5), `status`.
+/// ended. A stopped program is seen by proc(5), `status`. The pinentry is halted while the terminal
+/// is set right: once it has ended the agent may open another prompt there.
 const SCRIPT: &str = r#"
 clean() {
-    kill "$1" 2>/dev/null
-    for look in 1 2 3 4 5 6 7 8 9; do kill -0 "$1" 2>/dev/null || break; sleep 0.1; done
-    kill -9 "$1" 2>/dev/null
-    if [ -n "$2" ]; then stty sane <"$2" 2>/dev/null; fi
+    kill -STOP "$1" || return
+    if [ -n "$2" ]; then timeout 1 stty sane <"$2"; fi
+    kill "$1"
+    kill -CONT "$1"
+    for look in 1 2 3 4 5 6 7 8 9; do kill -0 "$1" || return; sleep 0.1; done
+    kill -9 "$1"
 }
 watch() {
     while sleep 0.3; do

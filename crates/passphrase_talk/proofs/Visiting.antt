@@ -7,10 +7,10 @@ use Rattle.assuan_client.specs.Connections.{Connection}
 use Rattle.assuan_client.specs.Skipping.{nothing}
 use Rattle.assuan_client.specs.declared.answer.State.TheVariants.{Ready}
 use Rattle.session_options.specs.OptionValues.{EnvWords}
-use Rattle.passphrase_talk.specs.Contacts.{Contact, Contacts, then_met, then_opened}
-use Rattle.passphrase_talk.specs.Dialogues.{IsDialogue, Leads, options_of, told_of}
+use Rattle.passphrase_talk.specs.Contacts.{Contact, Contacts, HasLaunched, then_met, then_opened}
+use Rattle.passphrase_talk.specs.Dialogues.{IsDialogue, Leads, options_of, told_of, launches_of}
 use Rattle.passphrase_talk.specs.Turns.{Turn, AreTaken, texts_of}
-use Rattle.passphrase_talk.specs.Visits.{AreWritten, Visits, met}
+use Rattle.passphrase_talk.specs.Visits.{AreWritten, Visits, IsMet, HandsOn, met}
 use Rattle.passphrase_talk.specs.declared.connector.Place.{Place}
 use Rattle.passphrase_talk.specs.declared.connector.Waits.{Waits}
 use Rattle.passphrase_talk.specs.declared.told.Loss.TheVariants as loss
@@ -36,40 +36,43 @@ effects_by {what} fresh last (turn ∷ turns) unused ends taken is = record {
 }
 
 -- the connection was made, the dialogue led, and it was left
-pub meets : {place : Place} {waits : Waits} {line : List ℕ} {terminal : EnvWords} {what : Told} {before joined after : Contacts} {input output : Side} (fresh last : Connection)
-    → fresh ≡ record { input = input; output = output; reader = record { ahead = []; left = BUDGET; ended = None }; tally = nothing; state = Ready }
+pub meets : {place : Place} {waits : Waits} {line : List ℕ} {terminal : EnvWords} {what : Told} {before joined after : Contacts} {input output : Side}
+    {earlier launched : Option (List (List ℕ))} (fresh last : Connection) → fresh ≡ record { input = input; output = output; reader = record { ahead = []; left = BUDGET; ended = None }; tally = nothing; state = Ready }
     → IsFresh input output → before.coming ≡ child_then input.bytes joined.coming → joined.sought ≡ before.sought → joined.opened ≡ then_opened before.opened place waits → joined.met ≡ before.met → before.faults ≤ joined.faults
-    → Leads (IsDialogue (options_of waits terminal) line) told_of fresh what last
+    → Leads (IsDialogue (options_of waits terminal) line) told_of launches_of fresh what last earlier launched
     → after.coming ≡ joined.coming → after.sought ≡ joined.sought → after.opened ≡ joined.opened → after.met ≡ then_met joined.met place last.input.bytes last.output.bytes
-    → RoseBy (last.input.faults + last.output.faults) joined.faults after.faults → joined.faults ≤ after.faults → Visits place waits line terminal what before after
+    → RoseBy (last.input.faults + last.output.faults) joined.faults after.faults → joined.faults ≤ after.faults
+    → (visited : Visits place waits line terminal what before after) × HandsOn visited earlier launched
 meets {place} {before} {joined} {input} {output} fresh last is unused coming sought opened met_is grew leads coming_is sought_is opened_is left_is rose grew_more =
     let fresh_unused : IsFresh fresh.input fresh.output = rw is unused in
-    let does = effects_by fresh last leads.turns fresh_unused (dialogue_ends leads.follows) leads.taken leads.told_is in
-    met (record {
-      turns = leads.turns;
-      given = input.bytes;
-      left = last.input.bytes;
-      written = last.output.bytes;
-      talk = record {
-        follows = leads.follows;
-        fresh = fresh;
-        unused = fresh_unused;
-        reader = rw is refl;
-        tally = rw is refl;
-        state = rw is refl;
-        given_are = rw is refl;
-        last = last;
-        taken = leads.taken;
-        left_are = refl;
-        written_are = refl;
-      };
-      told_is = leads.told_is;
-      texts = does.texts;
-      coming = coming ∙ ap (λ (o : Option (List (List ℕ))). child_then input.bytes o) (sym coming_is);
-      sought = sought_is ∙ sought;
-      opened = opened_is ∙ opened;
-      met = left_is ∙ ap (λ (o : Option (List Contact)). then_met o place last.input.bytes last.output.bytes) met_is;
-      faults = omega (arith, grew, grew_more);
-      read_rose = λ lost. let one = does.read lost in omega (arith, one, rose, grew);
-      write_rose = λ lost. let one = does.write lost in omega (arith, one, rose, grew);
-    })
+    let does = effects_by fresh last leads.turns fresh_unused (dialogue_ends leads.follows) leads.taken leads.told_is in (
+      met (record {
+        turns = leads.turns;
+        given = input.bytes;
+        left = last.input.bytes;
+        written = last.output.bytes;
+        talk = record {
+          follows = leads.follows;
+          fresh = fresh;
+          unused = fresh_unused;
+          reader = rw is refl;
+          tally = rw is refl;
+          state = rw is refl;
+          given_are = rw is refl;
+          last = last;
+          taken = leads.taken;
+          left_are = refl;
+          written_are = refl;
+        };
+        told_is = leads.told_is;
+        texts = does.texts;
+        coming = coming ∙ ap (λ (o : Option (List (List ℕ))). child_then input.bytes o) (sym coming_is);
+        sought = sought_is ∙ sought;
+        opened = opened_is ∙ opened;
+        met = left_is ∙ ap (λ (o : Option (List Contact)). then_met o place last.input.bytes last.output.bytes) met_is;
+        faults = omega (arith, grew, grew_more);
+        read_rose = λ lost. let one = does.read lost in omega (arith, one, rose, grew);
+        write_rose = λ lost. let one = does.write lost in omega (arith, one, rose, grew);
+      }),
+      leads.handed,
+    )

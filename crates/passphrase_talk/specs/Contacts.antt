@@ -1,5 +1,5 @@
 -- The contacts of a connector with agents. This is the project's own.
-use Rattle.std.specs.Prelude.{ℕ, List, [], ◌∷◌, ◌++◌, Option, Some, None}
+use Rattle.std.specs.Prelude.{◌≡◌, ℕ, List, [], ◌∷◌, ◌++◌, Option, Some, None, IfSome}
 use Rattle.std.specs.Option.{option_map}
 use Rattle.passphrase_talk.specs.declared.connector.Agents.{Agents}
 use Rattle.passphrase_talk.specs.declared.connector.Place.{Place}
@@ -45,3 +45,7 @@ then_met (Some met) place (Some left) (Some written) = Some (met ++ (record { pl
 then_met (Some met) place (Some left) None = None
 then_met (Some met) place None written = None
 then_met None place left written = None
+
+-- These texts of launches were handed on, one behind another; where what was is known.
+abbrev pub HasLaunched : Option (List (List ℕ)) → List (List ℕ) → Option (List (List ℕ)) → Type 0
+HasLaunched before texts after = IfSome after (λ all. (earlier : List (List ℕ)) × (before ≡ Some earlier) × (all ≡ earlier ++ texts))

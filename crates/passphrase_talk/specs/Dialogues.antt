@@ -8,6 +8,7 @@ use Rattle.assuan_client.specs.declared.answer.Answer.{Answer}
 use Rattle.assuan_client.specs.declared.answer.Answer.TheVariants as answer
 use Rattle.assuan_line.specs.declared.breach.Breach.TheVariants as breach
 use Rattle.session_options.specs.OptionValues.{EnvWords}
+use Rattle.passphrase_talk.specs.Contacts.{HasLaunched}
 use Rattle.passphrase_talk.specs.Turns.{Said, Hello, OptionLine, Request, End, Cancel, Turn, turn_of, IsAnswered, AreTaken}
 use Rattle.passphrase_talk.specs.declared.connector.Waits.{Waits}
 use Rattle.passphrase_talk.specs.declared.connector.Waits.TheVariants as waits
@@ -135,12 +136,33 @@ is_cancel _ = false
 abbrev pub has_cancel : List Turn → Bool
 has_cancel turns = list_any (λ turn. is_cancel turn.said) turns
 
--- Turns by this rule were taken, and this is told of them.
-pub record Leads (Rule : List Turn → Type 0) (told_as : List Turn → Told) (before : Connection) (what : Told) (after : Connection) : Type 0 where
+-- what an answer says of a pinentry that was launched: its text, where it inquires so (GnuPG manual, "Agent OPTION", `allow-pinentry-notify`)
+abbrev pub launch_in : Answer → List (List ℕ)
+launch_in (answer.Asked word text) = if bytes_eq word (codes "PINENTRY_LAUNCHED") then text ∷ [] else []
+launch_in _ = []
+
+-- those of a request that was answered so, and had these turns behind it
+abbrev pub launches_behind : Answer → List Turn → List (List ℕ)
+launches_behind last [] = launch_in last
+launches_behind next (turn ∷ turns) = launch_in next ++ launches_behind turn.answer turns
+
+abbrev pub launches_from : Said → Answer → List Turn → List (List ℕ) → List (List ℕ)
+launches_from (Request line) next turns later = launches_behind next turns
+launches_from said next turns later = later
+
+-- Those of a dialogue: of its request.
+abbrev pub launches_of : List Turn → List (List ℕ)
+launches_of [] = []
+launches_of (turn ∷ turns) = launches_from turn.said turn.answer turns (launches_of turns)
+
+-- Turns by this rule were taken, this is told of them, and their launches were handed on.
+pub record Leads (Rule : List Turn → Type 0) (told_as : List Turn → Told) (launches_as : List Turn → List (List ℕ)) (before : Connection) (what : Told) (after : Connection)
+    (earlier later : Option (List (List ℕ))) : Type 0 where
   pub turns : List Turn
   pub follows : Rule turns
   pub taken : AreTaken before turns after
   pub told_is : what ≡ told_as turns
+  pub handed : HasLaunched earlier (launches_as turns) later
 
 -- an option is said, if there is one
 pub data Tells : List (List ℕ) → Connection → Result (Unit {0}) Loss → Connection → Type 0 where

@@ -6,8 +6,8 @@ use Rattle.assuan_client.specs.Connections.{Connection}
 use Rattle.assuan_client.specs.Skipping.{nothing}
 use Rattle.assuan_client.specs.declared.answer.State.TheVariants.{Ready}
 use Rattle.session_options.specs.OptionValues.{EnvWords}
-use Rattle.passphrase_talk.specs.Contacts.{Contacts, then_met, then_opened}
-use Rattle.passphrase_talk.specs.Dialogues.{IsDialogue, options_of, told_of}
+use Rattle.passphrase_talk.specs.Contacts.{Contacts, HasLaunched, then_met, then_opened}
+use Rattle.passphrase_talk.specs.Dialogues.{IsDialogue, options_of, told_of, launches_of}
 use Rattle.passphrase_talk.specs.Turns.{Turn, AreTaken, texts_of}
 use Rattle.passphrase_talk.specs.declared.connector.Place.{Place}
 use Rattle.passphrase_talk.specs.declared.connector.Waits.{Waits}
@@ -68,3 +68,10 @@ pub data Visits (place : Place) (waits : Waits) (line : List ℕ) (terminal : En
   unmet : {before after : Contacts} → IsUnmet (told.Lost loss.Unmet) before after → Visits place waits line terminal (told.Lost loss.Unmet) before after
   met : {what : Told} {before after : Contacts} → IsMet place waits (options_of waits terminal) line what before after
       → Visits place waits line terminal what before after
+
+-- What the agent said in this contact of pinentries that it launched for the request was handed to the connector, in its order, and nothing else.
+abbrev pub HandsOn : {place : Place} {waits : Waits} {line : List ℕ} {terminal : EnvWords} {what : Told} {before after : Contacts} → Visits place waits line terminal what before after
+    → Option (List (List ℕ)) → Option (List (List ℕ)) → Type 0
+HandsOn (no_memory un) earlier later = later ≡ earlier
+HandsOn (unmet un) earlier later = later ≡ earlier
+HandsOn (met contact) earlier later = HasLaunched earlier (launches_of contact.turns) later

@@ -2,11 +2,12 @@
 //! may take. A trait and what it speaks of; `SystemConnector` (`passphrase_host`) is the real one.
 //! Begin with `Connector`; `specs/Contacts` says what its calls do to what contracts see.
 
-ghost use Rattle.std.specs.Prelude.{◌≡◌, ◌≤◌, ◌+◌, IfOk, Err, MatchResult, List, ℕ};
+ghost use Rattle.std.specs.Prelude.{◌≡◌, ◌≤◌, ◌+◌, ◌∷◌, [], IfOk, Err, MatchResult};
+ghost use Rattle.std.specs.Prelude.{List, ℕ, Option};
 ghost use Rattle.std.specs.Option.{option_map};
 ghost use Rattle.agent_ports.specs.Counts.{Rose, RoseBy};
 ghost use Rattle.agent_ports.specs.Launches.{IsFresh, child_then};
-ghost use Rattle.passphrase_talk.specs.Contacts.{Contacts, then_met};
+ghost use Rattle.passphrase_talk.specs.Contacts.{Contacts, HasLaunched, then_met};
 ghost use Rattle.passphrase_talk.specs.Contacts.{then_sought, then_opened};
 ghost use Rattle.session_options.specs.OptionValues.{EnvWords, words_of};
 
@@ -63,6 +64,9 @@ pub trait Connector {
     /// Why the last call failed.
     ghost reason: { Self → List ℕ };
 
+    /// What it was told of each pinentry that was launched, where that is known.
+    ghost launches: { Self → Option (List (List ℕ)) };
+
     /// Finds the agents that are asked: for this folder, or the GnuPG home where none is named, and
     /// given this many seconds for an answer.
     fn find(&mut self, folder: Option<&str>, seconds: Option<u32>) -> Result<Agents, Unmet>
@@ -75,6 +79,7 @@ pub trait Connector {
         ensures failed { result ≡ Err Unmet.Fault
             → Rose (contacts self.old).faults (contacts self.new).faults }
         ensures faults { (contacts self.old).faults ≤ (contacts self.new).faults }
+        ensures launches { launches self.new ≡ launches self.old }
         ensures terminal { terminal self.new ≡ terminal self.old };
 
     /// Connects to the agent at this place. What the link then holds is all that the agent gives.
@@ -92,6 +97,7 @@ pub trait Connector {
         ensures failed { result ≡ Err Unmet.Fault
             → Rose (contacts self.old).faults (contacts self.new).faults }
         ensures faults { (contacts self.old).faults ≤ (contacts self.new).faults }
+        ensures launches { launches self.new ≡ launches self.old }
         ensures terminal { terminal self.new ≡ terminal self.old };
 
     /// Closes the connection. What failed there counts here too.
@@ -104,6 +110,7 @@ pub trait Connector {
         ensures rose { RoseBy ((Self.Link.input link).faults + (Self.Link.output link).faults)
             (contacts self.old).faults (contacts self.new).faults }
         ensures faults { (contacts self.old).faults ≤ (contacts self.new).faults }
+        ensures launches { launches self.new ≡ launches self.old }
         ensures terminal { terminal self.new ≡ terminal self.old };
 
     /// What the agent is told of the terminal.
@@ -116,6 +123,7 @@ pub trait Connector {
 
     /// A pinentry was launched, of which the agent says this text.
     fn launched(&mut self, text: &[u8])
+        ensures launches { HasLaunched (launches self.old) (text.now ∷ []) (launches self.new) }
         ensures contacts { contacts self.new ≡ contacts self.old }
         ensures terminal { terminal self.new ≡ terminal self.old }
         ensures reason { reason self.new ≡ reason self.old };

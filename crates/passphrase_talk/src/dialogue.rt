@@ -13,6 +13,8 @@ ghost use Rattle.passphrase_talk.specs.Turns.{IsAnswered};
 ghost use Rattle.passphrase_talk.specs.Dialogues.{IsDialogue, Requests, Replies, Leads};
 ghost use Rattle.passphrase_talk.specs.Dialogues.{told_of, told_behind, told_by, loss_of, quiet};
 ghost use Rattle.passphrase_talk.specs.Dialogues.{is_inquiry, passed, options_of, option_lines};
+ghost use Rattle.passphrase_talk.specs.Contacts.{HasLaunched};
+ghost use Rattle.passphrase_talk.specs.Dialogues.{launch_in, launches_behind, launches_of};
 ghost use Rattle.passphrase_talk.specs.Dialogues.{all_settings, reply_to, after_said, Tells};
 
 use crate::options::{SETTINGS, Setting, setting_line};
@@ -42,7 +44,8 @@ pub(crate) fn lead<C: Connector>(
 ) -> Told
     requires { peer.old.state ≡ state.Ready }
     ensures leads { Leads (IsDialogue (options_of waits (C.terminal connector.old)) line.now)
-        told_of peer.old result peer.new }
+        told_of launches_of peer.old result peer.new
+        (C.launches connector.old) (C.launches connector.new) }
     ensures contacts { C.contacts connector.new ≡ C.contacts connector.old }
     ensures terminal { C.terminal connector.new ≡ C.terminal connector.old }
 {
@@ -64,7 +67,8 @@ fn request_with_options<C: Connector>(
     requires { peer.old.state ≡ state.Ready }
     ensures leads { Leads (Requests line.now
         (flat_map (option_lines (C.terminal connector.old)) all_settings))
-        told_of peer.old result peer.new }
+        told_of launches_of peer.old result peer.new
+        (C.launches connector.old) (C.launches connector.new) }
     ensures contacts { C.contacts connector.new ≡ C.contacts connector.old }
     ensures terminal { C.terminal connector.new ≡ C.terminal connector.old }
 {
@@ -101,7 +105,8 @@ fn passed(answer: &Answer) -> Result<(), Loss>
 /// Makes the request.
 fn request<C: Connector>(connector: &mut C, peer: &mut Peer<C::Link>, line: &Line) -> Told
     requires { peer.old.state ≡ state.Ready }
-    ensures leads { Leads (Requests line.now []) told_of peer.old result peer.new }
+    ensures leads { Leads (Requests line.now []) told_of launches_of peer.old result peer.new
+        (C.launches connector.old) (C.launches connector.new) }
     ensures contacts { C.contacts connector.new ≡ C.contacts connector.old }
     ensures terminal { C.terminal connector.new ≡ C.terminal connector.old }
 {
@@ -112,7 +117,8 @@ fn request<C: Connector>(connector: &mut C, peer: &mut Peer<C::Link>, line: &Lin
 /// Answers what the agent inquires after this answer, up to one that is no inquiry.
 fn settle<C: Connector>(connector: &mut C, peer: &mut Peer<C::Link>, answer: Answer) -> Told
     requires { peer.old.state ≡ state_after answer }
-    ensures leads { Leads (Replies answer) (told_behind quiet answer) peer.old result peer.new }
+    ensures leads { Leads (Replies answer) (told_behind quiet answer) (launches_behind answer)
+        peer.old result peer.new (C.launches connector.old) (C.launches connector.new) }
     ensures contacts { C.contacts connector.new ≡ C.contacts connector.old }
     ensures terminal { C.terminal connector.new ≡ C.terminal connector.old }
 {
@@ -142,6 +148,8 @@ fn inquired<C: Connector>(
     ensures answered { IsAnswered (reply_to word.now) result peer.old peer.new }
     ensures course { course.new ≡ after_said (reply_to word.now) course.old }
     ensures state { peer.new.state ≡ state_after result }
+    ensures launches { HasLaunched (C.launches connector.old)
+        (launch_in (Answer.Asked word.now text.now)) (C.launches connector.new) }
     ensures progress { is_inquiry result ≡ true → held peer.new.reader < held peer.old.reader }
     ensures contacts { C.contacts connector.new ≡ C.contacts connector.old }
     ensures terminal { C.terminal connector.new ≡ C.terminal connector.old }

@@ -3,6 +3,7 @@
 //! shows to contracts is `specs/MemContacts`.
 
 ghost use Rattle.std.specs.Prelude.{◌≡◌, ◌≤◌, ◌↔◌, ◌⊎◌, IsTrue, IsErr, IfOk, MatchResult, Some};
+ghost use Rattle.std.specs.Prelude.{None, if◌then◌else◌};
 ghost use Rattle.std.specs.Prelude.{Err, IfSome, [], map, reverse, slice_get, codes, refl};
 ghost use Rattle.std.specs.Bool.{OnTrue, OnFalse};
 ghost use Rattle.std.specs.Option.{option_map};
@@ -147,6 +148,9 @@ pub struct MemConnector {
     sought: Vec<MemSought>,
     opened: Vec<(Place, Waits)>,
     met: Option<Box<MemContact>>,
+    launches: Vec<Vec<u8>>,
+    /// There was no memory for one of the launches.
+    has_lost: bool,
     failing: Vec<u64>,
     calls: u64,
     faults: u64,
@@ -169,6 +173,7 @@ impl MemConnector {
           faults = 0;
         } }
         ensures terminal { ⟦<MemConnector as Connector>⟧.terminal result ≡ words_of terminal }
+        ensures launches { ⟦<MemConnector as Connector>⟧.launches result ≡ Some [] }
         ensures plan { call_plan result ≡ record { failing = failing.items; calls = 0; size = 0 } }
     {
         MemConnector {
@@ -179,6 +184,8 @@ impl MemConnector {
             sought: Vec::new(alloc),
             opened: Vec::new(alloc),
             met: None,
+            launches: Vec::new(alloc),
+            has_lost: false,
             failing,
             calls: 0,
             faults: 0,
@@ -214,6 +221,17 @@ impl MemConnector {
         }
     }
 
+    /// What was told of the pinentry of this number, counted from 0.
+    pub fn launch(&self, others: usize) -> Option<&[u8]>
+        ensures { IfSome (⟦<MemConnector as Connector>⟧.launches self.now) (λ all.
+            option_map (λ text. text.now) result ≡ slice_get all others) }
+    {
+        match self.launches.get(others) {
+            Some(text) => Some(text.as_slice()),
+            None => None,
+        }
+    }
+
     /// Counts a call, and says whether it is one that is to fail.
     fn next_fails(&mut self) -> bool
         ensures planned { IsTrue result ↔ Fails (call_plan self.old) }
@@ -225,6 +243,8 @@ impl MemConnector {
         ensures sought { self.new.sought ≡ self.old.sought }
         ensures opened { self.new.opened ≡ self.old.opened }
         ensures met { self.new.met ≡ self.old.met }
+        ensures launches { self.new.launches ≡ self.old.launches }
+        ensures has_lost { self.new.has_lost ≡ self.old.has_lost }
         ensures terminal { self.new.terminal ≡ self.old.terminal }
     {
         let fails = self.failing.contains(&self.calls);
@@ -279,6 +299,9 @@ impl Connector for MemConnector {
 
     ghost reason = { λ _. codes "it is planned" };
 
+    ghost launches = { λ c.
+        if c.has_lost then None else Some (map (λ text. text.items) c.launches.items) };
+
     /// Where no memory is left for what is sought, nothing was sought.
     fn find(&mut self, folder: Option<&str>, seconds: Option<u32>) -> Result<Agents, Unmet>
         ensures sought { MatchResult result
@@ -298,6 +321,8 @@ impl Connector for MemConnector {
             (⟦<MemConnector as Connector>⟧.contacts self.new).faults }
         ensures faults { (⟦<MemConnector as Connector>⟧.contacts self.old).faults
             ≤ (⟦<MemConnector as Connector>⟧.contacts self.new).faults }
+        ensures launches { ⟦<MemConnector as Connector>⟧.launches self.new
+            ≡ ⟦<MemConnector as Connector>⟧.launches self.old }
         ensures terminal { ⟦<MemConnector as Connector>⟧.terminal self.new
             ≡ ⟦<MemConnector as Connector>⟧.terminal self.old }
 
@@ -339,6 +364,8 @@ impl Connector for MemConnector {
             (⟦<MemConnector as Connector>⟧.contacts self.new).faults }
         ensures faults { (⟦<MemConnector as Connector>⟧.contacts self.old).faults
             ≤ (⟦<MemConnector as Connector>⟧.contacts self.new).faults }
+        ensures launches { ⟦<MemConnector as Connector>⟧.launches self.new
+            ≡ ⟦<MemConnector as Connector>⟧.launches self.old }
         ensures terminal { ⟦<MemConnector as Connector>⟧.terminal self.new
             ≡ ⟦<MemConnector as Connector>⟧.terminal self.old }
 
@@ -389,7 +416,12 @@ impl Connector for MemConnector {
         "it is planned"
     }
 
-    fn launched(&mut self, _text: &[u8]) {}
+    fn launched(&mut self, text: &[u8]) {
+        match Vec::from_slice(self.alloc, text) {
+            Ok(copy) => self.has_lost = self.launches.push(copy).is_err() || self.has_lost,
+            Err(_) => self.has_lost = true,
+        }
+    }
 }
 
 /// A link that gives nothing.

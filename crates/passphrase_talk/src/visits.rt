@@ -3,7 +3,7 @@
 //! (`specs/Visits`).
 
 ghost use Rattle.std.specs.Prelude.{◌≡◌};
-ghost use Rattle.passphrase_talk.specs.Visits.{Visits};
+ghost use Rattle.passphrase_talk.specs.Visits.{Visits, HandsOn};
 
 use crate::dialogue::lead;
 use crate::{Connector, Loss, Place, Told, Unmet, Waits};
@@ -25,6 +25,9 @@ pub fn visit<C: Connector>(
 ) -> Told
     ensures visits { Visits place waits line.now (C.terminal connector.old) result
         (C.contacts connector.old) (C.contacts connector.new) }
+    ensures launches { (visited : Visits place waits line.now (C.terminal connector.old) result
+        (C.contacts connector.old) (C.contacts connector.new))
+        × HandsOn visited (C.launches connector.old) (C.launches connector.new) }
     ensures terminal { C.terminal connector.new ≡ C.terminal connector.old }
 {
     let link = match connector.connect(place, waits) {

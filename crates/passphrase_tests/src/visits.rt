@@ -24,9 +24,10 @@ struct Row {
     connects: &'static [u64],
     reads: &'static [u64],
     writes: &'static [u64],
-    /// What is told, and what the agent was written.
+    /// What is told, what the agent was written, and what it says of the first pinentry.
     told: &'static str,
     written: &'static str,
+    launched: &'static str,
 }
 
 /// A request for which nobody has to type.
@@ -40,6 +41,7 @@ const ROW: Row = Row {
     writes: &[],
     told: "",
     written: "CLEAR_PASSPHRASE id\n",
+    launched: "",
 };
 
 /// A value of a terminal.
@@ -120,8 +122,8 @@ fn last_written(connector: &MemConnector, waits: Waits) -> &[u8] {
     }
 }
 
-/// How the row comes out, with reads of at most so many bytes: what is told, and what the agent was
-/// written.
+/// How the row comes out, with reads of at most so many bytes: what is told, what the agent was
+/// written, and what it said of the first pinentry that it launched.
 fn come_out(alloc: Global, row: &Row, piece: usize) -> Result<String, AllocError> {
     let mut links = Vec::new(alloc);
     links.push(planned(alloc, row, piece)?)?;
@@ -132,17 +134,19 @@ fn come_out(alloc: Global, row: &Row, piece: usize) -> Result<String, AllocError
     };
     let told = visit(alloc, &mut connector, Place::Beside, row.waits, &line);
     let written = last_written(&connector, row.waits);
+    let launched = connector.launch(0).unwrap_or(&[]);
     format!(in alloc;
-        "{}/{}",
+        "{}/{}/{}",
         in_words(alloc, &told)?,
-        String::from_utf8_lossy(alloc, written)?
+        String::from_utf8_lossy(alloc, written)?,
+        String::from_utf8_lossy(alloc, launched)?
     )
 }
 
 /// The first row that comes out otherwise, and how.
 fn first_wrong(alloc: Global, rows: &[Row]) -> Result<Option<String>, AllocError> {
     for row in rows {
-        let wanted = format!(in alloc; "{}/{}", row.told, row.written)?;
+        let wanted = format!(in alloc; "{}/{}/{}", row.told, row.written, row.launched)?;
         for piece in [1, 1000] {
             if piece == 1 && row.times > 99 {
                 continue;
@@ -182,12 +186,14 @@ fn an_answer_is_told(rt: HostRuntime) -> Result<(), Fail> {
         },
         Row {
             gives: "OK\nINQUIRE PINENTRY_LAUNCHED 7 gtk2 1.2.1\nD x\nOK\n",
+            launched: "7 gtk2 1.2.1",
             told: "passphrase x",
             written: "CLEAR_PASSPHRASE id\nEND\n",
             ..ROW
         },
         Row {
             gives: "OK\nINQUIRE PINENTRY_LAUNCHED 7\nERR 83886179 Operation cancelled\n",
+            launched: "7",
             told: "refused 83886179 behind a pinentry",
             written: "CLEAR_PASSPHRASE id\nEND\n",
             ..ROW
@@ -326,6 +332,7 @@ fn an_end_is_told(rt: HostRuntime) -> Result<(), Fail> {
         },
         Row {
             gives: "OK\nINQUIRE PINENTRY_LAUNCHED 7\n",
+            launched: "7",
             written: "CLEAR_PASSPHRASE id\nEND\n",
             ..ended
         },

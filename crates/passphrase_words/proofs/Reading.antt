@@ -13,6 +13,7 @@ use Rattle.assuan_line.proofs.Places.{place_after}
 use Rattle.assuan_text.specs.Rows.{found}
 use Rattle.passphrase_words.specs.Options.{options, form_of, takes_value}
 use Rattle.passphrase_words.specs.Parts.{is_equals, by_itself, alone, begun, left, settings_by, rest_by, settings, rest_of, front_of}
+use Rattle.passphrase_words.specs.Refusals.{AllSettings, Refuses, unread, no_task, unread_text, task_fault}
 use Rattle.passphrase_words.specs.Rules.{IsTask, task_of}
 use Rattle.passphrase_words.specs.Spelling.{Setting, Spells, none, flag, joined, apart, takes, begins_with_dash, operands_of}
 use Rattle.passphrase_words.specs.Tasks.{TaskValue, WantedValue, WantsHelp, WantsVersion, WantsTask}
@@ -355,3 +356,57 @@ no_such_task words rest operands is other of absent =
 pub no_operands : (words rest : List (List ℕ)) → rest ≡ rest_of words → front_of rest ≡ Other → operands_of rest ≡ None
     → (wanted : WantedValue) → Reads words wanted → ⊥
 no_operands words rest is other of = a_task_alone words rest is other (λ others t that are. absurd (cc (that, of)))
+
+no_more : (more others : List Setting) → more ++ others ≡ [] → more ≡ []
+no_more [] others is = refl
+no_more (setting ∷ more) others is = absurd (cc is)
+
+all_settings : (words rest : List (List ℕ)) → rest ≡ rest_of words → settings rest ≡ [] → AllSettings (settings words) rest words
+all_settings words rest is none_left = record {
+  spelled = subst (λ (r : List (List ℕ)). Spells (settings words) r words) (sym is) (spelled words);
+  all = λ more behind spells. no_more more (settings behind) (sym (goes_on more behind rest spells).given_is ∙ none_left);
+}
+
+neither : (asks named : Bool) → cond asks Help (cond named Version Other) ≡ Other → (asks ≡ false) × (named ≡ false)
+neither true named front = absurd (cc front)
+neither false true front = absurd (cc front)
+neither false false front = (refl, refl)
+
+-- what the code says of words that it refuses is what they are refused by
+pub refuses_word : (words rest : List (List ℕ)) (word : List ℕ) (behind : List (List ℕ)) → rest ≡ rest_of words → settings rest ≡ [] → front_of rest ≡ Other → operands_of rest ≡ None
+    → rest ≡ word ∷ behind → Refuses words (unread_text word)
+refuses_word words rest word behind is none_left other of shape =
+    let front = neither (asks_for_help word) (bytes_eq word (codes "--version")) (ap front_of (sym shape) ∙ other) in
+    unread (subst (λ (r : List (List ℕ)). AllSettings (settings words) r words) shape (all_settings words rest is none_left)) (ap operands_of (sym shape) ∙ of) front.0 front.1
+
+pub refuses_task : (words rest operands : List (List ℕ)) (text : List ℕ) → rest ≡ rest_of words → settings rest ≡ [] → operands_of rest ≡ Some operands
+    → task_fault (settings words) operands ≡ Some text → Refuses words text
+refuses_task words rest operands text is none_left of fault = no_task (all_settings words rest is none_left) of fault
+
+nothing_spelled : (rest words : List (List ℕ)) → Spells [] rest words → rest ≡ words
+nothing_spelled rest words none = refl
+
+-- the options end at one place
+all_end : {given : List Setting} {rest words : List (List ℕ)} → AllSettings given rest words → EndsAt given rest words
+all_end {given = given} {rest = rest} {words = words} are =
+    let none_left : settings rest ≡ [] = are.all (settings rest) (rest_of rest) (spelled rest) in
+    ends_at given rest words are.spelled
+    (none_left, nothing_spelled (rest_of rest) rest (subst (λ (g : List Setting). Spells g (rest_of rest) rest) none_left (spelled rest)))
+
+same_operands : {operands others : List (List ℕ)} → Some operands ≡ Some others → operands ≡ others
+same_operands is = ap (λ o. elim o [ None ↦ [] | Some x ↦ x ]) is
+
+pub one_fault : {words : List (List ℕ)} {one other : List ℕ} → Refuses words one → Refuses words other → one ≡ other
+one_fault (unread are of asks named) (unread these that too so) =
+    ap (λ (r : List (List ℕ)). unread_text (get_or r 0 [])) (sym (all_end are).rest_is ∙ (all_end these).rest_is)
+one_fault (unread are of asks named) (no_task these that fault) =
+    absurd (cc (sym of ∙ ap operands_of (sym (all_end are).rest_is ∙ (all_end these).rest_is) ∙ that))
+one_fault (no_task are of fault) (unread these that asks named) =
+    absurd (cc (sym that ∙ ap operands_of (sym (all_end these).rest_is ∙ (all_end are).rest_is) ∙ of))
+one_fault (no_task {given} {rest} {operands} are of fault) (no_task {given = others} {rest = left} {operands = ends} these that wrong) =
+    let same : operands ≡ ends = same_operands (sym of ∙ ap operands_of (sym (all_end are).rest_is ∙ (all_end these).rest_is) ∙ that) in
+    let alike : given ≡ others = sym (all_end are).given_is ∙ (all_end these).given_is in
+    same_text (sym fault ∙ ap (λ (g : List Setting). task_fault g operands) alike ∙ ap (task_fault others) same ∙ wrong)
+  where
+    same_text : {one other : List ℕ} → Some one ≡ Some other → one ≡ other
+    same_text is = ap (λ o. elim o [ None ↦ [] | Some x ↦ x ]) is

@@ -1,13 +1,17 @@
 -- The checks of options one by one, and of an id.
-use Rattle.std.proofs.Common.{◌≡◌, ◌∷◌, [], ℕ, Bool, true, false, List, length, refl, ap, sym, ◌∙◌, arith}
+use Rattle.std.proofs.Common.{◌≡◌, ◌∷◌, [], ℕ, Bool, true, false, List, get_or, length, Option, Some, None, refl, ap, sym, ◌∙◌, arith}
 use Rattle.std.specs.Prelude.{not, ◌&&◌, ◌==◌, nat_le, codes}
 use Rattle.std.specs.List.{list_all}
+use Rattle.std.specs.Option.{option_or}
 use Rattle.std.specs.Str.{bytes_eq}
 use Rattle.std.proofs.lemmas.Bool.{and_parts}
 use Rattle.std.proofs.lemmas.Bool.Decides.{nat_tests}
 use Rattle.passphrase_words.specs.Ids.{is_id_byte, has_id_form}
+use Rattle.passphrase_words.specs.Options.{excluded}
+use Rattle.passphrase_words.specs.Refusals.{settings_fault, pairs_fault, alone_fault, operands_fault, id_fault, texts_fault, task_fault}
 use Rattle.passphrase_words.specs.Rules.{fits, are_sound}
-use Rattle.passphrase_words.specs.Spelling.{Setting, is_set, begins_with_dash}
+use Rattle.passphrase_words.specs.Spelling.{Setting, is_set, value_given, begins_with_dash}
+use Rattle.passphrase_words.specs.Texts.{texts_of}
 
 not_true : (b : Bool) → not b ≡ true → b ≡ false
 not_true true h = absurd (cc h)
@@ -29,3 +33,22 @@ id_form (byte ∷ id) bytes some other front all =
     all ∙ sym (ap (λ a. a && not (bytes_eq word (codes "X")) && not (begins_with_dash word) && list_all is_id_byte word) filled
     ∙ ap (λ b. not b && not (begins_with_dash word) && list_all is_id_byte word) other
     ∙ ap (λ d. not d && list_all is_id_byte word) front)
+
+-- the first fault of a task, behind what has none
+pub pairs_first : (given : List Setting) (operands : List (List ℕ)) (text : List ℕ) → settings_fault given ≡ None → pairs_fault given excluded ≡ Some text
+    → task_fault given operands ≡ Some text
+pairs_first given operands text none is =
+    let later = option_or (alone_fault given operands) (option_or (operands_fault operands) (option_or (id_fault (get_or operands 0 []))
+    (texts_fault (get_or operands 0 []) (texts_of (get_or operands 0 []) (value_given (codes "--prompt") given) (get_or operands 1 []))))) in
+    ap (λ (o : Option (List ℕ)). option_or o (option_or (pairs_fault given excluded) later)) none ∙ ap (λ (o : Option (List ℕ)). option_or o later) is
+
+pub id_first : (given : List Setting) (operands : List (List ℕ)) (id text : List ℕ) → settings_fault given ≡ None → pairs_fault given excluded ≡ None → alone_fault given operands ≡ None
+    → operands_fault operands ≡ None → id ≡ get_or operands 0 [] → id_fault id ≡ Some text → task_fault given operands ≡ Some text
+id_first given operands id text none apart free counted same is =
+    let texts = texts_fault (get_or operands 0 []) (texts_of (get_or operands 0 []) (value_given (codes "--prompt") given) (get_or operands 1 [])) in
+    let at_id = option_or (id_fault (get_or operands 0 [])) texts in
+    ap (λ (o : Option (List ℕ)). option_or o (option_or (pairs_fault given excluded) (option_or (alone_fault given operands) (option_or (operands_fault operands) at_id)))) none
+    ∙ ap (λ (o : Option (List ℕ)). option_or o (option_or (alone_fault given operands) (option_or (operands_fault operands) at_id))) apart
+    ∙ ap (λ (o : Option (List ℕ)). option_or o (option_or (operands_fault operands) at_id)) free
+    ∙ ap (λ (o : Option (List ℕ)). option_or o at_id) counted
+    ∙ ap (λ (o : Option (List ℕ)). option_or o texts) (ap id_fault (sym same) ∙ is)

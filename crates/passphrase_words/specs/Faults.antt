@@ -1,21 +1,60 @@
 -- What a user is told of words that aren't read.
-use Rattle.std.specs.Prelude.{ℕ, ◌^◌, ◌-◌, min, List, ◌++◌, length, codes, decimal}
+use Rattle.std.specs.Prelude.{ℕ, ◌^◌, ◌-◌, min, Bool, List, ◌++◌, length, codes, decimal, Option, Some, None, if◌then◌else◌}
+use Rattle.std.specs.Str.{bytes_eq}
+use Rattle.passphrase_words.specs.Options.{form_of}
 use Rattle.passphrase_words.specs.Texts.{longest_line}
 use Rattle.passphrase_words.specs.declared.fault.WordsFault.{WordsFault}
 use Rattle.passphrase_words.specs.declared.fault.WordsFault.TheVariants.{Unknown, Wants, Twice, Apart, Alone, Operands, Id, LongId, LongTexts, Askpass}
+use Rattle.passphrase_words.specs.declared.options.Form.{Form}
+use Rattle.passphrase_words.specs.declared.options.Form.TheVariants.{Seconds}
+
+-- what the option wants
+abbrev pub wish_by : Option Form → Bool → List ℕ
+wish_by (Some Seconds) is_folder = codes "a number of seconds, 1 to 2147483647"
+wish_by _ is_folder = if is_folder then codes "a folder" else codes "a text"
+
+abbrev pub wish : List ℕ → List ℕ
+wish name = wish_by (form_of name) (bytes_eq name (codes "--homedir"))
 
 -- the text of each fault, one line for each
+abbrev pub unknown_text : List ℕ → List ℕ
+unknown_text word = codes "there is no option " ++ word
+
+abbrev pub wants_text : List ℕ → List ℕ → List ℕ
+wants_text name what = name ++ codes " wants " ++ what
+
+abbrev pub twice_text : List ℕ → List ℕ
+twice_text name = name ++ codes " is given twice"
+
+abbrev pub apart_text : List ℕ → List ℕ → List ℕ
+apart_text name other = name ++ codes " and " ++ other ++ codes " don't go together"
+
+abbrev pub alone_text : List ℕ → List ℕ
+alone_text name = name ++ codes " wants an ID alone"
+
+abbrev pub operands_text : List ℕ
+operands_text = codes "an ID is wanted, and a DESCRIPTION may follow it"
+
+abbrev pub id_text : List ℕ → List ℕ
+id_text id = codes "an ID is letters, digits and :._@/- (and neither X alone nor begins with -): " ++ id
+
+abbrev pub long_id_text : List ℕ → List ℕ
+long_id_text id = codes "an ID has at most 50 bytes: " ++ id
+
+abbrev pub askpass_text : List ℕ
+askpass_text = codes "one text is wanted"
+
 abbrev pub fault_text : WordsFault → List ℕ
-fault_text (Unknown word) = codes "there is no option " ++ word.now
-fault_text (Wants name what) = name.now ++ codes " wants " ++ what.now
-fault_text (Twice name) = name.now ++ codes " is given twice"
-fault_text (Apart name other) = name.now ++ codes " and " ++ other.now ++ codes " don't go together"
-fault_text (Alone name) = name.now ++ codes " wants an ID alone"
-fault_text Operands = codes "an ID is wanted, and a DESCRIPTION may follow it"
-fault_text (Id id) = codes "an ID is letters, digits and :._@/- (and neither X alone nor begins with -): " ++ id.now
-fault_text (LongId id) = codes "an ID has at most 50 bytes: " ++ id.now
+fault_text (Unknown word) = unknown_text word.now
+fault_text (Wants name what) = wants_text name.now what.now
+fault_text (Twice name) = twice_text name.now
+fault_text (Apart name other) = apart_text name.now other.now
+fault_text (Alone name) = alone_text name.now
+fault_text Operands = operands_text
+fault_text (Id id) = id_text id.now
+fault_text (LongId id) = long_id_text id.now
 fault_text (LongTexts digits) = codes "the texts are too long: with them the request has " ++ digits.items ++ codes " bytes of at most 1000"
-fault_text Askpass = codes "one text is wanted"
+fault_text Askpass = askpass_text
 
 -- a number of bytes, as far as 64 bits count them
 abbrev pub counted : ℕ → ℕ

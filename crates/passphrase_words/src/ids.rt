@@ -2,9 +2,12 @@
 //! by SHA-1. Pure. Begin with `id_of` and `askpass_id`; the form of an id is `is_id` (`specs/Ids`).
 
 ghost use Rattle.std.specs.Prelude.{◌≡◌, true, false, codes, ◌++◌, IfOk, IfErr, length};
+ghost use Rattle.std.specs.Prelude.{None, Some, MatchResult};
 ghost use Rattle.std.specs.List.{list_all};
 ghost use Rattle.hex.specs.Hex.{encode_lower};
+ghost use Rattle.passphrase_words.specs.Faults.{fault_text};
 ghost use Rattle.passphrase_words.specs.Ids.{is_from, is_id_byte, has_id_form, is_id, askpass_id};
+ghost use Rattle.passphrase_words.specs.Refusals.{id_fault};
 ghost use Rattle.passphrase_words.specs.Spelling.{begins_with_dash};
 ghost use Rattle.sha1.specs.Sha1.{sha1};
 
@@ -16,6 +19,8 @@ use sha1::Sha1;
 pub(crate) fn id_of(word: &str) -> Result<Id, WordsFault<'_>>
     ensures read { IfOk result (λ id. (id.items ≡ word.entry.now) × (is_id id.items ≡ true)) }
     ensures refused { IfErr result (λ _. is_id word.entry.now ≡ false) }
+    ensures told { MatchResult result (λ _. id_fault word.entry.now ≡ None)
+        (λ fault. id_fault word.entry.now ≡ Some (fault_text fault)) }
 {
     if !has_id_form(word) {
         return Err(WordsFault::Id(word));

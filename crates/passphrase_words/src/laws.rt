@@ -2,6 +2,7 @@
 //! (`specs/Words`).
 
 ghost use Rattle.std.specs.Prelude.{◌≡◌, ℕ, List};
+ghost use Rattle.passphrase_words.specs.Refusals.{Refuses};
 ghost use Rattle.passphrase_words.specs.Tasks.{WantedValue};
 ghost use Rattle.passphrase_words.specs.Words.{Reads};
 
@@ -9,4 +10,10 @@ ghost use Rattle.passphrase_words.specs.Words.{Reads};
 pub fn a_command_line_is_read_one_way()
     ensures { (words : List (List ℕ)) (one other : WantedValue) → Reads words one
         → Reads words other → one ≡ other }
+{}
+
+/// A law: words that aren't read break one rule first.
+pub fn a_command_line_is_refused_one_way()
+    ensures { (words : List (List ℕ)) (one other : List ℕ) → Refuses words one
+        → Refuses words other → one ≡ other }
 {}

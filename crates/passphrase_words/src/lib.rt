@@ -17,7 +17,7 @@ mod texts;
 mod words;
 
 pub use fault::{Pieces, WordsFault};
-pub use laws::a_command_line_is_read_one_way;
+pub use laws::{a_command_line_is_read_one_way, a_command_line_is_refused_one_way};
 pub use request::Request;
 pub use task::{Act, MAX_ID_LEN, Task};
 pub use words::{USAGE, Wanted, read_askpass, read_words};

@@ -3,9 +3,12 @@
 
 ghost use Rattle.std.specs.Prelude.{◌≡◌, ◌↔◌, true, false, get_or, [], length, map};
 ghost use Rattle.std.specs.Prelude.{string_bytes, is_some, IsOk, IfOk, IfErr, MatchOption};
+ghost use Rattle.std.specs.Prelude.{MatchResult, None, Some, IfSome};
 ghost use Rattle.std.specs.List.{list_all};
 ghost use Rattle.assuan_text.specs.Rows.{pairs_of};
+ghost use Rattle.passphrase_words.specs.Faults.{fault_text};
 ghost use Rattle.passphrase_words.specs.Parts.{settings};
+ghost use Rattle.passphrase_words.specs.Refusals.{task_fault, pairs_fault, alone_fault, alone_word};
 ghost use Rattle.passphrase_words.specs.Rules.{IsTask, is_apart, wants_id_alone, are_counted};
 ghost use Rattle.passphrase_words.specs.Rules.{is_alone_or_free, act_of};
 ghost use Rattle.passphrase_words.specs.Tasks.{TaskValue, task_value};
@@ -46,6 +49,8 @@ pub(crate) fn task_from<'a>(
     ensures refused { IfErr result (λ _. (task : TaskValue)
         → IsTask (settings (map string_bytes words.entry.now)) (map string_bytes operands.entry.now)
         task → ⊥) }
+    ensures told { IfErr result (λ fault. task_fault (settings (map string_bytes words.entry.now))
+        (map string_bytes operands.entry.now) ≡ Some (fault_text fault)) }
 {
     check_each(words)?;
     check_pairs(words, &EXCLUDED)?;
@@ -69,8 +74,12 @@ fn check_pairs(
     words: &[String],
     pairs: &[(&'static str, &'static str)],
 ) -> Result<(), WordsFault<'static>>
-    ensures { IsOk result ↔ (list_all (is_apart (settings (map string_bytes words.now)))
+    ensures apart { IsOk result ↔ (list_all (is_apart (settings (map string_bytes words.now)))
         (pairs_of pairs.now) ≡ true) }
+    ensures told { MatchResult result
+        (λ _. pairs_fault (settings (map string_bytes words.now)) (pairs_of pairs.now) ≡ None)
+        (λ fault. pairs_fault (settings (map string_bytes words.now)) (pairs_of pairs.now)
+        ≡ Some (fault_text fault)) }
 {
     for (one, other) in pairs {
         if is_set(words, one) && is_set(words, other) {
@@ -82,8 +91,11 @@ fn check_pairs(
 
 /// Where an id alone is wanted, nothing else is given.
 fn check_alone(words: &[String], operands: &[String]) -> Result<(), WordsFault<'static>>
-    ensures { IsOk result ↔ (is_alone_or_free (settings (map string_bytes words.now))
+    ensures alone { IsOk result ↔ (is_alone_or_free (settings (map string_bytes words.now))
         (map string_bytes operands.now) ≡ true) }
+    ensures told { let fault_is = alone_fault (settings (map string_bytes words.now))
+        (map string_bytes operands.now) in MatchResult result
+        (λ _. fault_is ≡ None) (λ fault. fault_is ≡ Some (fault_text fault)) }
 {
     match alone(words) {
         Some(name) if operands.len() != 1 || is_set(words, "--prompt") => {
@@ -95,7 +107,9 @@ fn check_alone(words: &[String], operands: &[String]) -> Result<(), WordsFault<'
 
 /// The option that wants an id alone.
 fn alone(words: &[String]) -> Option<&'static str>
-    ensures { is_some result ≡ wants_id_alone (settings (map string_bytes words.now)) }
+    ensures wants { is_some result ≡ wants_id_alone (settings (map string_bytes words.now)) }
+    ensures word { IfSome result
+        (λ name. name.now ≡ alone_word (settings (map string_bytes words.now))) }
 {
     if is_set(words, "--forget") {
         Some("--forget")

@@ -4,10 +4,12 @@
 
 ghost use Rattle.std.specs.Prelude.{◌≡◌, ◌∷◌, [], ◌<◌, ◌↔◌, true, false, length, map, None};
 ghost use Rattle.std.specs.Prelude.{string_bytes};
-ghost use Rattle.std.specs.Prelude.{MatchOption, IsOk};
+ghost use Rattle.std.specs.Prelude.{MatchOption, MatchResult, IsOk, Some};
 ghost use Rattle.std.specs.List.{before_first, after_first, position_or_len};
 ghost use Rattle.std.specs.Option.{option_map};
+ghost use Rattle.passphrase_words.specs.Faults.{fault_text, wish};
 ghost use Rattle.passphrase_words.specs.Parts.{setting_value, settings, rest_of, by_itself, is_equals};
+ghost use Rattle.passphrase_words.specs.Refusals.{setting_fault, settings_fault};
 ghost use Rattle.passphrase_words.specs.Rules.{fits, are_sound, seconds_given};
 ghost use Rattle.passphrase_words.specs.Spelling.{is_set, value_given, takes};
 
@@ -85,7 +87,8 @@ fn split_at_equals(word: &str) -> Option<(&str, &str)>
 
 /// The words behind the options.
 pub(crate) fn rest_of(words: &[String]) -> &[String]
-    ensures { map string_bytes result.now ≡ rest_of (map string_bytes words.entry.now) }
+    ensures rest { map string_bytes result.now ≡ rest_of (map string_bytes words.entry.now) }
+    ensures all { settings (map string_bytes result.now) ≡ [] }
 {
     let mut rest = words;
     while let Some((_, after)) = next_setting(rest) {
@@ -132,7 +135,11 @@ pub(crate) fn seconds_given(words: &[String], name: &str) -> Option<u32>
 
 /// Each option has a value of its form, and none is given twice.
 pub(crate) fn check_each(words: &[String]) -> Result<(), WordsFault<'_>>
-    ensures { IsOk result ↔ (are_sound (settings (map string_bytes words.entry.now)) ≡ true) }
+    ensures sound { IsOk result ↔ (are_sound (settings (map string_bytes words.entry.now)) ≡ true) }
+    ensures told { MatchResult result
+        (λ _. settings_fault (settings (map string_bytes words.entry.now)) ≡ None)
+        (λ fault. settings_fault (settings (map string_bytes words.entry.now))
+        ≡ Some (fault_text fault)) }
 {
     let mut rest = words;
     while let Some((setting, after)) = next_setting(rest) {
@@ -146,8 +153,11 @@ pub(crate) fn check_each(words: &[String]) -> Result<(), WordsFault<'_>>
 
 /// The option has a value of its form, and isn't among these words.
 fn check_one<'a>(setting: Setting<'a>, after: &'a [String]) -> Result<(), WordsFault<'a>>
-    ensures { IsOk result ↔ ((fits (setting_value setting.entry) ≡ true)
+    ensures sound { IsOk result ↔ ((fits (setting_value setting.entry) ≡ true)
         × (is_set setting.entry.name.now (settings (map string_bytes after.entry.now)) ≡ false)) }
+    ensures told { let fault_is = setting_fault (setting_value setting.entry)
+        (settings (map string_bytes after.entry.now)) in MatchResult result
+        (λ _. fault_is ≡ None) (λ fault. fault_is ≡ Some (fault_text fault)) }
 {
     if !fits(&setting) {
         return Err(WordsFault::Wants(setting.name, wish(setting.name)));
@@ -168,7 +178,9 @@ fn fits(setting: &Setting<'_>) -> bool
 }
 
 /// What the option wants, for a user.
-pub(crate) fn wish(name: &str) -> &'static str {
+pub(crate) fn wish(name: &str) -> &'static str
+    ensures { result.now ≡ wish name.now }
+{
     match form_of(name) {
         Some(Form::Seconds) => "a number of seconds, 1 to 2147483647",
         _ if name == "--homedir" => "a folder",

@@ -1,9 +1,11 @@
 //! The words of a command line and of an askpass, read as what they ask for, and the lines of use.
 //! Pure. Begin with `read_words` and `read_askpass`; how they are read says `specs/Words`.
 
-ghost use Rattle.std.specs.Prelude.{◌≡◌, Some, None, IfOk, IfErr, map, string_bytes};
-ghost use Rattle.std.specs.Option.{option_map};
-ghost use Rattle.passphrase_words.specs.Parts.{rest_of, front_of, front_word};
+ghost use Rattle.std.specs.Prelude.{◌≡◌, ◌∷◌, [], ℕ, List, Some, None, IfOk, IfErr, MatchResult};
+ghost use Rattle.std.specs.Prelude.{map, string_bytes};
+ghost use Rattle.passphrase_words.specs.Faults.{fault_text};
+ghost use Rattle.passphrase_words.specs.Parts.{rest_of, settings, front_of, front_word};
+ghost use Rattle.passphrase_words.specs.Refusals.{Refuses, askpass_fault, unread_text};
 ghost use Rattle.passphrase_words.specs.Spelling.{operands_of};
 ghost use Rattle.passphrase_words.specs.Tasks.{TaskValue, WantedValue, task_value, wanted_value};
 ghost use Rattle.passphrase_words.specs.Words.{Reads, ReadsAskpass, asks_for_help};
@@ -43,6 +45,8 @@ pub fn read_words(words: &[String]) -> Result<Wanted<'_>, WordsFault<'_>>
         (λ wanted. Reads (map string_bytes words.entry.now) (wanted_value wanted)) }
     ensures refused { IfErr result (λ _. (wanted : WantedValue)
         → Reads (map string_bytes words.entry.now) wanted → ⊥) }
+    ensures told { IfErr result
+        (λ fault. Refuses (map string_bytes words.entry.now) (fault_text fault)) }
 {
     let rest = rest_of(words);
     match front_of(rest) {
@@ -55,18 +59,21 @@ pub fn read_words(words: &[String]) -> Result<Wanted<'_>, WordsFault<'_>>
 /// Reads words that ask for neither help nor the version; the rest is what is behind the options.
 fn read_task<'a>(words: &'a [String], rest: &'a [String]) -> Result<Wanted<'a>, WordsFault<'a>>
     requires rest { map string_bytes rest.now ≡ rest_of (map string_bytes words.now) }
+    requires all { settings (map string_bytes rest.now) ≡ [] }
     requires other { front_of (map string_bytes rest.now) ≡ Front.Other }
     ensures read { IfOk result
         (λ wanted. Reads (map string_bytes words.entry.now) (wanted_value wanted)) }
     ensures refused { IfErr result (λ _. (wanted : WantedValue)
         → Reads (map string_bytes words.entry.now) wanted → ⊥) }
+    ensures told { IfErr result
+        (λ fault. Refuses (map string_bytes words.entry.now) (fault_text fault)) }
 {
     match operands_of(rest) {
-        Some(operands) => match task_from(words, operands) {
+        Ok(operands) => match task_from(words, operands) {
             Ok(task) => Ok(Wanted::Task(task)),
             Err(fault) => Err(fault),
         },
-        None => Err(unread(rest)),
+        Err(word) => Err(unread(word)),
     }
 }
 
@@ -105,29 +112,34 @@ fn asks_for_help(word: &str) -> bool
     word == "--help" || word == "-h"
 }
 
-/// The operands of what is behind the options.
-fn operands_of(rest: &[String]) -> Option<&[String]>
-    ensures { option_map (λ operands. map string_bytes operands.now) result
-        ≡ operands_of (map string_bytes rest.entry.now) }
+/// The operands of what is behind the options, or the word that is none and ends them not.
+fn operands_of(rest: &[String]) -> Result<&[String], &str>
+    ensures { MatchResult result
+        (λ operands. operands_of (map string_bytes rest.entry.now)
+        ≡ Some (map string_bytes operands.now))
+        (λ word. (operands_of (map string_bytes rest.entry.now) ≡ None)
+        × (behind : List (List ℕ)) × (map string_bytes rest.entry.now ≡ word.now ∷ behind)) }
 {
     let Some((word, behind)) = rest.split_first() else {
-        return Some(rest);
+        return Ok(rest);
     };
     if word.as_str() == "--" {
-        Some(behind)
+        Ok(behind)
     } else if begins_with_dash(word) {
-        None
+        Err(word)
     } else {
-        Some(rest)
+        Ok(rest)
     }
 }
 
-/// Why the words aren't options from here on.
-fn unread(rest: &[String]) -> WordsFault<'_> {
-    match rest.first() {
-        Some(word) if takes(word).is_some() => WordsFault::Wants(word, wish(word)),
-        Some(word) => WordsFault::Unknown(word),
-        None => WordsFault::Operands,
+/// Why this word is no option.
+fn unread(word: &str) -> WordsFault<'_>
+    ensures { fault_text result ≡ unread_text word.entry.now }
+{
+    if takes(word).is_some() {
+        WordsFault::Wants(word, wish(word))
+    } else {
+        WordsFault::Unknown(word)
     }
 }
 
@@ -137,6 +149,8 @@ pub fn read_askpass(words: &[String]) -> Result<Task<'_>, WordsFault<'_>>
         (λ task. ReadsAskpass (map string_bytes words.entry.now) (task_value task)) }
     ensures refused { IfErr result (λ _. (task : TaskValue)
         → ReadsAskpass (map string_bytes words.entry.now) task → ⊥) }
+    ensures told { IfErr result (λ fault. askpass_fault (map string_bytes words.entry.now)
+        ≡ Some (fault_text fault)) }
 {
     let [text] = words else {
         return Err(WordsFault::Askpass);

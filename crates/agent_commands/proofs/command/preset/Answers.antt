@@ -1,7 +1,7 @@
 use Rattle.std.proofs.Common.{refl}
 use Rattle.std.proofs.lemmas.Result.{err_from_is_err_and}
 use Rattle.agent_ask.specs.Parts.{returns, refuses}
-use Rattle.agent_ask.proofs.PartsDone.{part_then, part_stops, part_still, part_turned, beside_client, open_after}
+use Rattle.agent_ask.proofs.PartsDone.{part_then, part_stops, part_still, part_turned, beside_client, open_after, cache_changed}
 use Rattle.agent_commands.proofs.command.preset.Goals as goal
 
 pub returns-then-not-rules-clause-presets : goal.returns-then-not-rules-clause-presets
@@ -17,6 +17,6 @@ returns-in_err-secret-clause-presets g c =
 
 pub returns-clause-presets : goal.returns-clause-presets
 returns-clause-presets g c =
-    let turn = rw c.copy.ensures at c.change.ensures.turn in
+    let turn = cache_changed (rw c.copy.ensures at c.change.ensures.turn) in
     rw c.if-not-rules.false
     (part_then (part_still c.requires refl returns) (part_then (beside_client c.in_ok-secret.ensures) (part_turned (open_after c.in_ok-secret.ensures) turn)))

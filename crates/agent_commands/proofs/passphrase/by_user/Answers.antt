@@ -16,7 +16,7 @@ returns-in_err-found-clause-comes g c =
 
 pub returns-in-Some-clause-comes : goal.returns-in-Some-clause-comes
 returns-in-Some-clause-comes g c =
-    part_then (part_turned c.requires.open (rw c.in-Some.is at c.in_ok-found.ensures.turn)) (part_still c.requires.open refl returns)
+    rw c.own.ensures (part_then (part_turned c.requires.open (rw c.in-Some.is at c.in_ok-found.ensures.turn)) (part_still c.requires.open refl returns))
 
 pub returns-in_err-pin-clause-comes : goal.returns-in_err-pin-clause-comes
 returns-in_err-pin-clause-comes g c =
@@ -26,7 +26,7 @@ returns-in_err-pin-clause-comes g c =
 
 pub returns-clause-comes : goal.returns-clause-comes
 returns-clause-comes g c =
-    rw (c.own.ensures, c.close.ensures.none)
+    rw (c.own-2.ensures, c.close.ensures.none)
     (part_then (part_turned c.requires.open (rw c.in_default.is at c.in_ok-found.ensures.turn))
     (part_then (beside_prompter g.D.Desk.turned g.P.Prompter.prompted c.want_prompt.new.desk c.in_ok-pin.ensures.prompts)
     (part_then (part_turns c.in_ok-pin.ensures.prompts.fits.0 (ticket_given (rw c.copy.ensures at c.close.ensures.given)))

@@ -1,11 +1,14 @@
 use Rattle.std.proofs.Common.{refl}
 use Rattle.std.proofs.lemmas.Result.{err_from_is_err_and}
 use Rattle.agent_ask.specs.Parts.{returns}
-use Rattle.agent_ask.proofs.PartsDone.{ticket_taken, turn_then, turn_stops}
+use Rattle.agent_ask.proofs.PartsDone.{ticket_taken, turn_then, turn_stops, cache_asked, seated_by_asking}
 use Rattle.agent_commands.proofs.passphrase.want_prompt.Goals as goal
 
 pub returns-in-Some-clause-turn : goal.returns-in-Some-clause-turn
-returns-in-Some-clause-turn g c = rw c.in-Some.is c.ask_or_open.ensures.turn
+returns-in-Some-clause-turn g c = rw c.in-Some.is (cache_asked (rw c.copy.ensures at c.ask_cache.ensures.turn))
+
+pub returns-in-Some-clause-seated : goal.returns-in-Some-clause-seated
+returns-in-Some-clause-seated g c = λ none. seated_by_asking (rw none at c.ask_cache.ensures.turn)
 
 pub returns-in_err-hold_seat-in-None-clause-turn : goal.returns-in_err-hold_seat-in-None-clause-turn
 returns-in_err-hold_seat-in-None-clause-turn g c =

@@ -1,34 +1,5 @@
-use Rattle.std.proofs.Common.{refl}
-use Rattle.cache_policy.specs.Turns.{Done, Stopping, Refused}
-use Rattle.agent_ask.specs.TurnParts.{done, interrupted}
-use Rattle.agent_ask.specs.Interrupts.{stopping, refused}
-use Rattle.key_commands.specs.Passphrases.{put_key}
+use Rattle.agent_ask.proofs.PartsDone.{cache_changed}
 use Rattle.key_commands.proofs.turns.keep_pass.Goals as goal
 
-pub returns-in-Ok-Done-clause-turn : goal.returns-in-Ok-Done-clause-turn
-returns-in-Ok-Done-clause-turn g c = record {
-  step = put_key c.args.grip.now c.args.pass.now;
-  turn = Done;
-  turned_so = rw (c.in-Ok-Done.field-0-is, c.key_id.ensures, c.copy.ensures) at c.in-Ok-Done.ensures.turned;
-  does = done tt;
-  on = refl;
-}
-
-pub returns-in-Ok-Stopping-clause-turn : goal.returns-in-Ok-Stopping-clause-turn
-returns-in-Ok-Stopping-clause-turn g c = record {
-  step = put_key c.args.grip.now c.args.pass.now;
-  turn = Stopping;
-  turned_so = rw (c.in-Ok-Stopping.field-0-is, c.key_id.ensures, c.copy.ensures) at c.in-Ok-Stopping.ensures.turned;
-  does = interrupted tt stopping;
-  on = refl;
-}
-
-pub returns-in-Err-clause-turn : goal.returns-in-Err-clause-turn
-returns-in-Err-clause-turn g c =
-    rw c.without_memory.ensures (record {
-      step = put_key c.args.grip.now c.args.pass.now;
-      turn = Refused;
-      turned_so = rw (c.key_id.ensures, c.copy.ensures) at c.in-Err.ensures.turned;
-      does = interrupted tt refused;
-      on = refl;
-    })
+pub returns-clause-turn : goal.returns-clause-turn
+returns-clause-turn g c = cache_changed (rw (c.key_id.ensures, c.copy.ensures) at c.change.ensures.turn)

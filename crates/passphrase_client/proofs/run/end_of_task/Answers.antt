@@ -22,7 +22,7 @@ returns-in-Gives g c =
       holds = c.in-Ok.ensures;
       finds = record { sought = find.sought; coming = find.coming; opened = find.opened; met = find.met; failed = find.failed; faults = find.faults };
       comes = comes.1;
-    }) c.give-written.ensures)
+    }) c.give.ensures)
 
 pub returns : goal.returns
 returns g c =

@@ -7,15 +7,15 @@ loop-answer-preserved g c = (
   c.inquired-next.ensures.state,
   c.inquired-next.ensures.contacts ∙ c.loop-answer.invariant.1,
   c.inquired-next.ensures.terminal ∙ c.loop-answer.invariant.2,
-  λ what after rest. c.loop-answer.invariant.3 what after
-      (rw c.in-Asked.is (replies c.inquired-next.ensures.answered c.inquired-next.ensures.course rest)),
+  λ what after launched rest. c.loop-answer.invariant.3 what after launched
+      (rw c.in-Asked.is (replies c.inquired-next.ensures.answered c.inquired-next.ensures.course c.inquired-next.ensures.launches rest)),
 )
 
 pub returns : goal.returns
 returns g c =
     let last = not_asked c.loop-answer.answer c.in_default.not-Asked in
     record {
-      leads = c.loop-answer.invariant.3 _ _ (ends last c.told_by.ensures);
+      leads = c.loop-answer.invariant.3 _ _ _ (ends last c.told_by.ensures);
       contacts = c.loop-answer.invariant.1;
       terminal = c.loop-answer.invariant.2;
     }

@@ -1,3 +1,8 @@
+use Rattle.std.proofs.Common.{map, string_bytes, sym, ap, rules, arith}
+use Rattle.std.proofs.lemmas.Grind.{common_steps}
+use Rattle.passphrase_words.specs.Faults.{fault_text}
+use Rattle.passphrase_words.specs.Parts.{settings}
+use Rattle.passphrase_words.proofs.Sound.{pairs_first, id_first}
 use Rattle.std.specs.Option.{option_map}
 use Rattle.passphrase_words.proofs.LineParts.{fits_from}
 use Rattle.passphrase_words.proofs.rules.task_from.Goals as goal
@@ -8,3 +13,14 @@ invariant_of-result c =
       fits = fits_from c.in_ok-id.id.items c.in_ok-texts.texts.items (option_map (λ prompt. prompt.now) c.value_given.result) c.in-Some.description.now
           c.in_ok-id.ensures.read.1 c.in_ok-texts.ensures.texts c.in_ok-texts.ensures.short;
     }
+
+pub returns-in_err-check_pairs-clause-told : goal.returns-in_err-check_pairs-clause-told
+returns-in_err-check_pairs-clause-told c =
+    let first = pairs_first (settings (map string_bytes c.args.words.now)) (map string_bytes c.args.operands.now) _ c.in_ok-check_each.ensures.told c.in_err-check_pairs.ensures.told in
+    first_of (grind (arith, rules, first), grind (arith, common_steps, first))
+
+pub returns-in_err-id-clause-told : goal.returns-in_err-id-clause-told
+returns-in_err-id-clause-told c =
+    let first = id_first (settings (map string_bytes c.args.words.now)) (map string_bytes c.args.operands.now) c.in-Some.name.now _ c.in_ok-check_each.ensures.told
+    c.in_ok-check_pairs.ensures.told c.in_ok-check_alone.ensures.told (first_of (search rules, grind (arith, common_steps))) c.in-Some.ensures.texts.0 c.in_err-id.ensures.told in
+    first_of (grind (arith, rules, first), grind (arith, common_steps, first))
