@@ -1,10 +1,5 @@
-use Rattle.std.proofs.Common.{rules, arith, ◌≡◌, ◌≢◌, ◌+◌, ℕ, length, ap, sym, ◌∙◌, refl}
-use Rattle.std.proofs.lemmas.Grind.{common_steps}
-use Rattle.cache_policy.specs.declared.mark.MarkStep.{MarkStep}
-use Rattle.cache_policy.specs.Entries.{stored}
-use Rattle.cache_policy.specs.Histories.{History}
-use Rattle.cache_policy.specs.Runs.{last_base}
-use Rattle.cache_policy.specs.Turns.{mark_step}
+use Rattle.std.proofs.{Common.{rules, arith, ◌≡◌, ◌≢◌, ◌+◌, ℕ, length, ap, sym, ◌∙◌, refl}, lemmas.Grind.common_steps}
+use Rattle.cache_policy.specs.{declared.mark.MarkStep.MarkStep, Entries.stored, Histories.History, Runs.last_base, Turns.mark_step}
 use Rattle.agent_core.proofs.Counting.{stored_bare}
 use Rattle.agent_lock.proofs.Stepping.{marked_step, unmade, given_up, marks_few, totals_given_up, given_at}
 use Rattle.agent_lock.proofs.state.State.step.Goals as goal
