@@ -2,12 +2,10 @@
 //! and an inquiry (Assuan manual, "server responses"). It works on the connection alone. Begin with
 //! `ask_client`; its events are `AsksPassphrase` (`specs/Parts`).
 
-ghost use Rattle.assuan_server.specs.Clients.{connection_views};
-ghost use Rattle.assuan_server.specs.Connections.{IsOpen};
-ghost use Rattle.assuan_server.specs.Written.{WritesText};
+ghost use Rattle.assuan_server.specs.{Clients.connection_views, Connections.IsOpen};
+ghost use Rattle.assuan_server.specs.Written.{WritesText, limit_line};
 ghost use Rattle.agent_ask.specs.PartStates.{DoesWithClient};
 ghost use Rattle.agent_commands.specs.Parts.{AsksPassphrase, TellsLimit};
-ghost use Rattle.assuan_server.specs.Written.{limit_line};
 
 use agent_ports::{Link, WriteFault};
 use assuan_server::Conn;

@@ -3,14 +3,10 @@
 //! `ask_client`; its events are `AsksSecret` (`specs/Passphrases`).
 
 ghost use Rattle.std.specs.Prelude.{[]};
-ghost use Rattle.assuan_line.specs.Lines.{IsLine};
-ghost use Rattle.assuan_server.specs.Clients.{connection_views};
-ghost use Rattle.assuan_server.specs.Connections.{IsOpen};
-ghost use Rattle.assuan_server.specs.Inquiries.{inquire_text};
-ghost use Rattle.assuan_server.specs.Written.{WritesText};
-ghost use Rattle.assuan_server.specs.Written.{limit_line};
-ghost use Rattle.agent_ask.specs.ClientParts.{Writes};
-ghost use Rattle.agent_ask.specs.PartStates.{DoesWithClient};
+ghost use Rattle.{assuan_line.specs.Lines.IsLine, assuan_server.specs.Clients.connection_views};
+ghost use Rattle.assuan_server.specs.{Connections.IsOpen, Inquiries.inquire_text};
+ghost use Rattle.assuan_server.specs.Written.{WritesText, limit_line};
+ghost use Rattle.agent_ask.specs.{ClientParts.Writes, PartStates.DoesWithClient};
 ghost use Rattle.key_commands.specs.Passphrases.{AsksSecret};
 
 use agent_ports::{Link, WriteFault};

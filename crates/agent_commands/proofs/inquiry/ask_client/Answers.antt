@@ -1,12 +1,6 @@
-use Rattle.std.proofs.Common.{sym, ◌∙◌, subst}
-use Rattle.std.specs.Prelude.{codes}
-use Rattle.std.proofs.lemmas.Result.{err_from_is_err_and}
-use Rattle.agent_ask.proofs.PartsAtClient.{gave, gave_none}
-use Rattle.agent_ask.proofs.PartsDone.{part_then, part_stops, open_after}
-use Rattle.assuan_server.specs.Clients.{connection_views}
-use Rattle.assuan_server.proofs.Clients.{wished}
-use Rattle.cache_policy.specs.declared.secret.TheConstants.{MAX_SECRET_LEN}
-use Rattle.session_client.specs.Asking.{AsksClient}
+use Rattle.std.{proofs.{Common.{sym, ◌∙◌, subst}, lemmas.Result.err_from_is_err_and}, specs.Prelude.codes}
+use Rattle.{agent_ask.proofs.{PartsAtClient.{gave, gave_none}, PartsDone.{part_then, part_stops, open_after}}, assuan_server.{specs.Clients.connection_views, proofs.Clients.wished}}
+use Rattle.{cache_policy.specs.declared.secret.TheConstants.MAX_SECRET_LEN, session_client.specs.Asking.AsksClient}
 use Rattle.agent_commands.proofs.inquiry.ask_client.Goals as goal
 
 pub returns-in_err-tell_limit : goal.returns-in_err-tell_limit

@@ -1,5 +1,4 @@
-use Rattle.agent_ask.proofs.PartsAtClient.{wrote, wrote_part}
-use Rattle.assuan_server.proofs.Clients.{said_so}
+use Rattle.{agent_ask.proofs.PartsAtClient.{wrote, wrote_part}, assuan_server.proofs.Clients.said_so}
 use Rattle.key_commands.proofs.listing.tell_info.Goals as goal
 
 pub returns-in-Ok : goal.returns-in-Ok
