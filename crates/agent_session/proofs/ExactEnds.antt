@@ -8,7 +8,7 @@ use Rattle.{key_commands.specs.declared.wrap_keys.WrapKeys.WrapKeys, session_cli
 use Rattle.session_options.specs.{OptionValues.{OptionValues, applied}, declared.{options.OptionAnswer.{OptionAnswer, TheVariants.{Set, Unknown, Parameter, NotSupported}}, rules.Rules.Rules}}
 use Rattle.agent_origin.specs.{SessionExchanges.{RequestExchange, cache, keys, went_after_key}, declared.kept.Kept.Kept}
 use Rattle.agent_session.{specs.{Causes.here, Completeness.HasError}, proofs.Standing.has_right}
-use Rattle.agent_session.proofs.KeyCourses.replies_ok
+use Rattle.agent_session.proofs.KeyCourses.{replies_ok}
 use Rattle.agent_ask.specs.Parts as chain
 use Rattle.agent_ask.specs.PartExchanges as part_exchanges
 use Rattle.session_client.specs.declared.code.Code.TheVariants as code
