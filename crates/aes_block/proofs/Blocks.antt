@@ -1,9 +1,6 @@
 -- Bytes cut into blocks of one size, and joined again.
-use Rattle.std.proofs.Common.{◌≡◌, ℕ, zero, suc, ◌+◌, ◌-◌, ◌*◌, ◌<◌, ◌≤◌, List, [], ◌∷◌, ◌++◌, length, slice_index, take, drop, refl, ap, ap₂, ◌∙◌, arith, inl, inr, lit<, length-append, length-take, length-drop}
-use Rattle.std.proofs.lemmas.Bool.{cases_lt}
-use Rattle.std.proofs.lemmas.List.{take_at, drop_at, take-append-drop, get_or-take, get_or-drop, get_or_past, get_or_append_left, get_or-append_right}
-use Rattle.std.specs.List.{concat}
-use Rattle.std.specs.Simd.{first_chunks}
+use Rattle.std.proofs.{Common.{◌≡◌, ℕ, zero, suc, ◌+◌, ◌-◌, ◌*◌, ◌<◌, ◌≤◌, List, [], ◌∷◌, ◌++◌, length, slice_index, take, drop, refl, ap, ap₂, ◌∙◌, arith, inl, inr, lit<, length-append, length-take, length-drop}, lemmas.Bool.cases_lt}
+use Rattle.std.{proofs.lemmas.List.{take_at, drop_at, take-append-drop, get_or-take, get_or-drop, get_or_past, get_or_append_left, get_or-append_right}, specs.{List.concat, Simd.first_chunks}}
 use Rattle.aes_block.specs.Aes.{IsBytes}
 
 -- ---- parts of lists of bytes

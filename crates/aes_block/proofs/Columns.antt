@@ -1,12 +1,6 @@
 -- MixColumns and its inverse undo each other: both are linear, so it is enough to look at one byte.
-use Rattle.std.proofs.Common.{◌≡◌, ℕ, ◌+◌, ◌<◌, List, [], ◌∷◌, ◌++◌, length, slice_index, refl, ap₂, ◌∙◌, sym}
-use Rattle.std.specs.Prelude.{bit_xor}
-use Rattle.aes_block.specs.Field.{product}
-use Rattle.aes_block.specs.Aes.{xor_of, dot, mix_column, inv_mix_column, mix_columns, inv_mix_columns}
-use Rattle.aes_block.proofs.Lists.{literal}
-use Rattle.std.specs.Int.Bits.{xor_zero_r}
-use Rattle.aes_block.proofs.XorLemmas.{xor_swap}
-use Rattle.aes_block.proofs.Products.{product_xor}
+use Rattle.std.{proofs.Common.{◌≡◌, ℕ, ◌+◌, ◌<◌, List, [], ◌∷◌, ◌++◌, length, slice_index, refl, ap₂, ◌∙◌, sym}, specs.{Prelude.bit_xor, Int.Bits.xor_zero_r}}
+use Rattle.aes_block.{specs.{Field.product, Aes.{xor_of, dot, mix_column, inv_mix_column, mix_columns, inv_mix_columns}}, proofs.{Lists.literal, XorLemmas.xor_swap, Products.product_xor}}
 use Rattle.aes_block.proofs.Computed.{unmixed_first, unmixed_second, unmixed_third, unmixed_fourth, mixed_first, mixed_second, mixed_third, mixed_fourth}
 
 dot_xor : (p q r s a b c d e f g h : ℕ)

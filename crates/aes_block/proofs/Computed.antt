@@ -1,11 +1,6 @@
 -- The rule of each table, computed over all 256 bytes.
-use Rattle.std.proofs.Common.{◌≡◌, ℕ, ◌<◌, refl, ap, ◌∙◌, sym, arith, List, slice_index, get_or, map, [], ◌∷◌, ◌%◌}
-use Rattle.std.specs.Prelude.{◌==◌, unwrap_or, position, bit_xor}
-use Rattle.std.proofs.lemmas.List.FromFn.{get_or-map-range_with_len}
-use Rattle.std.specs.List.{range_with_len}
-use Rattle.aes_block.specs.Field.{product, product_below, remainder, power, inverse, from_bits, sub_byte, inv_sub_byte, substitutes}
-use Rattle.aes_block.specs.Aes.{mix_column, inv_mix_column}
-use Rattle.aes_block.specs.declared.tables.TheConstants.{SUBSTITUTES, ORIGINALS, ROUND_CONSTANTS}
+use Rattle.std.{proofs.{Common.{◌≡◌, ℕ, ◌<◌, refl, ap, ◌∙◌, sym, arith, List, slice_index, get_or, map, [], ◌∷◌, ◌%◌}, lemmas.List.FromFn.get_or-map-range_with_len}, specs.{Prelude.{◌==◌, unwrap_or, position, bit_xor}, List.range_with_len}}
+use Rattle.aes_block.specs.{Field.{product, product_below, remainder, power, inverse, from_bits, sub_byte, inv_sub_byte, substitutes}, Aes.{mix_column, inv_mix_column}, declared.tables.TheConstants.{SUBSTITUTES, ORIGINALS, ROUND_CONSTANTS}}
 
 pub substitutes_are : substitutes ≡ SUBSTITUTES
 unfolding substitutes product product_below remainder power inverse from_bits sub_byte

@@ -1,7 +1,5 @@
 -- Lists of a known length, written out.
-use Rattle.std.proofs.Common.{◌≡◌, ℕ, List, length, slice_index, map, refl, subst, sym}
-use Rattle.std.proofs.lemmas.List.FromFn.{fill_by_all}
-use Rattle.std.specs.List.{range_with_len}
+use Rattle.std.{proofs.{Common.{◌≡◌, ℕ, List, length, slice_index, map, refl, subst, sym}, lemmas.List.FromFn.fill_by_all}, specs.List.range_with_len}
 use Rattle.aes_block.specs.Aes.{shift_rows, inv_shift_rows}
 
 -- a list of n elements is its elements, one by one

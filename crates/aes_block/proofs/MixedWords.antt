@@ -1,12 +1,6 @@
 -- The rule of each table of mixed words, computed over all 256 bytes.
-use Rattle.std.proofs.Common.{◌≡◌, ℕ, ◌<◌, List, [], ◌∷◌, slice_index, map, refl, ap, ◌∙◌}
-use Rattle.std.specs.Int.{w32, to_le_bytes}
-use Rattle.std.specs.List.{range_with_len}
-use Rattle.aes_block.specs.Field.{product, product_below, remainder, sub_byte}
-use Rattle.aes_block.specs.Columns.{products}
-use Rattle.aes_block.specs.declared.tables.TheConstants.{SUBSTITUTES}
-use Rattle.aes_block.specs.declared.mixed.TheConstants.{FIRST, SECOND, THIRD, FOURTH}
-use Rattle.aes_block.proofs.Computed.{on_bytes, substitute_is}
+use Rattle.std.{proofs.Common.{◌≡◌, ℕ, ◌<◌, List, [], ◌∷◌, slice_index, map, refl, ap, ◌∙◌}, specs.{Int.{w32, to_le_bytes}, List.range_with_len}}
+use Rattle.aes_block.{specs.{Field.{product, product_below, remainder, sub_byte}, Columns.products, declared.{tables.TheConstants.SUBSTITUTES, mixed.TheConstants.{FIRST, SECOND, THIRD, FOURTH}}}, proofs.Computed.{on_bytes, substitute_is}}
 
 -- a table of words, from its rule at every byte
 table_is : (table ks : List ℕ)

@@ -1,10 +1,6 @@
 -- The field's product is linear in its second factor.
-use Rattle.std.proofs.Common.{◌≡◌, ℕ, zero, suc, ◌+◌, ◌*◌, ◌^◌, refl, ap, ap₂, ◌∙◌}
-use Rattle.std.specs.Prelude.{bit_xor}
-use Rattle.std.specs.Int.{bit_at}
-use Rattle.std.proofs.lemmas.Nat.Bits.{bit_at_xor, bit_at-lt}
-use Rattle.aes_block.specs.Field.{modulus, product, product_below, remainder}
-use Rattle.aes_block.proofs.XorLemmas.{xor_swap, mul_pow_xor, bit_mul_xor, xor_bit_mul}
+use Rattle.std.{proofs.{Common.{◌≡◌, ℕ, zero, suc, ◌+◌, ◌*◌, ◌^◌, refl, ap, ap₂, ◌∙◌}, lemmas.Nat.Bits.{bit_at_xor, bit_at-lt}}, specs.{Prelude.bit_xor, Int.bit_at}}
+use Rattle.aes_block.{specs.Field.{modulus, product, product_below, remainder}, proofs.XorLemmas.{xor_swap, mul_pow_xor, bit_mul_xor, xor_bit_mul}}
 
 product_below_xor : (a b c n : ℕ) → product_below a (bit_xor b c) n ≡ bit_xor (product_below a b n) (product_below a c n)
 unfolding product_below

@@ -1,12 +1,7 @@
 -- Encryption undoes decryption: each block is the encryption of a block.
-use Rattle.std.proofs.Common.{◌≡◌, ℕ, zero, suc, ◌+◌, ◌-◌, ◌*◌, ◌%◌, ◌<◌, List, [], ◌∷◌, length, slice_index, refl, ap, ap₂, ◌∙◌, sym}
-use Rattle.std.proofs.lemmas.List.{length-map}
-use Rattle.std.specs.List.{range_with_len}
+use Rattle.std.{proofs.{Common.{◌≡◌, ℕ, zero, suc, ◌+◌, ◌-◌, ◌*◌, ◌%◌, ◌<◌, List, [], ◌∷◌, length, slice_index, refl, ap, ap₂, ◌∙◌, sym}, lemmas.List.length-map}, specs.List.range_with_len}
 use Rattle.aes_block.specs.Aes.{IsBytes, xor_of, sub_bytes, inv_sub_bytes, shift_rows, inv_shift_rows, mix_columns, inv_mix_column, inv_mix_columns, round_key, rounds, encrypted, inv_rounds, decrypted}
-use Rattle.aes_block.proofs.Lists.{shift_rows_inv_shift_rows}
-use Rattle.aes_block.proofs.XorLemmas.{xor_of_twice}
-use Rattle.aes_block.proofs.Computed.{sub_byte_inv_sub_byte, inv_sub_byte_lt, product_9_lt, product_11_lt, product_13_lt, product_14_lt}
-use Rattle.aes_block.proofs.Columns.{mix_columns_inv_mix_columns}
+use Rattle.aes_block.proofs.{Lists.shift_rows_inv_shift_rows, XorLemmas.xor_of_twice, Computed.{sub_byte_inv_sub_byte, inv_sub_byte_lt, product_9_lt, product_11_lt, product_13_lt, product_14_lt}, Columns.mix_columns_inv_mix_columns}
 use Rattle.aes_block.proofs.Undone.{Small, IsState, is_bytes, is_state, small_append, small_map, small_at, xor_of_four, xor_of_state, round_key_state}
 
 sub_bytes_inv_sub_bytes : (s : List ℕ) → Small s → sub_bytes (inv_sub_bytes s) ≡ s

@@ -1,11 +1,7 @@
 -- The steps of the loops of `encrypt` and `decrypt`.
-use Rattle.std.proofs.Common.{◌≡◌, ℕ, suc, ◌+◌, ◌-◌, ◌<◌, ◌≤◌, List, [], zero, length, get_or, refl, ap, ◌∙◌, sym, arith}
-use Rattle.std.proofs.lemmas.List.{length-map}
-use Rattle.aes_block.specs.Field.{inv_sub_byte}
-use Rattle.aes_block.specs.Columns.{bytes_of}
-use Rattle.aes_block.specs.Aes.{xor_of, sub_bytes, inv_sub_bytes, shift_rows, inv_shift_rows, mix_columns, inv_mix_columns, round_key, rounds, inv_rounds, decrypted}
-use Rattle.aes_block.proofs.Columns.{inv_mix_columns_xor}
-use Rattle.aes_block.proofs.Undone.{length_round_key}
+use Rattle.std.proofs.{Common.{◌≡◌, ℕ, suc, ◌+◌, ◌-◌, ◌<◌, ◌≤◌, List, [], zero, length, get_or, refl, ap, ◌∙◌, sym, arith}, lemmas.List.length-map}
+use Rattle.aes_block.specs.{Field.inv_sub_byte, Columns.bytes_of, Aes.{xor_of, sub_bytes, inv_sub_bytes, shift_rows, inv_shift_rows, mix_columns, inv_mix_columns, round_key, rounds, inv_rounds, decrypted}}
+use Rattle.aes_block.proofs.{Columns.inv_mix_columns_xor, Undone.length_round_key}
 
 pub key_at : (keys : List (List ℕ)) (key : List ℕ) (r : ℕ)
     → ((r : ℕ) → r < 11 → bytes_of (get_or keys r []) ≡ round_key (bytes_of (get_or keys 0 [])) r)

@@ -1,15 +1,9 @@
 -- Decryption undoes encryption.
-use Rattle.std.proofs.Common.{◌≡◌, ℕ, zero, suc, ◌+◌, ◌-◌, ◌*◌, ◌/◌, ◌%◌, ◌<◌, List, [], ◌∷◌, ◌++◌, length, slice_index, map, take, drop, refl, ap, ap₂, ◌∙◌, sym, arith, Bool, true, false, length-append}
-use Rattle.std.specs.Prelude.{bit_xor, ◌==◌, if◌then◌else◌}
-use Rattle.std.proofs.lemmas.List.{length-map}
-use Rattle.std.proofs.lemmas.Nat.{xor_of_8}
-use Rattle.std.specs.List.{range_with_len}
+use Rattle.std.proofs.{Common.{◌≡◌, ℕ, zero, suc, ◌+◌, ◌-◌, ◌*◌, ◌/◌, ◌%◌, ◌<◌, List, [], ◌∷◌, ◌++◌, length, slice_index, map, take, drop, refl, ap, ap₂, ◌∙◌, sym, arith, Bool, true, false, length-append}, lemmas.List.length-map}
+use Rattle.std.{proofs.lemmas.Nat.xor_of_8, specs.{Prelude.{bit_xor, ◌==◌, if◌then◌else◌}, List.range_with_len}}
 use Rattle.aes_block.specs.Field.{product, power, sub_byte}
 use Rattle.aes_block.specs.Aes.{IsBytes, xor_of, sub_bytes, inv_sub_bytes, shift_rows, inv_shift_rows, mix_column, mix_columns, inv_mix_columns, turned_word, added_word, word, round_key, rounds, encrypted, inv_rounds, decrypted}
-use Rattle.aes_block.proofs.Lists.{inv_shift_rows_shift_rows}
-use Rattle.aes_block.proofs.XorLemmas.{length_xor_of, xor_of_twice}
-use Rattle.aes_block.proofs.Computed.{product_1, product_3, product_2_lt, sub_byte_lt, inv_sub_byte_sub_byte}
-use Rattle.aes_block.proofs.Words.{length_word}
+use Rattle.aes_block.proofs.{Lists.inv_shift_rows_shift_rows, XorLemmas.{length_xor_of, xor_of_twice}, Computed.{product_1, product_3, product_2_lt, sub_byte_lt, inv_sub_byte_sub_byte}, Words.length_word}
 use Rattle.aes_block.proofs.Columns.{inv_mix_columns_mix_columns}
 
 -- each element is a byte

@@ -1,14 +1,7 @@
 -- Words and their bytes: sums of words, and states of four.
-use Rattle.std.proofs.Common.{◌≡◌, ℕ, zero, suc, ◌+◌, ◌/◌, ◌%◌, ◌^◌, ◌<◌, List, [], ◌∷◌, ◌++◌, length, slice_index, refl, ap, ap₂, ◌∙◌, sym, arith, get_or, set, below_more}
-use Rattle.std.proofs.lemmas.List.{get_or-set_same, get_or-set_other, length-set}
-use Rattle.std.specs.Prelude.{bit_xor}
-use Rattle.std.specs.Int.{w32, to_le_bytes, from_le_bytes}
-use Rattle.std.proofs.lemmas.Nat.{xor_mod, xor_shr, le_bytes_4}
-use Rattle.aes_block.specs.Columns.{bytes_of}
-use Rattle.aes_block.specs.Aes.{xor_of}
-use Rattle.aes_block.specs.Field.{sub_byte, inv_sub_byte}
-use Rattle.aes_block.proofs.Lists.{literal}
-use Rattle.aes_block.proofs.Computed.{inv_sub_byte_sub_byte}
+use Rattle.std.proofs.{Common.{◌≡◌, ℕ, zero, suc, ◌+◌, ◌/◌, ◌%◌, ◌^◌, ◌<◌, List, [], ◌∷◌, ◌++◌, length, slice_index, refl, ap, ap₂, ◌∙◌, sym, arith, get_or, set, below_more}, lemmas.List.{get_or-set_same, get_or-set_other, length-set}}
+use Rattle.std.{proofs.lemmas.Nat.{xor_mod, xor_shr, le_bytes_4}, specs.{Prelude.bit_xor, Int.{w32, to_le_bytes, from_le_bytes}}}
+use Rattle.aes_block.{specs.{Columns.bytes_of, Aes.xor_of, Field.{sub_byte, inv_sub_byte}}, proofs.{Lists.literal, Computed.inv_sub_byte_sub_byte}}
 
 -- the bytes of a sum are the sums of the bytes
 pub to_le_bytes_xor : (a b : ℕ) → to_le_bytes w32 (bit_xor a b) ≡ xor_of (to_le_bytes w32 a) (to_le_bytes w32 b)

@@ -1,10 +1,7 @@
 -- The words of the key schedule, and the keys of the rounds.
-use Rattle.std.proofs.Common.{◌≡◌, ℕ, zero, suc, ◌+◌, ◌-◌, ◌*◌, ◌/◌, ◌%◌, ◌≤◌, List, [], ◌∷◌, ◌++◌, length, slice_index, drop, refl, ap, ◌∙◌, sym, subst, arith, Bool, true, false, length-take, length-drop}
-use Rattle.std.proofs.lemmas.Bool.{ne_eqb}
+use Rattle.std.proofs.{Common.{◌≡◌, ℕ, zero, suc, ◌+◌, ◌-◌, ◌*◌, ◌/◌, ◌%◌, ◌≤◌, List, [], ◌∷◌, ◌++◌, length, slice_index, drop, refl, ap, ◌∙◌, sym, subst, arith, Bool, true, false, length-take, length-drop}, lemmas.Bool.ne_eqb}
 use Rattle.std.specs.Prelude.{◌==◌, if◌then◌else◌}
-use Rattle.aes_block.specs.Aes.{xor_of, turned_word, added_word, word, round_key}
-use Rattle.aes_block.proofs.Lists.{literal}
-use Rattle.aes_block.proofs.XorLemmas.{length_xor_of}
+use Rattle.aes_block.{specs.Aes.{xor_of, turned_word, added_word, word, round_key}, proofs.{Lists.literal, XorLemmas.length_xor_of}}
 
 length_added_word : (w : List ℕ) (i : ℕ) → length w ≡ 4 → length (added_word w i) ≡ 4
 length_added_word w i h = by_test (i % 4 == 0) where

@@ -1,10 +1,7 @@
 -- The laws of the exclusive or, of numbers and of lists of bytes.
-use Rattle.std.proofs.Common.{◌≡◌, ℕ, zero, suc, ◌+◌, ◌*◌, ◌%◌, ◌^◌, ◌<◌, List, [], ◌∷◌, length, get_or, refl, ap, ap₂, ◌∙◌, sym, arith, ◌⊎◌, inl, inr, add-zero, ◌≤◌, set, below_more}
-use Rattle.std.proofs.lemmas.List.{get_or-set_same, get_or-set_other, length-set}
 use native.Mathlib.Nat.{zero-mul, one-mul}
-use Rattle.std.specs.Prelude.{bit_xor}
-use Rattle.std.specs.Int.Bits.{xor_assoc, xor_self, xor_zero_r}
-use Rattle.std.proofs.lemmas.Nat.{xor_comm, xor_block, pow_pos}
+use Rattle.std.proofs.Common.{◌≡◌, ℕ, zero, suc, ◌+◌, ◌*◌, ◌%◌, ◌^◌, ◌<◌, List, [], ◌∷◌, length, get_or, refl, ap, ap₂, ◌∙◌, sym, arith, ◌⊎◌, inl, inr, add-zero, ◌≤◌, set, below_more}
+use Rattle.std.{proofs.lemmas.{List.{get_or-set_same, get_or-set_other, length-set}, Nat.{xor_comm, xor_block, pow_pos}}, specs.{Prelude.bit_xor, Int.Bits.{xor_assoc, xor_self, xor_zero_r}}}
 use Rattle.aes_block.specs.Aes.{xor_of}
 
 -- adding one number twice

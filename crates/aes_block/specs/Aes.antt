@@ -1,7 +1,6 @@
 -- AES-128 (FIPS 197) on lists of bytes. A block and the state are 16 bytes: the four columns one
 -- after another, each with its byte of the first row first (3.4). A word of the key schedule is 4 bytes.
-use Rattle.std.specs.Prelude.{◌≡◌, ℕ, zero, suc, ◌+◌, ◌-◌, ◌*◌, ◌/◌, ◌%◌, ◌<◌, List, [], ◌∷◌, ◌++◌, length, slice_index, map, bit_xor, ◌==◌, if◌then◌else◌, take, drop}
-use Rattle.std.specs.List.{range_with_len}
+use Rattle.std.specs.{Prelude.{◌≡◌, ℕ, zero, suc, ◌+◌, ◌-◌, ◌*◌, ◌/◌, ◌%◌, ◌<◌, List, [], ◌∷◌, ◌++◌, length, slice_index, map, bit_xor, ◌==◌, if◌then◌else◌, take, drop}, List.range_with_len}
 use Rattle.aes_block.specs.Field.{product, power, sub_byte, inv_sub_byte}
 
 -- s is a list of n bytes

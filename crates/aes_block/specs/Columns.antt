@@ -1,6 +1,5 @@
 -- The state as the code keeps it: a word for each column, its byte of the first row lowest.
-use Rattle.std.specs.Prelude.{ℕ, List, [], ◌∷◌, ◌++◌, map}
-use Rattle.std.specs.Int.{w32, to_le_bytes}
+use Rattle.std.specs.{Prelude.{ℕ, List, [], ◌∷◌, ◌++◌, map}, Int.{w32, to_le_bytes}}
 use Rattle.aes_block.specs.Field.{product}
 
 -- the bytes of so many words

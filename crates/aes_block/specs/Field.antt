@@ -1,8 +1,6 @@
 -- The field of FIPS 197 (2023), 4. A byte is a polynomial over the two elements 0 and 1: its bit i is the
 -- coefficient of x ^ i. The sum of two polynomials is the exclusive or of their bits, `bit_xor`.
-use Rattle.std.specs.Prelude.{ℕ, zero, suc, ◌+◌, ◌*◌, ◌%◌, ◌^◌, List, ◌==◌, bit_xor, map, unwrap_or, position}
-use Rattle.std.specs.Int.{bit_at}
-use Rattle.std.specs.List.{range_with_len}
+use Rattle.std.specs.{Prelude.{ℕ, zero, suc, ◌+◌, ◌*◌, ◌%◌, ◌^◌, List, ◌==◌, bit_xor, map, unwrap_or, position}, Int.bit_at, List.range_with_len}
 
 -- x^8 + x^4 + x^3 + x + 1 (4.2)
 abbrev pub modulus : ℕ

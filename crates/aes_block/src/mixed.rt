@@ -3,10 +3,8 @@
 //! SubBytes and MixColumns together (FIPS 197, 5.1.1 and 5.1.3); begin with the clause of
 //! `mixed_first`.
 
-ghost use Rattle.std.specs.Prelude.{◌≡◌, [], ◌∷◌};
-ghost use Rattle.std.specs.Int.{w32, to_le_bytes};
-ghost use Rattle.aes_block.specs.Field.{sub_byte};
-ghost use Rattle.aes_block.specs.Columns.{products};
+ghost use Rattle.std.specs.{Prelude.{◌≡◌, [], ◌∷◌}, Int.{w32, to_le_bytes}};
+ghost use Rattle.aes_block.specs.{Field.sub_byte, Columns.products};
 
 const FIRST: [u32; 256] = [
     0xA56363C6, 0x847C7CF8, 0x997777EE, 0x8D7B7BF6, 0x0DF2F2FF, 0xBD6B6BD6, 0xB16F6FDE, 0x54C5C591,

@@ -4,8 +4,7 @@
 
 ghost use Rattle.std.specs.Prelude.{◌≡◌, ℕ, ◌+◌, ◌-◌, ◌<◌, ◌≤◌, List, [], length, slice_index_or};
 ghost use Rattle.std.specs.Int.{w32, to_le_bytes};
-ghost use Rattle.aes_block.specs.Columns.{bytes_of};
-ghost use Rattle.aes_block.specs.Aes.{inv_mix_columns, turned_word, round_key};
+ghost use Rattle.aes_block.specs.{Columns.bytes_of, Aes.{inv_mix_columns, turned_word, round_key}};
 
 use crate::state::{state_of, substituted_word, unmix_columns};
 use crate::tables::round_constant;

@@ -2,10 +2,8 @@
 //! Pure functions, of which some do several of the standard's transformations by one look-up. Begin
 //! with `mix`, a whole round but for its key; `specs/Columns` says how words are columns.
 
-ghost use Rattle.std.specs.Prelude.{◌≡◌, [], ◌∷◌, slice_index};
-ghost use Rattle.std.specs.Int.{w32, to_le_bytes};
-ghost use Rattle.aes_block.specs.Field.{sub_byte, inv_sub_byte};
-ghost use Rattle.aes_block.specs.Columns.{bytes_of};
+ghost use Rattle.std.specs.{Prelude.{◌≡◌, [], ◌∷◌, slice_index}, Int.{w32, to_le_bytes}};
+ghost use Rattle.aes_block.specs.{Field.{sub_byte, inv_sub_byte}, Columns.bytes_of};
 ghost use Rattle.aes_block.specs.Aes.{xor_of, sub_bytes, inv_sub_bytes, shift_rows, inv_shift_rows};
 ghost use Rattle.aes_block.specs.Aes.{mix_column, inv_mix_column, mix_columns, inv_mix_columns};
 

@@ -3,10 +3,8 @@
 //! the inverses of SubBytes and MixColumns together (FIPS 197, 5.3.2 and 5.3.3); begin with the
 //! clause of `unmixed_first`.
 
-ghost use Rattle.std.specs.Prelude.{◌≡◌, [], ◌∷◌};
-ghost use Rattle.std.specs.Int.{w32, to_le_bytes};
-ghost use Rattle.aes_block.specs.Field.{inv_sub_byte};
-ghost use Rattle.aes_block.specs.Columns.{products};
+ghost use Rattle.std.specs.{Prelude.{◌≡◌, [], ◌∷◌}, Int.{w32, to_le_bytes}};
+ghost use Rattle.aes_block.specs.{Field.inv_sub_byte, Columns.products};
 
 const FIRST: [u32; 256] = [
     0x50A7F451, 0x5365417E, 0xC3A4171A, 0x965E273A, 0xCB6BAB3B, 0xF1459D1F, 0xAB58FAAC, 0x9303E34B,

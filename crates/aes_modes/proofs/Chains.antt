@@ -1,8 +1,6 @@
 -- One block of a chain, and the rest.
 use Rattle.std.proofs.Common.{◌≡◌, ℕ, suc, ◌+◌, ◌*◌, ◌/◌, ◌<◌, ◌≤◌, List, [], ◌∷◌, ◌++◌, length, take, drop, ap, ap₂, ◌∙◌, sym, arith, append_assoc, length-append, length-drop}
-use Rattle.std.proofs.lemmas.List.{take_at, drop_at, drop-drop, append-nil, take_all}
-use Rattle.std.specs.List.{concat}
-use Rattle.std.specs.Simd.{first_chunks}
+use Rattle.std.{proofs.lemmas.List.{take_at, drop_at, drop-drop, append-nil, take_all}, specs.{List.concat, Simd.first_chunks}}
 use Rattle.aes_block.specs.Aes.{xor_of, encrypted, decrypted}
 use Rattle.aes_modes.specs.Cbc.{blocks_of, encrypted_blocks, decrypted_blocks, cbc_encrypted, cbc_decrypted}
 

@@ -1,14 +1,7 @@
 -- Doubling, and the first offset, as the code makes them.
-use Rattle.std.proofs.Common.{◌≡◌, ℕ, zero, suc, ◌+◌, ◌-◌, ◌*◌, ◌/◌, ◌%◌, ◌^◌, ◌<◌, List, [], ◌∷◌, ◌++◌, length, get_or, set, map, take, drop, refl, ap, ap₂, ◌∙◌, sym, arith, inl, inr}
-use Rattle.std.specs.Prelude.{bit_xor, replicate}
-use Rattle.std.specs.Int.{bit_at}
-use Rattle.std.specs.Int.Bits.{xor_zero_r}
-use Rattle.std.specs.List.{range_with_len}
-use Rattle.std.proofs.lemmas.Bool.{cases_lt}
-use Rattle.std.proofs.lemmas.List.{get_or_append_left, get_or-append_right, get_or_past}
-use Rattle.std.proofs.lemmas.List.FromFn.{fill_by_all, get_or-map-range_with_len}
-use Rattle.aes_block.specs.Aes.{xor_of, encrypted}
-use Rattle.aes_block.proofs.Lists.{literal}
+use Rattle.std.proofs.{Common.{◌≡◌, ℕ, zero, suc, ◌+◌, ◌-◌, ◌*◌, ◌/◌, ◌%◌, ◌^◌, ◌<◌, List, [], ◌∷◌, ◌++◌, length, get_or, set, map, take, drop, refl, ap, ap₂, ◌∙◌, sym, arith, inl, inr}, lemmas.Bool.cases_lt}
+use Rattle.std.{proofs.lemmas.List.{get_or_append_left, get_or-append_right, get_or_past, FromFn.{fill_by_all, get_or-map-range_with_len}}, specs.{Prelude.{bit_xor, replicate}, Int.{bit_at, Bits.xor_zero_r}, List.range_with_len}}
+use Rattle.aes_block.{specs.Aes.{xor_of, encrypted}, proofs.Lists.literal}
 use Rattle.aes_modes.specs.Ocb.{eight_bits, block_from, double, k_top, stretch, first_offset}
 
 -- ---- zeros at the end change no bits

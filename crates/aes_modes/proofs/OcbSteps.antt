@@ -1,14 +1,8 @@
 -- The loops over the blocks of OCB, step by step.
 use Rattle.std.proofs.Common.{◌≡◌, ℕ, suc, ◌+◌, ◌-◌, ◌*◌, ◌/◌, ◌<◌, ◌≤◌, List, [], ◌∷◌, ◌++◌, length, get_or, set, map, take, drop, refl, ap, ap₂, ◌∙◌, sym, arith, append_assoc, length-append, length-drop, add-one}
-use Rattle.std.specs.Prelude.{bit_xor, replicate}
-use Rattle.std.specs.Int.{w64, trailing_zeros}
-use Rattle.std.specs.List.{concat}
-use Rattle.std.proofs.lemmas.List.{take-append-drop, drop-drop, take_all, drop_all, take_at, drop_at, append-nil, drop-replicate, set_at}
-use Rattle.std.proofs.Math.Seq.{drop-cons}
-use Rattle.aes_block.specs.Aes.{IsBytes, xor_of, encrypted}
-use Rattle.aes_block.proofs.XorLemmas.{Added}
-use Rattle.aes_modes.specs.Cbc.{blocks_of}
-use Rattle.aes_modes.specs.Ocb.{zeros, l_star, l_mask, offset, offset_after, last_offset, partial_block, masked, masked_blocks, sum_from, hashed_blocks, padded, checksum, hash, l_dollar, first_offset, ocb_tag}
+use Rattle.std.{proofs.{lemmas.List.{take-append-drop, drop-drop, take_all, drop_all, take_at, drop_at, append-nil, drop-replicate, set_at}, Math.Seq.drop-cons}, specs.{Prelude.{bit_xor, replicate}, Int.{w64, trailing_zeros}, List.concat}}
+use Rattle.aes_block.{specs.Aes.{IsBytes, xor_of, encrypted}, proofs.XorLemmas.Added}
+use Rattle.aes_modes.specs.{Cbc.blocks_of, Ocb.{zeros, l_star, l_mask, offset, offset_after, last_offset, partial_block, masked, masked_blocks, sum_from, hashed_blocks, padded, checksum, hash, l_dollar, first_offset, ocb_tag}}
 use Rattle.aes_modes.proofs.Chains.{IsPut, chain_more, blocks_of_next, blocks_of_none}
 
 pub offset_more : (key first now next mask : List ℕ) (i : ℕ) → now ≡ offset key first i → next ≡ xor_of now mask

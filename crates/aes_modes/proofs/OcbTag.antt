@@ -1,12 +1,7 @@
 -- A tag is a block.
-use Rattle.std.proofs.Common.{◌≡◌, ℕ, ◌+◌, ◌-◌, ◌*◌, ◌/◌, ◌<◌, List, [], ◌∷◌, ◌++◌, length, map, arith, length-drop, lit<, subst}
-use Rattle.std.specs.Prelude.{replicate}
-use Rattle.std.proofs.lemmas.List.{length-replicate}
-use Rattle.aes_block.specs.Aes.{IsBytes, xor_of, encrypted}
-use Rattle.aes_block.proofs.Blocks.{AreBlocks, IsBytes_append, IsBytes_drop}
-use Rattle.aes_block.proofs.Undone.{small_at, encrypted_bytes, xor_of_bytes}
-use Rattle.aes_modes.specs.Cbc.{blocks_of}
-use Rattle.aes_modes.specs.Ocb.{zeros, l_dollar, first_offset, offset, partial_block, padded, last_offset, sum_from, checksum, hashed_blocks, hash, ocb_tag}
+use Rattle.std.{proofs.{Common.{◌≡◌, ℕ, ◌+◌, ◌-◌, ◌*◌, ◌/◌, ◌<◌, List, [], ◌∷◌, ◌++◌, length, map, arith, length-drop, lit<, subst}, lemmas.List.length-replicate}, specs.Prelude.replicate}
+use Rattle.aes_block.{specs.Aes.{IsBytes, xor_of, encrypted}, proofs.{Blocks.{AreBlocks, IsBytes_append, IsBytes_drop}, Undone.{small_at, encrypted_bytes, xor_of_bytes}}}
+use Rattle.aes_modes.specs.{Cbc.blocks_of, Ocb.{zeros, l_dollar, first_offset, offset, partial_block, padded, last_offset, sum_from, checksum, hashed_blocks, hash, ocb_tag}}
 use Rattle.aes_modes.proofs.OcbUndone.{small_zeros, zeros_bytes, double_bytes, first_offset_bytes, offset_bytes, offset_after_bytes, first_chunks_front}
 
 sum_from_bytes : (s : List ℕ) (bs : List (List ℕ)) → IsBytes 16 s → AreBlocks 16 bs → IsBytes 16 (sum_from s bs)

@@ -1,19 +1,9 @@
 -- Decryption and encryption by OCB undo each other.
 use Rattle.std.proofs.Common.{◌≡◌, ℕ, zero, suc, ◌+◌, ◌-◌, ◌*◌, ◌/◌, ◌<◌, ◌≤◌, List, [], ◌∷◌, ◌++◌, length, slice_index, take, drop, refl, ap, ap₂, ◌∙◌, sym, arith, append_assoc, length-append, length-drop, lit<}
-use Rattle.std.specs.Prelude.{replicate}
-use Rattle.std.specs.Int.{bit_at}
-use Rattle.std.specs.List.{concat, range_with_len}
-use Rattle.std.specs.Simd.{first_chunks}
-use Rattle.std.proofs.lemmas.List.{take_at, drop_at, take-append-drop, drop-drop}
-use Rattle.std.proofs.lemmas.Nat.{xor_of_8}
-use Rattle.std.proofs.lemmas.Nat.Bits.{bit_at-lt}
-use Rattle.aes_block.specs.Aes.{IsBytes, xor_of, encrypted, decrypted}
-use Rattle.aes_block.proofs.Blocks.{AreBlocks, length_concat, length_first_chunks, IsBytes_take, IsBytes_drop, IsBytes_append}
-use Rattle.aes_block.proofs.XorLemmas.{xor_twice, xor_of_twice}
-use Rattle.aes_block.proofs.Undone.{Small, small_at, small_map, small_append, decrypted_encrypted, encrypted_bytes, xor_of_bytes}
-use Rattle.aes_block.proofs.Restored.{encrypted_decrypted, decrypted_bytes}
-use Rattle.aes_modes.proofs.OcbSteps.{last_offset_length}
-use Rattle.aes_modes.specs.Cbc.{blocks_of}
+use Rattle.std.{proofs.lemmas.{List.{take_at, drop_at, take-append-drop, drop-drop}, Nat.{xor_of_8, Bits.bit_at-lt}}, specs.{Prelude.replicate, Int.bit_at, List.{concat, range_with_len}, Simd.first_chunks}}
+use Rattle.aes_block.{specs.Aes.{IsBytes, xor_of, encrypted, decrypted}, proofs.{Blocks.{AreBlocks, length_concat, length_first_chunks, IsBytes_take, IsBytes_drop, IsBytes_append}, XorLemmas.{xor_twice, xor_of_twice}}}
+use Rattle.aes_block.proofs.{Undone.{Small, small_at, small_map, small_append, decrypted_encrypted, encrypted_bytes, xor_of_bytes}, Restored.{encrypted_decrypted, decrypted_bytes}}
+use Rattle.aes_modes.{proofs.OcbSteps.last_offset_length, specs.Cbc.blocks_of}
 use Rattle.aes_modes.specs.Ocb.{zeros, eight_bits, block_from, double, l_star, l_dollar, l_mask, first_offset, offset, partial_block, offset_after, last_offset, masked_blocks, masked, ocb_encrypted, ocb_decrypted}
 
 -- ---- offsets are blocks

@@ -1,10 +1,7 @@
 -- Two tags compared through their sum.
-use Rattle.std.proofs.Common.{◌≡◌, ℕ, zero, suc, ◌+◌, ◌<◌, ◌≤◌, List, [], ◌∷◌, length, get_or, refl, ap, ap₂, ◌∙◌, sym, arith, below_more}
-use Rattle.std.specs.Prelude.{bit_xor, bit_or}
+use Rattle.std.{proofs.{Common.{◌≡◌, ℕ, zero, suc, ◌+◌, ◌<◌, ◌≤◌, List, [], ◌∷◌, length, get_or, refl, ap, ap₂, ◌∙◌, sym, arith, below_more}, lemmas.Nat.{le_or_l, le_or_r}}, specs.Prelude.{bit_xor, bit_or}}
 use Rattle.std.specs.Int.Bits.{xor_self, xor_zero_l, or_zero_l}
-use Rattle.std.proofs.lemmas.Nat.{le_or_l, le_or_r}
-use Rattle.aes_block.specs.Aes.{xor_of}
-use Rattle.aes_block.proofs.XorLemmas.{xor_twice}
+use Rattle.aes_block.{specs.Aes.xor_of, proofs.XorLemmas.xor_twice}
 
 -- the first i bytes of a sum are within the bits that were seen
 pub record Seen (sum : List ℕ) (bits i : ℕ) : Type 0 where

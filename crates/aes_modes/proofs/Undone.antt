@@ -1,10 +1,6 @@
 -- Decryption of a chain undoes its encryption.
-use Rattle.std.proofs.Common.{◌≡◌, ℕ, ◌*◌, ◌/◌, ◌%◌, List, [], ◌∷◌, length, refl, ap, ap₂, ◌∙◌, sym, arith}
-use Rattle.std.specs.List.{concat}
-use Rattle.std.specs.Simd.{first_chunks}
-use Rattle.aes_block.specs.Aes.{IsBytes, xor_of, encrypted}
-use Rattle.aes_block.proofs.Blocks.{AreBlocks, concat_first_chunks, first_chunks_concat, length_concat, first_chunks_blocks}
-use Rattle.aes_block.proofs.XorLemmas.{xor_of_twice}
+use Rattle.std.{proofs.Common.{◌≡◌, ℕ, ◌*◌, ◌/◌, ◌%◌, List, [], ◌∷◌, length, refl, ap, ap₂, ◌∙◌, sym, arith}, specs.{List.concat, Simd.first_chunks}}
+use Rattle.aes_block.{specs.Aes.{IsBytes, xor_of, encrypted}, proofs.{Blocks.{AreBlocks, concat_first_chunks, first_chunks_concat, length_concat, first_chunks_blocks}, XorLemmas.xor_of_twice}}
 use Rattle.aes_block.proofs.Undone.{decrypted_encrypted, encrypted_bytes, xor_of_bytes}
 use Rattle.aes_modes.specs.Cbc.{blocks_of, encrypted_blocks, decrypted_blocks, cbc_encrypted, cbc_decrypted}
 

@@ -1,7 +1,5 @@
 -- Cipher block chaining (SP 800-38A, 6.2) with AES-128, on lists of blocks of 16 bytes.
-use Rattle.std.specs.Prelude.{ℕ, ◌/◌, List, [], ◌∷◌, length}
-use Rattle.std.specs.List.{concat}
-use Rattle.std.specs.Simd.{first_chunks}
+use Rattle.std.specs.{Prelude.{ℕ, ◌/◌, List, [], ◌∷◌, length}, List.concat, Simd.first_chunks}
 use Rattle.aes_block.specs.Aes.{xor_of, encrypted, decrypted}
 
 -- the blocks of a list of bytes

@@ -1,10 +1,7 @@
 -- Private: what the code of OCB keeps beside the key.
 use Rattle.std.specs.Prelude.{ℕ, List}
 use Rattle.aes_block.specs.Aes.{encrypted, decrypted}
-use Rattle.aes_modes.specs.Ocb.{l_star, l_dollar, l_mask}
-use Rattle.aes_modes.specs.declared.masks.Masks.{Masks}
-use Rattle.aes_modes.specs.declared.ocb.Direction.{Direction}
-use Rattle.aes_modes.specs.declared.ocb.Direction.TheVariants.{Encrypt, Decrypt}
+use Rattle.aes_modes.specs.{Ocb.{l_star, l_dollar, l_mask}, declared.{masks.Masks.Masks, ocb.Direction.{Direction, TheVariants.{Encrypt, Decrypt}}}}
 
 -- the masks of a key from which the others are made
 abbrev pub masks_of : List ℕ → Masks

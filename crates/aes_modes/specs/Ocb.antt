@@ -1,9 +1,7 @@
 -- The authenticated encryption OCB of RFC 7253 with AES-128, a nonce of 12 bytes and a tag of 16 (3.1:
 -- AEAD_AES_128_OCB_TAGLEN128), on lists of blocks of 16 bytes. The bits of a string of bytes are counted from 0, the
 -- highest bit of its first byte.
-use Rattle.std.specs.Prelude.{ℕ, zero, suc, ◌+◌, ◌-◌, ◌*◌, ◌/◌, ◌%◌, ◌^◌, List, [], ◌∷◌, ◌++◌, length, slice_index, map, take, drop, replicate}
-use Rattle.std.specs.Int.{w64, trailing_zeros, bit_at}
-use Rattle.std.specs.List.{concat, range_with_len}
+use Rattle.std.specs.{Prelude.{ℕ, zero, suc, ◌+◌, ◌-◌, ◌*◌, ◌/◌, ◌%◌, ◌^◌, List, [], ◌∷◌, ◌++◌, length, slice_index, map, take, drop, replicate}, Int.{w64, trailing_zeros, bit_at}, List.{concat, range_with_len}}
 use Rattle.aes_block.specs.Aes.{xor_of, encrypted, decrypted}
 use Rattle.aes_modes.specs.Cbc.{blocks_of}
 

@@ -2,11 +2,9 @@
 //! 7253, 4.1 and 4.2). Pure but for the masks, which are overwritten when they are dropped. Begin
 //! with `Masks::new` and `first_offset`; the definitions stand in `specs/Masks`.
 
-ghost use Rattle.std.specs.Prelude.{◌≡◌, ℕ, ◌+◌, ◌/◌, ◌<◌, List};
-ghost use Rattle.std.specs.Int.{w64, trailing_zeros};
+ghost use Rattle.std.specs.{Prelude.{◌≡◌, ℕ, ◌+◌, ◌/◌, ◌<◌, List}, Int.{w64, trailing_zeros}};
 ghost use Rattle.aes_modes.specs.Ocb.{block_from, double, l_mask, stretch, first_offset};
-ghost use Rattle.aes_modes.specs.Ocb.{eight_bits};
-ghost use Rattle.aes_modes.specs.Masks.{masks_of};
+ghost use Rattle.aes_modes.specs.{Ocb.eight_bits, Masks.masks_of};
 
 use aes_block::{Aes128, xor};
 use wiping::wipe;

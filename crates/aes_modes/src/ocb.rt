@@ -3,15 +3,13 @@
 //! with `ocb_encrypt`; the definitions stand in `specs/Ocb`.
 
 ghost use Rattle.std.specs.Prelude.{◌≡◌, ◌↔◌, [], ◌∷◌, ℕ, ◌+◌, ◌*◌, ◌/◌, ◌<◌, ◌≤◌, List, ◌++◌};
-ghost use Rattle.std.specs.Prelude.{length, take, drop, replicate, IsTrue, false};
-ghost use Rattle.std.specs.List.{concat};
+ghost use Rattle.std.specs.{Prelude.{length, take, drop, replicate, IsTrue, false}, List.concat};
 ghost use Rattle.aes_block.specs.Aes.{IsBytes, xor_of, encrypted};
 ghost use Rattle.aes_modes.specs.Cbc.{blocks_of};
 ghost use Rattle.aes_modes.specs.Ocb.{zeros, partial_block, padded, offset, offset_after};
 ghost use Rattle.aes_modes.specs.Ocb.{last_offset, masked_blocks, masked, checksum, hash, sum_from};
 ghost use Rattle.aes_modes.specs.Ocb.{hashed_blocks, ocb_encrypted, ocb_decrypted, ocb_tag};
-ghost use Rattle.aes_modes.specs.Ocb.{l_dollar};
-ghost use Rattle.aes_modes.specs.Masks.{masks_of, cipher_of};
+ghost use Rattle.aes_modes.specs.{Ocb.l_dollar, Masks.{masks_of, cipher_of}};
 
 use crate::blocks::{BLOCK_LEN, block_at, put_block};
 use crate::masks::{Masks, first_offset};

@@ -1,15 +1,8 @@
 -- A run whose last history is known, and the run with one mark more.
-use Rattle.std.specs.Prelude.{◌≡◌, ℕ, ◌<◌, ◌≤◌, ◌==◌, List, [], ◌∷◌, ◌++◌, length, Bool, true, false, Some, refl, vec_len, vec_capacity, if◌then◌else◌}
-use Rattle.std.proofs.Common.{ap, sym, ◌∙◌, subst, arith}
-use Rattle.std.proofs.lemmas.Bool.Decides.{nat_tests}
+use Rattle.std.{specs.Prelude.{◌≡◌, ℕ, ◌<◌, ◌≤◌, ◌==◌, List, [], ◌∷◌, ◌++◌, length, Bool, true, false, Some, refl, vec_len, vec_capacity, if◌then◌else◌}, proofs.{Common.{ap, sym, ◌∙◌, subst, arith}, lemmas.Bool.Decides.nat_tests}}
 use Rattle.std.proofs.lemmas.List.{map-append}
-use Rattle.cache_policy.specs.declared.bounds.TheConstants.{MAX_MARKS}
-use Rattle.cache_policy.specs.declared.mark.Mark.{Mark}
-use Rattle.cache_policy.specs.Histories.{History, with_mark, history_of, run_of}
-use Rattle.cache_policy.specs.declared.history.History.{History as HistoryInMemory}
-use Rattle.cache_policy.specs.Runs.{turn_over, last_history, run_with_mark}
-use Rattle.agent_core.specs.Recording.{LastHasRoom}
-use Rattle.agent_core.specs.Adding.{HasPlace}
+use Rattle.cache_policy.specs.{declared.{bounds.TheConstants.MAX_MARKS, mark.Mark.Mark, history.History.History as HistoryInMemory}, Histories.{History, with_mark, history_of, run_of}, Runs.{turn_over, last_history, run_with_mark}}
+use Rattle.agent_core.specs.{Recording.LastHasRoom, Adding.HasPlace}
 
 pub last_append : (front : List History) (last : History) → last_history (front ++ last ∷ []) ≡ Some last
 last_append [] last = refl

@@ -1,26 +1,11 @@
 -- A session alone at a desk: its run is the replay of its marked turns.
-use Rattle.std.specs.Prelude.{◌≡◌, ◌≢◌, ℕ, List, [], ◌∷◌, ◌++◌, map, Bool, true, false, None, refl, ◌==◌, ◌⊎◌, length, if◌then◌else◌}
-use Rattle.std.proofs.Common.{ap, sym, ◌∙◌, subst, append-nil, append_assoc, inl, inr}
-use Rattle.std.specs.List.{AllByRecursion}
-use Rattle.agent_ports.specs.Leads.{Leads, none as stay, one}
-use Rattle.agent_ports.specs.Readings.{HasGiven, none as none_given, one as given_one}
-use Rattle.agent_ports.specs.declared.session.SessionId.{SessionId}
-use Rattle.cache_policy.specs.declared.bounds.TheConstants.{MAX_MARKS}
-use Rattle.cache_policy.specs.declared.life.Limits.{Limits}
-use Rattle.cache_policy.specs.declared.mark.Mark.{Mark}
-use Rattle.cache_policy.specs.declared.mark.MarkStep.{MarkStep}
-use Rattle.cache_policy.specs.Desks.{Shows}
-use Rattle.cache_policy.specs.Extending.{Taken, TakesTurn}
-use Rattle.cache_policy.specs.Histories.{History, moments, with_mark}
-use Rattle.cache_policy.specs.Replay.{moments_at, NoneEmpty, Marked, none as none_marked, made, unmade}
-use Rattle.cache_policy.specs.Runs.{joined, moment_before, next_history, turn_over, run_with_mark}
-use Rattle.cache_policy.specs.Turns.{Turn, Stand, Refused, Stopping, FitsStep, since_of}
+use Rattle.std.{specs.{Prelude.{◌≡◌, ◌≢◌, ℕ, List, [], ◌∷◌, ◌++◌, map, Bool, true, false, None, refl, ◌==◌, ◌⊎◌, length, if◌then◌else◌}, List.AllByRecursion}, proofs.Common.{ap, sym, ◌∙◌, subst, append-nil, append_assoc, inl, inr}}
+use Rattle.{agent_ports.specs.{Leads.{Leads, none as stay, one}, Readings.{HasGiven, none as none_given, one as given_one}, declared.session.SessionId.SessionId}, cache_policy.specs.declared.bounds.TheConstants.MAX_MARKS}
+use Rattle.cache_policy.specs.{declared.{life.Limits.Limits, mark.{Mark.Mark, MarkStep.MarkStep}}, Desks.Shows, Extending.{Taken, TakesTurn}, Histories.{History, moments, with_mark}}
+use Rattle.cache_policy.specs.{Replay.{moments_at, NoneEmpty, Marked, none as none_marked, made, unmade}, Runs.{joined, moment_before, next_history, turn_over, run_with_mark}, Turns.{Turn, Stand, Refused, Stopping, FitsStep, since_of}}
 use Rattle.cache_policy.proofs.GrowingRuns.{joined_run_with_mark}
-use Rattle.agent_core.specs.Cores.{mark_of}
-use Rattle.agent_core.specs.Known.{next_moment, TakesStep, marked, stood, refused, spent}
-use Rattle.agent_core.specs.Stepped.{IsSettled}
-use Rattle.agent_core.specs.Solos.{AtSolo, OwnStep, PlaysNext, next_list, at_end, Waits, again, goes, gives_back, TakesOwn, at_once, waiting, TurnsSolo}
-use Rattle.agent_core.proofs.Knowing.{moment_at_end}
+use Rattle.agent_core.specs.{Cores.mark_of, Known.{next_moment, TakesStep, marked, stood, refused, spent}, Stepped.IsSettled}
+use Rattle.agent_core.{specs.Solos.{AtSolo, OwnStep, PlaysNext, next_list, at_end, Waits, again, goes, gives_back, TakesOwn, at_once, waiting, TurnsSolo}, proofs.Knowing.moment_at_end}
 
 -- where there is no script, and no other session has a ticket
 pub record IsAlone (solo : AtSolo) : Type 0 where

@@ -1,37 +1,13 @@
 -- Whether a step comes to the seat, by the policy.
-use Rattle.std.specs.Prelude.{◌≡◌, ℕ, ◌+◌, ◌<◌, ◌≤◌, ◌==◌, ◌&&◌, List, Bool, true, false, not, Option, Some, None, IsSome, refl, ◌⊎◌, if◌then◌else◌}
-use Rattle.std.proofs.Common.{ap, sym, ◌∙◌, subst, inl, inr, arith}
-use Rattle.std.proofs.lemmas.Bool.Decides.{nat_tests}
-use Rattle.std.specs.Option.{is_some, option_and_then}
-use Rattle.agent_ports.specs.declared.session.SessionId.{SessionId}
-use Rattle.cache_policy.specs.declared.bounds.TheConstants.{MAX_MARKS, MAX_MOMENT}
-use Rattle.cache_policy.specs.declared.entry.Entry.{Entry}
-use Rattle.cache_policy.specs.declared.grant.Grant.{Grant}
-use Rattle.cache_policy.specs.declared.history.Held.{Held as Ticket}
-use Rattle.cache_policy.specs.declared.life.Limits.{Limits}
-use Rattle.cache_policy.specs.declared.mode.Mode.{Mode}
-use Rattle.cache_policy.specs.declared.mark.MarkReply.{MarkReply}
+use Rattle.std.specs.{Prelude.{◌≡◌, ℕ, ◌+◌, ◌<◌, ◌≤◌, ◌==◌, ◌&&◌, List, Bool, true, false, not, Option, Some, None, IsSome, refl, ◌⊎◌, if◌then◌else◌}, Option.{is_some, option_and_then}}
+use Rattle.std.proofs.{Common.{ap, sym, ◌∙◌, subst, inl, inr, arith}, lemmas.Bool.Decides.nat_tests}
+use Rattle.{agent_ports.specs.declared.session.SessionId.SessionId, cache_policy.specs.declared.{bounds.TheConstants.{MAX_MARKS, MAX_MOMENT}, entry.Entry.Entry, grant.Grant.Grant, history.Held.Held as Ticket, life.Limits.Limits}}
+use Rattle.cache_policy.specs.declared.{mode.Mode.Mode, mark.{MarkReply.MarkReply, MarkStep.{MarkStep, TheVariants.{Ask, Seat, Close, Put, Clear, Flush, Peek, Stop}}, Under.Under, Way.{Way, TheVariants.{Quiet, Prompt}}}}
+use Rattle.cache_policy.specs.{Histories.{History, next_number, with_mark}, Policy.{Ruling, Reply, Stand, policy, prompt_ruling, ask_ruling}, Legal.IsLegal, Runs.{next_history, moment_of}}
+use Rattle.cache_policy.{specs.{Seat.{seat, stopped, is_open, under_of, unless_given_back}, Turns.{Refused, FitsReply, closes}, Waits.is_late}, proofs.OneMore.seat_with_mark}
+use Rattle.agent_core.specs.{declared.state.State.State, Cores.{AtCore, StandsFor, mark_of}, Adding.{comes_to_seat, leaves_ticket, needs_room}, States.{seen, held_of}, Taking.{Finds, may_open, ComesToSeat, next_slots}}
+use Rattle.agent_core.proofs.{Standing.{IsReady, ready}, Stepping.{live_found, live_none}}
 use Rattle.cache_policy.specs.declared.mark.MarkReply.TheVariants as reply
-use Rattle.cache_policy.specs.declared.mark.MarkStep.{MarkStep}
-use Rattle.cache_policy.specs.declared.mark.MarkStep.TheVariants.{Ask, Seat, Close, Put, Clear, Flush, Peek, Stop}
-use Rattle.cache_policy.specs.declared.mark.Under.{Under}
-use Rattle.cache_policy.specs.declared.mark.Way.{Way}
-use Rattle.cache_policy.specs.declared.mark.Way.TheVariants.{Quiet, Prompt}
-use Rattle.cache_policy.specs.Histories.{History, next_number, with_mark}
-use Rattle.cache_policy.specs.Policy.{Ruling, Reply, Stand, policy, prompt_ruling, ask_ruling}
-use Rattle.cache_policy.specs.Legal.{IsLegal}
-use Rattle.cache_policy.specs.Runs.{next_history, moment_of}
-use Rattle.cache_policy.specs.Seat.{seat, stopped, is_open, under_of, unless_given_back}
-use Rattle.cache_policy.specs.Turns.{Refused, FitsReply, closes}
-use Rattle.cache_policy.specs.Waits.{is_late}
-use Rattle.cache_policy.proofs.OneMore.{seat_with_mark}
-use Rattle.agent_core.specs.declared.state.State.{State}
-use Rattle.agent_core.specs.Cores.{AtCore, StandsFor, mark_of}
-use Rattle.agent_core.specs.Adding.{comes_to_seat, leaves_ticket, needs_room}
-use Rattle.agent_core.specs.States.{seen, held_of}
-use Rattle.agent_core.specs.Taking.{Finds, may_open, ComesToSeat, next_slots}
-use Rattle.agent_core.proofs.Standing.{IsReady, ready}
-use Rattle.agent_core.proofs.Stepping.{live_found, live_none}
 
 comes_prompt : (stops : Bool) (held : Option Ticket) (late : Bool) → comes_to_seat (prompt_ruling stops held late) ≡ (not stops && not (is_some held && late))
 comes_prompt true held late = refl

@@ -1,30 +1,10 @@
 -- The tally of a run with one mark more.
-use Rattle.std.specs.Prelude.{◌≡◌, ℕ, ◌+◌, ◌<◌, ◌≤◌, ◌==◌, List, [], ◌∷◌, ◌++◌, length, filter, Bool, true, false, not, Option, Some, None, refl, if◌then◌else◌}
-use Rattle.std.proofs.Common.{ap, sym, ◌∙◌, subst, arith, length-append}
-use Rattle.std.proofs.lemmas.List.Elements.{filter-append}
-use Rattle.std.specs.List.{flat_map}
-use Rattle.std.specs.Option.{option_map}
-use Rattle.cache_policy.specs.declared.bounds.TheConstants.{MAX_MARKS}
-use Rattle.cache_policy.specs.declared.entry.Entry.{Entry}
-use Rattle.cache_policy.specs.declared.life.Life.{Life}
-use Rattle.cache_policy.specs.declared.life.Life.TheVariants.{Default}
-use Rattle.cache_policy.specs.declared.life.Limits.{Limits}
-use Rattle.cache_policy.specs.declared.mode.Mode.{Mode}
-use Rattle.cache_policy.specs.declared.mark.Under.{Under}
-use Rattle.cache_policy.specs.declared.mark.Mark.{Mark}
-use Rattle.cache_policy.specs.declared.mark.MarkStep.{MarkStep}
-use Rattle.cache_policy.specs.declared.mark.MarkStep.TheVariants.{Ask, Seat, Close, Put, Clear, Flush, Peek, Stop}
-use Rattle.cache_policy.specs.Bare.{bare_step}
-use Rattle.cache_policy.specs.Entries.{entry_of, kept_under, kept, stored, entries, entries_after}
-use Rattle.cache_policy.specs.Histories.{History, next_number, start_of, with_mark}
-use Rattle.cache_policy.specs.Legal.{IsLegalRun}
-use Rattle.cache_policy.specs.Lifetimes.{ttl_of, is_zero}
-use Rattle.cache_policy.specs.Runs.{last_base, turn_over, next_history, IsRun, joined, last_history, run_with_mark}
-use Rattle.cache_policy.specs.Seat.{seat, stopped, is_open}
-use Rattle.cache_policy.proofs.EntriesLemmas.{entries_with_mark}
-use Rattle.cache_policy.proofs.GrowingRuns.{joined_run_with_mark}
-use Rattle.cache_policy.specs.declared.tally.Tally.{Tally}
-use Rattle.cache_policy.specs.Tallies.{is_given, is_empty, is_clear, is_flush, how_many, one_if}
+use Rattle.std.specs.{Prelude.{◌≡◌, ℕ, ◌+◌, ◌<◌, ◌≤◌, ◌==◌, List, [], ◌∷◌, ◌++◌, length, filter, Bool, true, false, not, Option, Some, None, refl, if◌then◌else◌}, List.flat_map, Option.option_map}
+use Rattle.std.proofs.{Common.{ap, sym, ◌∙◌, subst, arith, length-append}, lemmas.List.Elements.filter-append}
+use Rattle.cache_policy.specs.declared.{bounds.TheConstants.MAX_MARKS, entry.Entry.Entry, life.{Life.{Life, TheVariants.Default}, Limits.Limits}, mode.Mode.Mode, mark.{Under.Under, Mark.Mark, MarkStep.MarkStep}}
+use Rattle.cache_policy.specs.{declared.{mark.MarkStep.TheVariants.{Ask, Seat, Close, Put, Clear, Flush, Peek, Stop}, tally.Tally.Tally}, Bare.bare_step, Entries.{entry_of, kept_under, kept, stored, entries, entries_after}}
+use Rattle.cache_policy.specs.{Histories.{History, next_number, start_of, with_mark}, Legal.IsLegalRun, Lifetimes.{ttl_of, is_zero}, Runs.{last_base, turn_over, next_history, IsRun, joined, last_history, run_with_mark}}
+use Rattle.cache_policy.{specs.{Seat.{seat, stopped, is_open}, Tallies.{is_given, is_empty, is_clear, is_flush, how_many, one_if}}, proofs.{EntriesLemmas.entries_with_mark, GrowingRuns.joined_run_with_mark}}
 use Rattle.agent_core.specs.Tallies.{tally_of, counted, CanCount, Tallied}
 
 -- one mark more that is counted or not

@@ -1,16 +1,9 @@
 -- Every step, by its kind and its turn.
 use Rattle.std.specs.Prelude.{ℕ, Some}
-use Rattle.agent_ports.specs.declared.session.SessionId.{SessionId}
-use Rattle.cache_policy.specs.declared.mark.Way.TheVariants.{Quiet, Prompt}
-use Rattle.cache_policy.specs.declared.mark.MarkStep.{MarkStep}
-use Rattle.cache_policy.specs.declared.mark.MarkStep.TheVariants as asked
-use Rattle.cache_policy.specs.Histories.{History}
-use Rattle.cache_policy.specs.Turns.{Turn, Given, Empty, Done, Held as WhetherHeld}
-use Rattle.agent_core.specs.declared.state.State.{State}
-use Rattle.agent_core.specs.States.{seen}
-use Rattle.agent_core.specs.Taking.{Takes}
-use Rattle.agent_core.specs.Cores.{IsStep}
+use Rattle.{agent_ports.specs.declared.session.SessionId.SessionId, cache_policy.specs.{declared.mark.{Way.TheVariants.{Quiet, Prompt}, MarkStep.MarkStep}, Histories.History, Turns.{Turn, Given, Empty, Done, Held as WhetherHeld}}}
+use Rattle.agent_core.specs.{declared.state.State.State, States.seen, Taking.Takes, Cores.IsStep}
 use Rattle.agent_core.proofs.Stepping.{IsTaken, given_step, empty_step, prompts_step, put_step, close_step, clear_step, flush_step, stop_step, peek_step, wish_of_ask, wish_of_seat}
+use Rattle.cache_policy.specs.declared.mark.MarkStep.TheVariants as asked
 
 module _ (before after : State) (history : History) (session : SessionId) (moment : ℕ) (is : IsTaken before after history moment) where
   pub takes_step : (step_of : MarkStep) (turn : Turn) → Takes before moment session step_of turn after → IsStep (seen before) history session moment step_of turn (seen after)

@@ -1,21 +1,8 @@
 -- What each state keeps: numbers below the next one, and room for the passphrase of a ticket.
-use Rattle.std.specs.Prelude.{◌≡◌, ℕ, ◌+◌, ◌≤◌, List, [], ◌∷◌, true, false, Option, Some, None, cond}
-use Rattle.std.proofs.Common.{sym, subst, arith}
-use Rattle.cache_policy.specs.declared.mode.Mode.{Mode}
-use Rattle.cache_policy.specs.declared.life.Life.{Life}
-use Rattle.cache_policy.specs.declared.life.Limits.{Limits}
-use Rattle.cache_policy.specs.declared.mark.Under.{Under}
-use Rattle.cache_policy.specs.Lifetimes.{ttl_of, max_of, is_zero}
-use Rattle.cache_policy.specs.Entries.{entry_of}
-use Rattle.cache_policy.specs.declared.entry.Entry.{Entry}
-use Rattle.cache_policy.specs.declared.history.Held.{Held}
-use Rattle.cache_book.specs.declared.slot.Slot.{Slot}
-use Rattle.cache_book.specs.Shelves.{AtShelf, AreBelow, with_entry}
-use Rattle.cache_book.proofs.Below.{below_more, below_stored}
-use Rattle.agent_core.specs.declared.state.State.{State}
-use Rattle.agent_core.specs.Cores.{HasRoom}
-use Rattle.agent_core.specs.States.{IsState, held_of}
-use Rattle.agent_core.specs.Taking.{held_at}
+use Rattle.std.{specs.Prelude.{◌≡◌, ℕ, ◌+◌, ◌≤◌, List, [], ◌∷◌, true, false, Option, Some, None, cond}, proofs.Common.{sym, subst, arith}}
+use Rattle.cache_policy.specs.{declared.{mode.Mode.Mode, life.{Life.Life, Limits.Limits}, mark.Under.Under, entry.Entry.Entry, history.Held.Held}, Lifetimes.{ttl_of, max_of, is_zero}, Entries.entry_of}
+use Rattle.cache_book.{specs.{declared.slot.Slot.Slot, Shelves.{AtShelf, AreBelow, with_entry}}, proofs.Below.{below_more, below_stored}}
+use Rattle.agent_core.specs.{declared.state.State.State, Cores.HasRoom, States.{IsState, held_of}, Taking.held_at}
 
 pub room_more : (held : Option Held) (spare more : ℕ) → spare ≤ more → HasRoom held spare → HasRoom held more
 room_more None spare more h room = tt

@@ -1,41 +1,18 @@
 -- A core that keeps its run: what becomes of the run by a step.
-use Rattle.std.specs.Prelude.{◌≡◌, ◌≢◌, ℕ, ◌+◌, ◌%◌, ◌<◌, ◌≤◌, ◌==◌, List, [], ◌∷◌, ◌++◌, length, fold, Bool, true, false, not, Option, Some, None, IsSome, IfSome, refl, ◌⊎◌, if◌then◌else◌}
-use Rattle.std.proofs.Common.{ap, sym, ◌∙◌, subst, arith, length-append, inl, inr, Ok}
-use Rattle.std.specs.Option.{is_some, option_and_then}
-use Rattle.std.specs.Global.{Vec}
-use Rattle.std.proofs.lemmas.Bool.Decides.{nat_tests}
-use Rattle.agent_ports.specs.declared.session.SessionId.{SessionId}
-use Rattle.cache_policy.specs.declared.bounds.TheConstants.{MAX_MARKS, MAX_MOMENT}
-use Rattle.cache_policy.specs.declared.life.Limits.{Limits}
-use Rattle.cache_policy.specs.declared.mark.Mark.{Mark}
-use Rattle.cache_policy.specs.declared.mark.MarkStep.{MarkStep}
-use Rattle.cache_policy.specs.declared.mark.MarkStep.TheVariants.{Ask, Seat, Close, Put, Clear, Flush, Peek, Stop}
-use Rattle.cache_policy.specs.declared.mark.MarkReply.{MarkReply}
-use Rattle.cache_policy.specs.declared.mark.MarkReply.TheVariants as reply
-use Rattle.cache_policy.specs.declared.mark.Way.TheVariants.{Quiet, Prompt}
-use Rattle.cache_policy.specs.declared.history.Held.{Held as Ticket}
-use Rattle.cache_policy.specs.declared.step.Reply.{Reply as SteppedReply}
-use Rattle.cache_policy.specs.declared.step.Reply.TheVariants as told
-use Rattle.cache_policy.specs.Desks.{Shows, IsSpentRun}
-use Rattle.cache_policy.specs.declared.history.History.{History as HistoryInMemory}
-use Rattle.cache_policy.specs.Histories.{History, run_of, next_number, with_mark}
-use Rattle.cache_policy.specs.Legal.{IsLegal, IsLegalRun}
-use Rattle.cache_policy.specs.Policy.{Reply, policy}
-use Rattle.cache_policy.specs.Runs.{last_base, is_spent, turn_over, next_history, last_history, run_with_mark, joined, moment_before, moment_of}
-use Rattle.cache_policy.specs.Seat.{seat, is_open, under_of, unless_given_back}
+use Rattle.std.specs.{Prelude.{◌≡◌, ◌≢◌, ℕ, ◌+◌, ◌%◌, ◌<◌, ◌≤◌, ◌==◌, List, [], ◌∷◌, ◌++◌, length, fold, Bool, true, false, not, Option, Some, None, IsSome, IfSome, refl, ◌⊎◌, if◌then◌else◌}, Option.{is_some, option_and_then}, Global.Vec}
+use Rattle.std.proofs.{Common.{ap, sym, ◌∙◌, subst, arith, length-append, inl, inr, Ok}, lemmas.Bool.Decides.nat_tests}
+use Rattle.{agent_ports.specs.declared.session.SessionId.SessionId, cache_policy.specs.declared.{bounds.TheConstants.{MAX_MARKS, MAX_MOMENT}, life.Limits.Limits, mark.{Mark.Mark, MarkStep.MarkStep}}}
+use Rattle.cache_policy.specs.declared.{mark.{MarkStep.TheVariants.{Ask, Seat, Close, Put, Clear, Flush, Peek, Stop}, MarkReply.MarkReply, Way.TheVariants.{Quiet, Prompt}}, history.{Held.Held as Ticket, History.History as HistoryInMemory}}
+use Rattle.cache_policy.specs.{declared.{step.Reply.Reply as SteppedReply, wait.Wait.Wait}, Desks.{Shows, IsSpentRun}, Histories.{History, run_of, next_number, with_mark}, Legal.{IsLegal, IsLegalRun}, Policy.{Reply, policy}}
+use Rattle.cache_policy.specs.{Runs.{last_base, is_spent, turn_over, next_history, last_history, run_with_mark, joined, moment_before, moment_of}, Seat.{seat, is_open, under_of, unless_given_back}}
 use Rattle.cache_policy.specs.Turns.{Turn, Given, Empty, Open, Stand, Done, Held, Refused, Stopping, Late, FitsReply, opens, closes, turn_of}
-use Rattle.cache_policy.specs.declared.wait.Wait.{Wait}
-use Rattle.cache_policy.proofs.GrowingRuns.{joined_run_with_mark, legal_run_with_mark, last_run_with_mark, last_is_legal, spent_all}
-use Rattle.cache_policy.proofs.OneMore.{seat_with_mark}
-use Rattle.cache_policy.proofs.Growing.{seat_turn_over}
-use Rattle.agent_core.specs.declared.known_core.Start.{Start}
-use Rattle.agent_core.specs.Adding.{CanAdd, added, next_start, HasPlace, comes_to_seat, leaves_ticket, needs_room}
+use Rattle.cache_policy.proofs.{GrowingRuns.{joined_run_with_mark, legal_run_with_mark, last_run_with_mark, last_is_legal, spent_all}, OneMore.seat_with_mark, Growing.seat_turn_over}
+use Rattle.agent_core.specs.{declared.known_core.Start.Start, Adding.{CanAdd, added, next_start, HasPlace, comes_to_seat, leaves_ticket, needs_room}}
 use Rattle.agent_core.specs.Cores.{AtCore, HasRoom, IsStep, marked as step_marked, stood as step_stood, refused as step_refused, spent as step_spent, IsMarked, mark_of, IsAsBefore}
-use Rattle.agent_core.specs.Known.{run_seat, IsOut, held as held_out, given_up, next_moment, MayRefuse, wants, begins, leaves, TakesStep, marked, stood, refused}
-use Rattle.agent_core.specs.Stepped.{IsSettled}
-use Rattle.agent_core.specs.Recording.{KeepsRun, IsRoom, LastHasRoom, Records, reply_of}
-use Rattle.agent_core.proofs.Adding.{add_full}
-use Rattle.agent_core.proofs.Coming.{leaves_held, held_leaves, opens_keeps, needs_full, needs_last}
+use Rattle.agent_core.specs.{Known.{run_seat, IsOut, held as held_out, given_up, next_moment, MayRefuse, wants, begins, leaves, TakesStep, marked, stood, refused}, Stepped.IsSettled}
+use Rattle.agent_core.{specs.Recording.{KeepsRun, IsRoom, LastHasRoom, Records, reply_of}, proofs.{Adding.add_full, Coming.{leaves_held, held_leaves, opens_keeps, needs_full, needs_last}}}
+use Rattle.cache_policy.specs.declared.mark.MarkReply.TheVariants as reply
+use Rattle.cache_policy.specs.declared.step.Reply.TheVariants as told
 
 -- the moment of a mark at the end
 pub moment_at_end : (since : ℕ) (marks : List Mark) (mark : Mark) → fold (λ _ (m : Mark). m.moment) since (marks ++ mark ∷ []) ≡ mark.moment
@@ -43,7 +20,7 @@ moment_at_end since [] mark = refl
 moment_at_end since (first ∷ later) mark = moment_at_end first.moment later mark
 
 -- a history that isn't spent stays below the last base
-below_next : (history : History) → history.base < last_base → history.base % MAX_MARKS ≡ 0 → is_spent (next_history history) ≡ false → (next_history history).base < last_base
+pub below_next : (history : History) → history.base < last_base → history.base % MAX_MARKS ≡ 0 → is_spent (next_history history) ≡ false → (next_history history).base < last_base
 below_next history below whole more =
     elim (length history.marks == MAX_MARKS) as (λ b. is_spent (if b then turn_over history else history) ≡ false → (if b then turn_over history else history).base < last_base) [
       | true ↦ λ e. let other : history.base + MAX_MARKS ≢ last_base = grind (arith, nat_tests) in omega (arith, other, below, whole)

@@ -1,24 +1,11 @@
 -- Steps of other sessions at a desk.
-use Rattle.std.specs.Prelude.{◌≡◌, ℕ, List, Bool, true, false, Option, Some, None, IfSome, refl, if◌then◌else◌}
-use Rattle.std.proofs.Common.{ap, sym, ◌∙◌, subst}
-use Rattle.std.specs.Option.{is_some}
-use Rattle.agent_ports.specs.Readings.{Readings}
-use Rattle.agent_ports.specs.declared.session.SessionId.{SessionId}
-use Rattle.cache_policy.specs.declared.life.Limits.{Limits}
-use Rattle.cache_policy.specs.declared.mark.MarkStep.{MarkStep}
-use Rattle.cache_policy.specs.declared.mark.MarkStep.TheVariants as mark
-use Rattle.cache_policy.specs.Histories.{History}
-use Rattle.cache_policy.specs.Turns.{Turn, Given, Empty, Open, Stand, Done, Held, Refused, Stopping, Late, closes}
-use Rattle.agent_core.specs.declared.foreign.Foreign.{Foreign}
-use Rattle.agent_core.specs.declared.foreign.ForeignStep.{ForeignStep}
-use Rattle.agent_core.specs.declared.foreign.ForeignStep.TheVariants.{Ask, Seat, CloseHeld, Put, Clear, Flush, Peek, Stop}
-use Rattle.agent_core.specs.declared.holder.Holder.{Holder}
-use Rattle.cache_policy.specs.Waits.{is_session}
-use Rattle.agent_core.specs.Foreigners.{IsForeign, ticket_of, close_of, told_step, foreign_step, holder_after, opened}
-use Rattle.agent_core.specs.Known.{IsOut}
-use Rattle.agent_core.specs.Seating.{Seated}
-use Rattle.agent_core.specs.Solos.{AtSolo, TakesReading, PlaysStep, played, passed_over}
+use Rattle.std.{specs.{Prelude.{◌≡◌, ℕ, List, Bool, true, false, Option, Some, None, IfSome, refl, if◌then◌else◌}, Option.is_some}, proofs.Common.{ap, sym, ◌∙◌, subst}}
+use Rattle.{agent_ports.specs.{Readings.Readings, declared.session.SessionId.SessionId}, cache_policy.specs.{declared.{life.Limits.Limits, mark.MarkStep.MarkStep}, Histories.History}}
+use Rattle.cache_policy.specs.{Turns.{Turn, Given, Empty, Open, Stand, Done, Held, Refused, Stopping, Late, closes}, Waits.is_session}
+use Rattle.agent_core.specs.declared.{foreign.{Foreign.Foreign, ForeignStep.{ForeignStep, TheVariants.{Ask, Seat, CloseHeld, Put, Clear, Flush, Peek, Stop}}}, holder.Holder.Holder}
+use Rattle.agent_core.specs.{Foreigners.{IsForeign, ticket_of, close_of, told_step, foreign_step, holder_after, opened}, Known.IsOut, Seating.Seated, Solos.{AtSolo, TakesReading, PlaysStep, played, passed_over}}
 use Rattle.agent_core.proofs.Seating.{SeatMoves, IsNotOpen, opened as seat_opened, moved as seat_moved, stood as seat_stood, refused as seat_refused, ended as seat_ended, none_seated, their_out}
+use Rattle.cache_policy.specs.declared.mark.MarkStep.TheVariants as mark
 
 -- the other session's ticket, by its number
 abbrev pub HasTicket : Option Holder → ℕ → Type 0

@@ -1,52 +1,21 @@
 -- What a turn at a desk in memory does to the run: its promise.
-use Rattle.std.specs.Prelude.{◌≡◌, ℕ, ◌+◌, ◌<◌, ◌≤◌, List, [], ◌∷◌, ◌++◌, length, fold, min, Bool, true, false, Option, Some, None, IsSome, IfSome, refl, if◌then◌else◌}
-use Rattle.std.proofs.Common.{ap, sym, ◌∙◌, subst, append-nil, append_assoc, eq-eqb, zero, suc, add-one, add_assoc, arith}
-use Rattle.std.specs.Option.{option_and_then, is_some}
-use Rattle.std.specs.List.{AllByRecursion}
-use Rattle.agent_ports.specs.Leads.{Leads, none as stay, one}
-use Rattle.agent_ports.specs.Readings.{Readings, IsRead}
-use Rattle.agent_ports.specs.declared.session.SessionId.{SessionId}
-use Rattle.cache_policy.specs.declared.life.Limits.{Limits}
-use Rattle.cache_policy.specs.declared.entry.Entry.{Entry}
-use Rattle.cache_policy.specs.declared.mark.Mark.{Mark}
-use Rattle.cache_policy.specs.declared.mark.MarkStep.{MarkStep}
-use Rattle.cache_policy.specs.declared.mark.MarkStep.TheVariants.{Ask, Seat, Close, Put, Clear, Flush, Peek, Stop}
-use Rattle.cache_policy.specs.declared.bounds.TheConstants.{MAX_MOMENT}
-use Rattle.cache_policy.specs.declared.wait.Wait.{Wait}
-use Rattle.cache_policy.specs.declared.mark.Way.{Way}
-use Rattle.cache_policy.specs.declared.mark.Way.TheVariants.{Quiet, Prompt}
-use Rattle.cache_policy.specs.declared.history.Held.{Held as Ticket}
-use Rattle.cache_policy.specs.Desks.{is_of, IsSpentRun, MakesMarks, marked as makes_mark, refused as makes_none, spent as makes_spent, IsTurn}
-use Rattle.cache_policy.specs.Histories.{History, with_mark}
-use Rattle.cache_policy.specs.Legal.{NeverFall as MomentsNeverFall, IsLegalRun}
-use Rattle.cache_policy.specs.Live.{live}
-use Rattle.cache_policy.specs.Policy.{Reply, policy, prompt_ruling, ask_ruling}
-use Rattle.cache_policy.specs.Policy as ruling
-use Rattle.cache_policy.specs.Runs.{next_history, last_history, joined, start_of_run, moment_before}
-use Rattle.cache_policy.specs.Seat.{seat, stopped}
+use Rattle.std.specs.{Prelude.{◌≡◌, ℕ, ◌+◌, ◌<◌, ◌≤◌, List, [], ◌∷◌, ◌++◌, length, fold, min, Bool, true, false, Option, Some, None, IsSome, IfSome, refl, if◌then◌else◌}, Option.{option_and_then, is_some}, List.AllByRecursion}
+use Rattle.std.proofs.Common.{ap, sym, ◌∙◌, subst, append-nil, append_assoc, zero, suc, add-one, add_assoc, arith}
+use Rattle.{agent_ports.specs.{Leads.{Leads, none as stay, one}, Readings.{Readings, IsRead}, declared.session.SessionId.SessionId}, cache_policy.specs.declared.{life.Limits.Limits, entry.Entry.Entry, mark.{Mark.Mark, MarkStep.MarkStep}}}
+use Rattle.cache_policy.specs.declared.{mark.{MarkStep.TheVariants.{Ask, Seat, Close, Put, Clear, Flush, Peek, Stop}, Way.{Way, TheVariants.{Quiet, Prompt}}}, bounds.TheConstants.MAX_MOMENT, wait.Wait.Wait, history.Held.Held as Ticket}
+use Rattle.cache_policy.specs.{declared.step.Step.Step, Desks.{is_of, IsSpentRun, MakesMarks, marked as makes_mark, refused as makes_none, spent as makes_spent, IsTurn}, Histories.{History, with_mark}}
+use Rattle.cache_policy.specs.{Legal.{NeverFall as MomentsNeverFall, IsLegalRun}, Live.live, Policy.{Reply, policy, prompt_ruling, ask_ruling}, Runs.{next_history, last_history, joined, start_of_run, moment_before}, Seat.{seat, stopped}}
 use Rattle.cache_policy.specs.Turns.{Turn, Given, Empty, Open, Stand, Done, Held, Refused, Stopping, Late, FitsReply, FitsStep, asked_step, mark_step, wait_of, opens, closes, out_after, with_since, since_of, since_when}
-use Rattle.cache_policy.specs.Waits.{is_session, is_late}
-use Rattle.cache_policy.proofs.Lists.{all_append}
-use Rattle.cache_policy.proofs.GrowingRuns.{joined_run_with_mark, start_run_with_mark, last_run_with_mark, last_is_legal}
-use Rattle.cache_policy.proofs.ReturnLemmas.{given_rightly}
-use Rattle.cache_policy.specs.declared.step.Step.{Step}
-use Rattle.agent_core.specs.declared.stepped.Stepped.{Stepped}
-use Rattle.agent_core.specs.declared.stepped.Stepped.TheVariants as stepped
-use Rattle.agent_core.specs.declared.opening.Opening.{Opening}
-use Rattle.agent_core.specs.Openings.{opening_step}
-use Rattle.agent_core.specs.Stepped.{turn_of_stepped, IsSettled, HandsBack}
-use Rattle.agent_core.specs.declared.foreign.Foreign.{Foreign}
-use Rattle.agent_core.specs.declared.foreign.ForeignStep.{ForeignStep}
-use Rattle.agent_core.specs.declared.foreign.ForeignStep.TheVariants as told
-use Rattle.agent_core.specs.declared.holder.Holder.{Holder}
-use Rattle.agent_core.specs.Cores.{mark_of}
-use Rattle.agent_core.specs.Foreigners.{ticket_of, close_of, told_step, foreign_step, holder_after}
-use Rattle.agent_core.specs.Known.{run_seat, next_moment, TakesStep, marked, stood, refused, spent}
+use Rattle.cache_policy.{specs.Waits.{is_session, is_late}, proofs.{Lists.all_append, GrowingRuns.{joined_run_with_mark, start_run_with_mark, last_run_with_mark, last_is_legal}, ReturnLemmas.given_rightly}}
+use Rattle.agent_core.specs.{declared.{stepped.Stepped.Stepped, opening.Opening.Opening, foreign.{Foreign.Foreign, ForeignStep.ForeignStep}, holder.Holder.Holder}, Openings.opening_step, Stepped.{turn_of_stepped, IsSettled, HandsBack}}
+use Rattle.agent_core.specs.{Cores.mark_of, Foreigners.{ticket_of, close_of, told_step, foreign_step, holder_after}, Known.{run_seat, next_moment, TakesStep, marked, stood, refused, spent}}
 use Rattle.agent_core.specs.Seating.{Seated, free as seat_free, own as seat_own, theirs as seat_theirs, over as seat_over}
-use Rattle.agent_core.specs.Solos.{AtSolo, at_desk, OwnStep, PlaysStep, played, passed_over, PlaysNext, next_list, at_end, close_held, ClosesHolder, Waits, again, goes as wait_goes, gives_back, TakesOwn, at_once, waiting, IsNotBelow, ReadingsNeverFall, NoneTriedBefore, IsTriedSince, IsRightly, TurnsSolo}
-use Rattle.agent_core.proofs.Knowing.{seat_next}
-use Rattle.agent_core.proofs.Seating.{stand_opens}
-use Rattle.agent_core.proofs.Taken.{opening_since, opening_taken, first_taken, with_again, since_with}
+use Rattle.agent_core.specs.Solos.{AtSolo, at_desk, OwnStep, PlaysStep, played, passed_over, PlaysNext, next_list, at_end, close_held, ClosesHolder, Waits, again, goes as wait_goes, gives_back, TakesOwn, at_once, waiting, IsNotBelow}
+use Rattle.agent_core.{specs.Solos.{ReadingsNeverFall, NoneTriedBefore, IsTriedSince, IsRightly, TurnsSolo}, proofs.{Knowing.seat_next, Seating.stand_opens, Taken.{opening_since, opening_taken, first_taken, with_again, since_with}}}
+use Rattle.cache_policy.specs.Policy as ruling
+use Rattle.agent_core.specs.declared.stepped.Stepped.TheVariants as stepped
+use Rattle.agent_core.specs.declared.foreign.ForeignStep.TheVariants as told
+use Rattle.agent_core.proofs.Taken.{own_session}
 
 -- the marks that a step adds
 pub record Adds (limits : Limits) (run : List History) (session : SessionId) (asked : MarkStep) (turn : Turn) (after : List History) : Type 0 where
@@ -593,9 +562,6 @@ pub end_script : (before : AtSolo) (after : AtSolo) → PlaysNext before false a
 end_script before after (at_end is same) = (is, same)
 
 -- a ticket that is given back is nobody's
-own_session : (session : SessionId) → is_session session session ≡ true
-own_session session = rw (eq-eqb session.pass session.pass refl, eq-eqb session.count session.count refl) refl
-
 closed_by : (holder : Holder) (before after : AtSolo) → before.holder ≡ Some holder → PlaysStep before (close_held holder.session) after → after.holder ≡ None
 closed_by holder before after is plays =
     by plays (subst (λ (h : Option Holder). foreign_step h (close_held holder.session) ≡ Some (Close holder.ticket None)) (sym is)

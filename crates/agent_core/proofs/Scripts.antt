@@ -1,10 +1,6 @@
 -- The lists of a script, kept from its end.
-use Rattle.std.specs.Prelude.{◌≡◌, ℕ, List, [], ◌∷◌, ◌++◌, length, map, reverse, refl}
-use Rattle.std.proofs.Common.{ap, arith}
-use Rattle.std.proofs.lemmas.List.{reverse-reverse, reverse-append}
-use Rattle.std.specs.Global.{Vec}
-use Rattle.agent_core.specs.declared.foreign.Foreign.{Foreign}
-use Rattle.agent_core.specs.SoloInside.{lists_of}
+use Rattle.std.{specs.{Prelude.{◌≡◌, ℕ, List, [], ◌∷◌, ◌++◌, length, map, reverse, refl}, Global.Vec}, proofs.{Common.{ap, arith}, lemmas.List.{reverse-reverse, reverse-append}}}
+use Rattle.agent_core.specs.{declared.foreign.Foreign.Foreign, SoloInside.lists_of}
 
 pub lists_reversed : (script : List (Vec Foreign)) → lists_of (reverse script) ≡ map (λ list. list.items) script
 lists_reversed script = ap (map (λ (list : Vec Foreign). list.items)) (reverse-reverse script)

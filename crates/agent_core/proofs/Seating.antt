@@ -1,34 +1,13 @@
 -- What a step does to the ticket that is out at a desk.
-use Rattle.std.specs.Prelude.{◌≡◌, ◌≢◌, ℕ, ◌+◌, ◌<◌, ◌==◌, List, Bool, true, false, Option, Some, None, IfSome, length, refl, ⊤, if◌then◌else◌}
-use Rattle.std.proofs.Common.{ap, sym, ◌∙◌, subst, arith}
-use Rattle.std.specs.Option.{is_some, option_and_then}
+use Rattle.std.{specs.{Prelude.{◌≡◌, ◌≢◌, ℕ, ◌+◌, ◌<◌, ◌==◌, List, Bool, true, false, Option, Some, None, IfSome, length, refl, ⊤, if◌then◌else◌}, Option.{is_some, option_and_then}}, proofs.Common.{ap, sym, ◌∙◌, subst, arith}}
 use Rattle.std.proofs.lemmas.Bool.Decides.{nat_tests}
-use Rattle.agent_ports.specs.declared.session.SessionId.{SessionId}
-use Rattle.cache_policy.specs.declared.bounds.TheConstants.{MAX_MARKS}
-use Rattle.cache_policy.specs.declared.life.Limits.{Limits}
-use Rattle.cache_policy.specs.declared.mark.Mark.{Mark}
-use Rattle.cache_policy.specs.declared.mark.MarkReply.{MarkReply}
-use Rattle.cache_policy.specs.declared.mark.MarkStep.{MarkStep}
-use Rattle.cache_policy.specs.declared.mark.MarkStep.TheVariants.{Ask, Seat, Close, Put, Clear, Flush, Peek, Stop}
-use Rattle.cache_policy.specs.declared.history.Held.{Held as Ticket}
-use Rattle.cache_policy.specs.Desks.{Shows, IsSpentRun}
-use Rattle.cache_policy.specs.Histories.{History, next_number}
-use Rattle.cache_policy.specs.Legal.{IsLegalRun}
-use Rattle.cache_policy.specs.Policy.{Reply, policy}
-use Rattle.cache_policy.specs.Runs.{last_base, turn_over, next_history, last_history, run_with_mark}
-use Rattle.cache_policy.specs.Seat.{seat, is_open, under_of, unless_given_back}
-use Rattle.cache_policy.specs.Turns.{Turn, Given, Empty, Open, Stand, Done, Held, Refused, Stopping, Late, FitsReply, opens, closes, out_after}
-use Rattle.cache_policy.specs.declared.wait.Wait.{Wait}
-use Rattle.cache_policy.proofs.GrowingRuns.{last_run_with_mark, last_is_legal}
-use Rattle.cache_policy.proofs.OneMore.{seat_with_mark}
-use Rattle.agent_core.specs.declared.holder.Holder.{Holder}
-use Rattle.agent_core.specs.Cores.{mark_of}
-use Rattle.agent_core.specs.Foreigners.{holder_after}
-use Rattle.agent_core.specs.Known.{run_seat, IsOut, held as held_out, given_up, TakesStep, marked, stood as takes_stood, refused as takes_refused, spent as takes_spent}
-use Rattle.agent_core.specs.Recording.{reply_of}
-use Rattle.agent_core.specs.Seating.{Seated, free, own, theirs, over}
-use Rattle.agent_core.proofs.Coming.{opens_free}
-use Rattle.agent_core.proofs.Knowing.{seat_next, shows_reply, closes_none}
+use Rattle.{agent_ports.specs.declared.session.SessionId.SessionId, cache_policy.specs.declared.{bounds.TheConstants.MAX_MARKS, life.Limits.Limits, mark.{Mark.Mark, MarkReply.MarkReply, MarkStep.MarkStep}}}
+use Rattle.cache_policy.specs.{declared.{mark.MarkStep.TheVariants.{Ask, Seat, Close, Put, Clear, Flush, Peek, Stop}, history.Held.Held as Ticket, wait.Wait.Wait}, Desks.{Shows, IsSpentRun}, Histories.{History, next_number}}
+use Rattle.cache_policy.specs.{Legal.IsLegalRun, Policy.{Reply, policy}, Runs.{last_base, turn_over, next_history, last_history, run_with_mark}, Seat.{seat, is_open, under_of, unless_given_back}}
+use Rattle.cache_policy.{specs.Turns.{Turn, Given, Empty, Open, Stand, Done, Held, Refused, Stopping, Late, FitsReply, opens, closes, out_after}, proofs.{GrowingRuns.{last_run_with_mark, last_is_legal}, OneMore.seat_with_mark}}
+use Rattle.agent_core.specs.{declared.holder.Holder.Holder, Cores.mark_of, Foreigners.holder_after}
+use Rattle.agent_core.specs.{Known.{run_seat, IsOut, held as held_out, given_up, TakesStep, marked, stood as takes_stood, refused as takes_refused, spent as takes_spent}, Recording.reply_of, Seating.{Seated, free, own, theirs, over}}
+use Rattle.agent_core.proofs.{Coming.opens_free, Knowing.{seat_next, shows_reply, closes_none}}
 
 -- a turn that gives no ticket
 abbrev pub IsNotOpen : Turn → Type 0

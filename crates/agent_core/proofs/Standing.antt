@@ -1,28 +1,10 @@
 -- The history that is next for a core, and how the core comes to stand for it with one mark more.
-use Rattle.std.specs.Prelude.{◌≡◌, ℕ, ◌+◌, ◌<◌, ◌≤◌, ◌==◌, List, [], ◌∷◌, length, Bool, true, false, Option, Some, None, refl, if◌then◌else◌}
-use Rattle.std.proofs.Common.{ap, sym, ◌∙◌, subst, arith}
-use Rattle.std.proofs.lemmas.Bool.Decides.{nat_tests}
-use Rattle.std.proofs.lemmas.List.{length_push}
-use Rattle.std.proofs.lemmas.List.Sums.{fold-append}
-use Rattle.std.specs.Option.{option_and_then}
-use Rattle.cache_policy.specs.declared.bounds.TheConstants.{MAX_MARKS, MAX_MOMENT}
-use Rattle.cache_policy.specs.declared.life.Limits.{Limits}
-use Rattle.cache_policy.specs.declared.mark.Mark.{Mark}
-use Rattle.cache_policy.specs.declared.history.Held.{Held}
-use Rattle.cache_policy.specs.Histories.{History, next_number, with_mark}
-use Rattle.cache_policy.specs.Seat.{under_of, is_open, is_stop, unless_given_back, seat, stopped}
-use Rattle.cache_policy.specs.Runs.{turn_over, next_history, moment_before}
-use Rattle.cache_policy.specs.Legal.{IsLegal}
-use Rattle.cache_policy.proofs.OneMore.{stopped_with_mark, seat_with_mark}
-use Rattle.cache_policy.proofs.Growing.{legal_turn_over, seat_turn_over, stopped_turn_over}
-use Rattle.cache_book.specs.declared.slot.Slot.{Slot}
-use Rattle.cache_book.specs.Slots.{slots}
-use Rattle.cache_book.specs.Shelves.{swept}
-use Rattle.cache_book.proofs.Marking.{slots_later, or_false}
-use Rattle.agent_core.specs.declared.state.State.{State}
-use Rattle.agent_core.specs.States.{seen, IsState}
-use Rattle.agent_core.specs.Taking.{HasMarked, held_at, next_base, next_count, next_slots, slots_at}
-use Rattle.agent_core.specs.Cores.{AtCore, StandsFor}
+use Rattle.std.{specs.{Prelude.{◌≡◌, ℕ, ◌+◌, ◌<◌, ◌≤◌, ◌==◌, List, [], ◌∷◌, length, Bool, true, false, Option, Some, None, refl, if◌then◌else◌}, Option.option_and_then}, proofs.Common.{ap, sym, ◌∙◌, subst, arith}}
+use Rattle.std.proofs.lemmas.{Bool.Decides.nat_tests, List.{length_push, Sums.fold-append}}
+use Rattle.cache_policy.specs.{declared.{bounds.TheConstants.{MAX_MARKS, MAX_MOMENT}, life.Limits.Limits, mark.Mark.Mark, history.Held.Held}, Histories.{History, next_number, with_mark}}
+use Rattle.cache_policy.{specs.{Seat.{under_of, is_open, is_stop, unless_given_back, seat, stopped}, Runs.{turn_over, next_history, moment_before}, Legal.IsLegal}, proofs.OneMore.{stopped_with_mark, seat_with_mark}}
+use Rattle.{cache_policy.proofs.Growing.{legal_turn_over, seat_turn_over, stopped_turn_over}, cache_book.{specs.{declared.slot.Slot.Slot, Slots.slots, Shelves.swept}, proofs.Marking.{slots_later, or_false}}}
+use Rattle.agent_core.specs.{declared.state.State.State, States.{seen, IsState}, Taking.{HasMarked, held_at, next_base, next_count, next_slots, slots_at}, Cores.{AtCore, StandsFor}}
 
 -- these are a history's base, count of marks, slots at a moment, seat, and whether it has stopped; and it has room for a mark
 pub record IsOf (limits : Limits) (base count : ℕ) (list : List Slot) (moment : ℕ) (held : Option Held) (stops : Bool) (next : History) : Type 0 where

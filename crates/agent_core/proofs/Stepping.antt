@@ -1,46 +1,16 @@
 -- Each kind of step is replied by the policy, and the core then stands for the history with its mark.
-use Rattle.std.specs.Prelude.{◌≡◌, ℕ, List, [], ◌∷◌, Bool, true, false, ◌||◌, Option, Some, None, IsSome, refl, cond}
-use Rattle.std.proofs.Common.{ap, sym, ◌∙◌, subst, arith}
-use Rattle.std.specs.Option.{option_and_then, is_some}
-use Rattle.agent_ports.specs.declared.session.SessionId.{SessionId}
-use Rattle.cache_policy.specs.declared.mode.Mode.{Mode}
-use Rattle.cache_policy.specs.declared.life.Life.{Life}
-use Rattle.cache_policy.specs.declared.life.Life.TheVariants.{Default}
-use Rattle.cache_policy.specs.declared.life.Limits.{Limits}
-use Rattle.cache_policy.specs.declared.mark.Under.{Under}
-use Rattle.cache_policy.specs.declared.mark.Way.{Way}
-use Rattle.cache_policy.specs.declared.mark.Way.TheVariants.{Quiet, Prompt}
-use Rattle.cache_policy.specs.declared.mark.Mark.{Mark}
-use Rattle.cache_policy.specs.declared.mark.MarkStep.{MarkStep}
+use Rattle.std.{specs.{Prelude.{◌≡◌, ℕ, List, [], ◌∷◌, Bool, true, false, ◌||◌, Option, Some, None, IsSome, refl, cond}, Option.{option_and_then, is_some}}, proofs.Common.{ap, sym, ◌∙◌, subst, arith}}
+use Rattle.{agent_ports.specs.declared.session.SessionId.SessionId, cache_policy.specs.declared.{mode.Mode.Mode, life.{Life.{Life, TheVariants.Default}, Limits.Limits}, mark.{Under.Under, Way.{Way, TheVariants.{Quiet, Prompt}}, Mark.Mark}}}
+use Rattle.cache_policy.specs.{declared.{mark.MarkStep.MarkStep, entry.Entry.Entry, grant.Grant.Grant, history.Held.Held, wait.Wait.Wait}, Lifetimes.{ttl_of, max_of, is_zero}, Histories.{History, next_number, with_mark}}
+use Rattle.cache_policy.specs.{Entries.{entry_of, kept_under, kept, stored}, Seat.{under_of, is_open, is_stop, unless_given_back, seat, stopped}, Live.{takes_away, gives, live}, Policy.{Reply, policy, prompt_ruling, ask_ruling}}
+use Rattle.cache_policy.specs.{Runs.{next_history, is_spent}, Legal.IsLegal, Turns.{Turn, Given, Empty, Open, Stand, Done, Held as WhetherHeld, Stopping, Late, Refused, since_when}, Waits.is_late}
+use Rattle.{cache_policy.proofs.OneMore.{stopped_with_mark, seat_with_mark}, cache_book.specs.{declared.slot.Slot.Slot, Slots.slots, Shelves.{touched, cleared, IsGrantFrom, ServesNone}}}
+use Rattle.cache_book.proofs.{Marking.{slots_same, slots_flushed, slots_cleared}, Storing.{slots_given, slots_stored}, Live.{IsLiveGrant, grant_is_live, none_live, live_is_live, grant_swept, none_swept}}
+use Rattle.agent_core.specs.{declared.state.State.State, States.{seen, held_of, IsState}, Taking.{held_at, since_at, HasMarked, HasMarkedAlone, HasMoreRoom, Finds, Prompts, Puts, Closes, with_stored, next_slots, number_of, slots_at}}
+use Rattle.agent_core.{specs.Cores.{StandsFor, mark_of, WantsMemory, IsAsBefore, IsStep, marked, stood, refused}, proofs.Standing.{IsReady, slots_at_ready, stands_then, seat_kept, stopped_kept}}
 use Rattle.cache_policy.specs.declared.mark.MarkStep.TheVariants as asked
 use Rattle.cache_policy.specs.declared.mark.MarkReply.TheVariants as reply
-use Rattle.cache_policy.specs.declared.entry.Entry.{Entry}
-use Rattle.cache_policy.specs.declared.grant.Grant.{Grant}
-use Rattle.cache_policy.specs.declared.history.Held.{Held}
-use Rattle.cache_policy.specs.Lifetimes.{ttl_of, max_of, is_zero}
-use Rattle.cache_policy.specs.Histories.{History, next_number, with_mark}
-use Rattle.cache_policy.specs.Entries.{entry_of, kept_under, kept, stored}
-use Rattle.cache_policy.specs.Seat.{under_of, is_open, is_stop, unless_given_back, seat, stopped}
-use Rattle.cache_policy.specs.Live.{takes_away, gives, live}
-use Rattle.cache_policy.specs.Policy.{Reply, policy, prompt_ruling, ask_ruling}
 use Rattle.cache_policy.specs.Policy as ruling
-use Rattle.cache_policy.specs.Runs.{next_history, is_spent}
-use Rattle.cache_policy.specs.Legal.{IsLegal}
-use Rattle.cache_policy.specs.Turns.{Turn, Given, Empty, Open, Stand, Done, Held as WhetherHeld, Stopping, Late, Refused, since_when}
-use Rattle.cache_policy.specs.Waits.{is_late}
-use Rattle.cache_policy.specs.declared.wait.Wait.{Wait}
-use Rattle.cache_policy.proofs.OneMore.{stopped_with_mark, seat_with_mark}
-use Rattle.cache_book.specs.declared.slot.Slot.{Slot}
-use Rattle.cache_book.specs.Slots.{slots}
-use Rattle.cache_book.specs.Shelves.{touched, cleared, IsGrantFrom, ServesNone}
-use Rattle.cache_book.proofs.Marking.{slots_same, slots_flushed, slots_cleared}
-use Rattle.cache_book.proofs.Storing.{slots_given, slots_stored}
-use Rattle.cache_book.proofs.Live.{IsLiveGrant, grant_is_live, none_live, live_is_live, grant_swept, none_swept}
-use Rattle.agent_core.specs.declared.state.State.{State}
-use Rattle.agent_core.specs.States.{seen, held_of, IsState}
-use Rattle.agent_core.specs.Taking.{held_at, since_at, HasMarked, HasMarkedAlone, HasMoreRoom, Finds, Prompts, Puts, Closes, with_stored, next_slots, number_of, slots_at}
-use Rattle.agent_core.specs.Cores.{StandsFor, mark_of, WantsMemory, IsAsBefore, IsStep, marked, stood, refused}
-use Rattle.agent_core.proofs.Standing.{IsReady, slots_at_ready, stands_then, seat_kept, stopped_kept}
 
 -- a step that is taken: the state before and after, whose it is, on which history, and at which moment
 pub record IsTaken (before after : State) (history : History) (moment : ℕ) : Type 0 where

@@ -1,18 +1,11 @@
 -- A step as it is asked, and as its session takes it: the moment of its first try stands in place of a wait of its own.
-use Rattle.std.specs.Prelude.{◌≡◌, ℕ, Option, Some, None, IfSome, true, refl}
-use Rattle.std.proofs.Common.{ap, sym, subst, eq-eqb}
-use Rattle.agent_ports.specs.declared.session.SessionId.{SessionId}
-use Rattle.cache_policy.specs.declared.mark.MarkStep.{MarkStep}
-use Rattle.cache_policy.specs.declared.mark.MarkStep.TheVariants.{Ask, Seat, Close, Put, Clear, Flush, Peek, Stop}
-use Rattle.cache_policy.specs.declared.mark.Way.TheVariants.{Quiet, Prompt}
-use Rattle.cache_policy.specs.declared.step.Step.{Step}
-use Rattle.cache_policy.specs.declared.step.Step.TheVariants as step
-use Rattle.cache_policy.specs.declared.wait.Wait.{Wait}
-use Rattle.cache_policy.specs.Turns.{Turn, Given, Empty, Open, Stand, Done, Held, Stopping, Late, Refused, FitsReply, asked_step, wait_of, mark_step, closes, with_since, since_of, since_when}
+use Rattle.std.{specs.Prelude.{◌≡◌, ℕ, Option, Some, None, IfSome, true, refl}, proofs.Common.{ap, sym, subst, eq-eqb}}
+use Rattle.{agent_ports.specs.declared.session.SessionId.SessionId, cache_policy.specs.declared.{mark.{MarkStep.{MarkStep, TheVariants.{Ask, Seat, Close, Put, Clear, Flush, Peek, Stop}}, Way.TheVariants.{Quiet, Prompt}}, step.Step.Step}}
+use Rattle.cache_policy.specs.{declared.wait.Wait.Wait, Turns.{Turn, Given, Empty, Open, Stand, Done, Held, Stopping, Late, Refused, FitsReply, asked_step, wait_of, mark_step, closes, with_since, since_of, since_when}}
 use Rattle.cache_policy.specs.Waits.{is_session, since_by}
-use Rattle.agent_core.specs.declared.opening.Opening.{Opening}
+use Rattle.agent_core.specs.{declared.opening.Opening.Opening, Openings.{opening_step, without_wait}}
+use Rattle.cache_policy.specs.declared.step.Step.TheVariants as step
 use Rattle.agent_core.specs.declared.opening.Opening.TheVariants as opening
-use Rattle.agent_core.specs.Openings.{opening_step, without_wait}
 
 pub closes_taken : (session : SessionId) (asked : Step) → closes (mark_step session asked) ≡ closes (asked_step asked)
 closes_taken session (step.Ask id mode way wait) = refl
@@ -103,7 +96,7 @@ since_with since (Peek id mode) P is = tt
 since_with since Stop P is = tt
 
 -- a wait of the session's own
-own_session : (session : SessionId) → is_session session session ≡ true
+pub own_session : (session : SessionId) → is_session session session ≡ true
 own_session session = rw (eq-eqb session.pass session.pass refl, eq-eqb session.count session.count refl) refl
 
 pub since_own : (session : SessionId) (wait : Wait) → wait.session ≡ session → since_by session (Some wait) ≡ Some wait.since

@@ -1,20 +1,8 @@
 -- A step of a core that isn't spent, and one of a core that is.
-use Rattle.std.specs.Prelude.{◌≡◌, ◌≢◌, ℕ, ◌+◌, ◌%◌, ◌<◌, ◌≤◌, ◌==◌, true, false, refl, if◌then◌else◌}
-use Rattle.std.proofs.Common.{sym, ◌∙◌, subst, arith}
-use Rattle.std.proofs.lemmas.Bool.Decides.{nat_tests}
-use Rattle.agent_ports.specs.declared.session.SessionId.{SessionId}
-use Rattle.cache_policy.specs.declared.bounds.TheConstants.{MAX_MARKS, MAX_MOMENT}
-use Rattle.cache_policy.specs.declared.mark.MarkStep.{MarkStep}
-use Rattle.cache_policy.specs.Histories.{History}
-use Rattle.cache_policy.specs.Runs.{last_base, next_history, moment_of}
-use Rattle.cache_policy.specs.Legal.{IsLegal}
-use Rattle.cache_policy.specs.Turns.{Turn, Stopping}
-use Rattle.agent_core.specs.declared.state.State.{State}
-use Rattle.agent_core.specs.States.{seen, IsState}
-use Rattle.agent_core.specs.Taking.{Takes}
-use Rattle.agent_core.specs.Cores.{AtCore, StandsFor, IsStep, spent}
-use Rattle.agent_core.proofs.Standing.{next_is, ready}
-use Rattle.agent_core.proofs.Dispatch.{takes_step}
+use Rattle.std.{specs.Prelude.{◌≡◌, ◌≢◌, ℕ, ◌+◌, ◌%◌, ◌<◌, ◌≤◌, ◌==◌, true, false, refl, if◌then◌else◌}, proofs.{Common.{sym, ◌∙◌, subst, arith}, lemmas.Bool.Decides.nat_tests}}
+use Rattle.{agent_ports.specs.declared.session.SessionId.SessionId, cache_policy.specs.{declared.{bounds.TheConstants.{MAX_MARKS, MAX_MOMENT}, mark.MarkStep.MarkStep}, Histories.History, Runs.{last_base, next_history, moment_of}}}
+use Rattle.cache_policy.specs.{Legal.IsLegal, Turns.{Turn, Stopping}}
+use Rattle.agent_core.{specs.{declared.state.State.State, States.{seen, IsState}, Taking.Takes, Cores.{AtCore, StandsFor, IsStep, spent}}, proofs.{Standing.{next_is, ready}, Dispatch.takes_step}}
 
 -- the numbers are used up exactly where the next history has the last base
 at_end : (base count : ℕ) → base < last_base → base % MAX_MARKS ≡ 0 → count ≤ MAX_MARKS → base + count ≡ last_base

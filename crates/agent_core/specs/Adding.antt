@@ -1,19 +1,9 @@
 -- Private: marks are added to the histories of a run, and the room for them is reserved.
-use Rattle.std.specs.Prelude.{◌≡◌, ◌+◌, ◌<◌, ◌==◌, List, [], ◌∷◌, ◌++◌, length, Bool, true, false, not, Option, Some, None, IsSome, if◌then◌else◌}
-use Rattle.std.specs.Option.{is_some}
-use Rattle.std.specs.Global.{Vec}
-use Rattle.cache_policy.specs.declared.bounds.TheConstants.{MAX_MARKS}
-use Rattle.cache_policy.specs.declared.mark.Mark.{Mark}
-use Rattle.cache_policy.specs.declared.history.History.{History as HistoryInMemory}
-use Rattle.cache_policy.specs.Histories.{History, run_of}
+use Rattle.std.specs.{Prelude.{◌≡◌, ◌+◌, ◌<◌, ◌==◌, List, [], ◌∷◌, ◌++◌, length, Bool, true, false, not, Option, Some, None, IsSome, if◌then◌else◌}, Option.is_some, Global.Vec}
+use Rattle.cache_policy.specs.{declared.{bounds.TheConstants.MAX_MARKS, mark.{Mark.Mark, MarkStep.MarkStep}, history.History.History as HistoryInMemory}, Histories.{History, run_of}, Policy.{Ruling, Reply, Stand}}
+use Rattle.cache_policy.specs.{Runs.{last_history, run_with_mark}, Turns.closes}
+use Rattle.agent_core.specs.{declared.known_core.Start.Start, Cores.AtCore, Recording.{IsRoom, LastHasRoom}}
 use Rattle.cache_policy.specs.declared.mark.MarkReply.TheVariants as reply
-use Rattle.cache_policy.specs.declared.mark.MarkStep.{MarkStep}
-use Rattle.cache_policy.specs.Policy.{Ruling, Reply, Stand}
-use Rattle.cache_policy.specs.Runs.{last_history, run_with_mark}
-use Rattle.cache_policy.specs.Turns.{closes}
-use Rattle.agent_core.specs.declared.known_core.Start.{Start}
-use Rattle.agent_core.specs.Cores.{AtCore}
-use Rattle.agent_core.specs.Recording.{IsRoom, LastHasRoom}
 
 -- the step comes to the seat: it opens where that is free, and stands where it is held
 abbrev pub comes_to_seat : Ruling → Bool

@@ -1,24 +1,11 @@
 -- What a core stands for, and what its steps do: the policy's reply, and the history with one mark more. This is the project's own.
 use Rattle.std.specs.Prelude.{◌≡◌, ℕ, ◌<◌, ◌≤◌, List, length, Bool, true, false, Option, IsSome, IfSome, ⊤}
-use Rattle.agent_ports.specs.declared.session.SessionId.{SessionId}
-use Rattle.cache_policy.specs.declared.bounds.TheConstants.{MAX_MOMENT}
-use Rattle.cache_policy.specs.declared.life.Limits.{Limits}
-use Rattle.cache_policy.specs.declared.mark.Mark.{Mark}
-use Rattle.cache_policy.specs.declared.mark.MarkStep.{MarkStep}
+use Rattle.{agent_ports.specs.declared.session.SessionId.SessionId, cache_policy.specs.declared.{bounds.TheConstants.MAX_MOMENT, life.Limits.Limits, mark.{Mark.Mark, MarkStep.MarkStep, MarkReply.MarkReply}, history.Held.Held}}
+use Rattle.cache_policy.specs.{declared.wait.Wait.Wait, Histories.{History, with_mark}, Seat.{seat, stopped}, Policy.{Reply, policy}, Runs.{next_history, is_spent, moment_before}, Turns.{Turn, Stand, Stopping, Refused, wait_after}}
+use Rattle.{cache_policy.specs.Desks.Shows, cache_book.specs.{declared.slot.Slot.Slot, Slots.slots}}
 use Rattle.cache_policy.specs.declared.mark.MarkStep.TheVariants as asked
-use Rattle.cache_policy.specs.declared.mark.MarkReply.{MarkReply}
 use Rattle.cache_policy.specs.declared.mark.MarkReply.TheVariants as reply
-use Rattle.cache_policy.specs.declared.history.Held.{Held}
-use Rattle.cache_policy.specs.declared.wait.Wait.{Wait}
-use Rattle.cache_policy.specs.Histories.{History, with_mark}
-use Rattle.cache_policy.specs.Seat.{seat, stopped}
-use Rattle.cache_policy.specs.Policy.{Reply, policy}
 use Rattle.cache_policy.specs.Policy as ruling
-use Rattle.cache_policy.specs.Runs.{next_history, is_spent, moment_before}
-use Rattle.cache_policy.specs.Turns.{Turn, Stand, Stopping, Refused, wait_after}
-use Rattle.cache_policy.specs.Desks.{Shows}
-use Rattle.cache_book.specs.declared.slot.Slot.{Slot}
-use Rattle.cache_book.specs.Slots.{slots}
 
 -- A core is seen as its lifetimes, the base of its history, the count of its marks, the moment of the last step, the slots on its shelf,
 -- the ticket that is out, whether it has stopped opening prompts, and how many entries it has room for

@@ -1,16 +1,8 @@
 -- Steps of other sessions, and the ticket that one of them has. This is the project's own.
-use Rattle.std.specs.Prelude.{◌≡◌, ℕ, List, false, Option, Some, None, if◌then◌else◌}
-use Rattle.std.specs.Option.{is_some, option_and_then}
-use Rattle.std.specs.List.{AllByRecursion}
-use Rattle.agent_ports.specs.declared.session.SessionId.{SessionId}
-use Rattle.cache_policy.specs.declared.mark.MarkStep.{MarkStep}
+use Rattle.std.specs.{Prelude.{◌≡◌, ℕ, List, false, Option, Some, None, if◌then◌else◌}, Option.{is_some, option_and_then}, List.AllByRecursion}
+use Rattle.{agent_ports.specs.declared.session.SessionId.SessionId, cache_policy.specs.{declared.mark.MarkStep.MarkStep, Turns.{Turn, Open, closes}, Waits.is_session}}
+use Rattle.agent_core.specs.declared.{foreign.{Foreign.Foreign, ForeignStep.{ForeignStep, TheVariants.{Ask, Seat, CloseHeld, Put, Clear, Flush, Peek, Stop}}}, holder.Holder.Holder}
 use Rattle.cache_policy.specs.declared.mark.MarkStep.TheVariants as asked
-use Rattle.cache_policy.specs.Turns.{Turn, Open, closes}
-use Rattle.cache_policy.specs.Waits.{is_session}
-use Rattle.agent_core.specs.declared.foreign.Foreign.{Foreign}
-use Rattle.agent_core.specs.declared.foreign.ForeignStep.{ForeignStep}
-use Rattle.agent_core.specs.declared.foreign.ForeignStep.TheVariants.{Ask, Seat, CloseHeld, Put, Clear, Flush, Peek, Stop}
-use Rattle.agent_core.specs.declared.holder.Holder.{Holder}
 
 -- the step is one of another session
 abbrev pub IsForeign : SessionId → Foreign → Type 0

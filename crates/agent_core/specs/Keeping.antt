@@ -1,13 +1,7 @@
 -- Private: what a core with its run keeps.
-use Rattle.std.specs.Prelude.{Option}
-use Rattle.std.specs.Global.{Vec}
-use Rattle.cache_policy.specs.declared.mark.Mark.{Mark}
-use Rattle.cache_policy.specs.declared.history.History.{History as HistoryInMemory}
-use Rattle.cache_policy.specs.Histories.{run_of}
-use Rattle.cache_policy.specs.declared.tally.Tally.{Tally}
-use Rattle.agent_core.specs.Recording.{Records}
-use Rattle.agent_core.specs.Cores.{AtCore}
-use Rattle.agent_core.specs.Tallies.{Tallied}
+use Rattle.std.specs.{Prelude.Option, Global.Vec}
+use Rattle.cache_policy.specs.{declared.{mark.Mark.Mark, history.History.History as HistoryInMemory, tally.Tally.Tally}, Histories.run_of}
+use Rattle.agent_core.specs.{Recording.Records, Cores.AtCore, Tallies.Tallied}
 
 -- its run, the room for the marks to come, and their tally
 pub record IsKnown (core : AtCore) (histories : Vec HistoryInMemory) (next : Option (Vec Mark)) (tally : Tally) : Type 0 where

@@ -1,21 +1,10 @@
 -- A step on a run that is known: what it comes to, and which run there is then. This is the project's own.
-use Rattle.std.specs.Prelude.{◌≡◌, ℕ, ◌+◌, ◌<◌, List, length, Option, Some, None, IsSome}
-use Rattle.std.specs.Option.{option_and_then}
-use Rattle.agent_ports.specs.declared.session.SessionId.{SessionId}
-use Rattle.cache_policy.specs.declared.bounds.TheConstants.{MAX_MARKS}
-use Rattle.cache_policy.specs.declared.life.Limits.{Limits}
-use Rattle.cache_policy.specs.declared.mark.MarkStep.{MarkStep}
-use Rattle.cache_policy.specs.declared.mark.MarkReply.{MarkReply}
-use Rattle.cache_policy.specs.declared.history.Held.{Held as Ticket}
-use Rattle.cache_policy.specs.declared.wait.Wait.{Wait}
-use Rattle.cache_policy.specs.Histories.{History, with_mark}
-use Rattle.cache_policy.specs.Desks.{Shows, IsSpentRun}
-use Rattle.cache_policy.specs.Policy.{Reply, policy}
-use Rattle.cache_policy.specs.Policy as ruling
-use Rattle.cache_policy.specs.Runs.{last_base, last_history, next_history, joined, moment_before, moment_of, run_with_mark}
-use Rattle.cache_policy.specs.Seat.{seat}
+use Rattle.std.specs.{Prelude.{◌≡◌, ℕ, ◌+◌, ◌<◌, List, length, Option, Some, None, IsSome}, Option.option_and_then}
+use Rattle.{agent_ports.specs.declared.session.SessionId.SessionId, cache_policy.specs.declared.{bounds.TheConstants.MAX_MARKS, life.Limits.Limits, mark.{MarkStep.MarkStep, MarkReply.MarkReply}, history.Held.Held as Ticket, wait.Wait.Wait}}
+use Rattle.cache_policy.specs.{Histories.{History, with_mark}, Desks.{Shows, IsSpentRun}, Policy.{Reply, policy}, Runs.{last_base, last_history, next_history, joined, moment_before, moment_of, run_with_mark}, Seat.seat}
 use Rattle.cache_policy.specs.Turns.{Turn, Stand, Stopping, Refused, closes, wait_after}
 use Rattle.agent_core.specs.Cores.{mark_of, WantsMemory}
+use Rattle.cache_policy.specs.Policy as ruling
 
 -- a core whose run is known is seen as its lifetimes and its run
 pub record AtKnown : Type 0 where

@@ -1,9 +1,6 @@
 -- Steps that want the prompt, as they are tried again and again. This is the project's own.
 use Rattle.std.specs.Prelude.{Option, None}
-use Rattle.cache_policy.specs.declared.mark.Way.TheVariants.{Prompt}
-use Rattle.cache_policy.specs.declared.step.Step.{Step}
-use Rattle.cache_policy.specs.declared.step.Step.TheVariants.{Ask, Seat, Close, Put, Clear, Flush, Peek, Stop}
-use Rattle.cache_policy.specs.declared.wait.Wait.{Wait}
+use Rattle.cache_policy.specs.declared.{mark.Way.TheVariants.Prompt, step.Step.{Step, TheVariants.{Ask, Seat, Close, Put, Clear, Flush, Peek, Stop}}, wait.Wait.Wait}
 use Rattle.agent_core.specs.declared.opening.Opening.{Opening}
 use Rattle.agent_core.specs.declared.opening.Opening.TheVariants as opening
 

@@ -1,16 +1,7 @@
 -- Private: how a core keeps its run, and the room for the marks to come.
-use Rattle.std.specs.Prelude.{◌≡◌, ◌<◌, ◌≤◌, List, [], ◌∷◌, Option, Some, None, IsSome, unwrap_or, vec_len, vec_capacity, ⊤}
-use Rattle.std.specs.Global.{Vec}
-use Rattle.cache_policy.specs.declared.bounds.TheConstants.{MAX_MARKS}
-use Rattle.cache_policy.specs.declared.mark.Mark.{Mark}
-use Rattle.cache_policy.specs.declared.mark.MarkReply.{MarkReply}
-use Rattle.cache_policy.specs.declared.mark.MarkReply.TheVariants.{Done}
-use Rattle.cache_policy.specs.declared.history.History.{History as HistoryInMemory}
-use Rattle.cache_policy.specs.Histories.{History, run_of}
-use Rattle.cache_policy.specs.Legal.{IsLegalRun}
-use Rattle.cache_policy.specs.Runs.{last_base, last_history, joined, moment_before}
-use Rattle.cache_policy.specs.Traces.{reply_of as shown_of}
-use Rattle.cache_policy.specs.Turns.{Turn}
+use Rattle.std.specs.{Prelude.{◌≡◌, ◌<◌, ◌≤◌, List, [], ◌∷◌, Option, Some, None, IsSome, unwrap_or, vec_len, vec_capacity, ⊤}, Global.Vec}
+use Rattle.cache_policy.specs.{declared.{bounds.TheConstants.MAX_MARKS, mark.{Mark.Mark, MarkReply.{MarkReply, TheVariants.Done}}, history.History.History as HistoryInMemory}, Histories.{History, run_of}, Legal.IsLegalRun}
+use Rattle.cache_policy.specs.{Runs.{last_base, last_history, joined, moment_before}, Traces.reply_of as shown_of, Turns.Turn}
 use Rattle.agent_core.specs.Cores.{AtCore, StandsFor}
 
 -- the core stands for the last history of a legal run, which isn't spent yet

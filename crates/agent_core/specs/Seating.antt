@@ -1,10 +1,7 @@
 -- Which ticket is out at a desk whose run is known.
 use Rattle.std.specs.Prelude.{◌≡◌, ℕ, List, Option, Some, None}
-use Rattle.cache_policy.specs.declared.history.Held.{Held as Ticket}
-use Rattle.cache_policy.specs.Histories.{History}
-use Rattle.cache_policy.specs.Desks.{IsSpentRun}
-use Rattle.agent_core.specs.declared.holder.Holder.{Holder}
-use Rattle.agent_core.specs.Known.{run_seat}
+use Rattle.cache_policy.specs.{declared.history.Held.Held as Ticket, Histories.History, Desks.IsSpentRun}
+use Rattle.agent_core.specs.{declared.holder.Holder.Holder, Known.run_seat}
 
 -- The ticket that is out is the one that the desk's session has, or the one of another session. An agent that is spent has given it up.
 pub data Seated (run : List History) : Option ℕ → Option Holder → Type 0 where

@@ -1,14 +1,7 @@
 -- What a desk in memory keeps.
-use Rattle.std.specs.Prelude.{List, Option, reverse, map, IfSome, false, ◌≡◌}
-use Rattle.std.specs.Global.{Vec}
-use Rattle.agent_ports.specs.declared.session.SessionId.{SessionId}
-use Rattle.cache_policy.specs.Histories.{History}
-use Rattle.std.specs.Prelude.{ℕ}
-use Rattle.agent_core.specs.declared.foreign.Foreign.{Foreign}
-use Rattle.agent_core.specs.declared.holder.Holder.{Holder}
-use Rattle.cache_policy.specs.Waits.{is_session}
-use Rattle.agent_core.specs.Foreigners.{AllForeign}
-use Rattle.agent_core.specs.Seating.{Seated}
+use Rattle.std.specs.{Prelude.{List, Option, reverse, map, IfSome, false, ◌≡◌, ℕ}, Global.Vec}
+use Rattle.{agent_ports.specs.declared.session.SessionId.SessionId, cache_policy.specs.{Histories.History, Waits.is_session}}
+use Rattle.agent_core.specs.{declared.{foreign.Foreign.Foreign, holder.Holder.Holder}, Foreigners.AllForeign, Seating.Seated}
 
 -- the lists of a script, of which the next one stands last
 abbrev pub lists_of : List (Vec Foreign) → List (List Foreign)

@@ -1,26 +1,9 @@
 -- A desk in memory, whose run is known, and at which other sessions take the steps of a script. This is the project's own.
-use Rattle.std.specs.Prelude.{◌≡◌, ◌≤◌, ℕ, ◌+◌, List, [], ◌∷◌, ◌++◌, Bool, true, false, min, Option, Some, None, IfSome, ⊤}
-use Rattle.std.specs.List.{AllByRecursion}
-use Rattle.std.specs.Borrow.{GName}
-use Rattle.agent_ports.specs.Leads.{Leads}
-use Rattle.agent_ports.specs.Readings.{Readings, IsRead}
-use Rattle.agent_ports.specs.declared.session.SessionId.{SessionId}
-use Rattle.cache_policy.specs.declared.bounds.TheConstants.{MAX_MOMENT}
-use Rattle.cache_policy.specs.declared.life.Limits.{Limits}
-use Rattle.cache_policy.specs.declared.mark.Mark.{Mark}
-use Rattle.cache_policy.specs.declared.mark.MarkStep.{MarkStep}
-use Rattle.cache_policy.specs.declared.wait.Wait.{Wait}
-use Rattle.cache_policy.specs.Desks.{AtDesk, IsTurn}
-use Rattle.cache_policy.specs.Histories.{History, with_mark}
-use Rattle.cache_policy.specs.Legal.{IsLegalRun}
-use Rattle.cache_policy.specs.Return.{IsGivenRightly}
-use Rattle.cache_policy.specs.Runs.{last_history, joined}
+use Rattle.std.specs.{Prelude.{◌≡◌, ◌≤◌, ℕ, ◌+◌, List, [], ◌∷◌, ◌++◌, Bool, true, false, min, Option, Some, None, IfSome, ⊤}, List.AllByRecursion, Borrow.GName}
+use Rattle.{agent_ports.specs.{Leads.Leads, Readings.{Readings, IsRead}, declared.session.SessionId.SessionId}, cache_policy.specs.declared.{bounds.TheConstants.MAX_MOMENT, life.Limits.Limits, mark.{Mark.Mark, MarkStep.MarkStep}}}
+use Rattle.cache_policy.specs.{declared.wait.Wait.Wait, Desks.{AtDesk, IsTurn}, Histories.{History, with_mark}, Legal.IsLegalRun, Return.IsGivenRightly, Runs.{last_history, joined}}
 use Rattle.cache_policy.specs.Turns.{Turn, Given, Stand, FitsReply, out_after, since_of, with_since}
-use Rattle.agent_core.specs.declared.foreign.Foreign.{Foreign}
-use Rattle.agent_core.specs.declared.foreign.ForeignStep.TheVariants.{CloseHeld}
-use Rattle.agent_core.specs.declared.holder.Holder.{Holder}
-use Rattle.agent_core.specs.Foreigners.{IsForeign, foreign_step, holder_after}
-use Rattle.agent_core.specs.Known.{next_moment, TakesStep}
+use Rattle.agent_core.specs.{declared.{foreign.{Foreign.Foreign, ForeignStep.TheVariants.CloseHeld}, holder.Holder.Holder}, Foreigners.{IsForeign, foreign_step, holder_after}, Known.{next_moment, TakesStep}}
 
 -- the desk as contracts see it: the lists of the script that are still to come among the rest, its clock, and which clock that is
 pub record SoloState (C : Type 0) : Type 0 where

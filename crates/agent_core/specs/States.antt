@@ -1,12 +1,7 @@
 -- What a core has in place of its history. This is the project's own.
 use Rattle.std.specs.Prelude.{◌≡◌, ℕ, ◌+◌, ◌%◌, ◌<◌, ◌≤◌, Option, Some, None}
-use Rattle.cache_policy.specs.declared.bounds.TheConstants.{MAX_MARKS, MAX_MOMENT}
-use Rattle.cache_policy.specs.declared.mark.Under.{Under}
-use Rattle.cache_policy.specs.declared.history.Held.{Held}
-use Rattle.cache_policy.specs.Runs.{last_base}
-use Rattle.cache_book.specs.Shelves.{AreBelow}
-use Rattle.agent_core.specs.declared.state.State.{State}
-use Rattle.agent_core.specs.Cores.{AtCore, HasRoom}
+use Rattle.{cache_policy.specs.{declared.{bounds.TheConstants.{MAX_MARKS, MAX_MOMENT}, mark.Under.Under, history.Held.Held}, Runs.last_base}, cache_book.specs.Shelves.AreBelow}
+use Rattle.agent_core.specs.{declared.state.State.State, Cores.{AtCore, HasRoom}}
 
 -- the ticket that is out, with what its passphrase is kept under
 abbrev pub held_of : Option ℕ → Option Under → Option Held

@@ -1,10 +1,8 @@
--- How a step came out at a core whose run is known.
+-- Private: how a step came out at a core whose run is known.
 use Rattle.std.specs.Prelude.{◌≡◌, None, Ok, ⊤}
-use Rattle.cache_policy.specs.declared.step.Step.{Step}
-use Rattle.cache_policy.specs.Turns.{Turn, Stand, Refused, turn_of}
-use Rattle.agent_core.specs.declared.stepped.Stepped.{Stepped}
+use Rattle.cache_policy.specs.{declared.step.Step.Step, Turns.{Turn, Stand, Refused, turn_of}}
+use Rattle.agent_core.specs.{declared.stepped.Stepped.Stepped, Openings.{opening_step, without_wait}}
 use Rattle.agent_core.specs.declared.stepped.Stepped.TheVariants as stepped
-use Rattle.agent_core.specs.Openings.{opening_step, without_wait}
 
 -- the turn that it is
 abbrev pub turn_of_stepped : Stepped → Turn

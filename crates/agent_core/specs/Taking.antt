@@ -1,28 +1,10 @@
 -- Private: what a step makes of what a core has.
-use Rattle.std.specs.Prelude.{◌≡◌, ℕ, ◌+◌, ◌<◌, ◌≤◌, ◌==◌, ◌&&◌, List, [], ◌∷◌, Bool, true, false, not, Option, Some, None, Result, Ok, Err, IsSome, if◌then◌else◌}
-use Rattle.agent_ports.specs.declared.session.SessionId.{SessionId}
-use Rattle.std.specs.Option.{option_and_then, is_some}
-use Rattle.cache_policy.specs.declared.bounds.TheConstants.{MAX_MARKS, MAX_MOMENT}
-use Rattle.cache_policy.specs.declared.mark.Under.{Under}
-use Rattle.cache_policy.specs.declared.mark.Way.{Way}
-use Rattle.cache_policy.specs.declared.mark.Way.TheVariants.{Quiet, Prompt}
-use Rattle.cache_policy.specs.declared.mark.MarkStep.{MarkStep}
-use Rattle.cache_policy.specs.declared.mark.MarkStep.TheVariants.{Ask, Seat, Close, Put, Clear, Flush, Peek, Stop}
-use Rattle.cache_policy.specs.declared.mode.Mode.{Mode}
-use Rattle.cache_policy.specs.declared.life.Life.{Life}
-use Rattle.cache_policy.specs.declared.entry.Entry.{Entry}
-use Rattle.cache_policy.specs.declared.grant.Grant.{Grant}
-use Rattle.cache_policy.specs.declared.history.Held.{Held}
-use Rattle.cache_policy.specs.declared.step.Reply.{Reply}
-use Rattle.cache_policy.specs.Entries.{entry_of, kept_under, kept}
-use Rattle.cache_policy.specs.Seat.{unless_given_back}
-use Rattle.cache_policy.specs.Turns.{Turn, Given, Empty, Open, Stand, Done, Held as WhetherHeld, Stopping, Late, Refused, turn_of}
-use Rattle.cache_policy.specs.Waits.{is_late}
-use Rattle.cache_policy.specs.Runs.{last_base}
-use Rattle.cache_book.specs.declared.slot.Slot.{Slot}
-use Rattle.cache_book.specs.Shelves.{IsGrantFrom, ServesNone, touched, with_entry, cleared, swept}
-use Rattle.agent_core.specs.declared.state.State.{State}
-use Rattle.agent_core.specs.States.{held_of, IsState}
+use Rattle.std.specs.{Prelude.{◌≡◌, ℕ, ◌+◌, ◌<◌, ◌≤◌, ◌==◌, ◌&&◌, List, [], ◌∷◌, Bool, true, false, not, Option, Some, None, Result, Ok, Err, IsSome, if◌then◌else◌}, Option.{option_and_then, is_some}}
+use Rattle.{agent_ports.specs.declared.session.SessionId.SessionId, cache_policy.specs.declared.{bounds.TheConstants.{MAX_MARKS, MAX_MOMENT}, mark.{Under.Under, Way.{Way, TheVariants.{Quiet, Prompt}}, MarkStep.MarkStep}}}
+use Rattle.cache_policy.specs.declared.{mark.MarkStep.TheVariants.{Ask, Seat, Close, Put, Clear, Flush, Peek, Stop}, mode.Mode.Mode, life.Life.Life, entry.Entry.Entry, grant.Grant.Grant, history.Held.Held, step.Reply.Reply}
+use Rattle.cache_policy.specs.{Entries.{entry_of, kept_under, kept}, Seat.unless_given_back, Turns.{Turn, Given, Empty, Open, Stand, Done, Held as WhetherHeld, Stopping, Late, Refused, turn_of}, Waits.is_late, Runs.last_base}
+use Rattle.cache_book.specs.{declared.slot.Slot.Slot, Shelves.{IsGrantFrom, ServesNone, touched, with_entry, cleared, swept}}
+use Rattle.agent_core.specs.{declared.state.State.State, States.{held_of, IsState}}
 
 -- the history has no room for a mark
 abbrev pub is_full : State → Bool

@@ -1,15 +1,7 @@
 -- Tallies: what the marks of a run come to. This is the project's own.
-use Rattle.std.specs.Prelude.{◌≡◌, ◌+◌, ◌<◌, ◌^◌, List, length, Bool, false}
-use Rattle.std.specs.Option.{option_map_or}
-use Rattle.std.specs.List.{flat_map}
-use Rattle.cache_policy.specs.declared.life.Limits.{Limits}
-use Rattle.cache_policy.specs.declared.mark.Mark.{Mark}
-use Rattle.cache_policy.specs.Histories.{History}
-use Rattle.cache_policy.specs.Entries.{entries}
-use Rattle.cache_policy.specs.Runs.{joined, last_history}
-use Rattle.cache_policy.specs.Seat.{is_open, stopped}
+use Rattle.std.specs.{Prelude.{◌≡◌, ◌+◌, ◌<◌, ◌^◌, List, length, Bool, false}, Option.option_map_or, List.flat_map}
+use Rattle.cache_policy.specs.{declared.{life.Limits.Limits, mark.Mark.Mark, tally.Tally.Tally}, Histories.History, Entries.entries, Runs.{joined, last_history}, Seat.{is_open, stopped}}
 use Rattle.cache_policy.specs.Tallies.{is_given, is_empty, is_clear, is_flush, how_many, one_if}
-use Rattle.cache_policy.specs.declared.tally.Tally.{Tally}
 
 -- the tally of a run: its marks, those that were replied so, the entries that were stored, those steps, and whether it has stopped
 abbrev pub tally_of : Limits → List History → Tally

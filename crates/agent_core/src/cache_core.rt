@@ -3,20 +3,14 @@
 //! with `Core::step`; `IsStep` and `StandsFor` of `specs/Cores` say what it does to every history.
 
 ghost use Rattle.std.specs.Prelude.{◌≡◌, ℕ, ◌+◌, ◌<◌, ◌≤◌, ◌↔◌, [], length, false, None, IsTrue};
-ghost use Rattle.std.specs.Prelude.{OnErr, IfErr};
-ghost use Rattle.std.specs.Option.{is_some};
-ghost use Rattle.cache_policy.specs.declared.bounds.TheConstants.{MAX_MARKS};
-ghost use Rattle.cache_policy.specs.Entries.{stored};
+ghost use Rattle.std.specs.{Prelude.{OnErr, IfErr}, Option.is_some};
+ghost use Rattle.cache_policy.specs.{declared.bounds.TheConstants.MAX_MARKS, Entries.stored};
 ghost use Rattle.cache_policy.specs.Histories.{History};
 ghost use Rattle.cache_policy.specs.Turns.{asked_step, mark_step, turn_of, FitsReply};
-ghost use Rattle.cache_policy.specs.Turns.{MayWantMemory};
-ghost use Rattle.cache_policy.specs.Policy.{policy};
-ghost use Rattle.cache_policy.specs.Runs.{last_base, moment_of, next_history};
-ghost use Rattle.cache_policy.specs.Legal.{IsLegal};
-ghost use Rattle.cache_policy.specs.Seat.{seat};
-ghost use Rattle.cache_policy.specs.Tallies.{one_if};
-ghost use Rattle.agent_core.specs.Cores.{StandsFor, IsStep, IsAsBefore};
-ghost use Rattle.agent_core.specs.Adding.{comes_to_seat};
+ghost use Rattle.cache_policy.specs.{Turns.MayWantMemory, Policy.policy};
+ghost use Rattle.cache_policy.specs.{Runs.{last_base, moment_of, next_history}, Legal.IsLegal};
+ghost use Rattle.cache_policy.specs.{Seat.seat, Tallies.one_if};
+ghost use Rattle.agent_core.specs.{Cores.{StandsFor, IsStep, IsAsBefore}, Adding.comes_to_seat};
 
 use crate::state::{CacheShelf, State};
 use agent_ports::SessionId;
@@ -36,8 +30,7 @@ pub struct Core {
 }
 
 impl Model for Core {
-    ghost use Rattle.agent_core.specs.Cores.{AtCore};
-    ghost use Rattle.agent_core.specs.States.{IsState, seen};
+    ghost use Rattle.agent_core.specs.{Cores.AtCore, States.{IsState, seen}};
 
     ghost Value = { AtCore };
 

@@ -4,8 +4,7 @@
 
 ghost use Rattle.std.specs.Prelude.{◌≡◌, None, if◌then◌else◌};
 ghost use Rattle.std.specs.Option.{option_map, option_and_then, is_some};
-ghost use Rattle.cache_policy.specs.Turns.{mark_step, closes};
-ghost use Rattle.cache_policy.specs.Waits.{is_session};
+ghost use Rattle.cache_policy.specs.{Turns.{mark_step, closes}, Waits.is_session};
 ghost use Rattle.agent_core.specs.Foreigners.{told_step, ticket_of};
 
 use crate::foreign::ForeignStep;

@@ -4,13 +4,11 @@
 //! of `specs/Known` says what it does.
 
 ghost use Rattle.std.specs.Prelude.{◌≡◌, ◌+◌, ◌<◌, ◌∷◌, [], true, None, Ok, IsSome, IfSome, OnOk};
-ghost use Rattle.std.specs.Prelude.{OnErr, IfOk, vec_len, vec_capacity};
-ghost use Rattle.std.specs.Option.{is_some};
+ghost use Rattle.std.specs.{Prelude.{OnErr, IfOk, vec_len, vec_capacity}, Option.is_some};
 ghost use Rattle.cache_policy.specs.declared.bounds.TheConstants.{MAX_MARKS};
 ghost use Rattle.cache_policy.specs.declared.step.Step.{Step as AskedOf};
 ghost use Rattle.cache_policy.specs.Histories.{History as OneHistory, run_of};
-ghost use Rattle.cache_policy.specs.Legal.{IsLegal, IsLegalRun};
-ghost use Rattle.cache_policy.specs.Policy.{policy};
+ghost use Rattle.cache_policy.specs.{Legal.{IsLegal, IsLegalRun}, Policy.policy};
 ghost use Rattle.cache_policy.specs.Replay.{first_history};
 ghost use Rattle.cache_policy.specs.Runs.{last_base, moment_of, next_history, run_with_mark};
 ghost use Rattle.cache_policy.specs.Turns.{Stand, mark_step, turn_of, closes, FitsReply};
@@ -71,8 +69,7 @@ pub(crate) struct Start {
 }
 
 impl KnownCore {
-    ghost use Rattle.agent_core.specs.Known.{IsOut, next_moment, TakesStep};
-    ghost use Rattle.agent_core.specs.Tallies.{tally_of};
+    ghost use Rattle.agent_core.specs.{Known.{IsOut, next_moment, TakesStep}, Tallies.tally_of};
 
     /// A core without entries, whose run has one history without marks. It reserves the room for
     /// them.

@@ -6,8 +6,7 @@
 ghost use Rattle.std.specs.Prelude.{◌≡◌, true, false, None, Some, IsSome, IfSome, IfOk, IfErr};
 ghost use Rattle.std.specs.Option.{is_some};
 ghost use Rattle.cache_policy.specs.declared.mark.MarkStep.{MarkStep as AskedStep};
-ghost use Rattle.cache_policy.specs.declared.step.Step.{Step as AskedOf};
-ghost use Rattle.cache_policy.specs.Histories.{run_of};
+ghost use Rattle.cache_policy.specs.{declared.step.Step.Step as AskedOf, Histories.run_of};
 ghost use Rattle.cache_policy.specs.Turns.{asked_step, mark_step, turn_of, opens, closes};
 ghost use Rattle.cache_policy.specs.Turns.{out_after, with_since};
 ghost use Rattle.agent_core.specs.Openings.{opening_step, without_wait};
@@ -67,15 +66,10 @@ impl<'a, C: Clock> Model for Solo<'a, C> {
 }
 
 impl<'a, C: Clock> Solo<'a, C> {
-    ghost use Rattle.std.specs.Prelude.{◌∷◌, [], map};
-    ghost use Rattle.std.specs.List.{AllByRecursion};
-    ghost use Rattle.agent_ports.specs.Leads.{Leads};
-    ghost use Rattle.cache_policy.specs.Desks.{is_of};
-    ghost use Rattle.cache_policy.specs.Replay.{first_history};
-    ghost use Rattle.cache_policy.specs.Runs.{joined};
-    ghost use Rattle.cache_policy.specs.Waits.{is_session};
-    ghost use Rattle.agent_core.specs.Foreigners.{AllForeign, IsForeign};
-    ghost use Rattle.agent_core.specs.Seating.{Seated};
+    ghost use Rattle.std.specs.{Prelude.{◌∷◌, [], map}, List.AllByRecursion};
+    ghost use Rattle.{agent_ports.specs.Leads.Leads, cache_policy.specs.Desks.is_of};
+    ghost use Rattle.cache_policy.specs.{Replay.first_history, Runs.joined, Waits.is_session};
+    ghost use Rattle.agent_core.specs.{Foreigners.{AllForeign, IsForeign}, Seating.Seated};
     ghost use Rattle.agent_core.specs.Tallies.{tally_of};
     ghost use Rattle.agent_core.specs.Solos.{seen, OwnStep, PlaysStep, PlaysNext, ClosesHolder};
     ghost use Rattle.agent_core.specs.Solos.{Waits};

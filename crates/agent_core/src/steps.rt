@@ -3,11 +3,9 @@
 //! and hands a step back for which there is no memory. Begin with `State::take_step`; `Takes` of
 //! `specs/Taking` says what each comes to.
 
-ghost use Rattle.std.specs.Prelude.{◌≡◌, ◌≤◌, true, None, Some, IsSome, IfErr};
-ghost use Rattle.std.specs.Option.{is_some};
+ghost use Rattle.std.specs.{Prelude.{◌≡◌, ◌≤◌, true, None, Some, IsSome, IfErr}, Option.is_some};
 ghost use Rattle.cache_policy.specs.declared.grant.Grant.{Grant as OneGrant};
-ghost use Rattle.cache_policy.specs.Turns.{mark_step, turn_of};
-ghost use Rattle.cache_policy.specs.Waits.{is_late, since_by};
+ghost use Rattle.cache_policy.specs.{Turns.{mark_step, turn_of}, Waits.{is_late, since_by}};
 ghost use Rattle.cache_book.specs.Shelves.{cleared, touched};
 
 use crate::state::State;
@@ -20,12 +18,10 @@ use prompt_seat::Ticket;
 
 impl State {
     ghost use Rattle.std.specs.Prelude.{Option, []};
-    ghost use Rattle.agent_core.specs.Taking.{Takes};
-    ghost use Rattle.agent_core.specs.States.{IsState};
-    ghost use Rattle.agent_core.specs.Taking.{MayMark, HasMarked, HasMarkedAlone, Finds};
+    ghost use Rattle.agent_core.specs.Taking.{Takes, MayMark, HasMarked, HasMarkedAlone, Finds};
     ghost use Rattle.agent_core.specs.Taking.{ComesToSeat, may_open, Prompts, StandsAside, Asks};
     ghost use Rattle.agent_core.specs.Taking.{Puts, Closes, prompt_turn, held_at, next_slots};
-    ghost use Rattle.agent_core.specs.Taking.{number_of, slots_at};
+    ghost use Rattle.agent_core.specs.{Taking.{number_of, slots_at}, States.IsState};
 
     /// Takes a session's step at a moment.
     pub(crate) fn take_step(

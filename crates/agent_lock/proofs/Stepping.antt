@@ -1,44 +1,16 @@
 -- A step under the lock, from what the core says of it.
-use Rattle.std.proofs.Common.{◌≡◌, ◌≢◌, ◌⊎◌, ℕ, ◌+◌, ◌^◌, ◌%◌, ◌<◌, ◌≤◌, ◌==◌, inl, inr, Bool, true, false, cond, List, [], ◌∷◌, ◌++◌, length, Option, Some, None}
-use Rattle.std.proofs.Common.{refl, ap, sym, ◌∙◌, subst, arith, length-append}
-use Rattle.std.specs.Prelude.{vec_capacity}
-use Rattle.std.proofs.lemmas.List.{map-append, length-map}
-use Rattle.std.proofs.lemmas.List.Sums.{fold-append}
-use Rattle.std.proofs.lemmas.Bool.{eqb-true, eqb-false}
-use Rattle.agent_ports.specs.declared.session.SessionId.{SessionId}
-use Rattle.cache_policy.specs.declared.bounds.TheConstants.{MAX_MARKS}
-use Rattle.cache_policy.specs.declared.life.Limits.{Limits}
-use Rattle.cache_policy.specs.declared.mark.Mark.{Mark}
-use Rattle.cache_policy.specs.declared.mark.MarkStep.{MarkStep}
-use Rattle.cache_policy.specs.declared.mark.MarkReply.{MarkReply}
-use Rattle.cache_policy.specs.declared.history.Held.{Held}
-use Rattle.cache_policy.specs.declared.tally.Tally.{Tally}
-use Rattle.cache_policy.specs.declared.trace.Trace.{Trace}
-use Rattle.cache_policy.specs.Bare.{bare, bare_mark, bare_step}
-use Rattle.cache_policy.specs.Desks.{Shows}
-use Rattle.cache_policy.specs.Entries.{stored}
-use Rattle.cache_policy.specs.Histories.{History, with_mark}
-use Rattle.cache_policy.specs.Legal.{IsLegal}
-use Rattle.cache_policy.specs.Policy.{Reply, policy}
-use Rattle.cache_policy.specs.Policy as ruling
-use Rattle.cache_policy.specs.Runs.{turn_over, next_history, is_spent, last_base, moment_before, moment_of}
-use Rattle.cache_policy.specs.Seat.{seat, stopped as has_stopped}
-use Rattle.cache_policy.specs.Tallies.{with_history, with_one, one_if, IsSound}
-use Rattle.cache_policy.specs.Traces.{trace_mark, trace_step, reply_of}
-use Rattle.cache_policy.specs.Turns.{Turn, Given, Empty, Open, Stand, Done, Held as WhetherHeld, Stopping, Late, Refused}
-use Rattle.cache_policy.proofs.BareLemmas.{seat_bare, stopped_bare, policy_bare, legal_bare}
-use Rattle.cache_policy.proofs.Growing.{legal_with_mark, legal_turn_over, seat_turn_over}
-use Rattle.cache_policy.proofs.GrowingRuns.{spent_all}
-use Rattle.cache_policy.proofs.Tallying.{tally_with_mark, tally_turn_over}
+use Rattle.std.proofs.Common.{◌≡◌, ◌≢◌, ℕ, ◌+◌, ◌^◌, ◌%◌, ◌<◌, ◌≤◌, ◌==◌, Bool, true, false, cond, List, [], ◌∷◌, ◌++◌, length, Option, Some, None, refl, ap, sym, ◌∙◌, subst, arith, length-append}
+use Rattle.std.{proofs.lemmas.{List.{map-append, length-map, Sums.fold-append}, Bool.{eqb-true, eqb-false}}, specs.Prelude.{vec_capacity, IsTrue, ◌↔◌}}
+use Rattle.{agent_ports.specs.declared.session.SessionId.SessionId, cache_policy.specs.declared.{bounds.TheConstants.MAX_MARKS, life.Limits.Limits, mark.{Mark.Mark, MarkStep.MarkStep, MarkReply.MarkReply}, history.Held.Held}}
+use Rattle.cache_policy.specs.{declared.{tally.Tally.Tally, trace.Trace.Trace}, Bare.{bare, bare_mark, bare_step}, Desks.Shows, Entries.stored, Histories.{History, with_mark}, Legal.IsLegal, Policy.{Reply, policy}}
+use Rattle.cache_policy.specs.{Runs.{turn_over, next_history, is_spent, last_base, moment_before, moment_of}, Seat.{seat, stopped as has_stopped}, Tallies.{with_history, with_one, one_if, IsSound}, Traces.{trace_mark, trace_step, reply_of}}
+use Rattle.cache_policy.{specs.Turns.{Turn, Given, Empty, Open, Stand, Done, Held as WhetherHeld, Stopping, Late, Refused}, proofs.BareLemmas.{seat_bare, stopped_bare, policy_bare, legal_bare}}
+use Rattle.cache_policy.proofs.{Growing.{legal_with_mark, legal_turn_over, seat_turn_over}, GrowingRuns.spent_all, Tallying.{tally_with_mark, tally_turn_over}}
 use Rattle.agent_core.specs.Cores.{AtCore, HasRoom, StandsFor, IsStep, IsMarked, IsAsBefore, mark_of}
-use Rattle.agent_core.specs.Cores as step
-use Rattle.agent_lock.specs.declared.state.Start.{Start}
-use Rattle.agent_lock.specs.declared.state.State.{State}
-use Rattle.std.specs.Prelude.{IsTrue, ◌↔◌}
-use Rattle.agent_lock.specs.Attempts.{IfGiven}
-use Rattle.agent_lock.specs.Counting.{counted, totals, AreSmall}
-use Rattle.agent_lock.specs.Journals.{IsJournaled, marked, stood, refused, spent, IsLocked, tally_at, carried_on}
+use Rattle.agent_lock.specs.{declared.state.{Start.Start, State.State}, Attempts.IfGiven, Counting.{counted, totals, AreSmall}, Journals.{IsJournaled, marked, stood, refused, spent, IsLocked, tally_at, carried_on}}
 use Rattle.agent_lock.specs.Keeping.{journal_of, next_start, started, carried_to, seen, IsKept}
+use Rattle.cache_policy.specs.Policy as ruling
+use Rattle.agent_core.specs.Cores as step
 
 -- without the bytes of secrets, a history goes on alike
 bare_with_mark : (history : History) (mark : Mark) → bare (with_mark history mark) ≡ with_mark (bare history) (bare_mark mark)

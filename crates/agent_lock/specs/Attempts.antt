@@ -1,16 +1,8 @@
 -- What one turn at the lock shows: how often its clock was read, the moment of a passphrase that is given, and the counts of its pass.
 use Rattle.std.specs.Prelude.{◌≡◌, ◌≤◌, ◌⊎◌, ℕ, min, ⊤, Bool, true, false, Option, Some, None}
-use Rattle.agent_ports.specs.Counts.{Rose}
-use Rattle.agent_ports.specs.Readings.{Readings}
-use Rattle.agent_ports.specs.declared.session.SessionId.{SessionId}
-use Rattle.cache_policy.specs.declared.bounds.TheConstants.{MAX_MOMENT}
-use Rattle.cache_policy.specs.declared.grant.Grant.{Grant}
-use Rattle.cache_policy.specs.declared.mark.MarkStep.{MarkStep}
-use Rattle.cache_policy.specs.Desks.{AtDesk}
-use Rattle.cache_policy.specs.declared.life.Limits.{Limits}
-use Rattle.cache_policy.specs.Turns.{Turn, Given, Open, Stopping, Refused, FitsReply, MayWantMemory}
-use Rattle.agent_lock.specs.declared.pass.Counts.{Counts}
-use Rattle.agent_lock.specs.Counting.{counted, one_call}
+use Rattle.{agent_ports.specs.{Counts.Rose, Readings.Readings, declared.session.SessionId.SessionId}, cache_policy.specs.declared.{bounds.TheConstants.MAX_MOMENT, grant.Grant.Grant, mark.MarkStep.MarkStep, life.Limits.Limits}}
+use Rattle.cache_policy.specs.{Desks.AtDesk, Turns.{Turn, Given, Open, Stopping, Refused, FitsReply, MayWantMemory}}
+use Rattle.agent_lock.specs.{declared.pass.Counts.Counts, Counting.{counted, one_call}}
 
 abbrev pub IfGiven : Turn → (Grant → Type 0) → Type 0
 IfGiven (Given grant) P = P grant

@@ -1,9 +1,7 @@
 -- What a look at the end found, and the sums of the passes.
 use Rattle.std.specs.Prelude.{◌≡◌, List, sum, map, ⊤}
 use Rattle.cache_policy.specs.declared.tally.Tally.{Tally}
-use Rattle.agent_lock.specs.declared.pass.Counts.{Counts}
-use Rattle.agent_lock.specs.declared.shared.Closing.{Closing}
-use Rattle.agent_lock.specs.declared.shared.Closing.TheVariants.{Stopped, Open}
+use Rattle.agent_lock.specs.declared.{pass.Counts.Counts, shared.Closing.{Closing, TheVariants.{Stopped, Open}}}
 
 module _ {M G E O : Type 0} where
   abbrev pub IfStopped : Closing M G E O → (Tally → Type 0) → Type 0

@@ -1,7 +1,6 @@
 -- What a turn does to the counts of the pass that took it: `calls` counts the marks, and the others the turns that were answered so.
 use Rattle.std.specs.Prelude.{◌+◌, ◌^◌, ◌≤◌, Bool, true, false}
-use Rattle.cache_policy.specs.Turns.{Turn, Given, Empty, Open, Stand, Done, Held, Stopping, Late, Refused}
-use Rattle.cache_policy.specs.declared.tally.Tally.{Tally}
+use Rattle.cache_policy.specs.{Turns.{Turn, Given, Empty, Open, Stand, Done, Held, Stopping, Late, Refused}, declared.tally.Tally.Tally}
 use Rattle.agent_lock.specs.declared.pass.Counts.{Counts}
 
 abbrev pub no_counts : Counts

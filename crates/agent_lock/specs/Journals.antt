@@ -1,22 +1,10 @@
 -- What lies under the lock: a core, the journal of what was done since it last began with an empty cache, and the tally of what was
 -- done before. The journal has no byte of a secret. This is the project's own.
 use Rattle.std.specs.Prelude.{◌≡◌, ℕ, ◌==◌, true, false, length, if◌then◌else◌, Some}
-use Rattle.agent_ports.specs.declared.session.SessionId.{SessionId}
-use Rattle.cache_policy.specs.declared.bounds.TheConstants.{MAX_MARKS}
-use Rattle.cache_policy.specs.declared.mark.MarkStep.{MarkStep}
-use Rattle.cache_policy.specs.declared.mark.MarkReply.{MarkReply}
-use Rattle.cache_policy.specs.declared.tally.Tally.{Tally}
-use Rattle.cache_policy.specs.declared.wait.Wait.{Wait}
-use Rattle.cache_policy.specs.Bare.{bare, bare_step}
-use Rattle.cache_policy.specs.Histories.{History, with_mark}
-use Rattle.cache_policy.specs.Legal.{IsLegal}
-use Rattle.cache_policy.specs.Policy.{Reply, policy}
-use Rattle.cache_policy.specs.Policy as ruling
-use Rattle.cache_policy.specs.Runs.{next_history, is_spent}
-use Rattle.cache_policy.specs.Tallies.{with_history}
-use Rattle.cache_policy.specs.Traces.{reply_of}
-use Rattle.cache_policy.specs.Turns.{Turn, Stand, Stopping, Refused, wait_after}
+use Rattle.{agent_ports.specs.declared.session.SessionId.SessionId, cache_policy.specs.{declared.{bounds.TheConstants.MAX_MARKS, mark.{MarkStep.MarkStep, MarkReply.MarkReply}, tally.Tally.Tally, wait.Wait.Wait}, Bare.{bare, bare_step}}}
+use Rattle.cache_policy.specs.{Histories.{History, with_mark}, Legal.IsLegal, Policy.{Reply, policy}, Runs.{next_history, is_spent}, Tallies.with_history, Traces.reply_of, Turns.{Turn, Stand, Stopping, Refused, wait_after}}
 use Rattle.agent_core.specs.Cores.{AtCore, StandsFor, IsAsBefore, mark_of}
+use Rattle.cache_policy.specs.Policy as ruling
 
 pub record AtLock : Type 0 where
   pub core : AtCore

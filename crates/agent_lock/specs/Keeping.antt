@@ -1,14 +1,7 @@
 -- What the code keeps under the lock.
 use Rattle.std.specs.Prelude.{◌≡◌, ◌+◌, ◌==◌, ◌≤◌, List, [], length, map, Option, Some, None, vec_capacity, if◌then◌else◌}
-use Rattle.cache_policy.specs.declared.bounds.TheConstants.{MAX_MARKS}
-use Rattle.cache_policy.specs.Histories.{History}
-use Rattle.cache_policy.specs.declared.tally.Tally.{Tally}
-use Rattle.cache_policy.specs.declared.trace.Trace.{Trace}
-use Rattle.cache_policy.specs.Tallies.{IsSound}
-use Rattle.cache_policy.specs.Traces.{trace_mark}
-use Rattle.agent_lock.specs.declared.state.Start.{Start}
-use Rattle.agent_lock.specs.declared.state.State.{State}
-use Rattle.agent_lock.specs.Journals.{AtLock, StandsAsBare, tally_at}
+use Rattle.cache_policy.specs.{declared.{bounds.TheConstants.MAX_MARKS, tally.Tally.Tally, trace.Trace.Trace}, Histories.History, Tallies.IsSound, Traces.trace_mark}
+use Rattle.agent_lock.specs.{declared.state.{Start.Start, State.State}, Journals.{AtLock, StandsAsBare, tally_at}}
 
 -- the history that traces show, which began so
 abbrev pub journal_of : Start → List Trace → History

@@ -1,7 +1,6 @@
 -- Private: shares of each ledger together.
 use Rattle.std.specs.Prelude.{◌≡◌, ◌+◌, List, sum, map, length}
-use Rattle.agent_lock.specs.declared.pass.Counts.{Counts}
-use Rattle.agent_lock.specs.declared.books.Shares.{Shares}
+use Rattle.agent_lock.specs.declared.{pass.Counts.Counts, books.Shares.Shares}
 
 module _ {M G E O : Type 0} where
   -- they have no part of a ledger, and no amount

@@ -5,8 +5,7 @@
 
 ghost use Rattle.std.specs.Prelude.{◌≡◌, [], Ok, vec_len};
 ghost use Rattle.cache_policy.specs.Turns.{turn_of};
-ghost use Rattle.agent_lock.specs.Closings.{AreSums};
-ghost use Rattle.agent_lock.specs.Counting.{counted, AreSmall};
+ghost use Rattle.agent_lock.specs.{Closings.AreSums, Counting.{counted, AreSmall}};
 ghost use Rattle.agent_lock.specs.Shares.{AreNone, AreShares};
 
 use crate::Pass;

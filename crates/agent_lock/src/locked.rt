@@ -3,16 +3,13 @@
 //! `Locked::step`; `IsJournaled` of `specs/Journals` says what a step adds.
 
 ghost use Rattle.std.specs.Prelude.{◌≡◌, ℕ, None, [], false, IfOk, IfErr, OnErr};
-ghost use Rattle.cache_policy.specs.Histories.{History};
-ghost use Rattle.cache_policy.specs.Legal.{IsLegal};
-ghost use Rattle.cache_policy.specs.Runs.{moment_of, next_history, is_spent};
-ghost use Rattle.cache_policy.specs.Seat.{stopped};
+ghost use Rattle.cache_policy.specs.{Histories.History, Legal.IsLegal};
+ghost use Rattle.cache_policy.specs.{Runs.{moment_of, next_history, is_spent}, Seat.stopped};
 ghost use Rattle.cache_policy.specs.Tallies.{nothing_yet};
 ghost use Rattle.cache_policy.specs.Turns.{asked_step, mark_step, turn_of, FitsReply};
 ghost use Rattle.cache_policy.specs.Turns.{MayWantMemory};
 ghost use Rattle.agent_core.specs.Cores.{StandsFor, IsStep};
-ghost use Rattle.agent_lock.specs.Attempts.{IfGiven};
-ghost use Rattle.agent_lock.specs.Counting.{counted, no_counts};
+ghost use Rattle.agent_lock.specs.{Attempts.IfGiven, Counting.{counted, no_counts}};
 ghost use Rattle.agent_lock.specs.Journals.{IsJournaled, IsLocked, tally_at};
 
 use crate::books::Books;
@@ -37,9 +34,7 @@ pub struct Locked<M: Marks, G: Ledger, E: Ledger, O: Ledger> {
 
 impl<M: Marks, G: Ledger, E: Ledger, O: Ledger> Model for Locked<M, G, E, O> {
     ghost use Rattle.std.specs.Prelude.{◌≡◌};
-    ghost use Rattle.agent_lock.specs.Journals.{AtLock};
-    ghost use Rattle.agent_lock.specs.Counting.{totals};
-    ghost use Rattle.agent_lock.specs.Keeping.{IsKept, seen};
+    ghost use Rattle.agent_lock.specs.{Journals.AtLock, Counting.totals, Keeping.{IsKept, seen}};
 
     ghost Value = { AtLock };
 

@@ -6,8 +6,7 @@
 ghost use Rattle.std.specs.Prelude.{◌≡◌, ◌<◌, true, false, All, IfOk, vec_len};
 ghost use Rattle.cache_policy.specs.Seat.{stopped};
 ghost use Rattle.agent_lock.specs.Closings.{IfStopped, IfOpen, AreSums};
-ghost use Rattle.agent_lock.specs.Counting.{no_counts, totals};
-ghost use Rattle.agent_lock.specs.Journals.{tally_at};
+ghost use Rattle.agent_lock.specs.{Counting.{no_counts, totals}, Journals.tally_at};
 
 use crate::books::{Books, Shares};
 use crate::{Counts, Locked, Marks, Pass};

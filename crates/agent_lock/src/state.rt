@@ -5,8 +5,7 @@
 ghost use Rattle.std.specs.Prelude.{◌≡◌, ◌<◌, ◌≤◌, ◌^◌, [], None, IfOk, IfErr, OnErr, vec_len};
 ghost use Rattle.std.specs.Prelude.{vec_capacity};
 ghost use Rattle.cache_policy.specs.declared.bounds.TheConstants.{MAX_MARKS as MAX};
-ghost use Rattle.cache_policy.specs.Histories.{History, with_mark};
-ghost use Rattle.cache_policy.specs.Legal.{IsLegal};
+ghost use Rattle.cache_policy.specs.{Histories.{History, with_mark}, Legal.IsLegal};
 ghost use Rattle.cache_policy.specs.Runs.{last_base, moment_of, next_history, is_spent};
 ghost use Rattle.cache_policy.specs.Seat.{stopped};
 ghost use Rattle.cache_policy.specs.Tallies.{with_one, one_if, nothing_yet, IsSound};
@@ -14,8 +13,7 @@ ghost use Rattle.cache_policy.specs.Traces.{trace_mark};
 ghost use Rattle.cache_policy.specs.Turns.{asked_step, mark_step, turn_of, FitsReply};
 ghost use Rattle.cache_policy.specs.Turns.{MayWantMemory};
 ghost use Rattle.agent_core.specs.Cores.{StandsFor, IsStep};
-ghost use Rattle.agent_lock.specs.Attempts.{IfGiven};
-ghost use Rattle.agent_lock.specs.Counting.{counted, totals, AreSmall};
+ghost use Rattle.agent_lock.specs.{Attempts.IfGiven, Counting.{counted, totals, AreSmall}};
 
 use agent_core::Core;
 use agent_ports::SessionId;

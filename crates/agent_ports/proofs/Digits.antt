@@ -1,7 +1,5 @@
 -- Uppercase hexadecimal digits, from lowercase ones.
-use Rattle.std.proofs.Common.{◌≡◌, ℕ, ◌/◌, ◌%◌, List, [], ◌∷◌, slice_index, map, refl, sym, ap₂, ◌∙◌}
-use Rattle.std.proofs.Math.ListN.{get_or-map}
-use Rattle.std.specs.Char.{to_ascii_uppercase}
+use Rattle.std.{proofs.{Common.{◌≡◌, ℕ, ◌/◌, ◌%◌, List, [], ◌∷◌, slice_index, map, refl, sym, ap₂, ◌∙◌}, Math.ListN.get_or-map}, specs.Char.to_ascii_uppercase}
 use Rattle.hex.specs.Hex.{encode_with, encode_lower, encode_upper, lower_digits, upper_digits}
 
 upper_digit : (n : ℕ) → to_ascii_uppercase (slice_index lower_digits n) ≡ slice_index upper_digits n

@@ -1,20 +1,9 @@
 -- Key files as a map, and as the entries of a tree.
-use Rattle.std.proofs.Common.{◌≡◌, ◌≤◌, ℕ, length, List, [], ◌∷◌, map, cond, Option, Some, None, IsSome, refl, sym, ap, ◌∙◌, arith}
-use Rattle.std.proofs.lemmas.Cmp.{on_total, nat_list_cmp_total}
-use Rattle.std.proofs.lemmas.Map.Lookups.{exact_bytes}
-use Rattle.std.proofs.lemmas.Map.Keys.{sorted_head, sorted_tail}
-use Rattle.std.specs.BTreeMap.{is_at}
-use Rattle.std.specs.Cmp.{IsTotalOrder, eq_by_cmp_equiv}
-use Rattle.std.specs.FinMap.{FinMap, IsAntisymmetric, find, get, empty, insert, remove, entries, keys, get-from_entries, get-insert, get-remove, same_map, entries-insert, len-empty, len-entries, put}
-use Rattle.std.specs.FinMap.Entries.{by_order}
-use Rattle.std.specs.List.{AllByRecursion}
-use Rattle.std.specs.List.Sorted.{IsStrictlySortedBy}
-use Rattle.std.specs.Map.{keys_of, lookup}
-use Rattle.std.specs.declared.cmp.Ordering.TheVariants.{Less}
-use Rattle.agent_ports.specs.declared.grip.Grip.{Grip}
-use Rattle.agent_ports.specs.KeyFiles.{KeyFiles, RemovesKey, grip_cmp}
-use Rattle.agent_ports.specs.declared.keys.KeyDone.TheVariants.{Done, Absent}
-use Rattle.agent_ports.specs.Mem.Keys.{files_of}
+use Rattle.std.proofs.{Common.{◌≡◌, ◌≤◌, ℕ, length, List, [], ◌∷◌, map, cond, Option, Some, None, IsSome, refl, sym, ap, ◌∙◌, arith}, lemmas.{Cmp.{on_total, nat_list_cmp_total}, Map.{Lookups.exact_bytes, Keys.{sorted_head, sorted_tail}}}}
+use Rattle.std.specs.{BTreeMap.is_at, Cmp.{IsTotalOrder, eq_by_cmp_equiv}}
+use Rattle.std.specs.{FinMap.{FinMap, IsAntisymmetric, find, get, empty, insert, remove, entries, keys, get-from_entries, get-insert, get-remove, same_map, entries-insert, len-empty, len-entries, put, Entries.by_order}, List.AllByRecursion}
+use Rattle.std.specs.{List.Sorted.IsStrictlySortedBy, Map.{keys_of, lookup}, declared.cmp.Ordering.TheVariants.Less}
+use Rattle.agent_ports.specs.{declared.{grip.Grip.Grip, keys.KeyDone.TheVariants.{Done, Absent}}, KeyFiles.{KeyFiles, RemovesKey, grip_cmp}, Mem.Keys.files_of}
 
 same_grips : IsAntisymmetric grip_cmp
 same_grips a b tie = ap (λ (bytes : List ℕ). record { 0 = bytes }) (exact_bytes a.0 b.0 tie)

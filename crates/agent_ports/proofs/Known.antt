@@ -1,6 +1,5 @@
 -- From the bytes that calls took to what they say of the bytes before and after them.
-use Rattle.std.specs.Prelude.{◌≡◌, List, ℕ, ◌++◌, Option, Some, None, refl}
-use Rattle.std.proofs.Common.{sym, subst, ap, append_assoc}
+use Rattle.std.{specs.Prelude.{◌≡◌, List, ℕ, ◌++◌, Option, Some, None, refl}, proofs.Common.{sym, subst, ap, append_assoc}}
 use Rattle.agent_ports.specs.Sides.{followed_by, with_bytes, WhereKnown}
 
 -- a fact of what stood before and after holds where it holds of the bytes taken and of what is left

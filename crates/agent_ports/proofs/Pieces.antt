@@ -1,6 +1,5 @@
 -- What a read from the middle of a list leaves.
-use Rattle.std.proofs.Common.{◌≡◌, ℕ, ◌+◌, ◌-◌, ◌≤◌, List, ◌++◌, length, take, drop, ap, ap₂, sym, ◌∙◌, arith}
-use Rattle.std.proofs.lemmas.List.{take-append-le, length-take-le, take-append-drop, drop-drop, length-drop, take_all}
+use Rattle.std.proofs.{Common.{◌≡◌, ℕ, ◌+◌, ◌-◌, ◌≤◌, List, ◌++◌, length, take, drop, ap, ap₂, sym, ◌∙◌, arith}, lemmas.List.{take-append-le, length-take-le, take-append-drop, drop-drop, length-drop, take_all}}
 
 -- what was copied, and what is left, make what was there
 pub front_copied : (bytes : List ℕ) (taken n : ℕ) (part buffer : List ℕ)

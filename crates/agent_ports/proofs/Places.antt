@@ -1,9 +1,6 @@
 -- The finished children, one before another.
-use Rattle.std.proofs.Common.{◌≡◌, ℕ, zero, suc, ◌-◌, Some, ◌∷◌, slice_get, ap, refl, sym, ◌∙◌, arith}
-use Rattle.std.specs.Prelude.{Box}
-use Rattle.std.specs.declared.alloc.Global.{Global}
-use Rattle.agent_ports.specs.declared.mem.launcher.Place.{Place, Place', None', Some', out-Place}
-use Rattle.agent_ports.specs.Mem.Launches.{latest_of, latest_first, finished_link}
+use Rattle.std.{proofs.Common.{◌≡◌, ℕ, zero, suc, ◌-◌, Some, ◌∷◌, slice_get, ap, refl, sym, ◌∙◌, arith}, specs.{Prelude.Box, declared.alloc.Global.Global}}
+use Rattle.agent_ports.specs.{declared.mem.launcher.Place.{Place, Place', None', Some', out-Place}, Mem.Launches.{latest_of, latest_first, finished_link}}
 
 latest_of_out : (place : Place) → latest_of place ≡ finished_link (out-Place place).link ∷ latest_first (out-Place place).earlier
 unfolding out-Place denote.Hole.Carrier.out

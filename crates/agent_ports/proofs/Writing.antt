@@ -1,9 +1,6 @@
 -- Texts written one behind another.
 use Rattle.std.proofs.Common.{◌≡◌, ◌≤◌, ℕ, List, [], ◌++◌, Option, None, Some, Result, Ok, Err, refl, ap, sym, subst, ◌∙◌, arith, append_assoc, append-nil}
-use Rattle.agent_ports.specs.Sides.{Side, with_bytes}
-use Rattle.agent_ports.specs.Writing.{StopsWriting, WentOrStopped, Writes}
-use Rattle.agent_ports.specs.declared.link.WriteFault.{WriteFault}
-use Rattle.agent_ports.proofs.Known.{with_bytes_append}
+use Rattle.agent_ports.{specs.{Sides.{Side, with_bytes}, Writing.{StopsWriting, WentOrStopped, Writes}, declared.link.WriteFault.WriteFault}, proofs.Known.with_bytes_append}
 
 with_none : (written : Option (List ℕ)) → written ≡ with_bytes written []
 with_none None = refl

@@ -1,8 +1,6 @@
 -- Draws of random bytes. This is the project's own.
-use Rattle.std.specs.Prelude.{◌≡◌, ℕ, ◌≤◌, List, Bool, length, replicate}
-use Rattle.std.specs.Bool.{OnTrue, OnFalse}
-use Rattle.agent_ports.specs.Counts.{Rose}
-use Rattle.agent_ports.specs.Sides.{Side, followed_by}
+use Rattle.std.specs.{Prelude.{◌≡◌, ℕ, ◌≤◌, List, Bool, length, replicate}, Bool.{OnTrue, OnFalse}}
+use Rattle.agent_ports.specs.{Counts.Rose, Sides.{Side, followed_by}}
 
 -- A draw filled a buffer with the next bytes of the dice, or it failed: then the buffer has zeros, and no byte was taken.
 pub record IsDrawn (before : Side) (filled : Bool) (buffer : List ℕ) (after : Side) : Type 0 where

@@ -1,12 +1,6 @@
 -- A host's parts, as far as they show what they are. This is the project's own.
-use Rattle.std.specs.Prelude.{◌≡◌, ℕ, List, [], length, nat_le, if◌then◌else◌, Option, Some, None, IfSome, ⊤}
-use Rattle.std.specs.Option.{option_map}
-use Rattle.agent_ports.specs.Sides.{Side}
-use Rattle.agent_ports.specs.Launches.{Launches}
-use Rattle.agent_ports.specs.Readings.{Readings}
-use Rattle.agent_ports.specs.KeyFiles.{KeyFiles}
-use Rattle.agent_ports.specs.declared.homedir.TheConstants.{MAX_HOMEDIR_LEN}
-use Rattle.agent_ports.specs.declared.host.Parts.{Parts}
+use Rattle.std.specs.{Prelude.{◌≡◌, ℕ, List, [], length, nat_le, if◌then◌else◌, Option, Some, None, IfSome, ⊤}, Option.option_map}
+use Rattle.agent_ports.specs.{Sides.Side, Launches.Launches, Readings.Readings, KeyFiles.KeyFiles, declared.{homedir.TheConstants.MAX_HOMEDIR_LEN, host.Parts.Parts}}
 
 -- how parts of these types are seen
 pub record Views (La C R K : Type 0) : Type 0 where

@@ -1,20 +1,10 @@
 -- The files of private keys, by the grips that name them. This is the project's own.
-use Rattle.std.specs.Prelude.{◌≡◌, ℕ, ◌≤◌, List, length, Option, Some, None, IsSome, IfSome, ⊤}
-use Rattle.std.specs.Option.{option_map}
-use Rattle.std.specs.Ordering.{nat_cmp}
-use Rattle.std.specs.Cmp.Lexicographic.{slice_cmp}
+use Rattle.std.specs.{Prelude.{◌≡◌, ℕ, ◌≤◌, List, length, Option, Some, None, IsSome, IfSome, ⊤}, Option.option_map, Ordering.nat_cmp, Cmp.Lexicographic.slice_cmp, List.Sorted.IsStrictlySortedBy, declared.cmp.Ordering.Ordering}
+use Rattle.agent_ports.specs.{declared.{keys.{TheConstants.MAX_KEY_FILE_LEN, KeyRead.KeyRead, KeyNames.KeyNames, KeyDone.KeyDone}, grip.Grip.Grip}, Counts.Rose}
 use Rattle.std.specs.FinMap as map
-use Rattle.std.specs.List.Sorted.{IsStrictlySortedBy}
-use Rattle.std.specs.declared.cmp.Ordering.{Ordering}
-use Rattle.agent_ports.specs.declared.keys.TheConstants.{MAX_KEY_FILE_LEN}
-use Rattle.agent_ports.specs.declared.grip.Grip.{Grip}
-use Rattle.agent_ports.specs.declared.keys.KeyRead.{KeyRead}
 use Rattle.agent_ports.specs.declared.keys.KeyRead.TheVariants as read
-use Rattle.agent_ports.specs.declared.keys.KeyNames.{KeyNames}
 use Rattle.agent_ports.specs.declared.keys.KeyNames.TheVariants as names
-use Rattle.agent_ports.specs.declared.keys.KeyDone.{KeyDone}
 use Rattle.agent_ports.specs.declared.keys.KeyDone.TheVariants as done
-use Rattle.agent_ports.specs.Counts.{Rose}
 
 -- grips in the order of their bytes
 abbrev pub grip_cmp : Grip → Grip → Ordering

@@ -1,6 +1,5 @@
 -- The children that a launcher starts, and those that were finished. This is the project's own.
-use Rattle.std.specs.Prelude.{◌≡◌, ℕ, List, [], ◌∷◌, ◌++◌, Option, Some, None, IfSome}
-use Rattle.std.specs.Option.{option_map}
+use Rattle.std.specs.{Prelude.{◌≡◌, ℕ, List, [], ◌∷◌, ◌++◌, Option, Some, None, IfSome}, Option.option_map}
 use Rattle.agent_ports.specs.Sides.{Side}
 
 -- a child that was finished: the bytes that it still had to give, and those that it was written

@@ -1,8 +1,6 @@
 -- What a listener gives. This is the project's own.
 use Rattle.std.specs.Prelude.{◌≡◌, ⊤}
-use Rattle.agent_ports.specs.Sides.{Side}
-use Rattle.agent_ports.specs.declared.listener.Next.{Next}
-use Rattle.agent_ports.specs.declared.listener.Next.TheVariants.{Link, Failed, Stopped}
+use Rattle.agent_ports.specs.{Sides.Side, declared.listener.Next.{Next, TheVariants.{Link, Failed, Stopped}}}
 
 -- no read and no write of a link failed so far
 pub record NothingFailed (input output : Side) : Type 0 where

@@ -1,9 +1,6 @@
 -- One side of a link, and what the calls on it do to its bytes.
-use Rattle.std.specs.Prelude.{ℕ, List, ◌++◌, take, Option, Some, None, ⊤}
-use Rattle.std.specs.Option.{option_map}
-use Rattle.agent_ports.specs.declared.link.Got.{Got}
-use Rattle.agent_ports.specs.declared.link.Got.TheVariants.{Bytes, End, Failed}
-use Rattle.agent_ports.specs.declared.link.Sent.{Sent}
+use Rattle.std.specs.{Prelude.{ℕ, List, ◌++◌, take, Option, Some, None, ⊤}, Option.option_map}
+use Rattle.agent_ports.specs.declared.link.{Got.{Got, TheVariants.{Bytes, End, Failed}}, Sent.Sent}
 use Rattle.agent_ports.specs.declared.link.Sent.TheVariants as sent
 
 -- the bytes of one side, where they are known, and how many calls have failed there

@@ -1,11 +1,8 @@
 -- The file of the root certificates that the user trusts. This is the project's own.
-use Rattle.std.specs.Prelude.{◌≡◌, ℕ, ◌≤◌, List, Option, Some, None, IfSome, ⊤}
-use Rattle.std.specs.Option.{option_map}
-use Rattle.agent_ports.specs.declared.trust.TrustRead.{TrustRead}
+use Rattle.std.specs.{Prelude.{◌≡◌, ℕ, ◌≤◌, List, Option, Some, None, IfSome, ⊤}, Option.option_map}
+use Rattle.agent_ports.specs.{declared.trust.{TrustRead.TrustRead, TrustDone.TrustDone}, Counts.Rose}
 use Rattle.agent_ports.specs.declared.trust.TrustRead.TheVariants as read
-use Rattle.agent_ports.specs.declared.trust.TrustDone.{TrustDone}
 use Rattle.agent_ports.specs.declared.trust.TrustDone.TheVariants as done
-use Rattle.agent_ports.specs.Counts.{Rose}
 
 -- the bytes of the file, or that there is none, and the path of the folder that was settled for it, where these are known; and how many calls failed
 pub record TrustState : Type 0 where

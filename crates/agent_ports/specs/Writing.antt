@@ -1,10 +1,6 @@
 -- What a write of a text leaves: it went whole, or stopped within the text.
 use Rattle.std.specs.Prelude.{◌≡◌, ◌≤◌, ℕ, List, ◌++◌, Result, Ok, Err}
-use Rattle.agent_ports.specs.Counts.{Rose}
-use Rattle.agent_ports.specs.Sides.{Side, with_bytes}
-use Rattle.agent_ports.specs.declared.link.Sent.{Sent}
-use Rattle.agent_ports.specs.declared.link.Sent.TheVariants.{All, Failed}
-use Rattle.agent_ports.specs.declared.link.WriteFault.{WriteFault}
+use Rattle.agent_ports.specs.{Counts.Rose, Sides.{Side, with_bytes}, declared.link.{Sent.{Sent, TheVariants.{All, Failed}}, WriteFault.WriteFault}}
 
 -- whether all bytes went
 abbrev pub whole_of : Sent → Result (Unit {0}) WriteFault

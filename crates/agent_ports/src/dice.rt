@@ -2,8 +2,7 @@
 //! and touches nothing else. `IsDrawn` of `specs/Draws` says what one does; `mem::dice` has those
 //! of tests, `agent_host` the machine's.
 
-ghost use Rattle.agent_ports.specs.Draws.{IsDrawn};
-ghost use Rattle.agent_ports.specs.Sides.{Side};
+ghost use Rattle.agent_ports.specs.{Draws.IsDrawn, Sides.Side};
 
 /// Where random bytes come from.
 pub trait Dice {

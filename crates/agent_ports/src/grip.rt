@@ -2,8 +2,7 @@
 //! the key format, keyformat.txt), and the 40 hexadecimal digits of that. Pure. Begin with
 //! `Grip::of_hex`, which takes digits of either case, where `text` writes capitals.
 
-ghost use Rattle.std.specs.Prelude.{◌≡◌, ◌↔◌, length, IsSome, IfSome};
-ghost use Rattle.std.specs.List.{AllPass};
+ghost use Rattle.std.specs.{Prelude.{◌≡◌, ◌↔◌, length, IsSome, IfSome}, List.AllPass};
 ghost use Rattle.hex.specs.Hex.{decode_of, encode_upper, is_hex_digit};
 
 use hex::FromHex;

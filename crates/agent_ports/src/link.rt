@@ -4,8 +4,7 @@
 //! a `Side` (`specs/Sides`).
 
 ghost use Rattle.std.specs.Prelude.{◌≡◌, ◌<◌, ◌≤◌, length, take, IfSome, []};
-ghost use Rattle.agent_ports.specs.Counts.{Rose};
-ghost use Rattle.agent_ports.specs.Writing.{whole_of};
+ghost use Rattle.agent_ports.specs.{Counts.Rose, Writing.whole_of};
 ghost use Rattle.agent_ports.specs.Sides.{Side, followed_by, with_bytes, taken_by, IfBytes};
 ghost use Rattle.agent_ports.specs.Sides.{sent_part, IfCut, IsCut};
 

@@ -3,8 +3,7 @@
 //! Begin with `Listener::next`; definitions begin in `specs/Listening`.
 
 ghost use Rattle.std.specs.Prelude.{◌≡◌, ◌<◌, ◌≤◌, ◌↔◌, ℕ, IsTrue};
-ghost use Rattle.agent_ports.specs.Counts.{Rose};
-ghost use Rattle.agent_ports.specs.Listening.{IfLink, NothingFailed};
+ghost use Rattle.agent_ports.specs.{Counts.Rose, Listening.{IfLink, NothingFailed}};
 ghost use Rattle.agent_ports.specs.declared.listener.Next.{Next};
 
 use crate::Link;

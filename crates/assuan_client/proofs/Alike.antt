@@ -1,21 +1,12 @@
 -- Connections to which the same bytes come are answered the same, unless a read or a write failed.
 use Rattle.std.proofs.Common.{◌≡◌, ◌≢◌, ◌+◌, ℕ, Bool, true, false, List, ◌++◌, length, Option, Some, None, refl, ap, sym, subst, ◌∙◌, arith}
-use Rattle.agent_ports.specs.Sides.{WhereKnown}
-use Rattle.assuan_client.specs.Answers.{Says, Answers, ReadOn}
-use Rattle.assuan_client.specs.Connections.{Connection}
-use Rattle.assuan_client.specs.Forms.{answer_form}
-use Rattle.assuan_client.specs.Skipping.{Tally, nothing, with_lines, with_inquiry, skips_after}
-use Rattle.assuan_client.specs.Writing.{Command}
-use Rattle.assuan_client.specs.declared.answer.Answer.{Answer}
-use Rattle.assuan_client.specs.declared.answer.Answer.TheVariants as answer
-use Rattle.assuan_client.specs.declared.answer.State.{State}
-use Rattle.assuan_client.specs.declared.answer.State.TheVariants as state
+use Rattle.{agent_ports.specs.Sides.WhereKnown, assuan_line.{specs.{Next.OnLine, declared.reader.Took.Took}, proofs.OnlyTook.{Fits, same_reading}}}
+use Rattle.assuan_client.specs.{Answers.{Says, Answers, ReadOn}, Connections.Connection, Forms.answer_form, Skipping.{Tally, nothing, with_lines, with_inquiry, skips_after}, Writing.Command, declared.answer.{Answer.Answer, State.State}}
 use Rattle.assuan_client.proofs.OnlyAnswer.{by_form, is_by_form}
-use Rattle.assuan_line.specs.Next.{OnLine}
+use Rattle.assuan_client.specs.declared.answer.Answer.TheVariants as answer
+use Rattle.assuan_client.specs.declared.answer.State.TheVariants as state
 use Rattle.assuan_line.specs.declared.breach.Breach.TheVariants as breach
-use Rattle.assuan_line.specs.declared.reader.Took.{Took}
 use Rattle.assuan_line.specs.declared.reader.Took.TheVariants as took
-use Rattle.assuan_line.proofs.OnlyTook.{Fits, same_reading}
 
 abbrev pub is_fault : Answer → Bool
 is_fault answer.ReadFault = true

@@ -1,19 +1,11 @@
 -- From the lines that were read to the answer.
 use Rattle.std.proofs.Common.{◌≡◌, ◌≢◌, ℕ, List, [], ◌∷◌, Option, Some, None, ◌⊎◌, inl, inr, refl, ap, sym, ◌∙◌, subst}
-use Rattle.agent_ports.specs.Sides.{Side, WhereKnown}
-use Rattle.assuan_line.specs.Next.{Reader, WereNeeded, ended_by}
-use Rattle.assuan_line.specs.Reading.{HasRead}
-use Rattle.assuan_line.specs.Skipping.{IsUndecided, Stops, ReadsOn}
-use Rattle.assuan_line.specs.declared.reader.Took.{Took}
+use Rattle.{agent_ports.specs.Sides.{Side, WhereKnown}, assuan_line.{specs.{Next.{Reader, WereNeeded, ended_by}, Reading.HasRead, Skipping.{IsUndecided, Stops, ReadsOn}, declared.reader.Took.Took}, proofs.ReadingOn.read_says_less}}
+use Rattle.assuan_client.specs.{Answers.{Answers, ReadOn, IsStop, Says, ended_of, state_after}, Connections.Connection, Skipping.{Tally, with_lines, with_inquiry, skips_after, skips_behind, coded, IsBehind, nothing}}
+use Rattle.assuan_client.{specs.declared.answer.Answer.{Answer, TheVariants.{Ok, Got, Err, Asked, Broken, ReadFault, WriteFault}}, proofs.Skipping.skipped_after}
 use Rattle.assuan_line.specs.declared.reader.Took.TheVariants as took
-use Rattle.assuan_line.proofs.ReadingOn.{read_says_less}
-use Rattle.assuan_client.specs.Answers.{Answers, ReadOn, IsStop, Says, ended_of, state_after}
-use Rattle.assuan_client.specs.Connections.{Connection}
-use Rattle.assuan_client.specs.Skipping.{Tally, with_lines, with_inquiry, skips_after, skips_behind, coded, IsBehind, nothing}
-use Rattle.assuan_client.specs.declared.answer.Answer.{Answer}
-use Rattle.assuan_client.specs.declared.answer.Answer.TheVariants.{Ok, Got, Err, Asked, Broken, ReadFault, WriteFault}
 use Rattle.assuan_client.specs.declared.answer.State.TheVariants as state
-use Rattle.assuan_client.proofs.Skipping.{skipped_after}
+use Rattle.assuan_line.proofs.ReadingOn.{where_known}
 
 -- after an answer that leaves the connection whole, the reader goes on
 pub goes_on : (answer : Answer) → state_after answer ≢ state.Broken → ended_of answer ≡ None
@@ -65,12 +57,6 @@ answers_by tally behind after t answer by bytes left reader on =
       says = subst (λ (b : Tally). Says b t answer) same (by.says (subst (λ (b : Tally). IsStop b t) (sym same) (is_stop tally lines t stops)));
       asked = λ word text is. by.asked word text is ∙ ap with_inquiry same;
     }
-
-where_known : (before after : Option (List ℕ)) (P Q : List ℕ → List ℕ → Type 0) → WhereKnown before after P → ((rest left : List ℕ) → P rest left → Q rest left) → WhereKnown before after Q
-where_known None None P Q known each = tt
-where_known None (Some left) P Q known each = known
-where_known (Some rest) None P Q known each = known
-where_known (Some rest) (Some left) P Q known each = each rest left known
 
 -- what decides nothing, seen otherwise
 undecided_by : {Some Other : List ℕ → Type 0} {ahead rest left : List ℕ} → ((bytes : List ℕ) → Some bytes → Other bytes) → (rest ≡ left) ⊎ WereNeeded Some ahead rest left

@@ -1,17 +1,10 @@
 -- Bytes have one answer, where a line gives it.
-use Rattle.std.proofs.Common.{◌≡◌, ◌+◌, ℕ, List, [], ◌++◌, length, refl, ap, sym, ◌∙◌, arith}
-use Rattle.assuan_line.specs.Next.{Reader}
+use Rattle.std.proofs.{Common.{◌≡◌, ◌+◌, ℕ, List, [], ◌++◌, length, refl, ap, sym, ◌∙◌, arith}, lemmas.Bool.{le-leb, lt-leb, ne_eqb}}
+use Rattle.assuan_line.{specs.{Next.Reader, declared.reader.Took.TheVariants.Line}, proofs.OnlyReading.only_reading}
+use Rattle.assuan_client.specs.{Answers.{Answers, Says, success_of, inquiry_after}, Forms.{Form, answer_form}, Skipping.{Tally, with_lines, skips_after}, declared.answer.Answer.Answer}
 use Rattle.assuan_line.specs.declared.breach.Breach.TheVariants as breach
-use Rattle.assuan_line.specs.declared.reader.Took.TheVariants.{Line}
-use Rattle.assuan_line.proofs.OnlyReading.{only_reading}
-use Rattle.assuan_client.specs.Answers.{Answers, Says}
 use Rattle.assuan_client.specs.Forms as form
-use Rattle.assuan_client.specs.Forms.{Form, answer_form}
-use Rattle.assuan_client.specs.Skipping.{Tally, with_lines, skips_after}
-use Rattle.assuan_client.specs.declared.answer.Answer.{Answer}
 use Rattle.assuan_client.specs.declared.answer.Answer.TheVariants as answer
-use Rattle.std.proofs.lemmas.Bool.{le-leb, lt-leb, ne_eqb}
-use Rattle.assuan_client.specs.Answers.{success_of, inquiry_after}
 
 -- the answer by a line of this form that isn't skipped
 abbrev pub by_form : Tally → List ℕ → Form → Answer

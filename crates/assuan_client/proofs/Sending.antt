@@ -1,15 +1,7 @@
 -- A write of data lines that is under way.
-use Rattle.std.proofs.Common.{◌≡◌, ℕ, List, [], ◌∷◌, ◌++◌, take, drop, Ok, Err, refl, ap, sym, ◌∙◌, subst, arith, append_assoc, append-nil}
-use Rattle.std.specs.Prelude.{Result}
-use Rattle.std.specs.Result.{IsErr}
-use Rattle.std.proofs.lemmas.Bool.{false≢true}
-use Rattle.std.proofs.lemmas.List.Concat.{flat_map-append}
-use Rattle.agent_ports.specs.Sides.{Side}
-use Rattle.agent_ports.specs.Writing.{StopsWriting, Writes}
-use Rattle.agent_ports.specs.declared.link.WriteFault.{WriteFault}
-use Rattle.agent_ports.proofs.Writing.{writes_nothing, writes_as, writes_then, stops_within}
-use Rattle.assuan_escape.specs.DataLines.{data_line, AreData, data_text}
-use Rattle.assuan_text.specs.LineEnds.{line_of}
+use Rattle.std.{proofs.{Common.{◌≡◌, ℕ, List, [], ◌∷◌, ◌++◌, take, drop, Ok, Err, refl, ap, sym, ◌∙◌, subst, arith, append_assoc, append-nil}, lemmas.{Bool.false≢true, List.Concat.flat_map-append}}, specs.{Prelude.Result, Result.IsErr}}
+use Rattle.agent_ports.{specs.{Sides.Side, Writing.{StopsWriting, Writes}, declared.link.WriteFault.WriteFault}, proofs.Writing.{writes_nothing, writes_as, writes_then, stops_within}}
+use Rattle.{assuan_escape.specs.DataLines.{data_line, AreData, data_text}, assuan_text.specs.LineEnds.line_of}
 
 -- the lines so far: whatever pieces the rest is sent in, they complete these
 pub record IsPutting (bytes : List ℕ) (before now : Side) (rest : List ℕ) : Type 0 where

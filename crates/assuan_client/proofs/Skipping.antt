@@ -1,19 +1,9 @@
 -- Lines that are skipped, one after another, and the answer behind them.
-use Rattle.std.proofs.Common.{◌≡◌, ℕ, ◌+◌, List, [], ◌∷◌, ◌++◌, length, refl, ap, sym, ◌∙◌, subst, arith, append_assoc, append-nil, inl, inr}
-use Rattle.std.specs.Prelude.{cond}
-use Rattle.std.specs.List.{flat_map}
-use Rattle.assuan_text.specs.Forms.{is_data}
-use Rattle.std.proofs.lemmas.Bool.{leb-false, le-leb, lt-leb, ne_eqb, cases_lt, cases_Bool}
-use Rattle.std.proofs.lemmas.List.Concat.{flat_map-append}
-use Rattle.std.proofs.lemmas.List.Sums.{sum_by-append}
-use Rattle.assuan_escape.specs.DataLines.{carried}
-use Rattle.assuan_line.specs.Skipping.{Skipped, none, one}
-use Rattle.assuan_line.specs.declared.breach.Breach.TheVariants.{Many, TooMuch}
-use Rattle.assuan_line.specs.declared.reader.Took.TheVariants.{Line}
-use Rattle.assuan_client.specs.Answers.{IsStop, Says, ok, got, asked, many_notes, many_inquiries, too_much, success_of, inquiry_after}
-use Rattle.assuan_client.specs.Forms.{answer_form, Data, Note, Ok, Inquiry}
-use Rattle.assuan_client.specs.Skipping.{Tally, with_lines, is_note, skips_after, skips_behind, coded, decoded, IsBehind, with_inquiry}
-use Rattle.assuan_client.specs.declared.answer.Answer.TheVariants.{Broken}
+use Rattle.std.proofs.{Common.{◌≡◌, ℕ, ◌+◌, List, [], ◌∷◌, ◌++◌, length, refl, ap, sym, ◌∙◌, subst, arith, append_assoc, append-nil, inl, inr}, lemmas.Bool.{leb-false, le-leb, lt-leb, ne_eqb, cases_lt, cases_Bool}}
+use Rattle.std.{proofs.lemmas.List.{Concat.flat_map-append, Sums.sum_by-append}, specs.{Prelude.cond, List.flat_map}}
+use Rattle.{assuan_text.specs.Forms.is_data, assuan_escape.specs.DataLines.carried, assuan_line.specs.{Skipping.{Skipped, none, one}, declared.{breach.Breach.TheVariants.{Many, TooMuch}, reader.Took.TheVariants.Line}}}
+use Rattle.assuan_client.specs.{Answers.{IsStop, Says, ok, got, asked, many_notes, many_inquiries, too_much, success_of, inquiry_after}, Forms.{answer_form, Data, Note, Ok, Inquiry}}
+use Rattle.assuan_client.specs.{Skipping.{Tally, with_lines, is_note, skips_after, skips_behind, coded, decoded, IsBehind, with_inquiry}, declared.answer.Answer.TheVariants.Broken}
 
 -- a tally by its parts
 pub tally_by : (first second : Tally) → first.notes ≡ second.notes → first.bytes ≡ second.bytes → first ≡ second

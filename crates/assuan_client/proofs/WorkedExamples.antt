@@ -1,8 +1,6 @@
 -- The forms of the lines of worked dialogues, and how much of them is skipped at most.
-use Rattle.std.proofs.Common.{◌≡◌, [], refl}
-use Rattle.std.specs.Prelude.{codes, replicate, true, false}
-use Rattle.assuan_client.specs.Forms.{answer_form, Data, Note, Ok, Err, Inquiry, Foreign}
-use Rattle.assuan_client.specs.Skipping.{skips}
+use Rattle.std.{proofs.Common.{◌≡◌, [], refl}, specs.Prelude.{codes, replicate, true, false}}
+use Rattle.assuan_client.specs.{Forms.{answer_form, Data, Note, Ok, Err, Inquiry, Foreign}, Skipping.skips}
 
 greeting : answer_form (codes "OK Pleased to meet you") ≡ Ok
 greeting = refl

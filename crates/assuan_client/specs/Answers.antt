@@ -1,22 +1,12 @@
 -- The one answer to a command: what the child's lines up to the next end come to.
 use Rattle.std.specs.Prelude.{◌≡◌, ◌≢◌, ◌≤◌, ◌<◌, ◌+◌, ℕ, List, [], false, length, nat_le, ◌==◌, if◌then◌else◌, Option, Some, None}
-use Rattle.agent_ports.specs.Counts.{Rose}
-use Rattle.cache_policy.specs.declared.secret.TheConstants.{MAX_SECRET_LEN}
-use Rattle.assuan_client.specs.declared.tally.TheConstants.{MAX_NOTES}
-use Rattle.assuan_escape.specs.DataLines.{carried}
-use Rattle.assuan_line.specs.Next.{Reader}
-use Rattle.assuan_line.specs.Reading.{HasRead}
-use Rattle.assuan_line.specs.Skipping.{IsUndecided, ReadsAfter}
-use Rattle.assuan_line.specs.declared.breach.Breach.TheVariants as breach
+use Rattle.{agent_ports.specs.Counts.Rose, cache_policy.specs.declared.secret.TheConstants.MAX_SECRET_LEN, assuan_escape.specs.DataLines.carried, assuan_line.specs.{Next.Reader, Reading.HasRead, Skipping.{IsUndecided, ReadsAfter}}}
 use Rattle.assuan_line.specs.declared.reader.Took.{Took}
-use Rattle.assuan_line.specs.declared.reader.Took.TheVariants as took
-use Rattle.assuan_client.specs.Connections.{Connection}
-use Rattle.assuan_client.specs.Forms as form
-use Rattle.assuan_client.specs.Forms.{answer_form}
+use Rattle.assuan_client.specs.{declared.{tally.TheConstants.MAX_NOTES, answer.{Answer.{Answer, TheVariants.{Ok, Got, Err, Asked, Broken, ReadFault, WriteFault}}, State.State}}, Connections.Connection, Forms.answer_form}
 use Rattle.assuan_client.specs.Skipping.{Tally, nothing, with_lines, with_inquiry, skips, skips_after}
-use Rattle.assuan_client.specs.declared.answer.Answer.{Answer}
-use Rattle.assuan_client.specs.declared.answer.Answer.TheVariants.{Ok, Got, Err, Asked, Broken, ReadFault, WriteFault}
-use Rattle.assuan_client.specs.declared.answer.State.{State}
+use Rattle.assuan_line.specs.declared.breach.Breach.TheVariants as breach
+use Rattle.assuan_line.specs.declared.reader.Took.TheVariants as took
+use Rattle.assuan_client.specs.Forms as form
 use Rattle.assuan_client.specs.declared.answer.State.TheVariants as turn
 
 -- the answer by the line that isn't skipped, or by the end of the lines, where this came before it

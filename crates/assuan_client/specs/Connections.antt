@@ -1,10 +1,7 @@
 -- A client's connection as contracts see it.
 use Rattle.std.specs.Prelude.{◌≡◌, ◌≢◌, None}
-use Rattle.agent_ports.specs.Sides.{Side}
-use Rattle.assuan_line.specs.Next.{Reader}
-use Rattle.assuan_client.specs.Skipping.{Tally}
-use Rattle.assuan_client.specs.declared.answer.State.{State}
-use Rattle.assuan_client.specs.declared.answer.State.TheVariants.{Broken}
+use Rattle.{agent_ports.specs.Sides.Side, assuan_line.specs.Next.Reader}
+use Rattle.assuan_client.specs.{Skipping.Tally, declared.answer.State.{State, TheVariants.Broken}}
 
 pub record Connection : Type 0 where
   -- both sides of the link

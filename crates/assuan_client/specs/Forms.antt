@@ -1,11 +1,7 @@
 -- The forms of a server's lines, as the Assuan manual has them ("server responses"). That a tab counts as a blank, and that an error's
 -- number has 1 to 10 digits and is below 2^32, is this project's own rule.
-use Rattle.std.specs.Prelude.{ℕ, ◌==◌, ◌^◌, List, length, codes, slice_index, nat_lt, Option, Some, None, if◌then◌else◌}
-use Rattle.std.specs.List.{before_first, after_first}
-use Rattle.std.specs.Str.{bytes_eq}
-use Rattle.assuan_text.specs.Blanks.{is_blank}
-use Rattle.assuan_text.specs.Forms.{is_data}
-use Rattle.assuan_text.specs.Numbers.{number_of}
+use Rattle.std.specs.{Prelude.{ℕ, ◌==◌, ◌^◌, List, length, codes, slice_index, nat_lt, Option, Some, None, if◌then◌else◌}, List.{before_first, after_first}, Str.bytes_eq}
+use Rattle.assuan_text.specs.{Blanks.is_blank, Forms.is_data, Numbers.number_of}
 use Rattle.assuan_client.specs.declared.form.Form.{Form as FormOf}
 use Rattle.assuan_client.specs.declared.form.Form.TheVariants as seen
 

@@ -1,11 +1,8 @@
 -- The lines of a command that are skipped before its end: data, comments and status lines. How many there may be is this
 -- project's own rule.
-use Rattle.std.specs.Prelude.{◌≡◌, ℕ, ◌+◌, Bool, true, false, List, [], ◌∷◌, ◌++◌, length, nat_le}
-use Rattle.std.specs.List.{flat_map, count_by}
-use Rattle.cache_policy.specs.declared.secret.TheConstants.{MAX_SECRET_LEN}
-use Rattle.assuan_client.specs.declared.tally.TheConstants.{MAX_NOTES}
-use Rattle.assuan_escape.specs.DataLines.{carried}
-use Rattle.assuan_client.specs.Forms.{Form, Data, Note, answer_form}
+use Rattle.std.specs.{Prelude.{◌≡◌, ℕ, ◌+◌, Bool, true, false, List, [], ◌∷◌, ◌++◌, length, nat_le}, List.{flat_map, count_by}}
+use Rattle.{cache_policy.specs.declared.secret.TheConstants.MAX_SECRET_LEN, assuan_escape.specs.DataLines.carried}
+use Rattle.assuan_client.specs.{declared.tally.TheConstants.MAX_NOTES, Forms.{Form, Data, Note, answer_form}}
 
 -- what came in a command so far
 pub record Tally : Type 0 where

@@ -1,14 +1,7 @@
 -- What a client writes (Assuan manual, "client requests"), and what comes of it.
 use Rattle.std.specs.Prelude.{◌≡◌, ◌≢◌, ◌≤◌, ℕ, List, ◌++◌, codes}
-use Rattle.agent_ports.specs.Sides.{with_bytes}
-use Rattle.agent_ports.specs.Writing.{StopsWriting}
-use Rattle.assuan_escape.specs.DataLines.{AreData, data_text}
-use Rattle.assuan_text.specs.LineEnds.{line_of}
-use Rattle.assuan_client.specs.Answers.{ReadOn, state_after}
-use Rattle.assuan_client.specs.Connections.{Connection}
-use Rattle.assuan_client.specs.Skipping.{Tally, nothing}
-use Rattle.assuan_client.specs.declared.answer.Answer.{Answer}
-use Rattle.assuan_client.specs.declared.answer.Answer.TheVariants.{WriteFault}
+use Rattle.{agent_ports.specs.{Sides.with_bytes, Writing.StopsWriting}, assuan_escape.specs.DataLines.{AreData, data_text}, assuan_text.specs.LineEnds.line_of}
+use Rattle.assuan_client.specs.{Answers.{ReadOn, state_after}, Connections.Connection, Skipping.{Tally, nothing}, declared.answer.Answer.{Answer, TheVariants.WriteFault}}
 
 -- the data lines of these pieces, and the line that ends them
 abbrev pub reply_text : List (List ℕ) → List ℕ

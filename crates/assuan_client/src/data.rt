@@ -5,8 +5,7 @@
 ghost use Rattle.std.specs.Prelude.{◌≡◌, List, ℕ};
 ghost use Rattle.agent_ports.specs.Writing.{Writes};
 ghost use Rattle.assuan_escape.specs.DataLines.{AreData, data_text};
-ghost use Rattle.assuan_line.specs.Lines.{IsLine};
-ghost use Rattle.assuan_text.specs.LineEnds.{line_of};
+ghost use Rattle.{assuan_line.specs.Lines.IsLine, assuan_text.specs.LineEnds.line_of};
 ghost use Rattle.assuan_client.specs.Writing.{reply_text};
 
 use agent_ports::{Sink, WriteFault};

@@ -2,10 +2,8 @@
 //! manual, "server responses"). Pure, over slices of the line. Begin with `form_of`, and with
 //! `answer_form` of `specs/Forms`, which it is.
 
-ghost use Rattle.std.specs.Prelude.{◌≡◌, ◌≤◌, length};
-ghost use Rattle.std.specs.List.{before_first, after_first};
-ghost use Rattle.assuan_text.specs.Blanks.{is_blank};
-ghost use Rattle.assuan_text.specs.Numbers.{number_of};
+ghost use Rattle.std.specs.{Prelude.{◌≡◌, ◌≤◌, length}, List.{before_first, after_first}};
+ghost use Rattle.assuan_text.specs.{Blanks.is_blank, Numbers.number_of};
 ghost use Rattle.assuan_client.specs.Forms.{answer_form, form_seen, form_by, error_of, inquiry_of};
 ghost use Rattle.assuan_client.specs.Forms.{word_of, text_of, IfInquiry};
 

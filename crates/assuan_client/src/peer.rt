@@ -3,8 +3,7 @@
 //! of `specs/Writing` is its contract, and `ReadOn` of `specs/Answers` what reading comes to.
 
 ghost use Rattle.std.specs.Prelude.{◌≡◌, ◌≢◌, ◌++◌, [], None, List, ℕ};
-ghost use Rattle.assuan_line.specs.Next.{Reader};
-ghost use Rattle.assuan_text.specs.LineEnds.{line_of};
+ghost use Rattle.{assuan_line.specs.Next.Reader, assuan_text.specs.LineEnds.line_of};
 ghost use Rattle.assuan_client.specs.Answers.{Answers, ReadOn};
 ghost use Rattle.assuan_client.specs.Skipping.{Tally as TallyValue, nothing};
 ghost use Rattle.assuan_client.specs.Writing.{Command, Reply, cancel_text};

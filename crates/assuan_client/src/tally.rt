@@ -3,15 +3,13 @@
 //! `skip` and `Tally::answer`; `skips_behind` of `specs/Skipping` says which lines are skipped.
 
 ghost use Rattle.std.specs.Prelude.{◌≡◌, ◌≢◌, ◌≤◌, ◌+◌, ◌++◌, [], ◌∷◌, length, nat_le, List, ℕ};
-ghost use Rattle.std.specs.Prelude.{None};
-ghost use Rattle.std.specs.Bool.{OnTrue, OnFalse};
+ghost use Rattle.std.specs.{Prelude.None, Bool.{OnTrue, OnFalse}};
 ghost use Rattle.assuan_line.specs.Next.{ended_by};
 ghost use Rattle.assuan_text.specs.declared.TheConstants.{MAX_LINE_LEN};
 ghost use Rattle.assuan_escape.specs.DataLines.{carried};
-ghost use Rattle.assuan_client.specs.Answers.{Says, IsStop, ended_of, state_after, success_of};
-ghost use Rattle.assuan_client.specs.Answers.{inquiry_after};
 ghost use Rattle.cache_policy.specs.declared.secret.TheConstants.{MAX_SECRET_LEN};
-ghost use Rattle.assuan_client.specs.declared.tally.TheConstants.{MAX_NOTES};
+ghost use Rattle.assuan_client.specs.Answers.{Says, IsStop, ended_of, state_after, success_of};
+ghost use Rattle.assuan_client.specs.{Answers.inquiry_after, declared.tally.TheConstants.MAX_NOTES};
 ghost use Rattle.assuan_client.specs.Skipping.{nothing, with_inquiry, skips_behind, IsBehind};
 
 use crate::form::{Form, form_of};

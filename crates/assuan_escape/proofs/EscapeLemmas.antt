@@ -1,14 +1,7 @@
 -- Escapes: that they are undone, how long they are, and that they hold no line feed.
 use Rattle.std.proofs.Common.{◌≡◌, ℕ, zero, suc, ◌+◌, ◌*◌, ◌<◌, ◌≤◌, ◌==◌, true, false, List, [], ◌∷◌, ◌++◌, length, take, get_or, append-nil, All, refl, ap, ◌∙◌, ⊎_elim, arith, length-append}
-use Rattle.std.proofs.lemmas.Bool.{cond-true, cond-false, cases_Bool, cases_lt}
-use Rattle.std.proofs.lemmas.Bool.Decides.{nat_tests}
-use Rattle.std.proofs.lemmas.List.Elements.{All-head, All-tail}
-use Rattle.std.proofs.lemmas.List.Folds.{list_any-append}
-use Rattle.std.proofs.lemmas.List.{take_more}
-use Rattle.std.proofs.lemmas.List.Concat.{flat_map-append}
-use Rattle.percent_encoding.specs.Percent.{percent_encode_byte, percent_decode}
-use Rattle.percent_encoding.proofs.PercentLemmas.{IsByte, percent_decode-nil, percent_decode_not_percent, percent_decode-percent_encode_byte}
-use Rattle.assuan_text.specs.LineEnds.{has_lf}
+use Rattle.std.proofs.lemmas.{Bool.{cond-true, cond-false, cases_Bool, cases_lt, Decides.nat_tests}, List.{take_more, Elements.{All-head, All-tail}, Folds.list_any-append, Concat.flat_map-append}}
+use Rattle.{percent_encoding.{specs.Percent.{percent_encode_byte, percent_decode}, proofs.PercentLemmas.{IsByte, percent_decode-nil, percent_decode_not_percent, percent_decode-percent_encode_byte}}, assuan_text.specs.LineEnds.has_lf}
 use Rattle.assuan_escape.specs.Escapes.{hex_digits, hex_text, is_escaped, escape_of, escapes}
 
 pub escape_of_escaped : (byte : ℕ) → is_escaped byte ≡ true → escape_of byte ≡ 37 ∷ hex_digits byte

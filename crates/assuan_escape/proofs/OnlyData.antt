@@ -1,13 +1,8 @@
 -- There is one list of data lines for any bytes, and no other.
 use Rattle.std.proofs.Common.{◌≡◌, ℕ, ◌+◌, ◌<◌, ◌≤◌, List, [], ◌∷◌, ◌++◌, length, take, drop, get_or, All, refl, ap, sym, ◌∙◌, subst, arith, append_assoc, append-nil, length-append, length-drop, ⊎_elim, inl, inr}
-use Rattle.std.specs.List.{flat_map}
-use Rattle.std.proofs.lemmas.Bool.{cases_Bool, cond-true, cond-false, cases_lt}
-use Rattle.std.proofs.lemmas.List.{take-append-drop, take-append-le, append_cancel_left, length-take-le, drop_more}
-use Rattle.std.proofs.lemmas.List.Concat.{flat_map-append}
-use Rattle.std.proofs.lemmas.List.Elements.{All-head, All-tail, All-cons}
-use Rattle.std.proofs.Math.Seq.{take-append_seam, take-append-add}
-use Rattle.assuan_escape.specs.Escapes.{is_escaped, hex_digits, escape_of, escapes}
-use Rattle.assuan_escape.specs.DataLines.{data_line, IsFullBefore, AreFull, IsPiece, AreData}
+use Rattle.std.proofs.lemmas.{Bool.{cases_Bool, cond-true, cond-false, cases_lt}, List.{take-append-drop, take-append-le, append_cancel_left, length-take-le, drop_more, Concat.flat_map-append, Elements.{All-head, All-tail, All-cons}}}
+use Rattle.std.{proofs.Math.Seq.{take-append_seam, take-append-add}, specs.List.flat_map}
+use Rattle.assuan_escape.specs.{Escapes.{is_escaped, hex_digits, escape_of, escapes}, DataLines.{data_line, IsFullBefore, AreFull, IsPiece, AreData}}
 
 joined_of : List (List ℕ) → List ℕ
 joined_of pieces = flat_map (λ piece. piece) pieces

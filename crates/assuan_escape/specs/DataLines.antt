@@ -1,10 +1,7 @@
 -- Data lines, as the Assuan manual has them ("server responses" and "client requests"): `D`, a blank and escaped bytes. That each
 -- line is as full as no cut escape allows is this project's own rule.
-use Rattle.std.specs.Prelude.{◌≡◌, ◌+◌, ◌<◌, ◌≤◌, ℕ, false, List, [], ◌∷◌, ◌++◌, length, drop, codes, slice_index, All, if◌then◌else◌}
-use Rattle.std.specs.List.{flat_map}
-use Rattle.assuan_text.specs.declared.TheConstants.{MAX_LINE_LEN}
-use Rattle.assuan_text.specs.Forms.{is_data}
-use Rattle.assuan_text.specs.LineEnds.{line_of}
+use Rattle.std.specs.{Prelude.{◌≡◌, ◌+◌, ◌<◌, ◌≤◌, ℕ, false, List, [], ◌∷◌, ◌++◌, length, drop, codes, slice_index, All, if◌then◌else◌}, List.flat_map}
+use Rattle.assuan_text.specs.{declared.TheConstants.MAX_LINE_LEN, Forms.is_data, LineEnds.line_of}
 use Rattle.assuan_escape.specs.Escapes.{escape_of, escapes, unescaped}
 
 -- the line of a piece of the bytes

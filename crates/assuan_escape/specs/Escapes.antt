@@ -1,9 +1,7 @@
 -- Escapes of bytes, as the Assuan manual has them ("server responses"): a percent sign (37), a carriage return (13) and a
 -- line feed (10) are sent as `%` and two hexadecimal digits. That bytes from 128 on are escaped too, and that the digits
 -- are uppercase, is this project's own rule. Any escape is read again, also of a byte that needs none.
-use Rattle.std.specs.Prelude.{ℕ, ◌/◌, ◌%◌, ◌==◌, ◌||◌, nat_le, Bool, true, List, [], ◌∷◌, map, if◌then◌else◌}
-use Rattle.std.specs.List.{flat_map}
-use Rattle.std.specs.Fmt.{digit_glyph}
+use Rattle.std.specs.{Prelude.{ℕ, ◌/◌, ◌%◌, ◌==◌, ◌||◌, nat_le, Bool, true, List, [], ◌∷◌, map, if◌then◌else◌}, List.flat_map, Fmt.digit_glyph}
 use Rattle.percent_encoding.specs.Percent.{percent_decode}
 
 -- the two uppercase hexadecimal digits of a byte, the high four bits first

@@ -4,8 +4,7 @@
 
 ghost use Rattle.std.specs.Prelude.{◌≡◌, ◌≤◌, ◌<◌, ◌∷◌, ℕ, List, true, false, length, take, drop};
 ghost use Rattle.std.specs.Prelude.{MatchOption};
-ghost use Rattle.assuan_text.specs.declared.TheConstants.{MAX_LINE_LEN};
-ghost use Rattle.assuan_text.specs.Forms.{is_data};
+ghost use Rattle.assuan_text.specs.{declared.TheConstants.MAX_LINE_LEN, Forms.is_data};
 ghost use Rattle.assuan_text.specs.LineEnds.{has_lf};
 ghost use Rattle.assuan_escape.specs.DataLines.{data_line, AreData, carried};
 

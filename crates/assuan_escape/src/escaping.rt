@@ -3,10 +3,8 @@
 //! what it writes.
 
 ghost use Rattle.std.specs.Prelude.{◌≡◌, ◌+◌, ◌<◌, ◌≤◌, ◌++◌, ◌↔◌, ℕ, List, false, length, take};
-ghost use Rattle.std.specs.Prelude.{slice_index, IsTrue, All};
-ghost use Rattle.std.specs.Bool.{OnTrue, OnFalse};
-ghost use Rattle.assuan_text.specs.declared.TheConstants.{MAX_LINE_LEN};
-ghost use Rattle.assuan_text.specs.LineEnds.{has_lf};
+ghost use Rattle.std.specs.{Prelude.{slice_index, IsTrue, All}, Bool.{OnTrue, OnFalse}};
+ghost use Rattle.assuan_text.specs.{declared.TheConstants.MAX_LINE_LEN, LineEnds.has_lf};
 ghost use Rattle.assuan_escape.specs.Escapes.{is_escaped, escape_of, escapes, unescaped};
 
 use assuan_text::Text;

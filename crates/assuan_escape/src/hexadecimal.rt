@@ -3,8 +3,7 @@
 //! `upper_hex` say all of it.
 
 ghost use Rattle.std.specs.Prelude.{◌≡◌, ◌≤◌, ◌*◌, false, length};
-ghost use Rattle.assuan_text.specs.LineEnds.{has_lf};
-ghost use Rattle.assuan_text.specs.declared.TheConstants.{MAX_LINE_LEN};
+ghost use Rattle.assuan_text.specs.{LineEnds.has_lf, declared.TheConstants.MAX_LINE_LEN};
 ghost use Rattle.assuan_escape.specs.Escapes.{hex_text};
 
 use assuan_text::Text;

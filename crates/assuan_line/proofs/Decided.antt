@@ -1,21 +1,10 @@
 -- What the next line is, by the place of the first line feed, and that bytes which decide it stay decided.
 use Rattle.std.proofs.Common.{◌≡◌, ◌≢◌, ℕ, ◌+◌, ◌-◌, ◌<◌, ◌≤◌, ◌||◌, ◌⊎◌, Bool, true, false, cond, leb, ◌==◌, slice_index, List, ◌++◌, length, take, drop, Some, None, inl, inr, refl, ap, sym, ◌∙◌, arith, le-leb}
+use Rattle.std.proofs.{lemmas.{Bool.{lt-leb, false≢true, Decides.leb_tells}, List.{take_all, take-append-drop, take-append-le, drop-append-le, length-take-le, length-append, length-drop, Folds.list_any-append}}, Math.Seq.take-append-add}
 use Rattle.std.specs.List.{position, position_or_len}
-use Rattle.std.proofs.lemmas.Bool.{lt-leb, false≢true}
-use Rattle.std.proofs.lemmas.Bool.Decides.{leb_tells}
-use Rattle.std.proofs.lemmas.List.{take_all, take-append-drop, take-append-le, drop-append-le, length-take-le, length-append, length-drop}
-use Rattle.std.proofs.Math.Seq.{take-append-add}
-use Rattle.std.proofs.lemmas.List.Folds.{list_any-append}
-use Rattle.assuan_line.proofs.Parts.{line_tells}
-use Rattle.assuan_line.proofs.Places.{place_behind, place_in_front, place_within, none_before, some_there, none_there}
-use Rattle.assuan_text.specs.LineEnds.{is_lf, has_lf}
-use Rattle.assuan_text.specs.LineEnds.{without_cr}
-use Rattle.assuan_line.specs.Lines.{first_line, after_line}
-use Rattle.assuan_line.specs.Next.{next_of, OnLine}
-use Rattle.assuan_line.specs.Stops.{line_or_too_long}
-use Rattle.assuan_line.specs.declared.buffer.TheConstants.{MAX_UNDECIDED}
-use Rattle.assuan_line.specs.declared.reader.Took.{Took}
-use Rattle.assuan_line.specs.declared.reader.Took.TheVariants.{Line, TooLong, End, Spent, ReadFault}
+use Rattle.assuan_text.specs.LineEnds.{is_lf, has_lf, without_cr}
+use Rattle.assuan_line.{proofs.{Parts.{line_tells, has_lf_among_first}, Places.{place_behind, place_in_front, place_within, none_before, some_there, none_there}}, specs.{Lines.{first_line, after_line}, Next.{next_of, OnLine}}}
+use Rattle.assuan_line.specs.{Stops.line_or_too_long, declared.{buffer.TheConstants.MAX_UNDECIDED, reader.Took.{Took, TheVariants.{Line, TooLong, End, Spent, ReadFault}}}}
 
 next_by : Bool → Bool → List ℕ → Took
 next_by among many line = cond among (line_or_too_long line) (cond many TooLong End)
@@ -27,11 +16,6 @@ next_is bytes = refl
 pub whole_before : (bytes : List ℕ) (end : ℕ) → position is_lf bytes ≡ Some end → has_lf (take end bytes) ≡ false
 whole_before bytes end is =
     ap (λ (n : ℕ). has_lf (take n bytes)) (sym (some_there is_lf bytes end is).1) ∙ none_before is_lf bytes
-
-has_lf_among_first : (bytes : List ℕ) → has_lf (take MAX_UNDECIDED bytes) ≡ true → has_lf bytes ≡ true
-has_lf_among_first bytes some =
-    ap has_lf (sym (take-append-drop MAX_UNDECIDED bytes)) ∙ list_any-append is_lf (take MAX_UNDECIDED bytes) (drop MAX_UNDECIDED bytes)
-    ∙ ap (λ (b : Bool). b || has_lf (drop MAX_UNDECIDED bytes)) some
 
 -- a line feed that isn't among the first bytes comes behind them
 far : (bytes : List ℕ) → has_lf bytes ≡ true → has_lf (take MAX_UNDECIDED bytes) ≡ false → MAX_UNDECIDED ≤ position_or_len is_lf bytes

@@ -1,10 +1,6 @@
 -- Bytes have one reading: the lines that are skipped, and the line behind them.
-use Rattle.std.proofs.Common.{◌≡◌, ℕ, Bool, true, false, List, [], ◌∷◌, ◌++◌, refl, ap, sym, subst, ◌∙◌, append_assoc, append-nil}
-use Rattle.std.proofs.lemmas.Bool.{false≢true}
-use Rattle.assuan_line.specs.Lines.{after_line}
-use Rattle.assuan_line.specs.Next.{next_of, Reader}
-use Rattle.assuan_line.specs.Skipping.{Skipped, none, one, ReadsAfter}
-use Rattle.assuan_line.specs.declared.reader.Took.TheVariants.{Line}
+use Rattle.std.proofs.{Common.{◌≡◌, ℕ, Bool, true, false, List, [], ◌∷◌, ◌++◌, refl, ap, sym, subst, ◌∙◌, append_assoc, append-nil}, lemmas.Bool.false≢true}
+use Rattle.assuan_line.specs.{Lines.after_line, Next.{next_of, Reader}, Skipping.{Skipped, none, one, ReadsAfter}, declared.reader.Took.TheVariants.Line}
 
 same_line : (bytes line other : List ℕ) → next_of bytes ≡ Line line → next_of bytes ≡ Line other → line ≡ other
 same_line bytes line other first second = cc (sym first ∙ second)

@@ -1,16 +1,9 @@
 -- Bytes have one reading within a budget: the lines that are skipped, and what comes behind them, unless a read failed.
-use Rattle.std.proofs.Common.{◌≡◌, ◌≢◌, ◌≤◌, ◌<◌, ◌+◌, ℕ, Bool, true, List, [], ◌∷◌, ◌++◌, length, refl, ap, sym, subst, ◌∙◌, append_assoc, append-nil, length-append, length-drop, arith}
+use Rattle.std.proofs.{Common.{◌≡◌, ◌≢◌, ◌≤◌, ◌<◌, ◌+◌, ℕ, Bool, true, List, [], ◌∷◌, ◌++◌, length, refl, ap, sym, subst, ◌∙◌, append_assoc, append-nil, length-append, length-drop, arith}, lemmas.Bool.false≢true}
 use Rattle.std.specs.List.{position_or_len}
-use Rattle.std.proofs.lemmas.Bool.{false≢true}
-use Rattle.assuan_line.specs.Lines.{after_line}
-use Rattle.assuan_line.specs.Next.{next_of, Reader, IsCutShort, IsTooLong, OnLine}
-use Rattle.assuan_line.specs.Skipping.{Skipped, none, one, Stops, ReadsNext, ReadsAfter}
-use Rattle.assuan_line.specs.declared.reader.Took.{Took}
-use Rattle.assuan_line.specs.declared.reader.Took.TheVariants.{Line, TooLong, End, Spent, ReadFault}
-use Rattle.assuan_line.proofs.Decided.{stays, after_shorter}
-use Rattle.assuan_line.proofs.Parts.{line_tells, end_tells}
-use Rattle.assuan_line.proofs.Places.{place_behind, place_within}
 use Rattle.assuan_text.specs.LineEnds.{is_lf}
+use Rattle.assuan_line.specs.{Lines.after_line, Next.{next_of, Reader, IsCutShort, IsTooLong, OnLine}, Skipping.{Skipped, none, one, Stops, ReadsNext, ReadsAfter}, declared.reader.Took.Took}
+use Rattle.assuan_line.{specs.declared.reader.Took.TheVariants.{Line, TooLong, End, Spent, ReadFault}, proofs.{Decided.{stays, after_shorter}, Parts.{line_tells, end_tells}, Places.{place_behind, place_within}}}
 
 -- where the bytes taken tell no line, and a line ends behind them, less is left behind that line
 cut_line : (taken left line : List ℕ) → next_of (taken ++ left) ≡ Line line → next_of taken ≡ End → length (after_line (taken ++ left)) < length left

@@ -1,16 +1,8 @@
 -- All lines of some bytes, from the first of them on.
-use Rattle.std.proofs.Common.{◌≡◌, ◌+◌, ◌-◌, ◌||◌, ◌≤◌, ℕ, suc, leb, inl, inr, Bool, true, false, not, cond, List, [], ◌∷◌, length, map, take, drop, get_or, refl, ap, sym, ◌∙◌, arith}
-use Rattle.std.specs.List.{list_any, slice_split, onto_first, before_first, after_first, prefix_len}
-use Rattle.std.proofs.lemmas.Bool.{or_parts, false≢true}
-use Rattle.std.proofs.lemmas.Bool.Decides.{leb_tells}
-use Rattle.std.proofs.lemmas.List.{take_all, take-append-drop}
-use Rattle.std.proofs.lemmas.List.Folds.{list_any-append}
-use Rattle.assuan_text.specs.LineEnds.{is_lf, has_lf}
-use Rattle.assuan_text.specs.LineEnds.{without_cr}
-use Rattle.assuan_line.specs.Lines.{first_line, after_line, pieces_of, lines_of, rest_of}
-use Rattle.assuan_line.specs.Next.{next_of}
-use Rattle.assuan_line.specs.declared.buffer.TheConstants.{MAX_UNDECIDED}
-use Rattle.assuan_line.specs.declared.reader.Took.TheVariants.{Line, TooLong, End}
+use Rattle.std.proofs.{Common.{◌≡◌, ◌+◌, ◌-◌, ◌||◌, ◌≤◌, ℕ, suc, leb, inl, inr, Bool, true, false, not, cond, List, [], ◌∷◌, length, map, take, drop, get_or, refl, ap, sym, ◌∙◌, arith}, lemmas.Bool.{or_parts, false≢true, Decides.leb_tells}}
+use Rattle.std.{proofs.lemmas.List.{take_all, take-append-drop, Folds.list_any-append}, specs.List.{list_any, slice_split, onto_first, before_first, after_first, prefix_len}}
+use Rattle.assuan_text.specs.LineEnds.{is_lf, has_lf, without_cr}
+use Rattle.assuan_line.specs.{Lines.{first_line, after_line, pieces_of, lines_of, rest_of}, Next.next_of, declared.{buffer.TheConstants.MAX_UNDECIDED, reader.Took.TheVariants.{Line, TooLong, End}}}
 
 module _ {X : Type 0} (p : X → Bool) where
   -- where no element ends a part there is one part
@@ -96,7 +88,7 @@ rest_some bytes some =
     last (before_first is_lf bytes) h.first h.others _ _ h.parts (split_first is_lf bytes some)
 
 -- what the next line tells of the line feeds
-has_lf_among_first : (bytes : List ℕ) → has_lf (take MAX_UNDECIDED bytes) ≡ true → has_lf bytes ≡ true
+pub has_lf_among_first : (bytes : List ℕ) → has_lf (take MAX_UNDECIDED bytes) ≡ true → has_lf bytes ≡ true
 has_lf_among_first bytes some =
     ap has_lf (sym (take-append-drop MAX_UNDECIDED bytes)) ∙ list_any-append is_lf (take MAX_UNDECIDED bytes) (drop MAX_UNDECIDED bytes)
     ∙ ap (λ (b : Bool). b || has_lf (drop MAX_UNDECIDED bytes)) some

@@ -1,8 +1,6 @@
 -- The first element that passes a test, in two lists behind one another.
-use Rattle.std.proofs.Common.{◌≡◌, ℕ, ◌+◌, suc, ◌<◌, ◌||◌, Bool, true, false, not, cond, List, [], ◌∷◌, ◌++◌, length, take, Some, None, refl, ap, sym, ◌∙◌, zero-add, arith}
-use Rattle.std.specs.List.{list_any, position, position_or_len, prefix_len}
-use Rattle.std.proofs.lemmas.Bool.{or_parts, or_from, lt-ltb, le-ltb, false≢true}
-use Rattle.std.proofs.lemmas.List.Folds.{list_any-append}
+use Rattle.std.proofs.{Common.{◌≡◌, ℕ, ◌+◌, suc, ◌<◌, ◌||◌, Bool, true, false, not, cond, List, [], ◌∷◌, ◌++◌, length, take, Some, None, refl, ap, sym, ◌∙◌, zero-add, arith}, lemmas.Bool.{or_parts, or_from, lt-ltb, le-ltb, false≢true}}
+use Rattle.std.{proofs.lemmas.List.Folds.list_any-append, specs.List.{list_any, position, position_or_len, prefix_len}}
 
 module _ {X : Type 0} (p : X → Bool) where
   -- it comes behind those that don't

@@ -1,15 +1,8 @@
 -- Reads after one another, and what an answer says that comes after them.
 use Rattle.std.proofs.Common.{◌≡◌, ◌≢◌, ℕ, ◌+◌, ◌<◌, ◌≤◌, List, [], ◌++◌, length, Option, Some, None, IsSome, IfSome, inl, inr, refl, ap, sym, ◌∙◌, subst, arith, append_assoc, append-nil, length-append}
-use Rattle.agent_ports.specs.Counts.{Rose}
-use Rattle.agent_ports.specs.Sides.{Side, followed_by, WhereKnown}
-use Rattle.agent_ports.proofs.Known.{known_by}
-use Rattle.assuan_line.specs.Lines.{after_line}
-use Rattle.assuan_line.specs.Next.{Reader, next_of, IsNext, TakesWhatItNeeds, WereNeeded, ended_by, OnLine, held}
-use Rattle.assuan_line.specs.Stops.{unended, ReadAhead, Decides, TakeLine}
-use Rattle.assuan_line.specs.declared.buffer.TheConstants.{MAX_AHEAD}
-use Rattle.assuan_line.specs.declared.reader.Took.{Took}
-use Rattle.assuan_line.specs.declared.reader.Took.TheVariants.{Line, TooLong, End, Spent, ReadFault}
-use Rattle.assuan_line.proofs.Decided.{stays, after_stays, after_shorter, no_spent, no_fault}
+use Rattle.agent_ports.{specs.{Counts.Rose, Sides.{Side, followed_by, WhereKnown}}, proofs.Known.known_by}
+use Rattle.assuan_line.specs.{Lines.after_line, Next.{Reader, next_of, IsNext, TakesWhatItNeeds, WereNeeded, ended_by, OnLine, held}, Stops.{unended, ReadAhead, Decides, TakeLine}, declared.{buffer.TheConstants.MAX_AHEAD, reader.Took.Took}}
+use Rattle.assuan_line.{specs.declared.reader.Took.TheVariants.{Line, TooLong, End, Spent, ReadFault}, proofs.Decided.{stays, after_stays, after_shorter, no_spent, no_fault}}
 
 -- what one read gave
 pub record IsRead (before after : Reader) (was is : Side) (read : List ℕ) : Type 0 where

@@ -1,15 +1,8 @@
 -- A read on over lines that are skipped: how it stands, and what the next line makes of it.
 use Rattle.std.proofs.Common.{◌≡◌, ◌≤◌, ◌<◌, ◌+◌, ◌⊎◌, inl, inr, ℕ, Bool, true, List, [], ◌∷◌, ◌++◌, length, Option, None, Some, refl, ap, sym, ◌∙◌, subst, arith, append_assoc, append-nil}
-use Rattle.agent_ports.specs.Counts.{Rose}
-use Rattle.agent_ports.specs.Sides.{Side, WhereKnown}
-use Rattle.agent_ports.proofs.Known.{known_same, known_then, known_both}
-use Rattle.assuan_line.specs.Next.{next_of, Reader, IsNext, WereNeeded, TakesWhatItNeeds, OnLine, held, ended_by}
-use Rattle.assuan_line.specs.Reading.{HasRead}
-use Rattle.assuan_line.specs.Skipping.{Skipped, none, IsUndecided, Stops, ReadsNext, ReadsOn}
-use Rattle.assuan_line.specs.declared.reader.Took.{Took}
-use Rattle.assuan_line.specs.declared.reader.Took.TheVariants.{Line, TooLong, End, Spent, ReadFault}
-use Rattle.assuan_line.proofs.Ahead.{cut_short_of_all, too_long_of_all}
-use Rattle.assuan_line.proofs.SkippedLines.{skipped_more, without_last}
+use Rattle.agent_ports.{specs.{Counts.Rose, Sides.{Side, WhereKnown}}, proofs.Known.{known_same, known_then, known_both}}
+use Rattle.assuan_line.specs.{Next.{next_of, Reader, IsNext, WereNeeded, TakesWhatItNeeds, OnLine, held, ended_by}, Reading.HasRead, Skipping.{Skipped, none, IsUndecided, Stops, ReadsNext, ReadsOn}, declared.reader.Took.Took}
+use Rattle.assuan_line.{specs.declared.reader.Took.TheVariants.{Line, TooLong, End, Spent, ReadFault}, proofs.{Ahead.{cut_short_of_all, too_long_of_all}, SkippedLines.{skipped_more, without_last}}}
 
 -- what an answer says, it says of all the bytes that are there
 reads_next : (before : Reader) (rest : List ℕ) (took : Took) (after : Reader) (left : List ℕ) → IsNext before rest took after left → ReadsNext (before.ahead ++ rest) took after left
@@ -19,7 +12,7 @@ reads_next before rest End after left known = known
 reads_next before rest Spent after left known = (cut_short_of_all known.0, known.1)
 reads_next before rest ReadFault after left known = (cut_short_of_all known.0, known.1)
 
-where_known : (before after : Option (List ℕ)) (P Q : List ℕ → List ℕ → Type 0) → WhereKnown before after P → ((rest left : List ℕ) → P rest left → Q rest left) → WhereKnown before after Q
+pub where_known : (before after : Option (List ℕ)) (P Q : List ℕ → List ℕ → Type 0) → WhereKnown before after P → ((rest left : List ℕ) → P rest left → Q rest left) → WhereKnown before after Q
 where_known None None P Q known each = tt
 where_known None (Some left) P Q known each = known
 where_known (Some rest) None P Q known each = known

@@ -1,11 +1,6 @@
 -- What a write of one line leaves.
-use Rattle.std.proofs.Common.{◌≡◌, ◌≤◌, ℕ, List, length, take, drop, sym, arith}
-use Rattle.std.proofs.lemmas.List.{take-append-drop, length-take-le}
-use Rattle.agent_ports.specs.Counts.{Rose}
-use Rattle.agent_ports.specs.Sides.{Side, with_bytes, sent_part, IfCut, IsCut}
-use Rattle.agent_ports.specs.Writing.{Writes, whole_of}
-use Rattle.agent_ports.specs.declared.link.Sent.{Sent}
-use Rattle.agent_ports.specs.declared.link.Sent.TheVariants.{All, Failed}
+use Rattle.std.proofs.{Common.{◌≡◌, ◌≤◌, ℕ, List, length, take, drop, sym, arith}, lemmas.List.{take-append-drop, length-take-le}}
+use Rattle.agent_ports.specs.{Counts.Rose, Sides.{Side, with_bytes, sent_part, IfCut, IsCut}, Writing.{Writes, whole_of}, declared.link.Sent.{Sent, TheVariants.{All, Failed}}}
 use Rattle.assuan_line.specs.Written.{HasSent}
 
 pub has_sent : (bytes : List ℕ) (before after : Side) (sent : Sent) → length bytes ≤ 1001 → IfCut sent (λ count. count ≤ length bytes)

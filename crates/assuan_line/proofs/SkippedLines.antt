@@ -1,16 +1,9 @@
 -- Lines that are skipped, at the front of some bytes.
-use Rattle.std.proofs.Common.{◌≡◌, ◌≤◌, ◌+◌, ℕ, Bool, true, List, [], ◌∷◌, ◌++◌, length, refl, ap, sym, ◌∙◌, subst, arith, append_assoc, append-nil, length-append}
+use Rattle.std.proofs.{Common.{◌≡◌, ◌≤◌, ◌+◌, ℕ, Bool, true, List, [], ◌∷◌, ◌++◌, length, refl, ap, sym, ◌∙◌, subst, arith, append_assoc, append-nil, length-append}, lemmas.List.{append_cancel_right, length-drop}}
 use Rattle.std.specs.List.{position_or_len}
-use Rattle.std.proofs.lemmas.List.{append_cancel_right, length-drop}
 use Rattle.assuan_text.specs.LineEnds.{is_lf}
-use Rattle.assuan_line.specs.Lines.{after_line}
-use Rattle.assuan_line.specs.Next.{next_of}
-use Rattle.assuan_line.specs.Skipping.{Skipped, none, one}
-use Rattle.assuan_line.specs.declared.reader.Took.{Took}
-use Rattle.assuan_line.specs.declared.reader.Took.TheVariants.{Line, TooLong, End, Spent, ReadFault}
-use Rattle.assuan_line.proofs.Decided.{stays, after_stays, after_shorter, no_spent, no_fault}
-use Rattle.assuan_line.proofs.Parts.{line_tells, end_tells}
-use Rattle.assuan_line.proofs.Places.{place_behind, place_within}
+use Rattle.assuan_line.specs.{Lines.after_line, Next.next_of, Skipping.{Skipped, none, one}, declared.reader.Took.{Took, TheVariants.{Line, TooLong, End, Spent, ReadFault}}}
+use Rattle.assuan_line.proofs.{Decided.{stays, after_stays, after_shorter, no_spent, no_fault}, Parts.{line_tells, end_tells}, Places.{place_behind, place_within}}
 
 -- a line that ends before these last bytes doesn't need them
 module _ (bytes last line : List ℕ) (next : next_of (bytes ++ last) ≡ Line line) (long : length last ≤ length (after_line (bytes ++ last))) where

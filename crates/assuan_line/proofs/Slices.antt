@@ -1,6 +1,5 @@
 -- The first bytes of a list that lies in two slices.
-use Rattle.std.proofs.Common.{◌≡◌, ℕ, ◌+◌, ◌-◌, ◌≤◌, List, ◌++◌, length, take, ap, sym, ◌∙◌, arith}
-use Rattle.std.proofs.Math.Seq.{take-append-add}
+use Rattle.std.proofs.{Common.{◌≡◌, ℕ, ◌+◌, ◌-◌, ◌≤◌, List, ◌++◌, length, take, ap, sym, ◌∙◌, arith}, Math.Seq.take-append-add}
 
 pub take_across : (front back all : List ℕ) (end : ℕ) → front ++ back ≡ all → length front ≤ end → take end all ≡ front ++ take (end - length front) back
 take_across front back all end is long =

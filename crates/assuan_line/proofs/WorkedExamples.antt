@@ -1,7 +1,6 @@
 -- What is read of the longest line, and of one that is longer.
 use Rattle.std.specs.Prelude.{◌≡◌, [], ◌∷◌, ◌++◌, replicate, refl}
-use Rattle.assuan_line.specs.Next.{next_of}
-use Rattle.assuan_line.specs.declared.reader.Took.TheVariants.{Line, TooLong, End}
+use Rattle.assuan_line.specs.{Next.next_of, declared.reader.Took.TheVariants.{Line, TooLong, End}}
 
 longest : next_of (replicate 1000 120 ++ 10 ∷ []) ≡ Line (replicate 1000 120)
 unfolding next_of

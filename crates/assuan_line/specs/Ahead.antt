@@ -1,8 +1,6 @@
 -- The bytes that a reader holds ahead, in either way of holding them.
 use Rattle.std.specs.Prelude.{◌≡◌, ℕ, ◌-◌, ◌≤◌, List, length}
-use Rattle.assuan_line.specs.declared.buffer.Ahead.{Ahead}
-use Rattle.assuan_line.specs.declared.buffer.Ahead.TheVariants.{Ring, Piece}
-use Rattle.assuan_line.specs.declared.buffer.TheConstants.{MAX_AHEAD, MAX_UNDECIDED}
+use Rattle.assuan_line.specs.declared.buffer.{Ahead.{Ahead, TheVariants.{Ring, Piece}}, TheConstants.{MAX_AHEAD, MAX_UNDECIDED}}
 
 abbrev pub bytes_ahead : Ahead → List ℕ
 bytes_ahead (Ring ring) = ring.items

@@ -1,9 +1,7 @@
 -- Lines of bytes, as the Assuan manual has them ("client requests"): each is at most 1,000 bytes and ends with a line
 -- feed (LF, 10), which a carriage return (CR, 13) may precede. Neither counts as the line's.
-use Rattle.std.specs.Prelude.{◌≡◌, ◌-◌, ◌≤◌, ℕ, false, List, [], length, map, take, get_or}
-use Rattle.std.specs.List.{before_first, after_first, slice_split}
-use Rattle.assuan_text.specs.LineEnds.{is_lf, has_lf, without_cr}
-use Rattle.assuan_text.specs.declared.TheConstants.{MAX_LINE_LEN}
+use Rattle.std.specs.{Prelude.{◌≡◌, ◌-◌, ◌≤◌, ℕ, false, List, [], length, map, take, get_or}, List.{before_first, after_first, slice_split}}
+use Rattle.assuan_text.specs.{LineEnds.{is_lf, has_lf, without_cr}, declared.TheConstants.MAX_LINE_LEN}
 
 -- what can be a line: at most 1,000 bytes, none of them a line feed
 pub record IsLine (bytes : List ℕ) : Type 0 where

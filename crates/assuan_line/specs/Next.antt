@@ -1,12 +1,8 @@
 -- What the next read of a line gives. What becomes of a line that is too long, and of one that the end cuts off, is
 -- this project's own rule.
 use Rattle.std.specs.Prelude.{◌≡◌, ℕ, ◌+◌, ◌<◌, ◌≤◌, ◌⊎◌, List, [], ◌++◌, length, take, nat_le, Option, Some, None, if◌then◌else◌}
-use Rattle.assuan_text.specs.LineEnds.{has_lf}
-use Rattle.assuan_text.specs.declared.TheConstants.{MAX_LINE_LEN}
-use Rattle.assuan_line.specs.Lines.{first_line, after_line}
-use Rattle.assuan_line.specs.declared.buffer.TheConstants.{MAX_AHEAD, MAX_UNDECIDED}
-use Rattle.assuan_line.specs.declared.reader.Took.{Took}
-use Rattle.assuan_line.specs.declared.reader.Took.TheVariants.{Line, TooLong, End, Spent, ReadFault}
+use Rattle.assuan_text.specs.{LineEnds.has_lf, declared.TheConstants.MAX_LINE_LEN}
+use Rattle.assuan_line.specs.{Lines.{first_line, after_line}, declared.{buffer.TheConstants.{MAX_AHEAD, MAX_UNDECIDED}, reader.Took.{Took, TheVariants.{Line, TooLong, End, Spent, ReadFault}}}}
 
 -- the first line of the bytes, where a line feed is among the first 1,002 of them and the line has at most 1,000; too
 -- long, where 1,002 bytes have no line feed, or the line is longer; the end in all other cases

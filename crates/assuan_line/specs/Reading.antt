@@ -1,10 +1,7 @@
 -- What a read does to a reader of lines and to its source.
 use Rattle.std.specs.Prelude.{◌≡◌, ◌≤◌, ◌<◌, ◌+◌, ◌⊎◌, ℕ, List, ◌++◌, length}
-use Rattle.agent_ports.specs.Counts.{Rose}
-use Rattle.agent_ports.specs.Sides.{Side, WhereKnown}
-use Rattle.assuan_line.specs.Next.{Reader, WereNeeded, OnLine, held, ended_by}
-use Rattle.assuan_line.specs.declared.reader.Took.{Took}
-use Rattle.assuan_line.specs.declared.reader.Took.TheVariants.{Spent, ReadFault}
+use Rattle.agent_ports.specs.{Counts.Rose, Sides.{Side, WhereKnown}}
+use Rattle.assuan_line.specs.{Next.{Reader, WereNeeded, OnLine, held, ended_by}, declared.reader.Took.{Took, TheVariants.{Spent, ReadFault}}}
 
 -- The facts of a read, of one line or of several. `Undecided bytes` says that these bytes decide no answer yet. `Reads bytes took
 -- after left` is what an answer says where these bytes were there before it, in the reader and in the source, and the source holds

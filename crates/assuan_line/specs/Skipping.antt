@@ -1,10 +1,7 @@
 -- Reading on over lines that are skipped. Whether a line is one of them may depend on those that were skipped before it. This is the
 -- project's own.
 use Rattle.std.specs.Prelude.{◌≡◌, Bool, true, false, ℕ, List, [], ◌∷◌, ◌++◌, None}
-use Rattle.assuan_line.specs.Lines.{after_line}
-use Rattle.assuan_line.specs.Next.{next_of, Reader, IsNext}
-use Rattle.assuan_line.specs.declared.reader.Took.{Took}
-use Rattle.assuan_line.specs.declared.reader.Took.TheVariants.{Line, End}
+use Rattle.assuan_line.specs.{Lines.after_line, Next.{next_of, Reader, IsNext}, declared.reader.Took.{Took, TheVariants.{Line, End}}}
 
 -- The lines at the front of the bytes that are skipped, one after another, and the bytes from there on. The lines `before` were
 -- skipped earlier.

@@ -1,16 +1,8 @@
 -- What reads of bytes do on the way to an answer, and why a reader has ended, as the answer that it gives.
 use Rattle.std.specs.Prelude.{◌≡◌, ℕ, ◌+◌, ◌<◌, ◌≤◌, List, [], ◌++◌, length, nat_le, if◌then◌else◌, None, IfSome}
-use Rattle.agent_ports.specs.Counts.{Rose}
-use Rattle.agent_ports.specs.Sides.{Side, followed_by}
-use Rattle.assuan_text.specs.declared.TheConstants.{MAX_LINE_LEN}
-use Rattle.assuan_line.specs.Ahead.{bytes_ahead}
-use Rattle.assuan_line.specs.Lines.{after_line}
-use Rattle.assuan_line.specs.Next.{Reader, next_of, TakesWhatItNeeds}
-use Rattle.assuan_line.specs.declared.buffer.Ahead.{Ahead}
-use Rattle.assuan_line.specs.declared.reader.Took.{Took}
+use Rattle.{agent_ports.specs.{Counts.Rose, Sides.{Side, followed_by}}, assuan_text.specs.declared.TheConstants.MAX_LINE_LEN}
+use Rattle.assuan_line.specs.{Ahead.bytes_ahead, Lines.after_line, Next.{Reader, next_of, TakesWhatItNeeds}, declared.{buffer.Ahead.Ahead, reader.{Took.Took, Stop.{Stop, TheVariants.{TooLong, End, Spent, ReadFault}}}}}
 use Rattle.assuan_line.specs.declared.reader.Took.TheVariants as took
-use Rattle.assuan_line.specs.declared.reader.Stop.{Stop}
-use Rattle.assuan_line.specs.declared.reader.Stop.TheVariants.{TooLong, End, Spent, ReadFault}
 
 abbrev pub took_of : Stop → Took
 took_of TooLong = took.TooLong

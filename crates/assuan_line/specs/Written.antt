@@ -1,9 +1,6 @@
 -- What a write of a line leaves.
 use Rattle.std.specs.Prelude.{◌≡◌, ◌^◌, ◌-◌, ℕ, min, List, length}
-use Rattle.agent_ports.specs.Sides.{Side, with_bytes}
-use Rattle.agent_ports.specs.Writing.{StopsWriting}
-use Rattle.agent_ports.specs.declared.link.Sent.{Sent}
-use Rattle.agent_ports.specs.declared.link.Sent.TheVariants.{All, Failed}
+use Rattle.agent_ports.specs.{Sides.{Side, with_bytes}, Writing.StopsWriting, declared.link.Sent.{Sent, TheVariants.{All, Failed}}}
 
 -- A write of these bytes failed: some first ones of them went, and are counted. The count stands still at the end of its type.
 pub record HasCut (bytes : List ℕ) (before : Side) (count : ℕ) (after : Side) : Type 0 where

@@ -3,16 +3,11 @@
 //! with `Ahead::take_line` and `Ahead::read`; `next_of` of `specs/Next` says which line comes next.
 
 ghost use Rattle.std.specs.Prelude.{◌≡◌, ◌≤◌, ◌<◌, ◌+◌, ◌↔◌, [], ◌++◌, ℕ, List, false, length};
-ghost use Rattle.std.specs.Prelude.{take, drop, IsSome, IfSome};
-ghost use Rattle.std.specs.List.{position};
-ghost use Rattle.agent_ports.specs.Counts.{Rose};
-ghost use Rattle.agent_ports.specs.Sides.{followed_by, taken_by, IfBytes};
-ghost use Rattle.assuan_line.specs.Ahead.{bytes_ahead, room_ahead, IsWithin};
-ghost use Rattle.assuan_text.specs.LineEnds.{is_lf, has_lf};
-ghost use Rattle.assuan_text.specs.LineEnds.{without_cr};
-ghost use Rattle.assuan_line.specs.Lines.{after_line};
-ghost use Rattle.assuan_line.specs.Next.{next_of, ended_by, OnLine};
-ghost use Rattle.assuan_line.specs.Stops.{line_or_too_long};
+ghost use Rattle.std.specs.{Prelude.{take, drop, IsSome, IfSome}, List.position};
+ghost use Rattle.agent_ports.specs.{Counts.Rose, Sides.{followed_by, taken_by, IfBytes}};
+ghost use Rattle.assuan_text.specs.LineEnds.{is_lf, has_lf, without_cr};
+ghost use Rattle.assuan_line.specs.{Ahead.{bytes_ahead, room_ahead, IsWithin}, Lines.after_line};
+ghost use Rattle.assuan_line.specs.{Next.{next_of, ended_by, OnLine}, Stops.line_or_too_long};
 
 use crate::line::{CR, LF};
 use crate::{Line, Took};

@@ -3,8 +3,7 @@
 //! that was skipped. Begin with `next_after_skipped`; definitions begin in `specs/Skipping`.
 
 ghost use Rattle.std.specs.Prelude.{◌≡◌, ◌++◌, ◌∷◌, [], ℕ, List, Bool, true, false, None};
-ghost use Rattle.assuan_line.specs.Next.{ended_by};
-ghost use Rattle.assuan_line.specs.Reading.{HasRead};
+ghost use Rattle.assuan_line.specs.{Next.ended_by, Reading.HasRead};
 ghost use Rattle.assuan_line.specs.Skipping.{IsUndecided, ReadsOn};
 
 use crate::{Line, LineReader, Took};

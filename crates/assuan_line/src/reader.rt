@@ -3,10 +3,8 @@
 //! with `LineReader::next`; `next_of` of `specs/Next` says which line or end that is.
 
 ghost use Rattle.std.specs.Prelude.{◌≡◌, ◌≢◌, ◌≤◌, ◌+◌, ◌<◌, ◌∷◌, [], ◌++◌, ℕ, List, length};
-ghost use Rattle.std.specs.Prelude.{IsSome, IfSome, OnOk, IfErr, None};
-ghost use Rattle.std.specs.Option.{option_map};
-ghost use Rattle.agent_ports.specs.Counts.{Rose};
-ghost use Rattle.agent_ports.specs.Sides.{WhereKnown};
+ghost use Rattle.std.specs.{Prelude.{IsSome, IfSome, OnOk, IfErr, None}, Option.option_map};
+ghost use Rattle.agent_ports.specs.{Counts.Rose, Sides.WhereKnown};
 ghost use Rattle.assuan_line.specs.Ahead.{bytes_ahead, IsWithin};
 ghost use Rattle.assuan_line.specs.Lines.{after_line, lines_of, rest_of};
 ghost use Rattle.assuan_line.specs.Next.{next_of, IsNext, TakesWhatItNeeds, ended_by, OnLine, held};
@@ -84,9 +82,7 @@ pub struct LineReader {
 
 impl Model for LineReader {
     ghost use Rattle.std.specs.Option.{option_map};
-    ghost use Rattle.assuan_line.specs.Ahead.{bytes_ahead, IsWithin};
-    ghost use Rattle.assuan_line.specs.Next.{Reader};
-    ghost use Rattle.assuan_line.specs.Stops.{took_of};
+    ghost use Rattle.assuan_line.specs.{Ahead.{bytes_ahead, IsWithin}, Next.Reader, Stops.took_of};
 
     ghost Value = { Reader };
 

@@ -2,11 +2,9 @@
 //! in place, without memory, and overwritten. `HasSent` of `specs/Written` says how much of the
 //! line went.
 
-ghost use Rattle.std.specs.Prelude.{◌≡◌, ◌≤◌};
-ghost use Rattle.std.specs.List.{flat_map};
-ghost use Rattle.assuan_line.specs.Lines.{IsLine};
-ghost use Rattle.assuan_line.specs.Written.{HasSent};
+ghost use Rattle.std.specs.{Prelude.{◌≡◌, ◌≤◌}, List.flat_map};
 ghost use Rattle.assuan_text.specs.LineEnds.{line_of};
+ghost use Rattle.assuan_line.specs.{Lines.IsLine, Written.HasSent};
 
 use crate::line::LF;
 use crate::writer::MAX_WRITTEN_LEN;

@@ -3,8 +3,7 @@
 //! went.
 
 ghost use Rattle.std.specs.Prelude.{◌≡◌, ◌≤◌, ◌+◌, ◌∷◌, [], ◌++◌, length};
-ghost use Rattle.agent_ports.specs.Counts.{Rose};
-ghost use Rattle.agent_ports.specs.Sides.{with_bytes, sent_part, IfCut, IsCut};
+ghost use Rattle.agent_ports.specs.{Counts.Rose, Sides.{with_bytes, sent_part, IfCut, IsCut}};
 
 use crate::Line;
 use crate::line::LF;

@@ -1,3 +1,3 @@
-mod WordLemmas
+pub mod WordLemmas
 mod OptionLemmas
 mod WorkedExamples

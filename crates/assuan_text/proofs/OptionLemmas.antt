@@ -1,9 +1,6 @@
 -- The options among words, one after the other.
-use Rattle.std.proofs.Common.{◌≡◌, suc, ◌+◌, ℕ, Bool, true, cond, List, [], ◌∷◌, take, drop, find, reverse, Some, None, ap, ◌∙◌, arith}
-use Rattle.std.specs.List.{prefix_len}
-use Rattle.std.specs.Option.{option_or}
-use Rattle.std.proofs.lemmas.List.Folds.{find-append}
 use mathlib.Core.List.{reverse-cons}
+use Rattle.std.{proofs.{Common.{◌≡◌, suc, ◌+◌, ℕ, Bool, true, cond, List, [], ◌∷◌, take, drop, find, reverse, Some, None, ap, ◌∙◌, arith}, lemmas.List.Folds.find-append}, specs.{List.prefix_len, Option.option_or}}
 use Rattle.assuan_text.specs.Options.{is_option, options_of}
 
 one_more : (word : List ℕ) (more : List (List ℕ)) → is_option word ≡ true → prefix_len is_option (word ∷ more) ≡ 1 + prefix_len is_option more

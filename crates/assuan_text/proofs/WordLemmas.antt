@@ -1,11 +1,7 @@
 -- The words of a text, one after the other.
-use Rattle.std.proofs.Common.{◌≡◌, suc, ◌+◌, ◌<◌, ◌≤◌, ℕ, Bool, true, false, cond, List, [], ◌∷◌, length, take, drop, refl, ap, sym, subst, ◌∙◌, arith}
-use Rattle.std.specs.Prelude.{nat_le, not}
-use Rattle.std.specs.List.{filter, slice_split, onto_first, prefix_len, position_or_len, before_first}
-use Rattle.std.proofs.lemmas.Bool.{cond_both, le-leb}
-use Rattle.std.proofs.lemmas.List.Splits.{slice_split-cons_yes}
-use Rattle.assuan_text.specs.Blanks.{is_blank, without_blanks}
-use Rattle.assuan_text.specs.Words.{words}
+use Rattle.std.proofs.{Common.{◌≡◌, suc, ◌+◌, ◌<◌, ◌≤◌, ℕ, Bool, true, false, cond, List, [], ◌∷◌, length, take, drop, refl, ap, sym, subst, ◌∙◌, arith}, lemmas.{Bool.{cond_both, le-leb}, List.Splits.slice_split-cons_yes}}
+use Rattle.std.specs.{Prelude.{nat_le, not}, List.{filter, slice_split, onto_first, prefix_len, position_or_len, before_first}}
+use Rattle.assuan_text.specs.{Blanks.{is_blank, without_blanks}, Words.words}
 
 -- the pieces that hold something
 abbrev filled : List (List ℕ) → List (List ℕ)
@@ -25,7 +21,7 @@ drop_next count byte text = let one : 1 + count ≡ suc count = omega arith in a
 take_next : (count byte : ℕ) (text : List ℕ) → take (1 + count) (byte ∷ text) ≡ byte ∷ take count text
 take_next count byte text = let one : 1 + count ≡ suc count = omega arith in ap (λ n. take n (byte ∷ text)) one
 
-words_blank : (byte : ℕ) (text : List ℕ) → is_blank byte ≡ true → words (byte ∷ text) ≡ words text
+pub words_blank : (byte : ℕ) (text : List ℕ) → is_blank byte ≡ true → words (byte ∷ text) ≡ words text
 words_blank byte text blank = ap filled (slice_split-cons_yes is_blank byte text blank)
 
 pieces_after : List ℕ → List (List ℕ)

@@ -1,9 +1,6 @@
 -- The definitions on worked examples, each by computation.
 use Rattle.std.specs.Prelude.{◌≡◌, [], ◌∷◌, codes, true, false, Some, None, refl}
-use Rattle.assuan_text.specs.Forms.{is_ignored, is_idle, is_data}
-use Rattle.assuan_text.specs.Numbers.{number_of}
-use Rattle.assuan_text.specs.Options.{options_of, arguments_of, last_option, last_value}
-use Rattle.assuan_text.specs.Words.{command_of, rest_of, words}
+use Rattle.assuan_text.specs.{Forms.{is_ignored, is_idle, is_data}, Numbers.number_of, Options.{options_of, arguments_of, last_option, last_value}, Words.{command_of, rest_of, words}}
 
 comment_behind_blanks : is_ignored (32 ∷ 9 ∷ codes "# x") ≡ true
 comment_behind_blanks = refl

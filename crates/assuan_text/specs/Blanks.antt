@@ -1,6 +1,5 @@
 -- Blanks in lines and options. That a tab counts as one is this project's own rule.
-use Rattle.std.specs.Prelude.{ℕ, ◌==◌, ◌||◌, Bool, List, drop}
-use Rattle.std.specs.List.{prefix_len}
+use Rattle.std.specs.{Prelude.{ℕ, ◌==◌, ◌||◌, Bool, List, drop}, List.prefix_len}
 
 -- a blank, or a tab
 abbrev pub is_blank : ℕ → Bool

@@ -1,7 +1,6 @@
 -- The forms of lines that are no commands (Assuan manual, "server responses" and "client requests"). That blanks and tabs are
 -- passed over is this project's own rule.
-use Rattle.std.specs.Prelude.{ℕ, ◌==◌, ◌||◌, ◌&&◌, Bool, List, length, slice_index}
-use Rattle.std.specs.List.{list_all}
+use Rattle.std.specs.{Prelude.{ℕ, ◌==◌, ◌||◌, ◌&&◌, Bool, List, length, slice_index}, List.list_all}
 use Rattle.assuan_text.specs.Blanks.{is_blank, without_blanks}
 
 -- no request: behind its blanks the line is empty, or a comment

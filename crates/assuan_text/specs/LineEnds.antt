@@ -1,6 +1,5 @@
 -- The line feed (LF, 10) that ends each line, which a carriage return (CR, 13) may precede (Assuan manual, "client requests").
-use Rattle.std.specs.Prelude.{ℕ, ◌==◌, ◌-◌, Bool, List, [], ◌∷◌, ◌++◌, length, take, slice_index, if◌then◌else◌}
-use Rattle.std.specs.List.{list_any}
+use Rattle.std.specs.{Prelude.{ℕ, ◌==◌, ◌-◌, Bool, List, [], ◌∷◌, ◌++◌, length, take, slice_index, if◌then◌else◌}, List.list_any}
 
 abbrev pub is_lf : ℕ → Bool
 is_lf byte = byte == 10

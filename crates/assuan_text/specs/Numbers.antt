@@ -1,6 +1,5 @@
 -- Numbers of decimal digits. That at most ten of them are read is this project's own rule.
-use Rattle.std.specs.Prelude.{ℕ, ◌+◌, ◌-◌, ◌*◌, ◌&&◌, nat_le, List, length, fold, Option, Some, None, if◌then◌else◌}
-use Rattle.std.specs.Str.{all_ascii_digits}
+use Rattle.std.specs.{Prelude.{ℕ, ◌+◌, ◌-◌, ◌*◌, ◌&&◌, nat_le, List, length, fold, Option, Some, None, if◌then◌else◌}, Str.all_ascii_digits}
 
 -- the number that decimal digits are
 abbrev pub decimal : List ℕ → ℕ

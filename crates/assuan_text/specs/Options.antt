@@ -1,9 +1,6 @@
 -- The options of a command, which stand before its arguments (GnuPG manual, "Agent's Assuan protocol"). Which of two options counts,
 -- and that others are passed over, is this project's own rule.
-use Rattle.std.specs.Prelude.{ℕ, ◌+◌, ◌||◌, ◌&&◌, not, Bool, List, [], ◌∷◌, length, take, drop, find, reverse, codes, Option, if◌then◌else◌}
-use Rattle.std.specs.List.{prefix_len, list_any}
-use Rattle.std.specs.Option.{option_map}
-use Rattle.std.specs.Str.{bytes_eq}
+use Rattle.std.specs.{Prelude.{ℕ, ◌+◌, ◌||◌, ◌&&◌, not, Bool, List, [], ◌∷◌, length, take, drop, find, reverse, codes, Option, if◌then◌else◌}, List.{prefix_len, list_any}, Option.option_map, Str.bytes_eq}
 
 -- an option begins with two dashes; two dashes alone are none
 abbrev pub is_option : List ℕ → Bool

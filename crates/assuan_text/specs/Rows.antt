@@ -1,8 +1,5 @@
 -- Tables of names. Where the case of letters doesn't count, it is so for commands (Assuan manual, "client requests").
-use Rattle.std.specs.Prelude.{ℕ, ◌&&◌, Bool, List, [], ◌∷◌, map, Option, Some, None, if◌then◌else◌}
-use Rattle.std.specs.Borrow.{Bor}
-use Rattle.std.specs.List.{list_any}
-use Rattle.std.specs.Str.{bytes_eq, str_eq_ignore_ascii_case}
+use Rattle.std.specs.{Prelude.{ℕ, ◌&&◌, Bool, List, [], ◌∷◌, map, Option, Some, None, if◌then◌else◌}, Borrow.Bor, List.list_any, Str.{bytes_eq, str_eq_ignore_ascii_case}}
 
 -- what the first row of this name has
 abbrev pub found : {X : Type 0} → List ℕ → List (List ℕ × X) → Option X

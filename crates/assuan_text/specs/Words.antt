@@ -1,6 +1,5 @@
 -- The words of a line: what stands between its blanks (Assuan manual, "client requests").
-use Rattle.std.specs.Prelude.{ℕ, nat_le, List, length, drop}
-use Rattle.std.specs.List.{position_or_len, before_first, slice_split, filter}
+use Rattle.std.specs.{Prelude.{ℕ, nat_le, List, length, drop}, List.{position_or_len, before_first, slice_split, filter}}
 use Rattle.assuan_text.specs.Blanks.{is_blank, without_blanks}
 
 -- the word that the line begins with

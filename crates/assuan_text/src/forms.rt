@@ -2,10 +2,8 @@
 //! "server responses" and "client requests"). Pure, over slices. Begin with `is_ignored`; each
 //! function is its namesake in `specs/Forms`.
 
-ghost use Rattle.std.specs.Prelude.{◌≡◌, true, false, drop, MatchOption};
-ghost use Rattle.std.specs.List.{list_all};
-ghost use Rattle.assuan_text.specs.Blanks.{is_blank};
-ghost use Rattle.assuan_text.specs.Forms.{is_ignored, is_data, is_idle};
+ghost use Rattle.std.specs.{Prelude.{◌≡◌, true, false, drop, MatchOption}, List.list_all};
+ghost use Rattle.assuan_text.specs.{Blanks.is_blank, Forms.{is_ignored, is_data, is_idle}};
 
 use crate::blanks::{is_blank, without_blanks};
 

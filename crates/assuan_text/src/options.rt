@@ -3,9 +3,7 @@
 //! text's words in `specs/Options`.
 
 ghost use Rattle.std.specs.Prelude.{◌≡◌, ◌≤◌, ◌<◌, ◌+◌, ◌∷◌, true, false, length, drop};
-ghost use Rattle.std.specs.Prelude.{MatchOption};
-ghost use Rattle.std.specs.List.{prefix_len};
-ghost use Rattle.std.specs.Option.{option_map};
+ghost use Rattle.std.specs.{Prelude.MatchOption, List.prefix_len, Option.option_map};
 ghost use Rattle.assuan_text.specs.Options.{is_option, options_of, arguments_of, has_option};
 ghost use Rattle.assuan_text.specs.Options.{gives_value, names_option, last_option, last_value};
 ghost use Rattle.assuan_text.specs.Words.{words};

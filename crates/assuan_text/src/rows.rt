@@ -1,8 +1,7 @@
 //! Tables of names, each with what it stands for, searched from their first row. Pure, over slices.
 //! Begin with `found`; each function is its namesake in `specs/Rows`.
 
-ghost use Rattle.std.specs.Prelude.{◌≡◌};
-ghost use Rattle.std.specs.Str.{str_eq_ignore_ascii_case};
+ghost use Rattle.std.specs.{Prelude.◌≡◌, Str.str_eq_ignore_ascii_case};
 ghost use Rattle.assuan_text.specs.Rows.{found, found_in_any_case, has_pair, rows_of, pairs_of};
 
 /// What the first row of this name has, in a table of names.

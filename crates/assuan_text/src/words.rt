@@ -4,8 +4,7 @@
 
 ghost use Rattle.std.specs.Prelude.{◌≡◌, ◌≤◌, ◌<◌, ◌+◌, [], ◌∷◌, length, MatchOption};
 ghost use Rattle.std.specs.List.{position_or_len, before_first};
-ghost use Rattle.assuan_text.specs.Blanks.{is_blank};
-ghost use Rattle.assuan_text.specs.Words.{command_of, rest_of, words};
+ghost use Rattle.assuan_text.specs.{Blanks.is_blank, Words.{command_of, rest_of, words}};
 
 use crate::blanks::{is_blank, without_blanks};
 

@@ -1,11 +1,7 @@
 -- Lists in order: what becomes of them as an element is added, dropped or changed.
-use Rattle.std.specs.Prelude.{◌≡◌, ℕ, ◌≤◌, List, [], ◌∷◌, ◌++◌, Bool, true, false, map, filter, cond, refl, length, take, drop, get_or, set}
-use Rattle.std.proofs.Common.{ap, sym, ◌∙◌, arith, zero, suc}
-use Rattle.std.specs.List.{AllByRecursion, AllWithin}
-use Rattle.std.specs.List.Sorted.{IsPartitionedBy}
-use Rattle.std.proofs.lemmas.List.Elements.{All-from_recursion, recursion_from_All}
-use Rattle.cache_book.specs.Arranged.{placed, arranged, EachPair}
-use Rattle.cache_book.proofs.Kept.{all_filter}
+use Rattle.std.specs.{Prelude.{◌≡◌, ℕ, ◌≤◌, List, [], ◌∷◌, ◌++◌, Bool, true, false, map, filter, cond, refl, length, take, drop, get_or, set}, List.{AllByRecursion, AllWithin, Sorted.IsPartitionedBy}}
+use Rattle.std.proofs.{Common.{ap, sym, ◌∙◌, arith, zero, suc}, lemmas.List.Elements.{All-from_recursion, recursion_from_All}}
+use Rattle.cache_book.{specs.Arranged.{placed, arranged, EachPair}, proofs.Kept.all_filter}
 
 -- what holds of each element, with one more at a place
 module _ {A : Type 0} (P : A → Type 0) where

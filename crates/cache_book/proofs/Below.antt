@@ -1,12 +1,7 @@
 -- The numbers of the slots on a shelf stay below the next one.
-use Rattle.std.specs.Prelude.{ℕ, ◌+◌, ◌<◌, ◌≤◌, List, [], ◌∷◌, Bool, filter}
-use Rattle.std.proofs.Common.{sym, subst, arith}
-use Rattle.cache_policy.specs.declared.entry.Entry.{Entry}
-use Rattle.cache_policy.proofs.Lists.{all_weaker, all_append}
-use Rattle.cache_book.specs.declared.slot.Slot.{Slot}
-use Rattle.cache_book.specs.Shelves.{touch_slot, touched, hidden, new_slot, with_entry, AreBelow}
-use Rattle.cache_book.proofs.Kept.{all_filter, all_map}
-use Rattle.cache_book.proofs.Ordered.{touch_entry, below_hidden}
+use Rattle.std.{specs.Prelude.{ℕ, ◌+◌, ◌<◌, ◌≤◌, List, [], ◌∷◌, Bool, filter}, proofs.Common.{sym, subst, arith}}
+use Rattle.cache_policy.{specs.declared.entry.Entry.Entry, proofs.Lists.{all_weaker, all_append}}
+use Rattle.cache_book.{specs.{declared.slot.Slot.Slot, Shelves.{touch_slot, touched, hidden, new_slot, with_entry, AreBelow}}, proofs.{Kept.{all_filter, all_map}, Ordered.{touch_entry, below_hidden}}}
 
 pub below_more : (number next : ℕ) (list : List Slot) → number ≤ next → AreBelow number list → AreBelow next list
 below_more number next list more h =

@@ -1,22 +1,8 @@
 -- The slots of worked histories, each by computation. One id and one session; the limits are the manual's.
 use Rattle.std.specs.Prelude.{◌≡◌, ℕ, List, [], ◌∷◌, None, true, false, refl}
-use Rattle.cache_policy.specs.declared.mode.Mode.{Mode}
-use Rattle.cache_policy.specs.declared.mode.Mode.TheVariants.{User, Ssh, Any}
-use Rattle.cache_policy.specs.declared.life.Life.{Life}
-use Rattle.cache_policy.specs.declared.life.Life.TheVariants.{Default, Endless, Seconds}
-use Rattle.cache_policy.specs.declared.mark.Way.TheVariants.{Quiet}
-use Rattle.cache_policy.specs.declared.mark.Mark.{Mark}
-use Rattle.cache_policy.specs.declared.mark.MarkStep.{MarkStep}
-use Rattle.cache_policy.specs.declared.mark.MarkStep.TheVariants.{Ask, Put, Clear, Flush}
-use Rattle.cache_policy.specs.declared.mark.MarkReply.{MarkReply}
-use Rattle.cache_policy.specs.declared.mark.MarkReply.TheVariants.{Given, Done}
-use Rattle.cache_policy.specs.declared.entry.Entry.{Entry}
-use Rattle.cache_policy.specs.declared.life.Limits.{Limits}
-use Rattle.cache_policy.specs.Lifetimes.{ttl_of}
-use Rattle.cache_book.specs.declared.modes.Modes.{Modes}
-use Rattle.cache_book.specs.declared.slot.Slot.{Slot}
-use Rattle.cache_book.specs.Slots.{slots}
-use Rattle.cache_book.specs.Shelves.{touched, with_entry, cleared, swept}
+use Rattle.cache_policy.specs.declared.{mode.Mode.{Mode, TheVariants.{User, Ssh, Any}}, life.{Life.{Life, TheVariants.{Default, Endless, Seconds}}, Limits.Limits}, mark.{Way.TheVariants.Quiet, Mark.Mark, MarkStep.MarkStep}}
+use Rattle.cache_policy.specs.{declared.{mark.{MarkStep.TheVariants.{Ask, Put, Clear, Flush}, MarkReply.{MarkReply, TheVariants.{Given, Done}}}, entry.Entry.Entry}, Lifetimes.ttl_of}
+use Rattle.cache_book.specs.{declared.{modes.Modes.Modes, slot.Slot.Slot}, Slots.slots, Shelves.{touched, with_entry, cleared, swept}}
 
 abbrev limits : Limits
 limits = record { ttl = 600; max = 7200; ttl_ssh = 1800; max_ssh = 7200 }

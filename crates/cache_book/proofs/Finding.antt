@@ -1,15 +1,7 @@
 -- What is found in a list of slots is one of them and serves the request; and where nothing is found none does.
-use Rattle.std.specs.Prelude.{◌≡◌, ℕ, List, [], ◌∷◌, Bool, true, false, ◌&&◌, ◌↔◌, Option, Some, None, IsSome, IfSome, IfNone, find, cond, refl}
-use Rattle.std.proofs.Common.{sym, ◌∙◌, subst}
-use Rattle.std.specs.List.{AllByRecursion}
-use Rattle.cache_policy.specs.declared.mode.Mode.{Mode}
-use Rattle.cache_policy.specs.declared.entry.Entry.{Entry}
-use Rattle.cache_policy.specs.declared.grant.Grant.{Grant}
-use Rattle.cache_policy.specs.Entry.{same_id, serves, within}
-use Rattle.cache_policy.specs.Mode.{covers}
-use Rattle.cache_book.specs.declared.slot.Slot.{Slot}
-use Rattle.cache_book.specs.Modes.{holds}
-use Rattle.cache_book.specs.Shelves.{serves_at, IsOneOf, here, further, IsWithinMode, AreWithinMode, IsGrantFrom}
+use Rattle.std.{specs.{Prelude.{◌≡◌, ℕ, List, [], ◌∷◌, Bool, true, false, ◌&&◌, ◌↔◌, Option, Some, None, IsSome, IfSome, IfNone, find, cond, refl}, List.AllByRecursion}, proofs.Common.{sym, ◌∙◌, subst}}
+use Rattle.cache_policy.specs.{declared.{mode.Mode.Mode, entry.Entry.Entry, grant.Grant.Grant}, Entry.{same_id, serves, within}, Mode.covers}
+use Rattle.cache_book.specs.{declared.slot.Slot.Slot, Modes.holds, Shelves.{serves_at, IsOneOf, here, further, IsWithinMode, AreWithinMode, IsGrantFrom}}
 
 -- a slot that is found
 pub record IsFound (test : Slot → Bool) (list : List Slot) (slot : Slot) : Type 0 where

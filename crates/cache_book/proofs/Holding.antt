@@ -1,26 +1,10 @@
 -- Places as they are added and taken, and those of slots as a slot is used, stored or dropped.
-use Rattle.std.specs.Prelude.{◌≡◌, ℕ, ◌+◌, ◌-◌, ◌^◌, ◌<◌, ◌≤◌, ◌==◌, List, [], ◌∷◌, Bool, true, false, ◌&&◌, ◌||◌, not, min, map, cond, nat_le, Option, Some, None, take, length, get_or, set, refl}
-use Rattle.std.proofs.Common.{ap, sym, ◌∙◌, subst, arith, zero, suc}
-use Rattle.std.proofs.lemmas.Bool.Decides.{nat_tests}
-use Rattle.std.proofs.lemmas.List.Sorted.{list_any-IsPermutation}
-use Rattle.std.specs.declared.cmp.Reverse.{Reverse}
-use Rattle.std.specs.BinaryHeap.{IsUpperBound}
-use Rattle.std.specs.declared.cmp.Ordering.{Ordering}
-use Rattle.std.specs.Ordering.{nat_cmp, ordering_then, is_lt}
-use Rattle.std.proofs.lemmas.Cmp.{ranked, by_ranked}
-use Rattle.std.specs.List.{AllByRecursion}
-use Rattle.std.specs.List.Sorted.{IsPermutation}
-use Rattle.cache_policy.specs.declared.entry.Entry.{Entry}
-use Rattle.cache_policy.specs.Entry.{same_id, within_ttl, within}
-use Rattle.cache_policy.proofs.Lists.{all_weaker}
-use Rattle.cache_book.specs.declared.slot.Slot.{Slot}
-use Rattle.cache_book.specs.declared.deadlines.Place.{Place}
-use Rattle.cache_book.specs.Hashes.{id_hash}
-use Rattle.cache_book.specs.Modes.{not_covered, has_some}
-use Rattle.cache_book.specs.Shelves.{hide, hidden, swept}
-use Rattle.cache_book.specs.SlotOrders.{has_hash_past, swept_hash}
-use Rattle.cache_book.specs.Deadlines.{lesser_end, deadline, place_of, soonest_is_greatest, is_place, is_among, HavePlaces}
-use Rattle.cache_book.proofs.Kept.{all_filter, all_map}
+use Rattle.std.specs.{Prelude.{◌≡◌, ℕ, ◌+◌, ◌-◌, ◌^◌, ◌<◌, ◌≤◌, ◌==◌, List, [], ◌∷◌, Bool, true, false, ◌&&◌, ◌||◌, not, min, map, cond, nat_le, Option, Some, None, take, length, get_or, set, refl}, declared.cmp.Reverse.Reverse}
+use Rattle.std.{specs.{declared.cmp.Ordering.Ordering, BinaryHeap.IsUpperBound, Ordering.{nat_cmp, ordering_then, is_lt}, List.{AllByRecursion, Sorted.IsPermutation}}, proofs.Common.{ap, sym, ◌∙◌, subst, arith, zero, suc}}
+use Rattle.std.proofs.lemmas.{Bool.Decides.nat_tests, List.Sorted.list_any-IsPermutation, Cmp.{ranked, by_ranked}}
+use Rattle.cache_policy.{specs.{declared.entry.Entry.Entry, Entry.{same_id, within_ttl, within}}, proofs.Lists.all_weaker}
+use Rattle.cache_book.specs.{declared.{slot.Slot.Slot, deadlines.Place.Place}, Hashes.id_hash, Modes.{not_covered, has_some}, Shelves.{hide, hidden, swept}, SlotOrders.{has_hash_past, swept_hash}}
+use Rattle.cache_book.{specs.Deadlines.{lesser_end, deadline, place_of, soonest_is_greatest, is_place, is_among, HavePlaces}, proofs.Kept.{all_filter, all_map}}
 
 -- a place is added or taken
 pub among_more : (places more : List (Reverse Place)) (place : Place) → IsPermutation (record { 0 = place } ∷ places) more

@@ -1,16 +1,7 @@
 -- Each slot stays within the modes that its entry covers, whatever a shelf does.
-use Rattle.std.specs.Prelude.{◌≡◌, ℕ, ◌==◌, List, [], ◌∷◌, Bool, true, false, ◌&&◌, not, max, map, filter, cond, refl}
-use Rattle.std.proofs.Common.{sym, ◌∙◌}
-use Rattle.std.specs.List.{AllByRecursion}
-use Rattle.cache_policy.specs.declared.mode.Mode.{Mode}
-use Rattle.cache_policy.specs.declared.mode.Mode.TheVariants.{Normal, User, Ssh, Nonce, Any}
-use Rattle.cache_policy.specs.declared.entry.Entry.{Entry}
-use Rattle.cache_policy.specs.Mode.{covers}
-use Rattle.cache_policy.specs.Entry.{same_id}
-use Rattle.cache_policy.proofs.Lists.{all_append}
-use Rattle.cache_book.specs.declared.slot.Slot.{Slot}
-use Rattle.cache_book.specs.Modes.{modes_where, holds, has_some, not_covered}
-use Rattle.cache_book.specs.Shelves.{touch_slot, touched, hide, hidden, new_slot, with_entry, IsWithinMode, AreWithinMode}
+use Rattle.std.{specs.{Prelude.{◌≡◌, ℕ, ◌==◌, List, [], ◌∷◌, Bool, true, false, ◌&&◌, not, max, map, filter, cond, refl}, List.AllByRecursion}, proofs.Common.{sym, ◌∙◌}}
+use Rattle.cache_policy.{specs.{declared.{mode.Mode.{Mode, TheVariants.{Normal, User, Ssh, Nonce, Any}}, entry.Entry.Entry}, Mode.covers, Entry.same_id}, proofs.Lists.all_append}
+use Rattle.cache_book.specs.{declared.slot.Slot.Slot, Modes.{modes_where, holds, has_some, not_covered}, Shelves.{touch_slot, touched, hide, hidden, new_slot, with_entry, IsWithinMode, AreWithinMode}}
 
 -- what is kept and what is changed
 module _ {A : Type 0} (P : A → Type 0) where

@@ -1,24 +1,10 @@
 -- An entry of a history is older than the next mark, and the only one with its number. So its slot shows whether it is live and for which
 -- modes it is the newest.
-use Rattle.std.specs.Prelude.{◌≡◌, ℕ, ◌+◌, ◌<◌, ◌≤◌, ◌==◌, List, [], ◌∷◌, Bool, true, false, ◌&&◌, Option, Some, None, IfSome, reverse, refl, if◌then◌else◌}
-use Rattle.std.proofs.Common.{ap, ◌∙◌, arith}
+use Rattle.std.{specs.{Prelude.{◌≡◌, ℕ, ◌+◌, ◌<◌, ◌≤◌, ◌==◌, List, [], ◌∷◌, Bool, true, false, ◌&&◌, Option, Some, None, IfSome, reverse, refl, if◌then◌else◌}, List.AllByRecursion, Option.option_and_then}, proofs.Common.{ap, ◌∙◌, arith}}
 use Rattle.std.proofs.lemmas.Bool.Decides.{nat_tests}
-use Rattle.std.specs.List.{AllByRecursion}
-use Rattle.std.specs.Option.{option_and_then}
-use Rattle.cache_policy.specs.declared.mode.Mode.{Mode}
-use Rattle.cache_policy.specs.declared.mode.Mode.TheVariants.{Normal, User, Ssh, Nonce, Any}
-use Rattle.cache_policy.specs.declared.life.Limits.{Limits}
-use Rattle.cache_policy.specs.declared.entry.Entry.{Entry}
-use Rattle.cache_policy.specs.Entry.{serves}
-use Rattle.cache_policy.specs.Histories.{History, next_number}
-use Rattle.cache_policy.specs.Entries.{entries, AreNumbered}
-use Rattle.cache_policy.specs.Live.{newest, last_use, is_live}
-use Rattle.cache_policy.proofs.Lists.{all_weaker, all_reverse, all_find}
-use Rattle.cache_policy.proofs.Growing.{entries_numbered, all_below}
-use Rattle.cache_book.specs.declared.modes.Modes.{Modes}
-use Rattle.cache_book.specs.declared.slot.Slot.{Slot}
-use Rattle.cache_book.specs.Modes.{modes_where}
-use Rattle.cache_book.specs.Slots.{has_number, still_serves, slot_with, slot_of}
+use Rattle.cache_policy.specs.{declared.{mode.Mode.{Mode, TheVariants.{Normal, User, Ssh, Nonce, Any}}, life.Limits.Limits, entry.Entry.Entry}, Entry.serves, Histories.{History, next_number}, Entries.{entries, AreNumbered}}
+use Rattle.cache_policy.{specs.Live.{newest, last_use, is_live}, proofs.{Lists.{all_weaker, all_reverse, all_find}, Growing.{entries_numbered, all_below}}}
+use Rattle.cache_book.specs.{declared.{modes.Modes.Modes, slot.Slot.Slot}, Modes.modes_where, Slots.{has_number, still_serves, slot_with, slot_of}}
 
 -- an entry with the number of this one is this one
 abbrev pub IsSameAs : Entry → Entry → Type 0

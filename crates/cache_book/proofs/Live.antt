@@ -1,31 +1,10 @@
 -- Which slot of a history serves a request: that of the live entry, and none where no entry is live.
-use Rattle.std.specs.Prelude.{◌≡◌, ℕ, ◌==◌, List, [], ◌∷◌, ◌++◌, Bool, true, false, not, ◌&&◌, ◌||◌, nat_eq, Option, Some, None, IfSome, reverse, filter, refl, cond, if◌then◌else◌}
-use Rattle.std.proofs.Common.{ap, sym, ◌∙◌, subst, arith}
-use Rattle.std.proofs.lemmas.Bool.Decides.{nat_tests}
-use Rattle.std.proofs.Math.Bool.{or-true}
-use Rattle.std.specs.Cmp.Lexicographic.{bytes_decides}
-use Rattle.std.specs.List.{AllByRecursion, flat_map}
-use Rattle.std.specs.Option.{option_and_then}
-use Rattle.cache_policy.specs.declared.mode.Mode.{Mode}
-use Rattle.cache_policy.specs.declared.mode.Mode.TheVariants.{Normal, User, Ssh, Nonce, Any}
-use Rattle.cache_policy.specs.declared.life.Limits.{Limits}
-use Rattle.cache_policy.specs.declared.entry.Entry.{Entry}
-use Rattle.cache_policy.specs.declared.grant.Grant.{Grant}
-use Rattle.cache_policy.specs.Histories.{History}
-use Rattle.cache_policy.specs.Mode.{covers}
-use Rattle.cache_policy.specs.Entry.{same_id, serves, within}
-use Rattle.cache_policy.specs.Entries.{entries}
-use Rattle.cache_policy.specs.Live.{newest, gone, last_use, is_live, live}
-use Rattle.cache_policy.proofs.Lists.{all_append, find_passes}
-use Rattle.cache_book.specs.declared.modes.Modes.{Modes}
-use Rattle.cache_book.specs.declared.slot.Slot.{Slot}
-use Rattle.cache_book.specs.Modes.{modes_where, holds, has_some}
-use Rattle.cache_book.specs.Slots.{has_number, still_serves, slot_of, slots}
-use Rattle.cache_book.specs.Shelves.{serves_at, IsOneOf, here, further, IsGrantFrom, ServesNone, swept}
-use Rattle.cache_book.proofs.Kept.{all_filter, holds_where}
-use Rattle.cache_book.proofs.Known.{IsSameAs, IsKnown, all_known, all_newest}
-use Rattle.cache_book.proofs.Finding.{all_at}
-use Rattle.cache_book.proofs.Marking.{both_true}
+use Rattle.std.specs.{Prelude.{◌≡◌, ℕ, ◌==◌, List, [], ◌∷◌, ◌++◌, Bool, true, false, not, ◌&&◌, ◌||◌, nat_eq, Option, Some, None, IfSome, reverse, filter, refl, cond, if◌then◌else◌}, Cmp.Lexicographic.bytes_decides}
+use Rattle.std.{specs.{List.{AllByRecursion, flat_map}, Option.option_and_then}, proofs.{Common.{ap, sym, ◌∙◌, subst, arith}, lemmas.Bool.Decides.nat_tests, Math.Bool.or-true}}
+use Rattle.cache_policy.specs.{declared.{mode.Mode.{Mode, TheVariants.{Normal, User, Ssh, Nonce, Any}}, life.Limits.Limits, entry.Entry.Entry, grant.Grant.Grant}, Histories.History, Mode.covers, Entry.{same_id, serves, within}}
+use Rattle.cache_policy.{specs.{Entries.entries, Live.{newest, gone, last_use, is_live, live}}, proofs.Lists.{all_append, find_passes}}
+use Rattle.cache_book.specs.{declared.{modes.Modes.Modes, slot.Slot.Slot}, Modes.{modes_where, holds, has_some}, Slots.{has_number, still_serves, slot_of, slots}, Shelves.{serves_at, IsOneOf, here, further, IsGrantFrom, ServesNone, swept}}
+use Rattle.cache_book.proofs.{Kept.{all_filter, holds_where}, Known.{IsSameAs, IsKnown, all_known, all_newest}, Finding.all_at, Marking.both_true}
 
 -- the slot is that of an entry of the history
 pub record IsSlotOf (limits : Limits) (history : History) (moment : ℕ) (slot : Slot) : Type 0 where

@@ -1,29 +1,10 @@
 -- The slots of a history with one mark more, by the kind of its step: what a call of a shelf makes of the slots before.
-use Rattle.std.specs.Prelude.{◌≡◌, ℕ, ◌+◌, ◌≤◌, List, [], ◌++◌, Bool, true, false, not, ◌&&◌, ◌||◌, max, nat_le, Option, Some, None, refl, if◌then◌else◌}
-use Rattle.std.proofs.Common.{ap, sym, ◌∙◌, subst, arith}
-use Rattle.std.proofs.lemmas.Bool.Decides.{nat_tests}
-use Rattle.std.proofs.lemmas.List.{append-nil}
-use Rattle.std.specs.List.{AllByRecursion, flat_map}
-use Rattle.std.specs.Option.{option_or}
-use Rattle.cache_policy.specs.declared.mode.Mode.{Mode}
-use Rattle.cache_policy.specs.declared.life.Limits.{Limits}
-use Rattle.cache_policy.specs.declared.mark.Mark.{Mark}
-use Rattle.cache_policy.specs.declared.entry.Entry.{Entry}
-use Rattle.cache_policy.specs.Mode.{covers}
-use Rattle.cache_policy.specs.Entry.{same_id, within_ttl, within}
-use Rattle.cache_policy.specs.Histories.{History, with_mark}
-use Rattle.cache_policy.specs.Entries.{stored, entries}
-use Rattle.cache_policy.specs.Live.{newest_of, newest, takes_away, gone, gives, last_use, is_live}
-use Rattle.cache_policy.proofs.Lists.{all_weaker}
-use Rattle.cache_policy.proofs.EntriesLemmas.{entries_with_mark}
-use Rattle.cache_policy.proofs.OneMore.{last_use_with_mark, newest_with_mark, is_live_with_mark}
-use Rattle.cache_book.specs.declared.modes.Modes.{Modes}
-use Rattle.cache_book.specs.declared.slot.Slot.{Slot}
-use Rattle.cache_book.specs.Modes.{modes_where}
-use Rattle.cache_book.specs.Slots.{has_number, slot_of, slots}
-use Rattle.cache_book.specs.Shelves.{cleared, swept}
-use Rattle.cache_book.proofs.Known.{IsKnown, all_both, all_known, is_newest, modes_where_same, slot_where, slot_of_known}
-use Rattle.cache_book.proofs.Slotwise.{IsSlotwise, flat_map_slotwise, same_slotwise, none_slotwise, filter_slotwise, filter_slot_where}
+use Rattle.std.specs.{Prelude.{◌≡◌, ℕ, ◌+◌, ◌≤◌, List, [], ◌++◌, Bool, true, false, not, ◌&&◌, ◌||◌, max, nat_le, Option, Some, None, refl, if◌then◌else◌}, List.{AllByRecursion, flat_map}, Option.option_or}
+use Rattle.std.proofs.{Common.{ap, sym, ◌∙◌, subst, arith}, lemmas.{Bool.Decides.nat_tests, List.append-nil}}
+use Rattle.cache_policy.specs.{declared.{mode.Mode.Mode, life.Limits.Limits, mark.Mark.Mark, entry.Entry.Entry}, Mode.covers, Entry.{same_id, within_ttl, within}, Histories.{History, with_mark}, Entries.{stored, entries}}
+use Rattle.cache_policy.{specs.Live.{newest_of, newest, takes_away, gone, gives, last_use, is_live}, proofs.{Lists.all_weaker, EntriesLemmas.entries_with_mark, OneMore.{last_use_with_mark, newest_with_mark, is_live_with_mark}}}
+use Rattle.cache_book.specs.{declared.{modes.Modes.Modes, slot.Slot.Slot}, Modes.modes_where, Slots.{has_number, slot_of, slots}, Shelves.{cleared, swept}}
+use Rattle.cache_book.proofs.{Known.{IsKnown, all_both, all_known, is_newest, modes_where_same, slot_where, slot_of_known}, Slotwise.{IsSlotwise, flat_map_slotwise, same_slotwise, none_slotwise, filter_slotwise, filter_slot_where}}
 
 -- a moment that is within the lifetimes, and an earlier one
 within_ttl_earlier : (ttl : Option ℕ) (last now later : ℕ) → now ≤ later → within_ttl ttl last later ≡ true → within_ttl ttl last now ≡ true

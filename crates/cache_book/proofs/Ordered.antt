@@ -1,27 +1,11 @@
 -- Slots by their ids and numbers: what the order of ids says, and that each call keeps slots in order.
-use Rattle.std.specs.Prelude.{◌≡◌, ℕ, ◌<◌, ◌≤◌, ◌==◌, List, [], ◌∷◌, ◌++◌, ◌⊎◌, Bool, true, false, max, map, filter, take, drop, cond, nat_lt, refl}
-use Rattle.std.proofs.Common.{ap, sym, ◌∙◌, subst, arith, zero, suc, inl, inr}
-use Rattle.std.proofs.lemmas.Bool.Decides.{nat_tests}
-use Rattle.std.specs.Cmp.Lexicographic.{slice_cmp}
-use Rattle.std.specs.Cmp.{IsTotalOrder}
-use Rattle.std.proofs.lemmas.Cmp.{ranked, by_ranked, nat_cmp_total, nat_list_cmp_total, on_total, then_total, alike_right}
-use Rattle.std.specs.declared.cmp.Ordering.{Ordering}
-use Rattle.std.specs.declared.cmp.Ordering.TheVariants.{Less, Equal, Greater}
-use Rattle.std.specs.Ordering.{nat_cmp, ordering_then, ordering_reverse, is_lt, is_le}
-use Rattle.std.specs.List.{AllByRecursion}
-use Rattle.cache_policy.specs.declared.mode.Mode.TheVariants.{Normal, User, Ssh, Nonce, Any}
-use Rattle.cache_policy.specs.declared.entry.Entry.{Entry}
-use Rattle.cache_policy.specs.Mode.{covers}
-use Rattle.cache_policy.specs.Entry.{same_id}
-use Rattle.cache_policy.proofs.Lists.{all_weaker}
-use Rattle.cache_book.specs.declared.slot.Slot.{Slot}
-use Rattle.cache_book.specs.Hashes.{id_hash}
-use Rattle.cache_book.specs.Modes.{modes_where, has_some, not_covered}
-use Rattle.cache_book.specs.Shelves.{IsOneOf, here, further, touch_slot, touched, hide, hidden, new_slot, AreBelow}
-use Rattle.cache_book.specs.Arranged.{placed}
+use Rattle.std.specs.{Prelude.{◌≡◌, ℕ, ◌<◌, ◌≤◌, ◌==◌, List, [], ◌∷◌, ◌++◌, ◌⊎◌, Bool, true, false, max, map, filter, take, drop, cond, nat_lt, refl}, Cmp.{IsTotalOrder, Lexicographic.slice_cmp}, declared.cmp.Ordering.Ordering}
+use Rattle.std.{specs.{declared.cmp.Ordering.TheVariants.{Less, Equal, Greater}, Ordering.{nat_cmp, ordering_then, ordering_reverse, is_lt, is_le}, List.AllByRecursion}, proofs.Common.{ap, sym, ◌∙◌, subst, arith, zero, suc, inl, inr}}
+use Rattle.std.proofs.lemmas.{Bool.Decides.nat_tests, Cmp.{ranked, by_ranked, nat_cmp_total, nat_list_cmp_total, on_total, then_total, alike_right}}
+use Rattle.cache_policy.{specs.{declared.{mode.Mode.TheVariants.{Normal, User, Ssh, Nonce, Any}, entry.Entry.Entry}, Mode.covers, Entry.same_id}, proofs.Lists.all_weaker}
+use Rattle.cache_book.specs.{declared.slot.Slot.Slot, Hashes.id_hash, Modes.{modes_where, has_some, not_covered}, Shelves.{IsOneOf, here, further, touch_slot, touched, hide, hidden, new_slot, AreBelow}, Arranged.placed}
 use Rattle.cache_book.specs.SlotOrders.{id_cmp, is_upto, has_lower_hash, has_hash_upto, comes_before, is_older, by_number, AreById, HaveOwnNumbers, AreKept}
-use Rattle.cache_book.proofs.Kept.{all_filter, all_map, within_touched, within_hide, within_new_slot, within_filter}
-use Rattle.cache_book.proofs.Live.{same_ids}
+use Rattle.cache_book.proofs.{Kept.{all_filter, all_map, within_touched, within_hide, within_new_slot, within_filter}, Live.same_ids}
 use Rattle.cache_book.proofs.Arranging.{IsOrder, all_insert, pairs_filter, pairs_map, pairs_insert, arranged_map, arranged_filter, arranged_last}
 
 -- the order of ids

@@ -1,24 +1,9 @@
 -- Searching slots that stand by their ids: what lies outside of the stretch of an id, and what a place says.
-use Rattle.std.specs.Prelude.{◌≡◌, ℕ, ◌<◌, ◌≤◌, ◌==◌, List, [], ◌∷◌, ◌⊎◌, Bool, true, false, ◌&&◌, not, max, take, drop, cond, nat_lt, nat_le, length, get_or, set, refl}
-use Rattle.std.proofs.Common.{ap, sym, ◌∙◌, subst, arith, zero, suc, inl, inr}
-use Rattle.std.proofs.lemmas.Bool.Decides.{nat_tests}
-use Rattle.std.specs.List.{AllByRecursion, AllWithin, HoldsAt}
-use Rattle.std.specs.List.Sorted.{IsPartitionPoint}
-use Rattle.std.proofs.lemmas.List.Elements.{All-from_recursion, recursion_from_All, AllWithin-upto}
-use Rattle.std.proofs.lemmas.Cmp.{nat_list_eq_equiv}
-use Rattle.std.proofs.lemmas.List.{get_or_default}
-use Rattle.cache_policy.specs.declared.mode.Mode.{Mode}
-use Rattle.cache_policy.specs.declared.entry.Entry.{Entry}
-use Rattle.cache_policy.specs.Mode.{covers}
-use Rattle.cache_policy.specs.Entry.{same_id, within}
-use Rattle.cache_policy.proofs.Lists.{all_weaker, all_drop}
-use Rattle.cache_book.specs.declared.slot.Slot.{Slot}
-use Rattle.cache_book.specs.Modes.{holds, has_some, not_covered}
-use Rattle.cache_book.specs.Shelves.{serves_at, ServesNone, IsOneOf, here, further, touch_slot, touched, hidden, cleared}
-use Rattle.cache_book.specs.Hashes.{id_hash}
-use Rattle.cache_book.specs.SlotOrders.{has_lower_hash, has_hash_upto, swept_hash, AreById, HaveOwnNumbers, AreServing}
-use Rattle.cache_book.proofs.Ordered.{lower_back, hash_upto_back, hash_apart}
-use Rattle.cache_book.proofs.Arranging.{all_take_within, all_drop_within, pairs_parted}
+use Rattle.std.specs.{Prelude.{◌≡◌, ℕ, ◌<◌, ◌≤◌, ◌==◌, List, [], ◌∷◌, ◌⊎◌, Bool, true, false, ◌&&◌, not, max, take, drop, cond, nat_lt, nat_le, length, get_or, set, refl}, List.{AllByRecursion, AllWithin, HoldsAt, Sorted.IsPartitionPoint}}
+use Rattle.std.proofs.{Common.{ap, sym, ◌∙◌, subst, arith, zero, suc, inl, inr}, lemmas.{Bool.Decides.nat_tests, List.{get_or_default, Elements.{All-from_recursion, recursion_from_All, AllWithin-upto}}, Cmp.nat_list_eq_equiv}}
+use Rattle.cache_policy.{specs.{declared.{mode.Mode.Mode, entry.Entry.Entry}, Mode.covers, Entry.{same_id, within}}, proofs.Lists.{all_weaker, all_drop}}
+use Rattle.cache_book.specs.{declared.slot.Slot.Slot, Modes.{holds, has_some, not_covered}, Shelves.{serves_at, ServesNone, IsOneOf, here, further, touch_slot, touched, hidden, cleared}, Hashes.id_hash}
+use Rattle.cache_book.{specs.SlotOrders.{has_lower_hash, has_hash_upto, swept_hash, AreById, HaveOwnNumbers, AreServing}, proofs.{Ordered.{lower_back, hash_upto_back, hash_apart}, Arranging.{all_take_within, all_drop_within, pairs_parted}}}
 
 -- the slot at a place is one of the list
 pub one_at : (i : ℕ) (list : List Slot) (d : Slot) → i < length list → IsOneOf (get_or list i d) list

@@ -1,20 +1,8 @@
 -- Calls of a shelf that do their work slot by slot.
-use Rattle.std.specs.Prelude.{◌≡◌, ℕ, List, [], ◌∷◌, ◌++◌, Bool, true, false, ◌&&◌, ◌||◌, ◌==◌, not, max, map, filter, refl, cond}
-use Rattle.std.proofs.Common.{ap, sym, ◌∙◌}
-use Rattle.std.proofs.lemmas.List.{map-append}
-use Rattle.std.proofs.lemmas.List.Elements.{filter-append}
-use Rattle.std.proofs.Math.Bool.{and-false}
-use Rattle.std.specs.List.{AllByRecursion, flat_map}
-use Rattle.cache_policy.specs.declared.mode.Mode.TheVariants.{Normal, User, Ssh, Nonce, Any}
-use Rattle.cache_policy.specs.declared.entry.Entry.{Entry}
-use Rattle.cache_policy.specs.Mode.{covers}
-use Rattle.cache_policy.specs.Entry.{same_id}
-use Rattle.cache_book.specs.declared.modes.Modes.{Modes}
-use Rattle.cache_book.specs.declared.slot.Slot.{Slot}
-use Rattle.cache_book.specs.Modes.{has_some, not_covered}
-use Rattle.cache_book.specs.Slots.{slot_with}
-use Rattle.cache_book.specs.Shelves.{touch_slot, touched, hide, hidden}
-use Rattle.cache_book.proofs.Known.{slot_where}
+use Rattle.std.{specs.{Prelude.{◌≡◌, ℕ, List, [], ◌∷◌, ◌++◌, Bool, true, false, ◌&&◌, ◌||◌, ◌==◌, not, max, map, filter, refl, cond}, List.{AllByRecursion, flat_map}}, proofs.{Common.{ap, sym, ◌∙◌}, lemmas.List.map-append}}
+use Rattle.std.proofs.{lemmas.List.Elements.filter-append, Math.Bool.and-false}
+use Rattle.cache_policy.specs.{declared.{mode.Mode.TheVariants.{Normal, User, Ssh, Nonce, Any}, entry.Entry.Entry}, Mode.covers, Entry.same_id}
+use Rattle.cache_book.{specs.{declared.{modes.Modes.Modes, slot.Slot.Slot}, Modes.{has_some, not_covered}, Slots.slot_with, Shelves.{touch_slot, touched, hide, hidden}}, proofs.Known.slot_where}
 
 pub record IsSlotwise (op : List Slot → List Slot) : Type 0 where
   pub none : op [] ≡ []

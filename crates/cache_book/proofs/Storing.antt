@@ -1,33 +1,12 @@
 -- The slots of a history with one mark more, where that gives an entry or stores one.
-use Rattle.std.specs.Prelude.{◌≡◌, ℕ, ◌+◌, ◌<◌, ◌≤◌, ◌==◌, List, [], ◌∷◌, ◌++◌, Bool, true, false, not, ◌&&◌, max, nat_le, nat_eq, Option, Some, None, IfSome, fold, refl, cond, if◌then◌else◌}
-use Rattle.std.proofs.Common.{ap, sym, ◌∙◌, subst, arith}
-use Rattle.std.proofs.lemmas.Bool.Decides.{nat_tests}
-use Rattle.std.proofs.lemmas.Grind.{flat_map-append}
-use Rattle.std.specs.List.{AllByRecursion, flat_map}
-use Rattle.std.specs.Option.{option_or}
-use Rattle.cache_policy.specs.declared.mode.Mode.{Mode}
-use Rattle.cache_policy.specs.declared.mode.Mode.TheVariants.{Normal, User, Ssh, Nonce, Any}
-use Rattle.cache_policy.specs.declared.life.Limits.{Limits}
-use Rattle.cache_policy.specs.declared.mark.Mark.{Mark}
-use Rattle.cache_policy.specs.declared.entry.Entry.{Entry}
-use Rattle.cache_policy.specs.Mode.{covers}
-use Rattle.cache_policy.specs.Entry.{same_id, within_ttl, within}
-use Rattle.cache_policy.specs.Histories.{History, next_number, with_mark, moments}
-use Rattle.cache_policy.specs.Entries.{stored, entries}
-use Rattle.cache_policy.specs.Live.{newest_of, newest, takes_away, gone, gives, last_use, is_live}
-use Rattle.cache_policy.specs.Legal.{IsLegal}
-use Rattle.cache_policy.proofs.Lists.{all_weaker, filter_none}
-use Rattle.cache_policy.proofs.EntriesLemmas.{entries_with_mark}
-use Rattle.cache_policy.proofs.OneMore.{last_use_with_mark, newest_with_mark, is_live_with_mark}
-use Rattle.cache_policy.proofs.Growing.{newest_below, unused_yet, is_live_stored}
-use Rattle.cache_book.specs.declared.modes.Modes.{Modes}
-use Rattle.cache_book.specs.declared.slot.Slot.{Slot}
-use Rattle.cache_book.specs.Modes.{modes_where, has_some, not_covered}
-use Rattle.cache_book.specs.Slots.{has_number, slot_with, slot_of, slots}
-use Rattle.cache_book.specs.Shelves.{touched, touch_slot, hidden, new_slot, with_entry}
+use Rattle.std.specs.{Prelude.{◌≡◌, ℕ, ◌+◌, ◌<◌, ◌≤◌, ◌==◌, List, [], ◌∷◌, ◌++◌, Bool, true, false, not, ◌&&◌, max, nat_le, nat_eq, Option, Some, None, IfSome, fold, refl, cond, if◌then◌else◌}, List.{AllByRecursion, flat_map}}
+use Rattle.std.{specs.Option.option_or, proofs.{Common.{ap, sym, ◌∙◌, subst, arith}, lemmas.{Bool.Decides.nat_tests, Grind.flat_map-append}}}
+use Rattle.cache_policy.specs.{declared.{mode.Mode.{Mode, TheVariants.{Normal, User, Ssh, Nonce, Any}}, life.Limits.Limits, mark.Mark.Mark, entry.Entry.Entry}, Mode.covers, Entry.{same_id, within_ttl, within}}
+use Rattle.cache_policy.{specs.{Histories.{History, next_number, with_mark, moments}, Entries.{stored, entries}, Live.{newest_of, newest, takes_away, gone, gives, last_use, is_live}, Legal.IsLegal}, proofs.Lists.{all_weaker, filter_none}}
+use Rattle.cache_policy.proofs.{EntriesLemmas.entries_with_mark, OneMore.{last_use_with_mark, newest_with_mark, is_live_with_mark}, Growing.{newest_below, unused_yet, is_live_stored}}
+use Rattle.cache_book.specs.{declared.{modes.Modes.Modes, slot.Slot.Slot}, Modes.{modes_where, has_some, not_covered}, Slots.{has_number, slot_with, slot_of, slots}, Shelves.{touched, touch_slot, hidden, new_slot, with_entry}}
 use Rattle.cache_book.proofs.Known.{IsKnown, all_both, all_known, differ, differ_too, is_newest, modes_where_same, slot_where, slot_of_known}
-use Rattle.cache_book.proofs.Slotwise.{flat_map_slotwise, map_slotwise, hidden_slotwise, touched_other, touched_this, hidden_slot_with}
-use Rattle.cache_book.proofs.Marking.{both_true, IsPlain, slot_with_mark, slots_plain, or_false}
+use Rattle.cache_book.proofs.{Slotwise.{flat_map_slotwise, map_slotwise, hidden_slotwise, touched_other, touched_this, hidden_slot_with}, Marking.{both_true, IsPlain, slot_with_mark, slots_plain, or_false}}
 
 within_ttl_used : (ttl : Option ℕ) (last later moment : ℕ) → last ≤ later → within_ttl ttl last moment ≡ true → within_ttl ttl later moment ≡ true
 within_ttl_used None last later moment h is = refl

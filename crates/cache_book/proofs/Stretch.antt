@@ -1,17 +1,8 @@
 -- A change of the slots of one stretch of a list, from its end to its front, by a call that does its work slot by slot.
-use Rattle.std.specs.Prelude.{◌≡◌, ℕ, ◌+◌, ◌-◌, ◌<◌, ◌≤◌, List, [], ◌∷◌, ◌++◌, Bool, true, false, not, ◌&&◌, cond, refl, length, take, drop, get_or, set}
-use Rattle.std.proofs.Common.{ap, sym, ◌∙◌, subst, arith, zero, suc}
-use Rattle.std.specs.List.{remove}
-use Rattle.std.proofs.lemmas.List.{append_assoc, take-append-drop, length-take-le, get_or-append_right, set-append_right}
-use Rattle.std.proofs.lemmas.List.Edits.{remove-append_right}
-use Rattle.cache_policy.specs.declared.mode.Mode.{Mode}
-use Rattle.cache_policy.specs.declared.entry.Entry.{Entry}
-use Rattle.cache_policy.specs.Mode.{covers}
-use Rattle.cache_policy.specs.Entry.{same_id}
-use Rattle.cache_book.specs.declared.slot.Slot.{Slot}
-use Rattle.cache_book.specs.Modes.{has_some}
-use Rattle.cache_book.specs.Shelves.{hide, hidden, cleared}
-use Rattle.cache_book.proofs.Slotwise.{IsSlotwise}
+use Rattle.std.{specs.{Prelude.{◌≡◌, ℕ, ◌+◌, ◌-◌, ◌<◌, ◌≤◌, List, [], ◌∷◌, ◌++◌, Bool, true, false, not, ◌&&◌, cond, refl, length, take, drop, get_or, set}, List.remove}, proofs.Common.{ap, sym, ◌∙◌, subst, arith, zero, suc}}
+use Rattle.std.proofs.lemmas.List.{append_assoc, take-append-drop, length-take-le, get_or-append_right, set-append_right, Edits.remove-append_right}
+use Rattle.cache_policy.specs.{declared.{mode.Mode.Mode, entry.Entry.Entry}, Mode.covers, Entry.same_id}
+use Rattle.cache_book.{specs.{declared.slot.Slot.Slot, Modes.has_some, Shelves.{hide, hidden, cleared}}, proofs.Slotwise.IsSlotwise}
 
 no_further : (i : ℕ) → i - i ≡ 0
 no_further i = omega arith

@@ -1,10 +1,7 @@
 -- Slots whose passphrases are overwritten before they go.
-use Rattle.std.specs.Prelude.{◌≡◌, ℕ, List, [], ◌∷◌, Bool, true, false, map, cond, refl}
-use Rattle.std.proofs.Common.{ap, ◌∙◌}
+use Rattle.std.{specs.Prelude.{◌≡◌, ℕ, List, [], ◌∷◌, Bool, true, false, map, cond, refl}, proofs.Common.{ap, ◌∙◌}}
 use Rattle.cache_policy.specs.Entry.{within}
-use Rattle.cache_book.specs.declared.slot.Slot.{Slot}
-use Rattle.cache_book.specs.Shelves.{swept}
-use Rattle.cache_book.specs.SlotOrders.{wiped, wipe_past, AreWiped, AreWipedPast}
+use Rattle.cache_book.specs.{declared.slot.Slot.Slot, Shelves.swept, SlotOrders.{wiped, wipe_past, AreWiped, AreWipedPast}}
 
 pub all_wiped : (list : List Slot) → AreWiped (map wiped list)
 all_wiped [] = tt

@@ -1,6 +1,5 @@
 -- Lists in order. This is the project's own.
-use Rattle.std.specs.Prelude.{List, [], ◌∷◌, Bool, if◌then◌else◌}
-use Rattle.std.specs.List.{AllByRecursion}
+use Rattle.std.specs.{Prelude.{List, [], ◌∷◌, Bool, if◌then◌else◌}, List.AllByRecursion}
 
 -- a list with an element more, before the first one that it comes before
 abbrev pub placed : {A : Type 0} → (A → A → Bool) → A → List A → List A

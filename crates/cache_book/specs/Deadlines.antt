@@ -1,12 +1,7 @@
 -- Private: where slots stand in the order of their last moments. This is the project's own.
-use Rattle.std.specs.Prelude.{◌≡◌, ℕ, ◌+◌, ◌-◌, ◌^◌, ◌<◌, ◌==◌, ◌&&◌, List, Bool, true, Option, Some, None, min, slice_index_or}
-use Rattle.std.specs.declared.cmp.Reverse.{Reverse}
-use Rattle.std.specs.declared.cmp.Ordering.{Ordering}
-use Rattle.std.specs.Ordering.{nat_cmp, ordering_then}
+use Rattle.std.specs.{Prelude.{◌≡◌, ℕ, ◌+◌, ◌-◌, ◌^◌, ◌<◌, ◌==◌, ◌&&◌, List, Bool, true, Option, Some, None, min, slice_index_or}, declared.cmp.{Reverse.Reverse, Ordering.Ordering}, Ordering.{nat_cmp, ordering_then}}
 use Rattle.std.specs.List.{AllByRecursion, list_any}
-use Rattle.cache_book.specs.declared.slot.Slot.{Slot}
-use Rattle.cache_book.specs.declared.deadlines.Place.{Place}
-use Rattle.cache_book.specs.Hashes.{id_hash}
+use Rattle.cache_book.specs.{declared.{slot.Slot.Slot, deadlines.Place.Place}, Hashes.id_hash}
 
 -- the end of a ttl that is counted from the last use, or of the maximum age, whichever comes first
 abbrev pub lesser_end : Option ℕ → ℕ → ℕ → ℕ

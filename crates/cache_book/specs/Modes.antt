@@ -1,8 +1,6 @@
 -- Sets of modes. This is the project's own.
 use Rattle.std.specs.Prelude.{Bool, ◌&&◌, ◌||◌, not}
-use Rattle.cache_policy.specs.declared.mode.Mode.{Mode}
-use Rattle.cache_policy.specs.declared.mode.Mode.TheVariants.{Normal, User, Ssh, Nonce, Any}
-use Rattle.cache_policy.specs.Mode.{covers}
+use Rattle.cache_policy.specs.{declared.mode.Mode.{Mode, TheVariants.{Normal, User, Ssh, Nonce, Any}}, Mode.covers}
 use Rattle.cache_book.specs.declared.modes.Modes.{Modes}
 
 -- the modes that pass a test

@@ -1,7 +1,6 @@
 -- Private: where the passphrase of a slot lies. This is the project's own.
 use Rattle.std.specs.Prelude.{ℕ, List, Bool, true, false}
-use Rattle.cache_book.specs.declared.passphrase.Passphrase.{Passphrase}
-use Rattle.cache_book.specs.declared.passphrase.Passphrase.TheVariants.{Short, Long}
+use Rattle.cache_book.specs.declared.passphrase.Passphrase.{Passphrase, TheVariants.{Short, Long}}
 
 -- its bytes, which stand in the slot or in a box
 abbrev pub bytes_of : Passphrase → List ℕ

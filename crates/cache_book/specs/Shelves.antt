@@ -1,13 +1,7 @@
 -- What each call does to the slots on a shelf. This is the project's own.
-use Rattle.std.specs.Prelude.{◌≡◌, ℕ, ◌<◌, ◌==◌, List, [], ◌∷◌, ◌++◌, Bool, true, false, ◌&&◌, not, max, map, filter, if◌then◌else◌}
-use Rattle.std.specs.List.{AllByRecursion}
-use Rattle.cache_policy.specs.declared.mode.Mode.{Mode}
-use Rattle.cache_policy.specs.declared.entry.Entry.{Entry}
-use Rattle.cache_policy.specs.declared.grant.Grant.{Grant}
-use Rattle.cache_policy.specs.Mode.{covers}
-use Rattle.cache_policy.specs.Entry.{same_id, within}
-use Rattle.cache_book.specs.declared.slot.Slot.{Slot}
-use Rattle.cache_book.specs.Modes.{modes_where, holds, has_some, not_covered}
+use Rattle.std.specs.{Prelude.{◌≡◌, ℕ, ◌<◌, ◌==◌, List, [], ◌∷◌, ◌++◌, Bool, true, false, ◌&&◌, not, max, map, filter, if◌then◌else◌}, List.AllByRecursion}
+use Rattle.cache_policy.specs.{declared.{mode.Mode.Mode, entry.Entry.Entry, grant.Grant.Grant}, Mode.covers, Entry.{same_id, within}}
+use Rattle.cache_book.specs.{declared.slot.Slot.Slot, Modes.{modes_where, holds, has_some, not_covered}}
 
 -- a shelf is seen as its slots, by the numbers of their entries, and how many entries it has room for without taking memory
 pub record AtShelf : Type 0 where

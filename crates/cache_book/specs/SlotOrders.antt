@@ -1,15 +1,8 @@
 -- The orders in which slots are kept. This is the project's own.
-use Rattle.std.specs.Prelude.{◌≡◌, ℕ, List, [], Bool, true, false, ◌==◌, nat_lt, nat_le, not, ◌&&◌, filter, if◌then◌else◌}
-use Rattle.std.specs.Cmp.Lexicographic.{slice_cmp}
-use Rattle.std.specs.declared.cmp.Ordering.{Ordering}
-use Rattle.std.specs.Ordering.{nat_cmp, ordering_then, then_cmp, on, is_lt, is_le}
-use Rattle.std.specs.List.{AllByRecursion}
+use Rattle.std.specs.{Prelude.{◌≡◌, ℕ, List, [], Bool, true, false, ◌==◌, nat_lt, nat_le, not, ◌&&◌, filter, if◌then◌else◌}, Cmp.Lexicographic.slice_cmp, declared.cmp.Ordering.Ordering}
+use Rattle.std.specs.{Ordering.{nat_cmp, ordering_then, then_cmp, on, is_lt, is_le}, List.AllByRecursion}
 use Rattle.cache_policy.specs.Entry.{within}
-use Rattle.cache_book.specs.declared.slot.Slot.{Slot}
-use Rattle.cache_book.specs.Hashes.{id_hash}
-use Rattle.cache_book.specs.Modes.{has_some}
-use Rattle.cache_book.specs.Shelves.{AreWithinMode}
-use Rattle.cache_book.specs.Arranged.{arranged, EachPair}
+use Rattle.cache_book.specs.{declared.slot.Slot.Slot, Hashes.id_hash, Modes.has_some, Shelves.AreWithinMode, Arranged.{arranged, EachPair}}
 
 -- ids by their hashes, and those that have one hash by their bytes, the first that differs
 abbrev pub id_cmp : List ℕ → List ℕ → Ordering

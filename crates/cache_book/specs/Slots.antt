@@ -1,16 +1,8 @@
 -- Slots: the entries of a history that can still be given, each with its last use and the modes that it still serves. This is the
 -- project's own.
-use Rattle.std.specs.Prelude.{ℕ, ◌==◌, List, [], ◌∷◌, Bool, false, Option, Some, None, if◌then◌else◌}
-use Rattle.std.specs.List.{flat_map}
-use Rattle.cache_policy.specs.declared.mode.Mode.{Mode}
-use Rattle.cache_policy.specs.declared.life.Limits.{Limits}
-use Rattle.cache_policy.specs.declared.entry.Entry.{Entry}
-use Rattle.cache_policy.specs.Histories.{History}
-use Rattle.cache_policy.specs.Entries.{entries}
-use Rattle.cache_policy.specs.Live.{last_use, live}
-use Rattle.cache_book.specs.declared.modes.Modes.{Modes}
-use Rattle.cache_book.specs.declared.slot.Slot.{Slot}
-use Rattle.cache_book.specs.Modes.{modes_where, has_some}
+use Rattle.std.specs.{Prelude.{ℕ, ◌==◌, List, [], ◌∷◌, Bool, false, Option, Some, None, if◌then◌else◌}, List.flat_map}
+use Rattle.cache_policy.specs.{declared.{mode.Mode.Mode, life.Limits.Limits, entry.Entry.Entry}, Histories.History, Entries.entries, Live.{last_use, live}}
+use Rattle.cache_book.specs.{declared.{modes.Modes.Modes, slot.Slot.Slot}, Modes.{modes_where, has_some}}
 
 -- the entry with this number. No two entries of a history have one number
 abbrev pub has_number : ℕ → Option Entry → Bool

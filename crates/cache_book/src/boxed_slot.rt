@@ -23,8 +23,7 @@ pub(crate) struct BoxedSlot {
 
 impl Model for BoxedSlot {
     ghost use Rattle.std.specs.Prelude.{◌≡◌};
-    ghost use Rattle.cache_book.specs.declared.slot.Slot.{Slot};
-    ghost use Rattle.cache_book.specs.Hashes.{id_hash};
+    ghost use Rattle.cache_book.specs.{declared.slot.Slot.Slot, Hashes.id_hash};
 
     ghost Value = { Slot };
 
@@ -74,8 +73,7 @@ fn no_passphrase() -> Secret
 }
 
 impl BoxedSlot {
-    ghost use Rattle.cache_book.specs.Shelves.{touch_slot, hide};
-    ghost use Rattle.cache_book.specs.Modes.{has_some};
+    ghost use Rattle.cache_book.specs.{Shelves.{touch_slot, hide}, Modes.has_some};
     ghost use Rattle.cache_book.specs.Deadlines.{place_of};
     ghost use Rattle.cache_book.specs.SlotOrders.{wiped, wipe_past, has_hash_past};
     ghost use Rattle.cache_book.specs.Hashes.{id_hash};

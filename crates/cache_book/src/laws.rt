@@ -3,19 +3,12 @@
 //! shelf may stand in place of a history. Begin with `slots` of `specs/Slots`.
 
 ghost use Rattle.std.specs.Prelude.{◌≡◌, ℕ, ◌≤◌, List, [], ◌∷◌, false, Option, None, Some};
-ghost use Rattle.cache_policy.specs.declared.life.Limits.{Limits};
-ghost use Rattle.cache_policy.specs.declared.mode.Mode.{Mode};
-ghost use Rattle.cache_policy.specs.declared.mark.Mark.{Mark};
+ghost use Rattle.cache_policy.specs.declared.{life.Limits.Limits, mode.Mode.Mode, mark.Mark.Mark};
 ghost use Rattle.cache_policy.specs.declared.mark.MarkStep.TheVariants.{Ask, Clear, Flush};
-ghost use Rattle.cache_policy.specs.declared.mark.Way.{Way};
-ghost use Rattle.cache_policy.specs.declared.mark.MarkReply.TheVariants.{Given, Done};
-ghost use Rattle.cache_policy.specs.declared.entry.Entry.{Entry};
-ghost use Rattle.cache_policy.specs.declared.grant.Grant.{Grant};
-ghost use Rattle.cache_policy.specs.Histories.{History, next_number, with_mark};
-ghost use Rattle.cache_policy.specs.Entries.{stored};
-ghost use Rattle.cache_policy.specs.Live.{takes_away, gives, live};
-ghost use Rattle.cache_policy.specs.Legal.{IsLegal};
-ghost use Rattle.cache_policy.specs.Runs.{turn_over};
+ghost use Rattle.cache_policy.specs.declared.mark.{Way.Way, MarkReply.TheVariants.{Given, Done}};
+ghost use Rattle.cache_policy.specs.declared.{entry.Entry.Entry, grant.Grant.Grant};
+ghost use Rattle.cache_policy.specs.{Histories.{History, next_number, with_mark}, Entries.stored};
+ghost use Rattle.cache_policy.specs.{Live.{takes_away, gives, live}, Legal.IsLegal, Runs.turn_over};
 ghost use Rattle.cache_book.specs.Slots.{slots};
 ghost use Rattle.cache_book.specs.Shelves.{IsGrantFrom, ServesNone, touched, cleared, swept};
 ghost use Rattle.cache_book.specs.Shelves.{with_entry};

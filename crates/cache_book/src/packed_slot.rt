@@ -32,8 +32,7 @@ const _: () = prove!(size_of::<PackedSlot>() == 120);
 
 impl Model for PackedSlot {
     ghost use Rattle.std.specs.Prelude.{◌<◌, length};
-    ghost use Rattle.cache_book.specs.declared.slot.Slot.{Slot};
-    ghost use Rattle.cache_book.specs.Passphrases.{bytes_of};
+    ghost use Rattle.cache_book.specs.{declared.slot.Slot.Slot, Passphrases.bytes_of};
 
     ghost Value = { Slot };
 
@@ -57,9 +56,7 @@ impl Model for PackedSlot {
 impl PackedSlot {
     ghost use Rattle.cache_policy.specs.Entry.{serves, within};
     ghost use Rattle.cache_book.specs.Shelves.{serves_at, touch_slot, hide, new_slot};
-    ghost use Rattle.cache_book.specs.SlotOrders.{wiped};
-    ghost use Rattle.cache_book.specs.Modes.{has_some};
-    ghost use Rattle.cache_book.specs.Deadlines.{deadline};
+    ghost use Rattle.cache_book.specs.{SlotOrders.wiped, Modes.has_some, Deadlines.deadline};
 
     /// A slot of no entry, whose memory is filled later.
     pub(crate) fn blank() -> PackedSlot

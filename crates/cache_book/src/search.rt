@@ -3,13 +3,11 @@
 //! Begin with `grant_from`; `AreById` of `specs/SlotOrders` is the order.
 
 ghost use Rattle.std.specs.Prelude.{◌≡◌, ◌<◌, ◌≤◌, ◌==◌, ◌↔◌, true, false, length, IfSome, IfNone};
-ghost use Rattle.std.specs.Prelude.{IsTrue};
-ghost use Rattle.std.specs.List.{HoldsAt, AllByRecursion, AllWithin};
+ghost use Rattle.std.specs.{Prelude.IsTrue, List.{HoldsAt, AllByRecursion, AllWithin}};
 ghost use Rattle.std.specs.List.Sorted.{IsPartitionPoint};
 ghost use Rattle.cache_book.specs.Shelves.{serves_at, IsGrantFrom, ServesNone};
 ghost use Rattle.cache_book.specs.SlotOrders.{id_cmp, is_upto, has_lower_hash, has_hash_upto};
-ghost use Rattle.cache_book.specs.SlotOrders.{AreById, AreKept};
-ghost use Rattle.cache_book.specs.Hashes.{id_hash};
+ghost use Rattle.cache_book.specs.{SlotOrders.{AreById, AreKept}, Hashes.id_hash};
 
 use crate::boxed_slot::BoxedSlot;
 use crate::guide::Guide;

@@ -46,8 +46,7 @@ pub struct SlotShelf {
 
 impl Model for SlotShelf {
     ghost use Rattle.std.specs.Prelude.{◌≤◌, ◌-◌, min, vec_len, vec_capacity};
-    ghost use Rattle.cache_book.specs.Shelves.{AtShelf};
-    ghost use Rattle.cache_book.specs.SlotOrders.{by_number, AreKept};
+    ghost use Rattle.cache_book.specs.{Shelves.AtShelf, SlotOrders.{by_number, AreKept}};
     ghost use Rattle.cache_book.specs.Deadlines.{HavePlaces};
 
     ghost Value = { AtShelf };

@@ -1,33 +1,11 @@
 -- The policy reads no byte of a secret: seat, entries, live and replies are those of the history without them.
-use Rattle.std.specs.Prelude.{◌≡◌, ℕ, ◌+◌, ◌-◌, List, [], ◌∷◌, ◌++◌, length, map, reverse, find, filter, fold, max, Bool, true, false, not, ◌&&◌, ◌||◌, Option, Some, None, refl, cond, if◌then◌else◌}
-use Rattle.std.proofs.Common.{ap, sym, ◌∙◌, subst, arith, inl, inr, suc}
-use Rattle.std.proofs.lemmas.List.{map-append, drop-map}
-use Rattle.std.specs.List.{list_any}
-use Rattle.std.specs.Option.{option_or, option_map, option_and_then, is_some}
-use Rattle.cache_policy.specs.declared.mode.Mode.{Mode}
-use Rattle.cache_policy.specs.declared.life.Life.{Life}
-use Rattle.cache_policy.specs.declared.life.Life.TheVariants.{Default}
-use Rattle.cache_policy.specs.declared.life.Limits.{Limits}
-use Rattle.cache_policy.specs.declared.mark.Under.{Under}
-use Rattle.cache_policy.specs.declared.mark.Way.{Way}
-use Rattle.cache_policy.specs.declared.mark.Way.TheVariants.{Quiet, Prompt}
-use Rattle.cache_policy.specs.declared.mark.Mark.{Mark}
-use Rattle.cache_policy.specs.declared.mark.MarkStep.{MarkStep}
-use Rattle.cache_policy.specs.declared.mark.MarkStep.TheVariants.{Ask, Seat, Close, Put, Clear, Flush, Peek, Stop}
-use Rattle.cache_policy.specs.declared.mark.MarkReply.TheVariants.{Held as WhetherHeld}
-use Rattle.cache_policy.specs.declared.entry.Entry.{Entry}
-use Rattle.cache_policy.specs.declared.history.Held.{Held}
-use Rattle.cache_policy.specs.Entry.{serves, within}
-use Rattle.cache_policy.specs.Lifetimes.{ttl_of, max_of, is_zero}
-use Rattle.cache_policy.specs.Histories.{History, next_number, start_of, with_mark, marks_after, moments}
-use Rattle.cache_policy.specs.Entries.{entry_of, kept_under, kept, stored, entries_after, entries}
-use Rattle.cache_policy.specs.Seat.{under_of, is_open, gives_back, is_stop, last_open, unless_back, seat, stopped}
-use Rattle.cache_policy.specs.Live.{newest, takes_away, gone, gives, last_use, is_live, live}
-use Rattle.cache_policy.specs.Policy.{Reply, policy, prompt_ruling, ask_ruling}
-use Rattle.cache_policy.specs.Waits.{is_late}
-use Rattle.cache_policy.specs.Legal.{FollowsPolicy, NeverFall, IsLegal}
-use Rattle.cache_policy.specs.Bare.{bare_step, bare_mark, bare, bare_entry}
-use Rattle.cache_policy.proofs.Lists.{map_reverse, find_map}
+use Rattle.std.specs.{Prelude.{◌≡◌, ℕ, ◌+◌, ◌-◌, List, [], ◌∷◌, ◌++◌, length, map, reverse, find, filter, fold, max, Bool, true, false, not, ◌&&◌, ◌||◌, Option, Some, None, refl, cond, if◌then◌else◌}, List.list_any}
+use Rattle.std.{specs.Option.{option_or, option_map, option_and_then, is_some}, proofs.{Common.{ap, sym, ◌∙◌, subst, arith, inl, inr, suc}, lemmas.List.{map-append, drop-map}}}
+use Rattle.cache_policy.specs.declared.{mode.Mode.Mode, life.{Life.{Life, TheVariants.Default}, Limits.Limits}, mark.{Under.Under, Way.{Way, TheVariants.{Quiet, Prompt}}, Mark.Mark, MarkStep.MarkStep}}
+use Rattle.cache_policy.specs.{declared.{mark.{MarkStep.TheVariants.{Ask, Seat, Close, Put, Clear, Flush, Peek, Stop}, MarkReply.TheVariants.Held as WhetherHeld}, entry.Entry.Entry, history.Held.Held}, Entry.{serves, within}}
+use Rattle.cache_policy.specs.{Lifetimes.{ttl_of, max_of, is_zero}, Histories.{History, next_number, start_of, with_mark, marks_after, moments}, Entries.{entry_of, kept_under, kept, stored, entries_after, entries}}
+use Rattle.cache_policy.specs.{Seat.{under_of, is_open, gives_back, is_stop, last_open, unless_back, seat, stopped}, Live.{newest, takes_away, gone, gives, last_use, is_live, live}, Policy.{Reply, policy, prompt_ruling, ask_ruling}}
+use Rattle.cache_policy.{specs.{Waits.is_late, Legal.{FollowsPolicy, NeverFall, IsLegal}, Bare.{bare_step, bare_mark, bare, bare_entry}}, proofs.Lists.{map_reverse, find_map}}
 
 module _ {A : Type 0} (change : A → A) (test other : A → Bool) (same : (x : A) → test (change x) ≡ other x) where
   any_map : (xs : List A) → list_any test (map change xs) ≡ list_any other xs

@@ -1,27 +1,11 @@
 -- The plain book and the histories that it was given.
-use Rattle.std.specs.Prelude.{◌≡◌, ℕ, ◌+◌, ◌-◌, List, [], ◌∷◌, ◌++◌, length, map, reverse, find, fold, max, Bool, true, false, not, ◌&&◌, Option, Some, None, IfSome, refl, cond, if◌then◌else◌}
-use Rattle.std.proofs.Common.{ap, sym, ◌∙◌, subst, add_assoc}
-use Rattle.std.proofs.lemmas.List.{append-nil, map-append, length_push}
-use Rattle.std.specs.List.{AllByRecursion}
-use Rattle.std.specs.Option.{option_map, option_and_then}
+use Rattle.std.specs.{Prelude.{◌≡◌, ℕ, ◌+◌, ◌-◌, List, [], ◌∷◌, ◌++◌, length, map, reverse, find, fold, max, Bool, true, false, not, ◌&&◌, Option, Some, None, IfSome, refl, cond, if◌then◌else◌}, List.AllByRecursion}
+use Rattle.std.{specs.Option.{option_map, option_and_then}, proofs.{Common.{ap, sym, ◌∙◌, subst, add_assoc}, lemmas.List.{append-nil, map-append, length_push}}}
 use Rattle.agent_ports.specs.declared.session.SessionId.{SessionId}
-use Rattle.cache_policy.specs.declared.mode.Mode.{Mode}
-use Rattle.cache_policy.specs.declared.life.Life.{Life}
-use Rattle.cache_policy.specs.declared.life.Life.TheVariants.{Endless}
-use Rattle.cache_policy.specs.declared.life.Limits.{Limits}
-use Rattle.cache_policy.specs.declared.mark.Way.{Way}
-use Rattle.cache_policy.specs.declared.mark.Mark.{Mark}
-use Rattle.cache_policy.specs.declared.mark.MarkStep.{MarkStep}
-use Rattle.cache_policy.specs.declared.mark.MarkStep.TheVariants.{Ask, Seat, Close, Put, Clear, Flush, Peek, Stop}
-use Rattle.cache_policy.specs.declared.mark.MarkReply.{MarkReply}
-use Rattle.cache_policy.specs.declared.entry.Entry.{Entry}
-use Rattle.cache_policy.specs.Entry.{serves, within}
-use Rattle.cache_policy.specs.Histories.{History, next_number, with_mark, marks_after, moments}
-use Rattle.cache_policy.specs.Entries.{entry_of, entries}
-use Rattle.cache_policy.specs.Live.{newest, takes_away, gone, gives, last_use, is_live, live}
-use Rattle.cache_policy.specs.Book.{Book, after_put, found, put_mark, ask_mark, is_put, is_put_or_ask, IsPut, IsPutOrAsk, IsEndless, IsBookOf, unnumbered, IsEndlessBookOf}
-use Rattle.cache_policy.proofs.Lists.{all_append, all_drop, all_reverse, all_find, any_none, filter_none, all_weaker, map_reverse, find_map}
-use Rattle.cache_policy.proofs.EntriesLemmas.{entries_with_mark}
+use Rattle.cache_policy.specs.declared.{mode.Mode.Mode, life.{Life.{Life, TheVariants.Endless}, Limits.Limits}, mark.{Way.Way, Mark.Mark, MarkStep.{MarkStep, TheVariants.{Ask, Seat, Close, Put, Clear, Flush, Peek, Stop}}}}
+use Rattle.cache_policy.specs.{declared.{mark.MarkReply.MarkReply, entry.Entry.Entry}, Entry.{serves, within}, Histories.{History, next_number, with_mark, marks_after, moments}, Entries.{entry_of, entries}}
+use Rattle.cache_policy.specs.{Live.{newest, takes_away, gone, gives, last_use, is_live, live}, Book.{Book, after_put, found, put_mark, ask_mark, is_put, is_put_or_ask, IsPut, IsPutOrAsk, IsEndless, IsBookOf, unnumbered, IsEndlessBookOf}}
+use Rattle.cache_policy.proofs.{Lists.{all_append, all_drop, all_reverse, all_find, any_none, filter_none, all_weaker, map_reverse, find_map}, EntriesLemmas.entries_with_mark}
 
 -- a put is a put or an ask
 put_is_either : (step : MarkStep) → is_put step ≡ true → is_put_or_ask step ≡ true

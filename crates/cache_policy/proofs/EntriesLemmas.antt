@@ -1,12 +1,6 @@
 -- The entries of a history that goes on by one mark.
-use Rattle.std.specs.Prelude.{◌≡◌, List, [], ◌∷◌, ◌++◌}
-use Rattle.std.proofs.Common.{ap, sym, ◌∙◌, append_assoc}
-use Rattle.std.proofs.lemmas.List.{append-nil}
-use Rattle.cache_policy.specs.declared.life.Limits.{Limits}
-use Rattle.cache_policy.specs.declared.mark.Mark.{Mark}
-use Rattle.cache_policy.specs.declared.entry.Entry.{Entry}
-use Rattle.cache_policy.specs.Histories.{History, start_of, with_marks, with_mark}
-use Rattle.cache_policy.specs.Entries.{stored, entries, entries_after}
+use Rattle.std.{specs.Prelude.{◌≡◌, List, [], ◌∷◌, ◌++◌}, proofs.{Common.{ap, sym, ◌∙◌, append_assoc}, lemmas.List.append-nil}}
+use Rattle.cache_policy.specs.{declared.{life.Limits.Limits, mark.Mark.Mark, entry.Entry.Entry}, Histories.{History, start_of, with_marks, with_mark}, Entries.{stored, entries, entries_after}}
 
 -- what one mark more stores comes last
 entries_after_push : (limits : Limits) (before : History) (marks : List Mark) (mark : Mark) →

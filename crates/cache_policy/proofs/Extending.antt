@@ -1,18 +1,8 @@
 -- Turns at a desk extend its run.
-use Rattle.std.proofs.Common.{◌≡◌, ℕ, List, [], ◌∷◌, ◌++◌, Bool, Option, Some, None, true, cond, eq-eqb, refl, sym, ◌∙◌, ap, subst, append-nil, append_assoc}
-use Rattle.std.specs.List.{filter}
-use Rattle.std.proofs.lemmas.List.Elements.{filter-append}
-use Rattle.agent_ports.specs.declared.session.SessionId.{SessionId}
-use Rattle.agent_ports.specs.Leads.{Leads, none as stay, one}
-use Rattle.cache_policy.specs.declared.life.Limits.{Limits}
-use Rattle.cache_policy.specs.declared.mark.Mark.{Mark}
-use Rattle.cache_policy.specs.declared.mark.MarkStep.{MarkStep}
-use Rattle.cache_policy.specs.Histories.{History}
-use Rattle.cache_policy.specs.Runs.{joined}
-use Rattle.cache_policy.specs.Turns.{Turn}
-use Rattle.cache_policy.specs.Desks.{AtDesk, is_of, MakesMarks, marked, refused, spent, GoesOn, GoesOnWhereKnown, IsTurn}
-use Rattle.cache_policy.specs.Extending.{Taken, TakesTurn, AreMarked, none, turned, IsExtended, IsExtendedWhereKnown, ExtendsDesk}
-use Rattle.cache_policy.proofs.Lists.{filter_none}
+use Rattle.std.{proofs.{Common.{◌≡◌, ℕ, List, [], ◌∷◌, ◌++◌, Bool, Option, Some, None, true, cond, eq-eqb, refl, sym, ◌∙◌, ap, subst, append-nil, append_assoc}, lemmas.List.Elements.filter-append}, specs.List.filter}
+use Rattle.agent_ports.specs.{declared.session.SessionId.SessionId, Leads.{Leads, none as stay, one}}
+use Rattle.cache_policy.specs.{declared.{life.Limits.Limits, mark.{Mark.Mark, MarkStep.MarkStep}}, Histories.History, Runs.joined, Turns.Turn, Desks.{AtDesk, is_of, MakesMarks, marked, refused, spent, GoesOn, GoesOnWhereKnown, IsTurn}}
+use Rattle.cache_policy.{specs.Extending.{Taken, TakesTurn, AreMarked, none, turned, IsExtended, IsExtendedWhereKnown, ExtendsDesk}, proofs.Lists.filter_none}
 
 is_own : (session : SessionId) (mark : Mark) → mark.session ≡ session → is_of session mark ≡ true
 is_own session mark by = rw (by, eq-eqb session.pass session.pass refl, eq-eqb session.count session.count refl) refl

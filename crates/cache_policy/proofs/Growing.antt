@@ -1,38 +1,11 @@
 -- A legal history stays legal by a mark that follows the policy, and by a turn-over.
-use Rattle.std.specs.Prelude.{◌≡◌, ℕ, ◌+◌, ◌<◌, ◌≤◌, List, [], ◌∷◌, ◌++◌, length, reverse, fold, max, Bool, true, false, not, ◌&&◌, Option, Some, None, IfSome, refl, cond, if◌then◌else◌}
-use Rattle.std.proofs.Common.{ap, sym, ◌∙◌, subst, arith, inl, inr}
-use Rattle.std.proofs.lemmas.Bool.{ne_eqb}
-use Rattle.std.proofs.lemmas.List.{append_assoc, append-nil, length_push}
-use Rattle.std.proofs.Math.Bool.{or-false}
-use Rattle.std.proofs.Math.Nat.{add-mod_right}
-use Rattle.std.specs.List.{AllByRecursion, list_any}
-use Rattle.std.specs.Option.{option_or, option_map, option_and_then}
-use Rattle.cache_policy.specs.declared.bounds.TheConstants.{MAX_MARKS, MAX_MOMENT}
-use Rattle.cache_policy.specs.declared.mode.Mode.{Mode}
-use Rattle.cache_policy.specs.declared.life.Life.{Life}
-use Rattle.cache_policy.specs.declared.life.Life.TheVariants.{Default}
-use Rattle.cache_policy.specs.declared.life.Limits.{Limits}
-use Rattle.cache_policy.specs.declared.mark.Under.{Under}
-use Rattle.cache_policy.specs.declared.mark.Way.{Way}
-use Rattle.cache_policy.specs.declared.mark.Way.TheVariants.{Quiet, Prompt}
-use Rattle.cache_policy.specs.declared.mark.Mark.{Mark}
-use Rattle.cache_policy.specs.declared.mark.MarkStep.{MarkStep}
-use Rattle.cache_policy.specs.declared.mark.MarkStep.TheVariants.{Ask, Seat, Close, Put, Clear, Flush, Peek, Stop}
-use Rattle.cache_policy.specs.declared.mark.MarkReply.{MarkReply}
-use Rattle.cache_policy.specs.declared.mark.MarkReply.TheVariants.{Given, Empty, Open, Done, Held as WhetherHeld, Stopping, Late}
-use Rattle.cache_policy.specs.declared.entry.Entry.{Entry}
-use Rattle.cache_policy.specs.declared.history.Held.{Held}
-use Rattle.cache_policy.specs.Entry.{serves, within}
-use Rattle.cache_policy.specs.Lifetimes.{ttl_of, max_of, is_zero}
-use Rattle.cache_policy.specs.Histories.{History, next_number, start_of, with_marks, with_mark, moments}
-use Rattle.cache_policy.specs.Entries.{entry_of, kept_under, kept, stored, entries_after, entries, AreNumbered}
-use Rattle.cache_policy.specs.Seat.{is_open, under_of, gives_back, last_open, unless_back, seat, stopped}
-use Rattle.cache_policy.specs.Live.{newest, gives, last_use, is_live, live}
-use Rattle.cache_policy.specs.Policy.{Reply, policy, prompt_ruling, ask_ruling}
-use Rattle.cache_policy.specs.Waits.{is_late}
-use Rattle.cache_policy.specs.Runs.{last_base, turn_over, moment_before}
-use Rattle.cache_policy.specs.Legal.{FollowsPolicy, NeverFall, IsLegal}
-use Rattle.cache_policy.proofs.Lists.{all_reverse, all_find, filter_none}
+use Rattle.std.specs.{Prelude.{◌≡◌, ℕ, ◌+◌, ◌<◌, ◌≤◌, List, [], ◌∷◌, ◌++◌, length, reverse, fold, max, Bool, true, false, not, ◌&&◌, Option, Some, None, IfSome, refl, cond, if◌then◌else◌}, List.{AllByRecursion, list_any}}
+use Rattle.std.{specs.Option.{option_or, option_map, option_and_then}, proofs.{Common.{ap, sym, ◌∙◌, subst, arith, inl, inr}, lemmas.{Bool.ne_eqb, List.{append_assoc, append-nil, length_push}}, Math.{Bool.or-false, Nat.add-mod_right}}}
+use Rattle.cache_policy.specs.declared.{bounds.TheConstants.{MAX_MARKS, MAX_MOMENT}, mode.Mode.Mode, life.{Life.{Life, TheVariants.Default}, Limits.Limits}, mark.{Under.Under, Way.{Way, TheVariants.{Quiet, Prompt}}, Mark.Mark}}
+use Rattle.cache_policy.specs.declared.mark.{MarkStep.{MarkStep, TheVariants.{Ask, Seat, Close, Put, Clear, Flush, Peek, Stop}}, MarkReply.{MarkReply, TheVariants.{Given, Empty, Open, Done, Held as WhetherHeld, Stopping, Late}}}
+use Rattle.cache_policy.specs.{declared.{entry.Entry.Entry, history.Held.Held}, Entry.{serves, within}, Lifetimes.{ttl_of, max_of, is_zero}, Histories.{History, next_number, start_of, with_marks, with_mark, moments}}
+use Rattle.cache_policy.specs.{Entries.{entry_of, kept_under, kept, stored, entries_after, entries, AreNumbered}, Seat.{is_open, under_of, gives_back, last_open, unless_back, seat, stopped}, Live.{newest, gives, last_use, is_live, live}}
+use Rattle.cache_policy.{specs.{Policy.{Reply, policy, prompt_ruling, ask_ruling}, Waits.is_late, Runs.{last_base, turn_over, moment_before}, Legal.{FollowsPolicy, NeverFall, IsLegal}}, proofs.Lists.{all_reverse, all_find, filter_none}}
 use Rattle.cache_policy.proofs.OneMore.{next_number_with_mark, gone_newest, last_use_with_mark}
 
 -- one mark more that follows the policy

@@ -1,19 +1,8 @@
 -- A legal run stays legal by a mark that follows the policy of the history that is next.
-use Rattle.std.specs.Prelude.{◌≡◌, ℕ, ◌+◌, ◌<◌, ◌≤◌, ◌==◌, List, [], ◌∷◌, ◌++◌, length, fold, Bool, true, false, Some, refl, if◌then◌else◌}
-use Rattle.std.proofs.Common.{ap, sym, ◌∙◌, subst, arith, inl, inr}
-use Rattle.std.proofs.lemmas.List.{append_assoc, append-nil}
-use Rattle.std.proofs.lemmas.List.Sums.{fold-append}
-use Rattle.std.proofs.lemmas.Grind.{flat_map-append}
-use Rattle.std.proofs.lemmas.Bool.Decides.{nat_tests}
-use Rattle.std.specs.List.{AllByRecursion}
-use Rattle.cache_policy.specs.declared.bounds.TheConstants.{MAX_MARKS, MAX_MOMENT}
-use Rattle.cache_policy.specs.declared.life.Limits.{Limits}
-use Rattle.cache_policy.specs.declared.mark.Mark.{Mark}
-use Rattle.cache_policy.specs.Histories.{History, start_of, with_mark}
-use Rattle.cache_policy.specs.Policy.{Reply, policy}
-use Rattle.cache_policy.specs.Runs.{last_base, is_spent, turn_over, next_history, IsFollowedBy, IsRun, joined, start_of_run, moment_before, last_history, run_with_mark}
-use Rattle.cache_policy.specs.Legal.{NeverFall, IsLegal, IsLegalRun}
-use Rattle.cache_policy.proofs.Lists.{all_append}
+use Rattle.std.{specs.{Prelude.{◌≡◌, ℕ, ◌+◌, ◌<◌, ◌≤◌, ◌==◌, List, [], ◌∷◌, ◌++◌, length, fold, Bool, true, false, Some, refl, if◌then◌else◌}, List.AllByRecursion}, proofs.Common.{ap, sym, ◌∙◌, subst, arith, inl, inr}}
+use Rattle.std.proofs.lemmas.{List.{append_assoc, append-nil, Sums.fold-append}, Grind.flat_map-append, Bool.Decides.nat_tests}
+use Rattle.cache_policy.specs.{declared.{bounds.TheConstants.{MAX_MARKS, MAX_MOMENT}, life.Limits.Limits, mark.Mark.Mark}, Histories.{History, start_of, with_mark}, Policy.{Reply, policy}}
+use Rattle.cache_policy.{specs.{Runs.{last_base, is_spent, turn_over, next_history, IsFollowedBy, IsRun, joined, start_of_run, moment_before, last_history, run_with_mark}, Legal.{NeverFall, IsLegal, IsLegalRun}}, proofs.Lists.all_append}
 use Rattle.cache_policy.proofs.Growing.{never_fall_push, legal_with_mark, legal_turn_over}
 
 -- the last history of a run, with the mark: one history, or a full one and the next

@@ -1,9 +1,7 @@
 -- What holds of each element of a list, by recursion, and of a list that is searched from its end.
-use Rattle.std.specs.Prelude.{◌≡◌, ℕ, List, [], ◌∷◌, ◌++◌, Bool, true, false, ◌||◌, Option, Some, None, cond, drop, find, filter, map, reverse, refl}
-use Rattle.std.proofs.Common.{ap, ◌∙◌, zero, suc}
-use Rattle.std.specs.List.{AllByRecursion, list_any}
-use Rattle.std.specs.Option.{option_map, IfSome}
 use mathlib.Core.List.{reverse_aux}
+use Rattle.std.specs.{Prelude.{◌≡◌, ℕ, List, [], ◌∷◌, ◌++◌, Bool, true, false, ◌||◌, Option, Some, None, cond, drop, find, filter, map, reverse, refl}, List.{AllByRecursion, list_any}, Option.{option_map, IfSome}}
+use Rattle.std.proofs.Common.{ap, ◌∙◌, zero, suc}
 
 module _ {A : Type 0} (P : A → Type 0) where
   pub all_append : (xs ys : List A) → AllByRecursion P xs → AllByRecursion P ys → AllByRecursion P (xs ++ ys)

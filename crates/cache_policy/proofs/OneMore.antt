@@ -1,24 +1,9 @@
 -- A history that goes on by one mark: its seat, whether it has stopped, and which entries are gone, used, newest and live.
-use Rattle.std.specs.Prelude.{◌≡◌, ℕ, ◌+◌, ◌-◌, ◌<◌, List, [], ◌∷◌, ◌++◌, length, drop, reverse, find, filter, fold, max, Bool, true, false, not, ◌&&◌, ◌||◌, Option, Some, None, refl, cond, if◌then◌else◌}
-use Rattle.std.proofs.Common.{ap, sym, ◌∙◌, arith}
-use Rattle.std.proofs.lemmas.List.{map-append, length_push, reverse-append, drop-append-le}
-use Rattle.std.proofs.lemmas.List.Elements.{filter-append}
-use Rattle.std.proofs.lemmas.List.Folds.{find-append, list_any-append}
-use Rattle.std.proofs.lemmas.List.Sums.{fold-append}
-use Rattle.std.proofs.Math.Bool.{or_assoc, or-false}
-use Rattle.std.proofs.Math.Seq.{drop-append-add}
-use Rattle.std.specs.List.{list_any}
-use Rattle.std.specs.Option.{option_or, option_map, option_and_then}
-use Rattle.cache_policy.specs.declared.mode.Mode.{Mode}
-use Rattle.cache_policy.specs.declared.life.Limits.{Limits}
-use Rattle.cache_policy.specs.declared.mark.Mark.{Mark}
-use Rattle.cache_policy.specs.declared.entry.Entry.{Entry}
-use Rattle.cache_policy.specs.declared.history.Held.{Held}
-use Rattle.cache_policy.specs.Entry.{serves, within}
-use Rattle.cache_policy.specs.Histories.{History, next_number, with_mark, marks_after, moments}
-use Rattle.cache_policy.specs.Entries.{stored, entries}
-use Rattle.cache_policy.specs.Seat.{under_of, is_open, gives_back, is_stop, last_open, unless_back, unless_given_back, seat, stopped}
-use Rattle.cache_policy.specs.Live.{newest_of, newest, takes_away, gone, gives, last_use, is_live}
+use Rattle.std.specs.{Prelude.{◌≡◌, ℕ, ◌+◌, ◌-◌, ◌<◌, List, [], ◌∷◌, ◌++◌, length, drop, reverse, find, filter, fold, max, Bool, true, false, not, ◌&&◌, ◌||◌, Option, Some, None, refl, cond, if◌then◌else◌}, List.list_any}
+use Rattle.std.{specs.Option.{option_or, option_map, option_and_then}, proofs.{Common.{ap, sym, ◌∙◌, arith}, lemmas.List.{map-append, length_push, reverse-append, drop-append-le, Elements.filter-append}}}
+use Rattle.std.proofs.{lemmas.List.{Folds.{find-append, list_any-append}, Sums.fold-append}, Math.{Bool.{or_assoc, or-false}, Seq.drop-append-add}}
+use Rattle.cache_policy.specs.{declared.{mode.Mode.Mode, life.Limits.Limits, mark.Mark.Mark, entry.Entry.Entry, history.Held.Held}, Entry.{serves, within}, Histories.{History, next_number, with_mark, marks_after, moments}}
+use Rattle.cache_policy.specs.{Entries.{stored, entries}, Seat.{under_of, is_open, gives_back, is_stop, last_open, unless_back, unless_given_back, seat, stopped}, Live.{newest_of, newest, takes_away, gone, gives, last_use, is_live}}
 use Rattle.cache_policy.proofs.EntriesLemmas.{entries_with_mark}
 
 pub next_number_with_mark : (history : History) (mark : Mark) → next_number (with_mark history mark) ≡ next_number history + 1

@@ -1,29 +1,10 @@
 -- One prompt: a ticket that is out stays so up to its Close, over turn-overs too, and meanwhile the policy opens no other.
-use Rattle.std.specs.Prelude.{◌≡◌, ℕ, ◌+◌, List, [], ◌∷◌, ◌++◌, length, Bool, true, false, not, cond, Option, Some, None, IfSome, refl, if◌then◌else◌}
-use Rattle.std.proofs.Common.{ap, sym, ◌∙◌, subst, arith, append_assoc}
-use Rattle.std.proofs.lemmas.List.{append-nil, length-append}
-use Rattle.std.proofs.lemmas.List.Sums.{take_while-cons}
-use Rattle.std.specs.List.{AllByRecursion}
-use Rattle.std.specs.Option.{option_map, option_and_then}
-use Rattle.cache_policy.specs.declared.life.Limits.{Limits}
-use Rattle.cache_policy.specs.declared.mark.Way.{Way}
-use Rattle.cache_policy.specs.declared.mark.Way.TheVariants.{Quiet, Prompt}
-use Rattle.cache_policy.specs.declared.mark.Mark.{Mark}
-use Rattle.cache_policy.specs.declared.mark.MarkStep.{MarkStep}
-use Rattle.cache_policy.specs.declared.mark.MarkStep.TheVariants.{Ask, Seat, Close, Put, Clear, Flush, Peek, Stop}
-use Rattle.cache_policy.specs.declared.mark.MarkReply.{MarkReply}
-use Rattle.cache_policy.specs.declared.mark.MarkReply.TheVariants.{Given, Empty, Open, Done, Held as WhetherHeld, Stopping, Late}
-use Rattle.cache_policy.specs.declared.entry.Entry.{Entry}
-use Rattle.cache_policy.specs.declared.history.Held.{Held}
-use Rattle.cache_policy.specs.Histories.{History, next_number, start_of, with_marks, with_mark}
-use Rattle.cache_policy.specs.Seat.{under_of, is_open, gives_back, unless_back, unless_given_back, seat, stopped}
-use Rattle.cache_policy.specs.Live.{live}
-use Rattle.cache_policy.specs.Policy.{Reply, policy, prompt_ruling, ask_ruling}
-use Rattle.cache_policy.specs.Waits.{is_late}
-use Rattle.cache_policy.specs.Runs.{IsFollowedBy, IsRun, joined, start_of_run}
-use Rattle.cache_policy.specs.Legal.{FollowsPolicy, IsLegal, IsLegalRun}
-use Rattle.cache_policy.specs.OnePrompt.{before_close, NoneOpens, HasOnePrompt}
-use Rattle.cache_policy.proofs.OneMore.{next_number_with_mark, seat_with_mark}
+use Rattle.std.specs.{Prelude.{◌≡◌, ℕ, ◌+◌, List, [], ◌∷◌, ◌++◌, length, Bool, true, false, not, cond, Option, Some, None, IfSome, refl, if◌then◌else◌}, List.AllByRecursion, Option.{option_map, option_and_then}}
+use Rattle.std.proofs.{Common.{ap, sym, ◌∙◌, subst, arith, append_assoc}, lemmas.List.{append-nil, length-append, Sums.take_while-cons}}
+use Rattle.cache_policy.specs.declared.{life.Limits.Limits, mark.{Way.{Way, TheVariants.{Quiet, Prompt}}, Mark.Mark, MarkStep.{MarkStep, TheVariants.{Ask, Seat, Close, Put, Clear, Flush, Peek, Stop}}, MarkReply.MarkReply}}
+use Rattle.cache_policy.specs.{declared.{mark.MarkReply.TheVariants.{Given, Empty, Open, Done, Held as WhetherHeld, Stopping, Late}, entry.Entry.Entry, history.Held.Held}, Histories.{History, next_number, start_of, with_marks, with_mark}}
+use Rattle.cache_policy.specs.{Seat.{under_of, is_open, gives_back, unless_back, unless_given_back, seat, stopped}, Live.live, Policy.{Reply, policy, prompt_ruling, ask_ruling}, Waits.is_late}
+use Rattle.cache_policy.{specs.{Runs.{IsFollowedBy, IsRun, joined, start_of_run}, Legal.{FollowsPolicy, IsLegal, IsLegalRun}, OnePrompt.{before_close, NoneOpens, HasOnePrompt}}, proofs.OneMore.{next_number_with_mark, seat_with_mark}}
 use Rattle.cache_policy.proofs.Growing.{seat_turn_over}
 
 prompt_waits : (stops : Bool) (held : Held) (late : Bool) → prompt_ruling stops (Some held) late ≡ Reply Open → ⊥

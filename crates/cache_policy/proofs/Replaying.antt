@@ -1,19 +1,8 @@
 -- A replay is the only one of its steps and readings.
-use Rattle.std.specs.Prelude.{◌≡◌, ◌≢◌, ℕ, List, [], ◌∷◌, ◌++◌, length, map, Some, refl}
-use Rattle.std.proofs.Common.{ap, sym, ◌∙◌, subst, arith, append-nil, length-append}
-use Rattle.std.proofs.lemmas.List.{length-map}
-use Rattle.std.specs.List.{AllByRecursion}
+use Rattle.std.{specs.{Prelude.{◌≡◌, ◌≢◌, ℕ, List, [], ◌∷◌, ◌++◌, length, map, Some, refl}, List.AllByRecursion}, proofs.{Common.{ap, sym, ◌∙◌, subst, arith, append-nil, length-append}, lemmas.List.length-map}}
 use Rattle.agent_ports.specs.declared.session.SessionId.{SessionId}
-use Rattle.cache_policy.specs.declared.bounds.TheConstants.{MAX_MARKS}
-use Rattle.cache_policy.specs.declared.life.Limits.{Limits}
-use Rattle.cache_policy.specs.declared.mark.Mark.{Mark}
-use Rattle.cache_policy.specs.declared.mark.MarkReply.{MarkReply}
-use Rattle.cache_policy.specs.declared.mark.MarkStep.{MarkStep}
-use Rattle.cache_policy.specs.Histories.{History, start_of, with_mark}
-use Rattle.cache_policy.specs.Legal.{FollowsPolicy, IsLegal}
-use Rattle.cache_policy.specs.Policy.{Reply, policy}
-use Rattle.cache_policy.specs.Replay.{NoneEmpty, Replays}
-use Rattle.cache_policy.specs.Runs.{IsRun, joined, start_of_run, turn_over}
+use Rattle.cache_policy.specs.{declared.{bounds.TheConstants.MAX_MARKS, life.Limits.Limits, mark.{Mark.Mark, MarkReply.MarkReply, MarkStep.MarkStep}}, Histories.{History, start_of, with_mark}, Legal.{FollowsPolicy, IsLegal}}
+use Rattle.cache_policy.specs.{Policy.{Reply, policy}, Replay.{NoneEmpty, Replays}, Runs.{IsRun, joined, start_of_run, turn_over}}
 
 mark_same : (mark other : Mark) → mark.session ≡ other.session → mark.step ≡ other.step → mark.reply ≡ other.reply → mark.moment ≡ other.moment → mark ≡ other
 mark_same mark other session step_is reply moment =

@@ -1,30 +1,10 @@
 -- Nothing comes back: from the policy's reply at a mark to the entry that it names.
-use Rattle.std.specs.Prelude.{◌≡◌, ℕ, List, [], ◌∷◌, ◌++◌, Bool, true, false, not, ◌&&◌, Option, Some, None, find, reverse, refl, if◌then◌else◌}
-use Rattle.std.proofs.Common.{ap, sym, ◌∙◌, subst, append_assoc}
-use Rattle.std.proofs.lemmas.List.{append-nil, reverse-append, reverse-reverse}
-use Rattle.std.specs.List.{AllByRecursion}
-use Rattle.std.specs.Option.{option_and_then}
 use mathlib.Core.List.{reverse-cons}
-use Rattle.cache_policy.specs.declared.mode.Mode.{Mode}
-use Rattle.cache_policy.specs.declared.life.Limits.{Limits}
-use Rattle.cache_policy.specs.declared.mark.Way.{Way}
-use Rattle.cache_policy.specs.declared.mark.Way.TheVariants.{Quiet, Prompt}
-use Rattle.cache_policy.specs.declared.mark.Mark.{Mark}
-use Rattle.cache_policy.specs.declared.mark.MarkStep.{MarkStep}
-use Rattle.cache_policy.specs.declared.mark.MarkStep.TheVariants.{Ask, Seat, Close, Put, Clear, Flush, Peek, Stop}
-use Rattle.cache_policy.specs.declared.mark.MarkReply.TheVariants.{Given}
-use Rattle.cache_policy.specs.declared.entry.Entry.{Entry}
-use Rattle.cache_policy.specs.declared.history.Held.{Held}
-use Rattle.cache_policy.specs.Entry.{serves, within}
-use Rattle.cache_policy.specs.Histories.{History, start_of, with_marks, with_mark}
-use Rattle.cache_policy.specs.Entries.{entries}
-use Rattle.cache_policy.specs.Seat.{seat, stopped}
-use Rattle.cache_policy.specs.Live.{newest, gone, last_use, is_live}
-use Rattle.cache_policy.specs.Policy.{Reply, policy, prompt_ruling, ask_ruling}
-use Rattle.cache_policy.specs.Waits.{is_late}
-use Rattle.cache_policy.specs.Legal.{FollowsPolicy, IsLegal}
-use Rattle.cache_policy.specs.Return.{IsGivenRightly}
-use Rattle.cache_policy.proofs.Lists.{all_reverse}
+use Rattle.std.specs.{Prelude.{◌≡◌, ℕ, List, [], ◌∷◌, ◌++◌, Bool, true, false, not, ◌&&◌, Option, Some, None, find, reverse, refl, if◌then◌else◌}, List.AllByRecursion, Option.option_and_then}
+use Rattle.std.proofs.{Common.{ap, sym, ◌∙◌, subst, append_assoc}, lemmas.List.{append-nil, reverse-append, reverse-reverse}}
+use Rattle.cache_policy.specs.declared.{mode.Mode.Mode, life.Limits.Limits, mark.{Way.{Way, TheVariants.{Quiet, Prompt}}, Mark.Mark, MarkStep.{MarkStep, TheVariants.{Ask, Seat, Close, Put, Clear, Flush, Peek, Stop}}}}
+use Rattle.cache_policy.specs.{declared.{mark.MarkReply.TheVariants.Given, entry.Entry.Entry, history.Held.Held}, Entry.{serves, within}, Histories.{History, start_of, with_marks, with_mark}, Entries.entries, Seat.{seat, stopped}}
+use Rattle.cache_policy.{specs.{Live.{newest, gone, last_use, is_live}, Policy.{Reply, policy, prompt_ruling, ask_ruling}, Waits.is_late, Legal.{FollowsPolicy, IsLegal}, Return.IsGivenRightly}, proofs.Lists.all_reverse}
 
 -- a mark that stands among those that follow the policy has the policy's reply after the marks before it
 follows_at : (limits : Limits) (start : History) (before later : List Mark) (mark : Mark) →

@@ -1,17 +1,7 @@
 -- A tally, by one mark more.
 use Rattle.std.proofs.Common.{◌≡◌, ℕ, ◌+◌, Bool, true, false, List, [], ◌∷◌, ◌++◌, length, refl, ap, sym, ◌∙◌, add-zero, arith, length-append}
-use Rattle.cache_policy.specs.declared.life.Limits.{Limits}
-use Rattle.cache_policy.specs.declared.mark.Mark.{Mark}
-use Rattle.cache_policy.specs.declared.entry.Entry.{Entry}
-use Rattle.cache_policy.specs.declared.tally.Tally.{Tally}
-use Rattle.cache_policy.specs.Entries.{entries, stored}
-use Rattle.cache_policy.specs.Histories.{History, with_mark}
-use Rattle.cache_policy.specs.Runs.{turn_over}
-use Rattle.cache_policy.specs.Seat.{is_open, stopped}
-use Rattle.cache_policy.specs.Tallies.{how_many, one_if, is_given, is_empty, is_clear, is_flush, with_history, with_one}
-use Rattle.cache_policy.proofs.OneMore.{stopped_with_mark}
-use Rattle.cache_policy.proofs.Growing.{stopped_turn_over}
-use Rattle.cache_policy.proofs.EntriesLemmas.{entries_with_mark}
+use Rattle.cache_policy.specs.{declared.{life.Limits.Limits, mark.Mark.Mark, entry.Entry.Entry, tally.Tally.Tally}, Entries.{entries, stored}, Histories.{History, with_mark}, Runs.turn_over, Seat.{is_open, stopped}}
+use Rattle.cache_policy.{specs.Tallies.{how_many, one_if, is_given, is_empty, is_clear, is_flush, with_history, with_one}, proofs.{OneMore.stopped_with_mark, Growing.stopped_turn_over, EntriesLemmas.entries_with_mark}}
 
 how_many_first : (passes : Mark → Bool) (first : Mark) (marks : List Mark) → how_many passes (first ∷ marks) ≡ one_if (passes first) + how_many passes marks
 how_many_first passes first marks = either (passes first) refl where

@@ -1,28 +1,10 @@
 -- The definitions on worked examples, each by computation. One id and one session; the limits are the manual's.
-use Rattle.std.specs.Prelude.{◌≡◌, ℕ, ◌%◌, ◌^◌, List, [], ◌∷◌, ◌++◌, true, false, Some, None, refl}
-use Rattle.std.proofs.Common.{inl, lit<, lit≤}
-use Rattle.cache_policy.specs.declared.mode.Mode.{Mode}
-use Rattle.cache_policy.specs.declared.mode.Mode.TheVariants.{Normal, User, Ssh, Any}
-use Rattle.cache_policy.specs.declared.life.Life.{Life}
-use Rattle.cache_policy.specs.declared.life.Life.TheVariants.{Default, Endless, Seconds}
-use Rattle.cache_policy.specs.declared.mark.Way.TheVariants.{Quiet, Prompt}
-use Rattle.cache_policy.specs.declared.mark.Mark.{Mark}
-use Rattle.cache_policy.specs.declared.mark.MarkStep.{MarkStep}
-use Rattle.cache_policy.specs.declared.mark.MarkStep.TheVariants.{Ask, Seat, Close, Put, Clear, Flush, Peek, Stop}
-use Rattle.cache_policy.specs.declared.mark.MarkReply.{MarkReply}
-use Rattle.cache_policy.specs.declared.mark.MarkReply.TheVariants.{Given, Empty, Open, Done, Held as WhetherHeld, Stopping, Late}
+use Rattle.std.{specs.Prelude.{◌≡◌, ℕ, ◌%◌, ◌^◌, List, [], ◌∷◌, ◌++◌, true, false, Some, None, refl}, proofs.Common.{inl, lit<, lit≤}}
 use Rattle.agent_ports.specs.declared.session.SessionId.{SessionId}
-use Rattle.cache_policy.specs.Histories.{History}
-use Rattle.cache_policy.specs.Turns.{since_when}
-use Rattle.cache_policy.specs.Waits.{since_by}
-use Rattle.cache_policy.specs.declared.life.Limits.{Limits}
-use Rattle.cache_policy.specs.Entries.{entries}
-use Rattle.cache_policy.specs.Seat.{seat, stopped}
-use Rattle.cache_policy.specs.Policy.{Ruling, Reply, Stand, policy}
-use Rattle.cache_policy.specs.declared.bounds.TheConstants.{MAX_MARKS}
-use Rattle.cache_policy.specs.Runs.{turn_over, joined, last_base, moment_before, moment_of}
-use Rattle.cache_policy.specs.Legal.{FollowsPolicy, IsLegal, IsLegalRun}
-use Rattle.cache_policy.specs.OnePrompt.{before_close, NoneOpens, HasOnePrompt}
+use Rattle.cache_policy.specs.declared.{mode.Mode.{Mode, TheVariants.{Normal, User, Ssh, Any}}, life.{Life.{Life, TheVariants.{Default, Endless, Seconds}}, Limits.Limits}, mark.{Way.TheVariants.{Quiet, Prompt}, Mark.Mark}}
+use Rattle.cache_policy.specs.declared.mark.{MarkStep.{MarkStep, TheVariants.{Ask, Seat, Close, Put, Clear, Flush, Peek, Stop}}, MarkReply.{MarkReply, TheVariants.{Given, Empty, Open, Done, Held as WhetherHeld, Stopping, Late}}}
+use Rattle.cache_policy.specs.{declared.bounds.TheConstants.MAX_MARKS, Histories.History, Turns.since_when, Waits.since_by, Entries.entries, Seat.{seat, stopped}, Policy.{Ruling, Reply, Stand, policy}}
+use Rattle.cache_policy.specs.{Runs.{turn_over, joined, last_base, moment_before, moment_of}, Legal.{FollowsPolicy, IsLegal, IsLegalRun}, OnePrompt.{before_close, NoneOpens, HasOnePrompt}}
 
 abbrev limits : Limits
 limits = record { ttl = 600; max = 7200; ttl_ssh = 1800; max_ssh = 7200 }

@@ -1,11 +1,6 @@
 -- What is left of marks, entries and histories without the bytes of their secrets. This is the project's own.
-use Rattle.std.specs.Prelude.{[], map}
-use Rattle.std.specs.Option.{option_map}
-use Rattle.cache_policy.specs.declared.mark.Mark.{Mark}
-use Rattle.cache_policy.specs.declared.mark.MarkStep.{MarkStep}
-use Rattle.cache_policy.specs.declared.mark.MarkStep.TheVariants.{Ask, Seat, Close, Put, Clear, Flush, Peek, Stop}
-use Rattle.cache_policy.specs.declared.entry.Entry.{Entry}
-use Rattle.cache_policy.specs.Histories.{History}
+use Rattle.std.specs.{Prelude.{[], map}, Option.option_map}
+use Rattle.cache_policy.specs.{declared.{mark.{Mark.Mark, MarkStep.{MarkStep, TheVariants.{Ask, Seat, Close, Put, Clear, Flush, Peek, Stop}}}, entry.Entry.Entry}, Histories.History}
 
 -- the step, where each secret has no bytes; whether a Close keeps one still shows
 abbrev pub bare_step : MarkStep → MarkStep

@@ -1,22 +1,8 @@
 -- The plain book: a cache that is given puts alone, and what it has to do with histories. It is this project's own.
-use Rattle.std.specs.Prelude.{◌≡◌, ℕ, ◌+◌, List, [], ◌++◌, map, Bool, true, false, Option, Some, None, if◌then◌else◌}
-use Rattle.std.specs.Option.{option_and_then}
-use Rattle.std.specs.List.{AllByRecursion}
+use Rattle.std.specs.{Prelude.{◌≡◌, ℕ, ◌+◌, List, [], ◌++◌, map, Bool, true, false, Option, Some, None, if◌then◌else◌}, Option.option_and_then, List.AllByRecursion}
 use Rattle.agent_ports.specs.declared.session.SessionId.{SessionId}
-use Rattle.cache_policy.specs.declared.mode.Mode.{Mode}
-use Rattle.cache_policy.specs.declared.life.Life.{Life}
-use Rattle.cache_policy.specs.declared.life.Limits.{Limits}
-use Rattle.cache_policy.specs.declared.mark.Way.{Way}
-use Rattle.cache_policy.specs.declared.mark.Mark.{Mark}
-use Rattle.cache_policy.specs.declared.mark.MarkStep.{MarkStep}
-use Rattle.cache_policy.specs.declared.mark.MarkStep.TheVariants.{Ask, Put}
-use Rattle.cache_policy.specs.declared.mark.MarkReply.{MarkReply}
-use Rattle.cache_policy.specs.declared.mark.MarkReply.TheVariants.{Done}
-use Rattle.cache_policy.specs.declared.entry.Entry.{Entry}
-use Rattle.cache_policy.specs.Entry.{within}
-use Rattle.cache_policy.specs.Histories.{History, next_number}
-use Rattle.cache_policy.specs.Entries.{entry_of, entries}
-use Rattle.cache_policy.specs.Live.{newest_of}
+use Rattle.cache_policy.specs.{declared.{mode.Mode.Mode, life.{Life.Life, Limits.Limits}, mark.{Way.Way, Mark.Mark, MarkStep.{MarkStep, TheVariants.{Ask, Put}}, MarkReply.{MarkReply, TheVariants.Done}}, entry.Entry.Entry}, Entry.within}
+use Rattle.cache_policy.specs.{Histories.{History, next_number}, Entries.{entry_of, entries}, Live.newest_of}
 
 pub record Book : Type 0 where
   -- what was stored, the oldest first

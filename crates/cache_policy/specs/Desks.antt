@@ -1,18 +1,10 @@
 -- A desk, at which a session takes its turns while other sessions take theirs: what each turn does to what a desk shows. This is the
 -- project's own.
-use Rattle.std.specs.Prelude.{◌≡◌, ◌≤◌, ℕ, ◌+◌, List, [], ◌∷◌, ◌++◌, Bool, true, false, length, Option, Some, None, IfSome, ⊤}
-use Rattle.std.specs.List.{AllByRecursion}
+use Rattle.std.specs.{Prelude.{◌≡◌, ◌≤◌, ℕ, ◌+◌, List, [], ◌∷◌, ◌++◌, Bool, true, false, length, Option, Some, None, IfSome, ⊤}, List.AllByRecursion}
 use Rattle.agent_ports.specs.declared.session.SessionId.{SessionId}
-use Rattle.cache_policy.specs.declared.life.Limits.{Limits}
-use Rattle.cache_policy.specs.declared.mark.Mark.{Mark}
-use Rattle.cache_policy.specs.declared.mark.MarkStep.{MarkStep}
+use Rattle.cache_policy.specs.{declared.{life.Limits.Limits, mark.{Mark.Mark, MarkStep.MarkStep}}, Histories.{History, next_number, with_mark}, Live.{last_use, live}, Runs.{last_base, joined, start_of_run, last_history, moment_before}}
+use Rattle.cache_policy.specs.{Legal.IsLegalRun, Turns.{Turn, Given, Empty, Open, Stand, Done, Held, Stopping, Late, Refused, FitsStep, opens, out_after, since_of, with_since}, Waits.is_session}
 use Rattle.cache_policy.specs.declared.mark.MarkReply.TheVariants as answer
-use Rattle.cache_policy.specs.Histories.{History, next_number, with_mark}
-use Rattle.cache_policy.specs.Live.{last_use, live}
-use Rattle.cache_policy.specs.Runs.{last_base, joined, start_of_run, last_history, moment_before}
-use Rattle.cache_policy.specs.Legal.{IsLegalRun}
-use Rattle.cache_policy.specs.Turns.{Turn, Given, Empty, Open, Stand, Done, Held, Stopping, Late, Refused, FitsStep, opens, out_after, since_of, with_since}
-use Rattle.cache_policy.specs.Waits.{is_session}
 
 -- what a desk shows: by which lifetimes it goes, whose turns they are, the histories so far where they are known, and the number of the
 -- ticket that the session has

@@ -1,20 +1,8 @@
 -- Entries: what the marks of a history stored. A passphrase is cached by a preset, or when a prompt ends (the GnuPG
 -- manual's agent protocol, PRESET_PASSPHRASE and GET_PASSPHRASE). That a ttl of 0 stores nothing is this project's own.
-use Rattle.std.specs.Prelude.{ℕ, ◌+◌, ◌≤◌, ◌==◌, List, [], ◌∷◌, ◌++◌, Option, Some, None, if◌then◌else◌}
-use Rattle.std.specs.Option.{option_and_then}
-use Rattle.cache_policy.specs.declared.mode.Mode.{Mode}
-use Rattle.cache_policy.specs.declared.life.Life.{Life}
-use Rattle.cache_policy.specs.declared.life.Life.TheVariants.{Default}
-use Rattle.cache_policy.specs.declared.life.Limits.{Limits}
-use Rattle.cache_policy.specs.declared.mark.Under.{Under}
-use Rattle.cache_policy.specs.declared.mark.Mark.{Mark}
-use Rattle.cache_policy.specs.declared.mark.MarkStep.{MarkStep}
-use Rattle.cache_policy.specs.declared.mark.MarkStep.TheVariants.{Put, Close}
-use Rattle.cache_policy.specs.declared.entry.Entry.{Entry}
-use Rattle.cache_policy.specs.declared.history.Held.{Held}
-use Rattle.cache_policy.specs.Lifetimes.{ttl_of, max_of, is_zero}
-use Rattle.cache_policy.specs.Histories.{History, next_number, start_of, with_mark}
-use Rattle.cache_policy.specs.Seat.{seat}
+use Rattle.std.specs.{Prelude.{ℕ, ◌+◌, ◌≤◌, ◌==◌, List, [], ◌∷◌, ◌++◌, Option, Some, None, if◌then◌else◌}, Option.option_and_then}
+use Rattle.cache_policy.specs.declared.{mode.Mode.Mode, life.{Life.{Life, TheVariants.Default}, Limits.Limits}, mark.{Under.Under, Mark.Mark, MarkStep.{MarkStep, TheVariants.{Put, Close}}}, entry.Entry.Entry, history.Held.Held}
+use Rattle.cache_policy.specs.{Lifetimes.{ttl_of, max_of, is_zero}, Histories.{History, next_number, start_of, with_mark}, Seat.seat}
 
 -- the entry of a passphrase that is stored; none where the effective ttl is 0
 abbrev pub entry_of : Limits → ℕ → ℕ → List ℕ → Mode → Life → List ℕ → List Entry

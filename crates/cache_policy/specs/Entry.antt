@@ -1,9 +1,6 @@
 -- One entry, the request that it serves and the moments at which it may be given.
-use Rattle.std.specs.Prelude.{ℕ, ◌+◌, List, Bool, true, ◌&&◌, nat_eq, nat_le, Option, Some, None}
-use Rattle.std.specs.Cmp.Lexicographic.{pointwise}
-use Rattle.cache_policy.specs.declared.mode.Mode.{Mode}
-use Rattle.cache_policy.specs.declared.entry.Entry.{Entry}
-use Rattle.cache_policy.specs.Mode.{covers}
+use Rattle.std.specs.{Prelude.{ℕ, ◌+◌, List, Bool, true, ◌&&◌, nat_eq, nat_le, Option, Some, None}, Cmp.Lexicographic.pointwise}
+use Rattle.cache_policy.specs.{declared.{mode.Mode.Mode, entry.Entry.Entry}, Mode.covers}
 
 -- two ids are the same bytes
 abbrev pub same_id : List ℕ → List ℕ → Bool

@@ -2,14 +2,7 @@
 -- the project's own.
 use Rattle.std.specs.Prelude.{◌≡◌, List, [], ◌∷◌, ◌++◌, filter, Option, Some, None, ⊤}
 use Rattle.agent_ports.specs.declared.session.SessionId.{SessionId}
-use Rattle.cache_policy.specs.declared.life.Limits.{Limits}
-use Rattle.cache_policy.specs.declared.mark.Mark.{Mark}
-use Rattle.cache_policy.specs.declared.mark.MarkStep.{MarkStep}
-use Rattle.cache_policy.specs.Histories.{History}
-use Rattle.cache_policy.specs.Legal.{IsLegalRun}
-use Rattle.cache_policy.specs.Runs.{joined, start_of_run, Extends}
-use Rattle.cache_policy.specs.Turns.{Turn}
-use Rattle.cache_policy.specs.Desks.{AtDesk, is_of, GoesOn}
+use Rattle.cache_policy.specs.{declared.{life.Limits.Limits, mark.{Mark.Mark, MarkStep.MarkStep}}, Histories.History, Legal.IsLegalRun, Runs.{joined, start_of_run, Extends}, Turns.Turn, Desks.{AtDesk, is_of, GoesOn}}
 
 -- a turn that was taken: what was asked, and how it came out
 pub record Taken : Type 0 where

@@ -1,9 +1,7 @@
 -- Histories: the marks that an agent made since it last began with an empty cache, with the number of the first, which
 -- ticket was out by then and whether it had stopped. All of this is the project's own.
 use Rattle.std.specs.Prelude.{ℕ, ◌+◌, ◌-◌, Bool, List, [], ◌∷◌, ◌++◌, length, drop, map, Option}
-use Rattle.cache_policy.specs.declared.mark.Mark.{Mark}
-use Rattle.cache_policy.specs.declared.history.Held.{Held}
-use Rattle.cache_policy.specs.declared.history.History.{History as HistoryInMemory}
+use Rattle.cache_policy.specs.declared.{mark.Mark.Mark, history.{Held.Held, History.History as HistoryInMemory}}
 
 pub record History : Type 0 where
   pub base : ℕ

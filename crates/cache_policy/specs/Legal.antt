@@ -1,12 +1,6 @@
 -- Legal histories and runs: each reply is the policy's. All of this is the project's own.
-use Rattle.std.specs.Prelude.{◌≡◌, ℕ, ◌%◌, ◌<◌, ◌≤◌, ◌⊎◌, List, [], ◌∷◌, length, IfSome}
-use Rattle.std.specs.List.{AllByRecursion}
-use Rattle.cache_policy.specs.declared.life.Limits.{Limits}
-use Rattle.cache_policy.specs.declared.mark.Mark.{Mark}
-use Rattle.cache_policy.specs.Histories.{History, start_of, with_mark}
-use Rattle.cache_policy.specs.Policy.{Reply, policy}
-use Rattle.cache_policy.specs.declared.bounds.TheConstants.{MAX_MARKS, MAX_MOMENT}
-use Rattle.cache_policy.specs.Runs.{last_base, IsRun, joined}
+use Rattle.std.specs.{Prelude.{◌≡◌, ℕ, ◌%◌, ◌<◌, ◌≤◌, ◌⊎◌, List, [], ◌∷◌, length, IfSome}, List.AllByRecursion}
+use Rattle.cache_policy.specs.{declared.{life.Limits.Limits, mark.Mark.Mark, bounds.TheConstants.{MAX_MARKS, MAX_MOMENT}}, Histories.{History, start_of, with_mark}, Policy.{Reply, policy}, Runs.{last_base, IsRun, joined}}
 
 -- each of the marks has the policy's reply after the marks before it, at its moment; none of them is Stand
 abbrev pub FollowsPolicy : Limits → History → List Mark → Type 0

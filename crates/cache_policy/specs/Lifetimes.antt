@@ -1,11 +1,7 @@
 -- Lifetimes: `default-cache-ttl`, `max-cache-ttl` and the same for ssh of the GnuPG manual's agent options. That the
 -- last second counts, and that User, Nonce and Any have the numbers of keys, is this project's own.
 use Rattle.std.specs.Prelude.{ℕ, Option, Some, None, Bool, false, ◌==◌}
-use Rattle.cache_policy.specs.declared.mode.Mode.{Mode}
-use Rattle.cache_policy.specs.declared.mode.Mode.TheVariants.{Ssh}
-use Rattle.cache_policy.specs.declared.life.Life.{Life}
-use Rattle.cache_policy.specs.declared.life.Life.TheVariants.{Default, Endless, Seconds}
-use Rattle.cache_policy.specs.declared.life.Limits.{Limits}
+use Rattle.cache_policy.specs.declared.{mode.Mode.{Mode, TheVariants.Ssh}, life.{Life.{Life, TheVariants.{Default, Endless, Seconds}}, Limits.Limits}}
 
 -- the ttl of an entry whose life names none
 abbrev pub default_ttl : Limits → Mode → ℕ

@@ -1,20 +1,9 @@
 -- Newest, gone, last use and live: which passphrase a request is given. A use starts the ttl again, and the maximum age
 -- never starts again (the GnuPG manual, `default-cache-ttl` and `max-cache-ttl`). That a newer entry hides an older one
 -- for good, and what clears what, is this project's own.
-use Rattle.std.specs.Prelude.{ℕ, ◌==◌, List, Bool, true, false, ◌&&◌, not, max, Option, Some, None, if◌then◌else◌, find, filter, fold, reverse}
-use Rattle.std.specs.Option.{option_and_then}
-use Rattle.std.specs.List.{list_any}
-use Rattle.cache_policy.specs.declared.mode.Mode.{Mode}
-use Rattle.cache_policy.specs.declared.life.Limits.{Limits}
-use Rattle.cache_policy.specs.declared.mark.MarkStep.{MarkStep}
-use Rattle.cache_policy.specs.declared.mark.MarkStep.TheVariants.{Clear, Flush}
-use Rattle.cache_policy.specs.declared.mark.MarkReply.{MarkReply}
-use Rattle.cache_policy.specs.declared.mark.MarkReply.TheVariants.{Given}
-use Rattle.cache_policy.specs.declared.entry.Entry.{Entry}
-use Rattle.cache_policy.specs.Mode.{covers}
-use Rattle.cache_policy.specs.Entry.{same_id, serves, within}
-use Rattle.cache_policy.specs.Histories.{History, marks_after, moments}
-use Rattle.cache_policy.specs.Entries.{entries}
+use Rattle.std.specs.{Prelude.{ℕ, ◌==◌, List, Bool, true, false, ◌&&◌, not, max, Option, Some, None, if◌then◌else◌, find, filter, fold, reverse}, Option.option_and_then, List.list_any}
+use Rattle.cache_policy.specs.{declared.{mode.Mode.Mode, life.Limits.Limits, mark.{MarkStep.{MarkStep, TheVariants.{Clear, Flush}}, MarkReply.{MarkReply, TheVariants.Given}}, entry.Entry.Entry}, Mode.covers, Entry.{same_id, serves, within}}
+use Rattle.cache_policy.specs.{Histories.{History, marks_after, moments}, Entries.entries}
 
 -- the last of the entries that serve a request
 abbrev pub newest_of : List ℕ → Mode → List Entry → Option Entry

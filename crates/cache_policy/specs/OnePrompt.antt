@@ -1,10 +1,6 @@
 -- One prompt: while a ticket is out, no other is opened. This is the project's own.
-use Rattle.std.specs.Prelude.{◌≡◌, ℕ, ◌+◌, List, ◌∷◌, ◌++◌, length, take_while, false, not, IfSome}
-use Rattle.std.specs.List.{AllByRecursion}
-use Rattle.cache_policy.specs.declared.mark.Mark.{Mark}
-use Rattle.cache_policy.specs.declared.mark.MarkReply.TheVariants.{Open}
-use Rattle.cache_policy.specs.Histories.{History}
-use Rattle.cache_policy.specs.Seat.{is_open, gives_back}
+use Rattle.std.specs.{Prelude.{◌≡◌, ℕ, ◌+◌, List, ◌∷◌, ◌++◌, length, take_while, false, not, IfSome}, List.AllByRecursion}
+use Rattle.cache_policy.specs.{declared.mark.{Mark.Mark, MarkReply.TheVariants.Open}, Histories.History, Seat.{is_open, gives_back}}
 
 -- the marks before the first Close of this ticket, or all of them where none is
 abbrev pub before_close : ℕ → List Mark → List Mark

@@ -1,19 +1,7 @@
 -- The policy: what a step at a moment is answered, after a history. The table is this project's own.
-use Rattle.std.specs.Prelude.{ℕ, Bool, true, false, Option, Some, None}
-use Rattle.std.specs.Option.{is_some}
-use Rattle.cache_policy.specs.declared.life.Limits.{Limits}
-use Rattle.cache_policy.specs.declared.mark.Way.{Way}
-use Rattle.cache_policy.specs.declared.mark.Way.TheVariants.{Quiet, Prompt}
-use Rattle.cache_policy.specs.declared.mark.MarkStep.{MarkStep}
-use Rattle.cache_policy.specs.declared.mark.MarkStep.TheVariants.{Ask, Seat, Peek, Close, Put, Clear, Flush, Stop}
-use Rattle.cache_policy.specs.declared.mark.MarkReply.{MarkReply}
-use Rattle.cache_policy.specs.declared.mark.MarkReply.TheVariants.{Given, Empty, Open, Done, Held as WhetherHeld, Stopping, Late}
-use Rattle.cache_policy.specs.declared.entry.Entry.{Entry}
-use Rattle.cache_policy.specs.declared.history.Held.{Held}
-use Rattle.cache_policy.specs.Histories.{History}
-use Rattle.cache_policy.specs.Live.{live}
-use Rattle.cache_policy.specs.Seat.{seat, stopped}
-use Rattle.cache_policy.specs.Waits.{is_late}
+use Rattle.std.specs.{Prelude.{ℕ, Bool, true, false, Option, Some, None}, Option.is_some}
+use Rattle.cache_policy.specs.declared.{life.Limits.Limits, mark.{Way.{Way, TheVariants.{Quiet, Prompt}}, MarkStep.{MarkStep, TheVariants.{Ask, Seat, Peek, Close, Put, Clear, Flush, Stop}}, MarkReply.MarkReply}}
+use Rattle.cache_policy.specs.{declared.{mark.MarkReply.TheVariants.{Given, Empty, Open, Done, Held as WhetherHeld, Stopping, Late}, entry.Entry.Entry, history.Held.Held}, Histories.History, Live.live, Seat.{seat, stopped}, Waits.is_late}
 
 -- a reply, which makes a mark, or Stand: the step waits for the seat, and makes none
 pub data Ruling : Type 0 where

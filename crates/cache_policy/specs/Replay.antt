@@ -1,14 +1,7 @@
 -- Replays: the run that these steps make, one after another, at these readings. This is the project's own.
-use Rattle.std.specs.Prelude.{◌≡◌, ◌≢◌, ◌⊎◌, ℕ, List, [], ◌∷◌, false, Some, None, map, ⊤}
-use Rattle.std.specs.List.{AllByRecursion}
+use Rattle.std.specs.{Prelude.{◌≡◌, ◌≢◌, ◌⊎◌, ℕ, List, [], ◌∷◌, false, Some, None, map, ⊤}, List.AllByRecursion}
 use Rattle.agent_ports.specs.declared.session.SessionId.{SessionId}
-use Rattle.cache_policy.specs.declared.life.Limits.{Limits}
-use Rattle.cache_policy.specs.declared.mark.MarkStep.{MarkStep}
-use Rattle.cache_policy.specs.Histories.{History, moments}
-use Rattle.cache_policy.specs.Legal.{IsLegalRun}
-use Rattle.cache_policy.specs.Extending.{Taken}
-use Rattle.cache_policy.specs.Runs.{joined, start_of_run, moment_of}
-use Rattle.cache_policy.specs.Turns.{Refused, Stopping}
+use Rattle.cache_policy.specs.{declared.{life.Limits.Limits, mark.MarkStep.MarkStep}, Histories.{History, moments}, Legal.IsLegalRun, Extending.Taken, Runs.{joined, start_of_run, moment_of}, Turns.{Refused, Stopping}}
 
 -- no marks yet, no ticket out, and not stopped
 abbrev pub first_history : History

@@ -1,16 +1,6 @@
 -- Nothing comes back: what a mark that was replied Given says of the entry that it names.
-use Rattle.std.specs.Prelude.{◌≡◌, ℕ, List, ◌∷◌, ◌++◌, true, false, Option}
-use Rattle.std.specs.List.{AllByRecursion}
-use Rattle.cache_policy.specs.declared.mode.Mode.{Mode}
-use Rattle.cache_policy.specs.declared.life.Limits.{Limits}
-use Rattle.cache_policy.specs.declared.mark.Way.{Way}
-use Rattle.cache_policy.specs.declared.mark.Mark.{Mark}
-use Rattle.cache_policy.specs.declared.mark.MarkStep.TheVariants.{Ask}
-use Rattle.cache_policy.specs.declared.entry.Entry.{Entry}
-use Rattle.cache_policy.specs.Histories.{History}
-use Rattle.cache_policy.specs.Entry.{serves, within}
-use Rattle.cache_policy.specs.Entries.{entries}
-use Rattle.cache_policy.specs.Live.{gone, last_use}
+use Rattle.std.specs.{Prelude.{◌≡◌, ℕ, List, ◌∷◌, ◌++◌, true, false, Option}, List.AllByRecursion}
+use Rattle.cache_policy.specs.{declared.{mode.Mode.Mode, life.Limits.Limits, mark.{Way.Way, Mark.Mark, MarkStep.TheVariants.Ask}, entry.Entry.Entry}, Histories.History, Entry.{serves, within}, Entries.entries, Live.{gone, last_use}}
 
 -- the mark after this history is an ask, and the number that it was given is that of an entry which serves it, is the
 -- newest that does, was not taken away, and is within both lifetimes at the mark

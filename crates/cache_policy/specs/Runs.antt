@@ -1,10 +1,6 @@
 -- Runs: one history after another, each beginning with an empty cache. All of this is the project's own.
-use Rattle.std.specs.Prelude.{◌≡◌, ℕ, ◌+◌, ◌^◌, ◌==◌, if◌then◌else◌, min, max, List, [], ◌∷◌, ◌++◌, length, fold, Bool, Option, Some, None}
-use Rattle.std.specs.List.{flat_map}
-use Rattle.cache_policy.specs.declared.bounds.TheConstants.{MAX_MARKS, MAX_MOMENT}
-use Rattle.cache_policy.specs.declared.mark.Mark.{Mark}
-use Rattle.cache_policy.specs.Histories.{History, start_of, with_mark}
-use Rattle.cache_policy.specs.Seat.{seat, stopped}
+use Rattle.std.specs.{Prelude.{◌≡◌, ℕ, ◌+◌, ◌^◌, ◌==◌, if◌then◌else◌, min, max, List, [], ◌∷◌, ◌++◌, length, fold, Bool, Option, Some, None}, List.flat_map}
+use Rattle.cache_policy.specs.{declared.{bounds.TheConstants.{MAX_MARKS, MAX_MOMENT}, mark.Mark.Mark}, Histories.{History, start_of, with_mark}, Seat.{seat, stopped}}
 
 -- the history that a full one is followed by: the base raised, the same ticket out, stopped likewise, and no marks
 abbrev pub turn_over : History → History

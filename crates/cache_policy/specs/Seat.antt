@@ -1,15 +1,6 @@
 -- The seat at the one prompt, and whether the agent has stopped opening prompts. Both are this project's own.
-use Rattle.std.specs.Prelude.{ℕ, ◌+◌, ◌==◌, List, [], ◌∷◌, Bool, true, false, ◌||◌, if◌then◌else◌, Option, Some, None}
-use Rattle.std.specs.Option.{option_or, option_map, option_and_then}
-use Rattle.std.specs.List.{list_any}
-use Rattle.cache_policy.specs.declared.mark.Under.{Under}
-use Rattle.cache_policy.specs.declared.mark.Mark.{Mark}
-use Rattle.cache_policy.specs.declared.mark.MarkStep.{MarkStep}
-use Rattle.cache_policy.specs.declared.mark.MarkStep.TheVariants.{Ask, Seat, Close, Stop}
-use Rattle.cache_policy.specs.declared.mark.MarkReply.{MarkReply}
-use Rattle.cache_policy.specs.declared.mark.MarkReply.TheVariants.{Open}
-use Rattle.cache_policy.specs.declared.history.Held.{Held}
-use Rattle.cache_policy.specs.Histories.{History}
+use Rattle.std.specs.{Prelude.{ℕ, ◌+◌, ◌==◌, List, [], ◌∷◌, Bool, true, false, ◌||◌, if◌then◌else◌, Option, Some, None}, Option.{option_or, option_map, option_and_then}, List.list_any}
+use Rattle.cache_policy.specs.{declared.{mark.{Under.Under, Mark.Mark, MarkStep.{MarkStep, TheVariants.{Ask, Seat, Close, Stop}}, MarkReply.{MarkReply, TheVariants.Open}}, history.Held.Held}, Histories.History}
 
 -- what a ticket that this step opens is kept under: an Ask names its id and mode, a Seat its own
 abbrev pub under_of : MarkStep → Option Under

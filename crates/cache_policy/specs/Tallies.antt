@@ -1,16 +1,7 @@
 -- A tally counts the marks of a run, the answers among them that a client sees, the entries stored, and the steps that take some away.
 -- This is the project's own.
-use Rattle.std.specs.Prelude.{◌≤◌, ℕ, ◌+◌, List, length, Bool, true, false, ◌||◌}
-use Rattle.std.specs.List.{filter}
-use Rattle.cache_policy.specs.declared.life.Limits.{Limits}
-use Rattle.cache_policy.specs.declared.mark.Mark.{Mark}
-use Rattle.cache_policy.specs.declared.mark.MarkStep.{MarkStep}
-use Rattle.cache_policy.specs.declared.mark.MarkStep.TheVariants.{Clear, Flush}
-use Rattle.cache_policy.specs.declared.mark.MarkReply.{MarkReply}
-use Rattle.cache_policy.specs.declared.mark.MarkReply.TheVariants.{Given, Empty}
-use Rattle.cache_policy.specs.Histories.{History}
-use Rattle.cache_policy.specs.declared.tally.Tally.{Tally}
-use Rattle.cache_policy.specs.Entries.{entries}
+use Rattle.std.specs.{Prelude.{◌≤◌, ℕ, ◌+◌, List, length, Bool, true, false, ◌||◌}, List.filter}
+use Rattle.cache_policy.specs.{declared.{life.Limits.Limits, mark.{Mark.Mark, MarkStep.{MarkStep, TheVariants.{Clear, Flush}}, MarkReply.{MarkReply, TheVariants.{Given, Empty}}}, tally.Tally.Tally}, Histories.History, Entries.entries}
 use Rattle.cache_policy.specs.Seat.{is_open, is_stop, stopped}
 
 abbrev pub is_given : MarkReply → Bool

@@ -1,14 +1,9 @@
 -- Traces: marks without the bytes of their secrets, as an agent can keep them. This is the project's own.
 use Rattle.std.specs.Prelude.{[], Option, Some, None, if◌then◌else◌}
-use Rattle.cache_policy.specs.declared.mark.Mark.{Mark}
-use Rattle.cache_policy.specs.declared.mark.MarkStep.{MarkStep}
-use Rattle.cache_policy.specs.declared.mark.MarkStep.TheVariants.{Ask, Seat, Close, Put, Clear, Flush, Peek, Stop}
-use Rattle.cache_policy.specs.declared.mark.MarkReply.{MarkReply}
-use Rattle.cache_policy.specs.declared.mark.MarkReply.TheVariants as mark
-use Rattle.cache_policy.specs.declared.trace.Trace.{Trace}
-use Rattle.cache_policy.specs.declared.trace.TraceStep.{TraceStep}
-use Rattle.cache_policy.specs.declared.trace.TraceStep.TheVariants as trace
+use Rattle.cache_policy.specs.declared.{mark.{Mark.Mark, MarkStep.{MarkStep, TheVariants.{Ask, Seat, Close, Put, Clear, Flush, Peek, Stop}}, MarkReply.MarkReply}, trace.{Trace.Trace, TraceStep.TraceStep}}
 use Rattle.cache_policy.specs.Turns.{Turn, Given, Empty, Open, Stand, Done, Held, Stopping, Late, Refused}
+use Rattle.cache_policy.specs.declared.mark.MarkReply.TheVariants as mark
+use Rattle.cache_policy.specs.declared.trace.TraceStep.TheVariants as trace
 
 -- the step that a trace shows, where each secret has no bytes
 abbrev pub trace_step : TraceStep → MarkStep

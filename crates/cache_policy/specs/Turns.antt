@@ -1,19 +1,11 @@
 -- One turn of a session at a desk: what it asks, how it comes out, and what it does to the ticket that the session has. This is the
 -- project's own.
-use Rattle.std.specs.Prelude.{◌≡◌, ℕ, Bool, true, false, Option, Some, None, IsSome, Result, Ok, Err, ⊤}
-use Rattle.std.specs.Option.{option_map_or}
+use Rattle.std.specs.{Prelude.{◌≡◌, ℕ, Bool, true, false, Option, Some, None, IsSome, Result, Ok, Err, ⊤}, Option.option_map_or}
 use Rattle.agent_ports.specs.declared.session.SessionId.{SessionId}
-use Rattle.cache_policy.specs.declared.mark.Way.TheVariants.{Quiet, Prompt}
-use Rattle.cache_policy.specs.declared.mark.MarkStep.{MarkStep}
-use Rattle.cache_policy.specs.declared.mark.MarkStep.TheVariants.{Ask, Seat, Close, Put, Clear, Flush, Peek, Stop}
-use Rattle.cache_policy.specs.declared.grant.Grant.{Grant}
-use Rattle.cache_policy.specs.declared.step.Step.{Step}
+use Rattle.cache_policy.specs.declared.{mark.{Way.TheVariants.{Quiet, Prompt}, MarkStep.{MarkStep, TheVariants.{Ask, Seat, Close, Put, Clear, Flush, Peek, Stop}}}, grant.Grant.Grant, step.{Step.Step, Reply.Reply}}
+use Rattle.cache_policy.specs.{declared.{step.Refused.Refused as HandedBack, wait.Wait.Wait}, Waits.since_by}
 use Rattle.cache_policy.specs.declared.step.Step.TheVariants as asked
-use Rattle.cache_policy.specs.declared.step.Reply.{Reply}
 use Rattle.cache_policy.specs.declared.step.Reply.TheVariants as reply
-use Rattle.cache_policy.specs.declared.step.Refused.{Refused as HandedBack}
-use Rattle.cache_policy.specs.declared.wait.Wait.{Wait}
-use Rattle.cache_policy.specs.Waits.{since_by}
 
 -- the step as it is asked, without a since, and with the number of its ticket in place of a ticket
 abbrev pub asked_step : Step → MarkStep

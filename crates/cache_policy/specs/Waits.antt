@@ -1,8 +1,7 @@
 -- Waits: since when a step of a session stands before a held seat, and when it has stood too long. The rule is this project's own.
 use Rattle.std.specs.Prelude.{ℕ, ◌+◌, Bool, false, ◌&&◌, nat_eq, nat_le, Option, Some, None, if◌then◌else◌}
 use Rattle.agent_ports.specs.declared.session.SessionId.{SessionId}
-use Rattle.cache_policy.specs.declared.bounds.TheConstants.{MAX_WAIT}
-use Rattle.cache_policy.specs.declared.wait.Wait.{Wait}
+use Rattle.cache_policy.specs.declared.{bounds.TheConstants.MAX_WAIT, wait.Wait.Wait}
 
 -- the sessions are one
 abbrev pub is_session : SessionId → SessionId → Bool

@@ -2,8 +2,7 @@
 //! takes no memory. Begin with `Entry::within`; `specs/Entry` says when an entry serves, and
 //! `specs/Entries` which marks (log entries) store one.
 
-ghost use Rattle.std.specs.Prelude.{◌≡◌};
-ghost use Rattle.std.specs.Option.{option_to_list};
+ghost use Rattle.std.specs.{Prelude.◌≡◌, Option.option_to_list};
 
 use crate::{CacheId, Life, Limits, Mode, Secret};
 
@@ -27,8 +26,7 @@ pub struct Entry {
 }
 
 impl Entry {
-    ghost use Rattle.cache_policy.specs.Entry.{serves, within};
-    ghost use Rattle.cache_policy.specs.Entries.{entry_of};
+    ghost use Rattle.cache_policy.specs.{Entry.{serves, within}, Entries.entry_of};
 
     /// The entry that a mark with this number stores, or `None` where the effective ttl is 0.
     pub fn of(

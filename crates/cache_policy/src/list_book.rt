@@ -6,12 +6,10 @@
 ghost use Rattle.std.specs.Prelude.{◌≡◌, ◌≤◌, [], ◌++◌, OnOk, OnErr, IfSome, Option, ℕ};
 ghost use Rattle.std.specs.Option.{option_map, option_copied, option_to_list};
 ghost use Rattle.agent_ports.specs.declared.session.SessionId.{SessionId};
-ghost use Rattle.cache_policy.specs.declared.life.Limits.{Limits as Lifetimes};
-ghost use Rattle.cache_policy.specs.declared.mark.Way.{Way};
+ghost use Rattle.cache_policy.specs.declared.{life.Limits.Limits as Lifetimes, mark.Way.Way};
 ghost use Rattle.cache_policy.specs.declared.mark.MarkReply.{MarkReply};
-ghost use Rattle.cache_policy.specs.Histories.{History, with_mark};
 ghost use Rattle.cache_policy.specs.declared.bounds.TheConstants.{MAX_MOMENT};
-ghost use Rattle.cache_policy.specs.Live.{newest_of, live};
+ghost use Rattle.cache_policy.specs.{Histories.{History, with_mark}, Live.{newest_of, live}};
 ghost use Rattle.cache_policy.specs.Book.{empty_book, after_put, found, put_mark, ask_mark};
 ghost use Rattle.cache_policy.specs.Book.{IsBookOf, IsEndlessBookOf};
 

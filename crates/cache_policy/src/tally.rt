@@ -3,10 +3,8 @@
 //! that this counts a run.
 
 ghost use Rattle.std.specs.Prelude.{◌≡◌, ◌≤◌, ◌+◌, ◌^◌, ℕ, length, false};
-ghost use Rattle.cache_policy.specs.declared.mark.Mark.{Mark};
-ghost use Rattle.cache_policy.specs.Entries.{stored};
-ghost use Rattle.cache_policy.specs.Histories.{History, with_mark};
-ghost use Rattle.cache_policy.specs.Runs.{turn_over};
+ghost use Rattle.cache_policy.specs.{declared.mark.Mark.Mark, Entries.stored};
+ghost use Rattle.cache_policy.specs.{Histories.{History, with_mark}, Runs.turn_over};
 ghost use Rattle.cache_policy.specs.Seat.{seat, stopped};
 ghost use Rattle.cache_policy.specs.Tallies.{with_history, with_one, one_if, nothing_yet, IsSound};
 ghost use Rattle.cache_policy.specs.Traces.{trace_step, trace_mark};

@@ -3,8 +3,7 @@
 //! bytes as in `specs/Bare`.
 
 ghost use Rattle.std.specs.Prelude.{◌≡◌, Ok};
-ghost use Rattle.cache_policy.specs.Bare.{bare_step};
-ghost use Rattle.cache_policy.specs.Traces.{trace_step, reply_of};
+ghost use Rattle.cache_policy.specs.{Bare.bare_step, Traces.{trace_step, reply_of}};
 ghost use Rattle.cache_policy.specs.Turns.{mark_step, turn_of};
 
 use crate::wait::since_by;

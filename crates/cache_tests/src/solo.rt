@@ -1,8 +1,7 @@
 //! Tests of the desk (cache handle) of a session alone, at which others take the steps of a script
 //! between its turns. Begin with `Does` and `outcome`, which says what asks come to.
 
-ghost use Rattle.std.specs.Prelude.{◌≡◌, map, false, None, Some, IfOk};
-ghost use Rattle.std.specs.List.{AllByRecursion};
+ghost use Rattle.std.specs.{Prelude.{◌≡◌, map, false, None, Some, IfOk}, List.AllByRecursion};
 ghost use Rattle.cache_policy.specs.Turns.{asked_step, wait_of, opens, closes};
 ghost use Rattle.agent_core.specs.Foreigners.{IsForeign, AllForeign};
 

@@ -1,44 +1,17 @@
 -- A turn at the counted lock is one at a desk.
-use Rattle.std.proofs.Common.{◌≡◌, ◌≤◌, ℕ, min, List, [], ◌∷◌, ◌++◌, nat_eq, Bool, true, false, Option, Some, None, IfSome, Result, Ok, Err, IsErr, fold, sym, refl, ap, ◌∙◌, subst, arith}
-use Rattle.std.proofs.lemmas.List.{append-nil, append_assoc}
-use Rattle.std.specs.List.{AllByRecursion}
 use mathlib.Core.List.{IsPrefix}
-use Rattle.agent_ports.specs.Readings.{Readings, HasGiven, none as none_given}
-use Rattle.agent_ports.specs.declared.session.SessionId.{SessionId}
-use Rattle.agent_ports.proofs.Given.{given_one, given_then}
-use Rattle.cache_policy.specs.declared.bounds.TheConstants.{MAX_MOMENT}
-use Rattle.cache_policy.specs.declared.life.Limits.{Limits}
-use Rattle.cache_policy.specs.declared.mark.Mark.{Mark}
-use Rattle.cache_policy.specs.declared.mark.MarkStep.{MarkStep}
-use Rattle.cache_policy.specs.declared.mark.MarkStep.TheVariants.{Ask, Seat, Close, Put, Clear, Flush, Peek, Stop}
-use Rattle.cache_policy.specs.declared.wait.Wait.{Wait}
-use Rattle.cache_policy.specs.declared.step.Reply.{Reply}
-use Rattle.cache_policy.specs.declared.step.Refused.{Refused as HandedBack}
-use Rattle.cache_policy.specs.Desks.{is_of, MakesMarks, IsSpentRun, IsTurn}
-use Rattle.cache_policy.specs.Desks as desk
-use Rattle.cache_policy.specs.Histories.{History}
-use Rattle.cache_policy.specs.Legal.{NeverFall, IsLegalRun}
-use Rattle.cache_policy.specs.Runs.{last_history, next_history, moment_before, moment_of}
+use Rattle.std.proofs.{Common.{◌≡◌, ◌≤◌, ℕ, min, List, [], ◌∷◌, ◌++◌, nat_eq, Bool, true, false, Option, Some, None, IfSome, Result, Ok, Err, IsErr, fold, sym, refl, ap, ◌∙◌, subst, arith}, lemmas.List.{append-nil, append_assoc}}
+use Rattle.std.specs.List.{AllByRecursion}
+use Rattle.{agent_ports.{specs.{Readings.{Readings, HasGiven, none as none_given}, declared.session.SessionId.SessionId}, proofs.Given.{given_one, given_then}}, cache_policy.specs.declared.bounds.TheConstants.MAX_MOMENT}
+use Rattle.cache_policy.specs.declared.{life.Limits.Limits, mark.{Mark.Mark, MarkStep.{MarkStep, TheVariants.{Ask, Seat, Close, Put, Clear, Flush, Peek, Stop}}}, wait.Wait.Wait, step.{Reply.Reply, Refused.Refused as HandedBack, Step.Step}}
+use Rattle.cache_policy.specs.{Desks.{is_of, MakesMarks, IsSpentRun, IsTurn}, Histories.History, Legal.{NeverFall, IsLegalRun}, Runs.{last_history, next_history, moment_before, moment_of}}
 use Rattle.cache_policy.specs.Turns.{Turn, Given, Empty, Open, Stand, Done, Held, Stopping, Late, Refused, FitsReply, FitsStep, asked_step, mark_step, wait_of, turn_of, opens, out_after, since_of, since_when, wait_after, with_since}
-use Rattle.cache_policy.proofs.GrowingRuns.{last_run_with_mark}
-use Rattle.cache_policy.specs.declared.step.Step.{Step}
-use Rattle.agent_core.specs.declared.opening.Opening.{Opening}
+use Rattle.{cache_policy.proofs.GrowingRuns.last_run_with_mark, agent_core.specs.{declared.opening.Opening.Opening, Cores.mark_of, Known.{TakesStep, marked, stood, refused, spent}, Openings.opening_step, Solos.NoneTriedBefore}}
+use Rattle.agent_core.{specs.Stepped.IsSettled, proofs.{Seating.stand_opens, Promise.tried_first, Taken.{with_again, since_with, first_taken, asked_first, opening_taken}}}
+use Rattle.counted_lock.specs.{Logs.{run_of_log, IsLegalLog, marks_by}, Passes.{AtPass, mine}, Trying.{Tries, TriesAt, IsTriedAt, HandsOn, Waited}, Turns.{AtCountedDesk, WantsMemoryAt, IsFirstTry, HandsIn, TurnsPass, CountedTurn}}
+use Rattle.counted_lock.proofs.{LogLemmas.{joined_log, start_log, spent_has_all_marks}, Passing.{own_marks, added_none, added_one, marks_both}}
+use Rattle.cache_policy.specs.Desks as desk
 use Rattle.agent_core.specs.declared.opening.Opening.TheVariants as opening
-use Rattle.agent_core.specs.Cores.{mark_of}
-use Rattle.agent_core.specs.Known.{TakesStep, marked, stood, refused, spent}
-use Rattle.agent_core.specs.Openings.{opening_step}
-use Rattle.agent_core.specs.Solos.{NoneTriedBefore}
-use Rattle.agent_core.specs.Stepped.{IsSettled}
-use Rattle.agent_core.proofs.Seating.{stand_opens}
-use Rattle.agent_core.proofs.Promise.{tried_first}
-use Rattle.agent_core.proofs.Taken.{with_again, since_with, first_taken, asked_first, opening_taken}
-use Rattle.counted_lock.specs.Logs.{run_of_log, IsLegalLog}
-use Rattle.counted_lock.specs.Logs.{marks_by}
-use Rattle.counted_lock.specs.Passes.{AtPass, mine}
-use Rattle.counted_lock.specs.Trying.{Tries, TriesAt, IsTriedAt, HandsOn, Waited}
-use Rattle.counted_lock.specs.Turns.{AtCountedDesk, WantsMemoryAt, IsFirstTry, HandsIn, TurnsPass, CountedTurn}
-use Rattle.counted_lock.proofs.LogLemmas.{joined_log, start_log, spent_has_all_marks}
-use Rattle.counted_lock.proofs.Passing.{own_marks, added_none, added_one, marks_both}
 
 -- marks of other passes are of other sessions
 marks_of_others_are_foreign : (session : SessionId) (marks : List Mark) → marks_by session.pass marks ≡ [] → AllByRecursion (λ mark. is_of session mark ≡ false) marks

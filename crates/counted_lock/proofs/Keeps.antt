@@ -1,35 +1,16 @@
 -- Each step keeps the rule of the table.
-use Rattle.std.proofs.Common.{◌≡◌, ◌≢◌, ◌≤◌, ◌<◌, ℕ, zero, suc, ◌+◌, ◌%◌, ◌^◌, Bool, true, false, nat_eq, List, [], ◌∷◌, ◌++◌, length, set, get_or, sym, refl, ap, ◌∙◌, subst, arith, Option, Some, length-append, ⊎_elim}
-use Rattle.std.proofs.Math.Nat.{mod-add-mod, mod-eq_of_lt}
-use Rattle.std.proofs.lemmas.Bool.Decides.{nat_tests}
-use Rattle.std.proofs.lemmas.List.{append-nil}
-use mathlib.Core.Logic.{dite}
-use mathlib.Core.Option.{some, none, some-injective, some-ne-none}
-use mathlib.Core.Option as maybe
+use lib.{ListN.get_elem?, Seq.set-get_or}
+use mathlib.Core.{Logic.dite, Option.{some, none, some-injective, some-ne-none}}
 use native.Mathlib.Decide.{ℕ_discrete}
-use lib.ListN.{get_elem?}
-use lib.Seq.{set-get_or}
-use Rattle.atomic_table.specs.Table.{State, step, keeps, takes, gives, Allows, Splits, Joins, opening, Seen, Final, rest, put_back}
-use Rattle.atomic_table.proofs.Lists.{set_else, set_again, at_snoc, one_turn}
-use Rattle.cache_policy.specs.declared.mark.Mark.{Mark}
-use Rattle.counted_lock.specs.Logs.{IsLegalLog}
-use Rattle.counted_lock.specs.declared.board.Cored.{Cored}
-use Rattle.cache_policy.specs.declared.life.Limits.{Limits}
-use Rattle.counted_lock.specs.Standing.{Stands}
-use Rattle.cache_policy.specs.Replay.{first_history}
-use Rattle.cache_policy.specs.Tallies.{nothing_yet}
-use Rattle.agent_core.specs.Cores.{StandsFor}
-use Rattle.agent_core.specs.Tallies.{Tallied}
-use Rattle.counted_lock.proofs.LogLemmas.{few_marks, keeps_first, keeps_legal}
-use Rattle.counted_lock.specs.declared.board.About.{About}
-use Rattle.counted_lock.specs.declared.board.Claim.{Claim}
-use Rattle.counted_lock.specs.declared.board.Doing.{Doing}
-use Rattle.counted_lock.specs.declared.board.Stage.{Stage}
-use Rattle.counted_lock.specs.declared.board.Stage.TheVariants.{Idle, Waiting, Working}
+use Rattle.std.proofs.Common.{◌≡◌, ◌≢◌, ◌≤◌, ◌<◌, ℕ, zero, suc, ◌+◌, ◌%◌, ◌^◌, Bool, true, false, nat_eq, List, [], ◌∷◌, ◌++◌, length, set, get_or, sym, refl, ap, ◌∙◌, subst, arith, Option, Some, length-append, ⊎_elim}
+use Rattle.std.proofs.{Math.Nat.{mod-add-mod, mod-eq_of_lt}, lemmas.{Bool.Decides.nat_tests, List.append-nil}}
+use Rattle.{atomic_table.{specs.Table.{State, step, keeps, takes, gives, Allows, Splits, Joins, opening, Seen, Final, rest, put_back}, proofs.Lists.{set_else, set_again, at_snoc, one_turn}}, cache_policy.specs.declared.mark.Mark.Mark}
+use Rattle.{cache_policy.specs.{declared.life.Limits.Limits, Replay.first_history, Tallies.nothing_yet}, agent_core.specs.{Cores.StandsFor, Tallies.Tallied}}
+use Rattle.counted_lock.specs.{Logs.IsLegalLog, declared.board.{Cored.Cored, About.About, Claim.Claim, Doing.Doing, Stage.{Stage, TheVariants.{Idle, Waiting, Working}}}, Standing.Stands}
 use Rattle.counted_lock.specs.Rule.{Closes, wrap, doing, blank_claims, first_doing, Fits, AllFit, IsHome, IsSlot, WaitsAt, WorksAt, IsAt, Knows, total, going, active, claims_of, times, claims_by, Kept}
-use Rattle.counted_lock.specs.Plays.{Hand, saw, number, IsIdle, IsWaiting, Works, drew, looked, counted, gave, first_claims, later_claims}
-use Rattle.counted_lock.specs.Claims.{Sat, first_of_claims, own}
+use Rattle.counted_lock.{specs.{Plays.{Hand, saw, number, IsIdle, IsWaiting, Works, drew, looked, counted, gave, first_claims, later_claims}, Claims.{Sat, first_of_claims, own}}, proofs.LogLemmas.{few_marks, keeps_first, keeps_legal}}
 use Rattle.counted_lock.proofs.Totals.{total_set, total_le, total_one, total_two, total_snoc, put, put_here, put_else, places_stay, none_more, all_fit_more, times_each}
+use mathlib.Core.Option as maybe
 
 abbrev St : Type 0
 St = State (Option Cored) Doing

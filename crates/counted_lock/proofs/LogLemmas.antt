@@ -1,20 +1,8 @@
 -- A run that begins at base 0 is known by its marks alone.
-use Rattle.std.proofs.Common.{◌≡◌, ◌<◌, ℕ, ◌+◌, List, [], ◌∷◌, ◌++◌, length, false, Option, Some, sym, refl, ap, ◌∙◌, subst, arith, inr}
-use Rattle.std.proofs.lemmas.List.{append_assoc, append-nil}
-use Rattle.cache_policy.specs.declared.bounds.TheConstants.{MAX_MARKS}
-use Rattle.cache_policy.specs.declared.life.Limits.{Limits}
-use Rattle.cache_policy.specs.declared.mark.Mark.{Mark}
-use Rattle.cache_policy.specs.Histories.{History}
-use Rattle.std.specs.Option.{option_map_or}
-use Rattle.cache_policy.specs.Replay.{first_history}
-use Rattle.cache_policy.specs.Runs.{last_base, IsRun, run_with_mark, joined, start_of_run, moment_before, moment_of}
-use Rattle.cache_policy.specs.Seat.{stopped}
-use Rattle.cache_policy.specs.Desks.{IsSpentRun}
-use Rattle.cache_policy.proofs.GrowingRuns.{is_run_run_with_mark, joined_run_with_mark, last_is_legal, start_run_with_mark}
-use Rattle.agent_core.specs.Cores.{AtCore, StandsFor}
-use Rattle.agent_core.specs.Recording.{KeepsRun}
-use Rattle.agent_core.proofs.Counting.{first_base, numbers}
-use Rattle.agent_core.proofs.Knowing.{moment_is}
+use Rattle.std.{proofs.{Common.{◌≡◌, ◌<◌, ℕ, ◌+◌, List, [], ◌∷◌, ◌++◌, length, false, Option, Some, sym, refl, ap, ◌∙◌, subst, arith, inr}, lemmas.List.{append_assoc, append-nil}}, specs.Option.option_map_or}
+use Rattle.cache_policy.specs.{declared.{bounds.TheConstants.MAX_MARKS, life.Limits.Limits, mark.Mark.Mark}, Histories.History, Replay.first_history, Runs.{last_base, IsRun, run_with_mark, joined, start_of_run, moment_before, moment_of}}
+use Rattle.{cache_policy.{specs.{Seat.stopped, Desks.IsSpentRun}, proofs.GrowingRuns.{is_run_run_with_mark, joined_run_with_mark, last_is_legal, start_run_with_mark}}, agent_core.specs.{Cores.{AtCore, StandsFor}, Recording.KeepsRun}}
+use Rattle.agent_core.proofs.{Counting.{first_base, numbers}, Knowing.moment_is}
 use Rattle.counted_lock.specs.Logs.{run_from, run_of_log, IsLegalLog, is_stopped}
 
 pub log_more : (run : List History) (marks : List Mark) (mark : Mark) → run_from run (marks ++ mark ∷ []) ≡ run_with_mark (run_from run marks) mark

@@ -1,45 +1,14 @@
 -- A pass over a try, a look and the end.
-use Rattle.std.proofs.Common.{◌≡◌, ◌≢◌, ◌≤◌, ◌<◌, ℕ, suc, ◌+◌, ◌-◌, List, [], ◌∷◌, ◌++◌, length, nat_eq, Option, Some, Bool, true, false, sym, refl, ap, ◌∙◌, subst, arith, length-append, ⊎_elim}
-use Rattle.std.proofs.lemmas.Bool.{cases_lt}
-use Rattle.std.proofs.lemmas.Bool.Decides.{nat_tests}
-use Rattle.std.proofs.lemmas.List.{append-nil}
-use Rattle.std.proofs.lemmas.List.Elements.{filter-append}
-use Rattle.std.specs.List.{AllByRecursion}
-use mathlib.Core.Option.{some, some-injective}
 use lib.ListN.{get_elem?}
-use Rattle.atomic_table.specs.Seated.{TableId}
-use Rattle.agent_ports.specs.Readings.{Readings, IsRead}
-use Rattle.agent_ports.specs.declared.session.SessionId.{SessionId}
-use Rattle.cache_policy.specs.declared.life.Limits.{Limits}
-use Rattle.cache_policy.specs.declared.mark.Mark.{Mark}
-use Rattle.cache_policy.specs.declared.mark.MarkStep.{MarkStep}
-use Rattle.cache_policy.specs.declared.tally.Tally.{Tally}
-use Rattle.cache_policy.specs.Histories.{History}
-use Rattle.cache_policy.specs.Runs.{joined, run_with_mark}
-use Rattle.cache_policy.specs.Tallies.{one_if}
-use Rattle.cache_policy.specs.Turns.{Turn, turn_of}
-use Rattle.cache_policy.proofs.GrowingRuns.{joined_run_with_mark}
-use Rattle.agent_core.specs.Cores.{mark_of}
-use Rattle.agent_core.specs.Known.{TakesStep, marked, stood, refused, spent}
-use Rattle.agent_core.specs.Tallies.{tally_of}
-use Rattle.agent_core.proofs.Counting.{tally_is}
-use Rattle.counted_lock.specs.declared.board.About.{About}
-use Rattle.counted_lock.specs.declared.board.Claim.{Claim}
-use Rattle.counted_lock.specs.declared.board.Cored.{Cored}
-use Rattle.counted_lock.specs.declared.board.Stage.TheVariants.{Idle}
-use Rattle.counted_lock.specs.declared.turn.Tried.{Tried}
-use Rattle.counted_lock.specs.Logs.{run_of_log, IsLegalLog, is_stopped}
-use Rattle.counted_lock.specs.Rule.{doing, Fits, AllFit, Closes, blank_claims, times}
-use Rattle.counted_lock.specs.Claims.{claim}
-use Rattle.counted_lock.specs.Logs.{marks_by}
-use Rattle.counted_lock.specs.Plays.{saw, IsIdle, Enters, Gives, first_claims, later_claims}
-use Rattle.counted_lock.specs.Claims.{Sat, own}
-use Rattle.counted_lock.specs.Passes.{AtPass, AtCounted, HasLooked, AreNewPasses, AreOf, AllStandIn, IsClosed, numbered}
-use Rattle.counted_lock.specs.Keeping.{claim_of, IsPass, PassesFit}
-use Rattle.counted_lock.specs.Taking.{TakesTurn}
-use Rattle.counted_lock.specs.Trying.{Tries}
-use Rattle.counted_lock.proofs.LogLemmas.{is_run_log, joined_log, few_marks, stopped_log}
-use Rattle.counted_lock.proofs.Taking.{marks_are}
+use mathlib.Core.Option.{some, some-injective}
+use Rattle.std.proofs.{Common.{◌≡◌, ◌≢◌, ◌≤◌, ◌<◌, ℕ, suc, ◌+◌, ◌-◌, List, [], ◌∷◌, ◌++◌, length, nat_eq, Option, Some, Bool, true, false, sym, refl, ap, ◌∙◌, subst, arith, length-append, ⊎_elim}, lemmas.Bool.{cases_lt, Decides.nat_tests}}
+use Rattle.std.{proofs.lemmas.List.{append-nil, Elements.filter-append}, specs.List.AllByRecursion}
+use Rattle.{atomic_table.specs.Seated.TableId, agent_ports.specs.{Readings.{Readings, IsRead}, declared.session.SessionId.SessionId}, cache_policy.specs.declared.{life.Limits.Limits, mark.{Mark.Mark, MarkStep.MarkStep}, tally.Tally.Tally}}
+use Rattle.{cache_policy.{specs.{Histories.History, Runs.{joined, run_with_mark}, Tallies.one_if, Turns.{Turn, turn_of}}, proofs.GrowingRuns.joined_run_with_mark}, agent_core.specs.Cores.mark_of}
+use Rattle.agent_core.{specs.{Known.{TakesStep, marked, stood, refused, spent}, Tallies.tally_of}, proofs.Counting.tally_is}
+use Rattle.counted_lock.specs.{declared.{board.{About.About, Claim.Claim, Cored.Cored, Stage.TheVariants.Idle}, turn.Tried.Tried}, Logs.{run_of_log, IsLegalLog, is_stopped, marks_by}, Rule.{doing, Fits, AllFit, Closes, blank_claims, times}}
+use Rattle.counted_lock.specs.{Claims.{claim, Sat, own}, Plays.{saw, IsIdle, Enters, Gives, first_claims, later_claims}, Passes.{AtPass, AtCounted, HasLooked, AreNewPasses, AreOf, AllStandIn, IsClosed, numbered}}
+use Rattle.counted_lock.{specs.{Keeping.{claim_of, IsPass, PassesFit}, Taking.TakesTurn, Trying.Tries}, proofs.{LogLemmas.{is_run_log, joined_log, few_marks, stopped_log}, Taking.marks_are}}
 
 -- the marks that a step adds: its own, at its moment, or none
 pub record Own (session : SessionId) (moment : ℕ) (asked : MarkStep) (marks : List Mark) : Type 0 where

@@ -1,48 +1,12 @@
 -- What a step of the core adds to the run.
-use Rattle.std.proofs.Common.{◌≡◌, ◌≤◌, ◌<◌, ◌%◌, ◌≢◌, ◌==◌, ℕ, ◌+◌, true, false, List, [], ◌∷◌, ◌++◌, length, Some, None, sym, refl, ap, ◌∙◌, subst, arith, if◌then◌else◌}
-use Rattle.std.proofs.lemmas.Bool.Decides.{nat_tests}
-use Rattle.std.proofs.lemmas.List.{append-nil}
-use Rattle.agent_ports.specs.declared.session.SessionId.{SessionId}
-use Rattle.cache_policy.specs.declared.bounds.TheConstants.{MAX_MARKS, MAX_MOMENT}
-use Rattle.cache_policy.specs.declared.life.Limits.{Limits}
-use Rattle.cache_policy.specs.declared.mark.Mark.{Mark}
-use Rattle.cache_policy.specs.declared.mark.MarkStep.{MarkStep}
-use Rattle.cache_policy.specs.declared.tally.Tally.{Tally}
-use Rattle.cache_policy.specs.declared.wait.Wait.{Wait}
-use Rattle.cache_policy.specs.Desks.{Shows}
-use Rattle.cache_policy.specs.Entries.{stored}
-use Rattle.cache_policy.specs.Histories.{History}
-use Rattle.cache_policy.specs.Runs.{last_base, turn_over, next_history, is_spent, run_with_mark, joined, moment_before}
-use Rattle.cache_policy.specs.Tallies.{one_if}
-use Rattle.cache_policy.specs.Turns.{Turn, Stand, Refused, Stopping}
-use Rattle.agent_core.specs.Cores.{AtCore, mark_of, WantsMemory, IsStep, marked, stood, refused, spent}
-use Rattle.agent_core.specs.Known.{TakesStep}
+use Rattle.std.proofs.{Common.{◌≡◌, ◌≤◌, ℕ, ◌+◌, true, false, List, [], ◌∷◌, ◌++◌, length, Some, None, sym, refl, ap, ◌∙◌, subst, arith}, lemmas.{List.append-nil}}
+use Rattle.{agent_ports.specs.declared.session.SessionId.SessionId, cache_policy.specs.declared.{bounds.TheConstants.{MAX_MOMENT}, life.Limits.Limits, mark.{Mark.Mark, MarkStep.MarkStep}, tally.Tally.Tally, wait.Wait.Wait}}
+use Rattle.cache_policy.specs.{Desks.Shows, Entries.stored, Histories.History, Runs.{last_base, next_history, is_spent, run_with_mark, joined, moment_before}, Tallies.one_if, Turns.{Turn, Stand, Refused, Stopping}}
+use Rattle.agent_core.specs.{Cores.{AtCore, mark_of, WantsMemory, IsStep, marked, stood, refused, spent}, Known.TakesStep, Recording.{KeepsRun, reply_of}, Stepped.IsSettled, Tallies.{counted, Tallied, CanCount}}
+use Rattle.agent_core.proofs.{Counting.{can_count, tally_counted, tally_stays}, Knowing.{legal_last, spent_run, going, is_marked, made, keeps_same, keeps_refused, took_refused, took_stood, seat_next, below_next}, Seating.going_on}
+use Rattle.counted_lock.specs.{declared.{board.{Claim.Claim, Stage.TheVariants.Working}, trial.Trial.Trial}, Logs.{run_of_log, IsLegalLog}, Rule.doing, Plays.{Hand, number, Works, Counts}, Claims.{Sat, own}}
+use Rattle.counted_lock.{specs.{Settling.{tally_with, moment_on, Stepped, Settles}, Standing.Stands, Turns.WantsMemoryAt}, proofs.LogLemmas.{joined_log, with_one, keeps_legal}}
 use Rattle.agent_core.specs.Known as known
-use Rattle.agent_core.specs.Recording.{KeepsRun, reply_of}
-use Rattle.agent_core.specs.Stepped.{IsSettled}
-use Rattle.agent_core.specs.Tallies.{counted, Tallied, CanCount}
-use Rattle.agent_core.proofs.Counting.{can_count, tally_counted, tally_stays}
-use Rattle.agent_core.proofs.Knowing.{legal_last, spent_run, going, is_marked, made, keeps_same, keeps_refused, took_refused, took_stood, seat_next}
-use Rattle.agent_core.proofs.Seating.{going_on}
-use Rattle.counted_lock.specs.declared.board.Claim.{Claim}
-use Rattle.counted_lock.specs.declared.board.Stage.TheVariants.{Working}
-use Rattle.counted_lock.specs.declared.trial.Trial.{Trial}
-use Rattle.counted_lock.specs.Logs.{run_of_log, IsLegalLog}
-use Rattle.counted_lock.specs.Rule.{doing}
-use Rattle.counted_lock.specs.Plays.{Hand, number, Works, Counts}
-use Rattle.counted_lock.specs.Claims.{Sat, own}
-use Rattle.counted_lock.specs.Settling.{tally_with, moment_on, Stepped, Settles}
-use Rattle.counted_lock.specs.Standing.{Stands}
-use Rattle.counted_lock.specs.Turns.{WantsMemoryAt}
-use Rattle.counted_lock.proofs.LogLemmas.{joined_log, with_one, keeps_legal}
-
--- a history that isn't spent stays below the last base
-below_next : (history : History) → history.base < last_base → history.base % MAX_MARKS ≡ 0 → is_spent (next_history history) ≡ false → (next_history history).base < last_base
-below_next history below whole more =
-    elim (length history.marks == MAX_MARKS) as (λ b. is_spent (if b then turn_over history else history) ≡ false → (if b then turn_over history else history).base < last_base) [
-      | true ↦ λ e. let other : history.base + MAX_MARKS ≢ last_base = grind (arith, nat_tests) in omega (arith, other, below, whole)
-      | false ↦ λ e. below
-    ] more
 
 -- a step that found no memory wants some for itself
 wanted : (before after : AtCore) (last : History) (session : SessionId) (moment : ℕ) (asked : MarkStep) (turn : Turn) → IsStep before last session moment asked turn after → turn ≡ Refused

@@ -1,32 +1,9 @@
 -- A whole step at the core.
-use Rattle.std.proofs.Common.{◌≡◌, ℕ, List, ◌++◌, length, sym, ap, ◌∙◌, subst, Option, unwrap_or}
-use Rattle.std.specs.Option.{is_some}
-use Rattle.agent_ports.specs.declared.session.SessionId.{SessionId}
-use Rattle.cache_policy.specs.declared.life.Limits.{Limits}
-use Rattle.cache_policy.specs.declared.mark.Mark.{Mark}
-use Rattle.cache_policy.specs.declared.mark.MarkStep.{MarkStep}
-use Rattle.cache_policy.specs.declared.tally.Tally.{Tally}
-use Rattle.cache_policy.specs.Histories.{History}
-use Rattle.cache_policy.specs.Legal.{IsLegal}
-use Rattle.cache_policy.specs.Runs.{moment_of}
-use Rattle.cache_policy.specs.Tallies.{one_if}
-use Rattle.cache_policy.specs.Turns.{Turn, turn_of}
-use Rattle.agent_core.specs.Cores.{AtCore, StandsFor, IsStep}
-use Rattle.agent_core.specs.Known.{TakesStep}
-use Rattle.agent_core.specs.Recording.{KeepsRun}
-use Rattle.agent_core.specs.Tallies.{Tallied}
-use Rattle.agent_core.proofs.Knowing.{legal_last}
-use Rattle.counted_lock.specs.declared.board.Claim.{Claim}
-use Rattle.counted_lock.specs.declared.board.Cored.{Cored}
-use Rattle.counted_lock.specs.declared.trial.Trial.{Trial}
-use Rattle.counted_lock.specs.declared.turn.Tried.{Tried}
-use Rattle.counted_lock.specs.Logs.{run_of_log, IsLegalLog}
-use Rattle.counted_lock.specs.Plays.{Enters, Gives}
-use Rattle.counted_lock.specs.Claims.{Sat, own}
-use Rattle.counted_lock.specs.Settling.{IsTrial, moment_on, Stepped, Settles}
-use Rattle.counted_lock.specs.Taking.{TakesTurn}
-use Rattle.counted_lock.specs.Turns.{WantsMemoryAt}
-use Rattle.counted_lock.proofs.LogLemmas.{joined_log, keeps_legal, stopped_log, moment_log}
+use Rattle.std.{proofs.Common.{◌≡◌, ℕ, List, ◌++◌, length, sym, ap, ◌∙◌, subst, Option, unwrap_or}, specs.Option.is_some}
+use Rattle.{agent_ports.specs.declared.session.SessionId.SessionId, cache_policy.specs.{declared.{life.Limits.Limits, mark.{Mark.Mark, MarkStep.MarkStep}, tally.Tally.Tally}, Histories.History, Legal.IsLegal, Runs.moment_of}}
+use Rattle.{cache_policy.specs.{Tallies.one_if, Turns.{Turn, turn_of}}, agent_core.{specs.{Cores.{AtCore, StandsFor, IsStep}, Known.TakesStep, Recording.KeepsRun, Tallies.Tallied}, proofs.Knowing.legal_last}}
+use Rattle.counted_lock.specs.{declared.{board.{Claim.Claim, Cored.Cored}, trial.Trial.Trial, turn.Tried.Tried}, Logs.{run_of_log, IsLegalLog}, Plays.{Enters, Gives}, Claims.{Sat, own}, Settling.{IsTrial, moment_on, Stepped, Settles}}
+use Rattle.counted_lock.{specs.{Taking.TakesTurn, Turns.WantsMemoryAt}, proofs.LogLemmas.{joined_log, keeps_legal, stopped_log, moment_log}}
 
 -- the core's contract, at the run that the place has seen
 pub stepped : (m m1 : Sat) (cored : Cored) (after : AtCore) (trial : Trial) (session : SessionId) (reading : ℕ) (asked : MarkStep) (turn : Turn) → Enters m m1 cored → trial.session ≡ session

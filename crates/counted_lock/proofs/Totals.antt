@@ -1,19 +1,11 @@
 -- Sums over all places, and the marks of one pass.
-use Rattle.std.proofs.Common.{◌≡◌, ◌≢◌, ◌≤◌, ◌<◌, ℕ, zero, suc, ◌+◌, Bool, true, false, nat_eq, if◌then◌else◌, List, [], ◌∷◌, ◌++◌, length, set, sym, refl, ap, ◌∙◌, subst, arith, ⊎_elim}
-use Rattle.std.proofs.lemmas.Bool.Decides.{nat_tests}
-use Rattle.std.proofs.lemmas.List.Elements.{filter-append}
-use Rattle.std.proofs.Common.{append_assoc}
-use mathlib.Core.Option.{some, some-injective, some-ne-none}
-use Rattle.std.proofs.lemmas.Bool.{cases_lt}
-use native.Mathlib.Decide.{ℕ_discrete}
 use lib.ListN.{get_elem?}
-use Rattle.atomic_table.proofs.Lists.{at_set}
-use Rattle.cache_policy.specs.declared.mark.Mark.{Mark}
-use Rattle.counted_lock.specs.declared.board.About.{About}
-use Rattle.counted_lock.specs.declared.board.Claim.{Claim}
-use Rattle.counted_lock.specs.declared.board.Doing.{Doing}
-use Rattle.counted_lock.specs.Rule.{Fits, AllFit, total, times}
-use Rattle.counted_lock.specs.Logs.{marks_by}
+use mathlib.Core.Option.{some, some-injective, some-ne-none}
+use native.Mathlib.Decide.{ℕ_discrete}
+use Rattle.std.proofs.{Common.{◌≡◌, ◌≢◌, ◌≤◌, ◌<◌, ℕ, zero, suc, ◌+◌, Bool, true, false, nat_eq, if◌then◌else◌, List, [], ◌∷◌, ◌++◌, length, set, sym, refl, ap, ◌∙◌, subst, arith, ⊎_elim, append_assoc}, lemmas.Bool.cases_lt}
+use Rattle.std.proofs.lemmas.{Bool.Decides.nat_tests, List.Elements.filter-append}
+use Rattle.{atomic_table.proofs.Lists.at_set, cache_policy.specs.declared.mark.Mark.Mark}
+use Rattle.counted_lock.specs.{declared.board.{About.About, Claim.Claim, Doing.Doing}, Rule.{Fits, AllFit, total, times}, Logs.marks_by}
 
 pub total_set : (f : Doing → ℕ) (vs : List Doing) (j : ℕ) (v w : Doing) → get_elem? vs j ≡ some v → total f (set vs j w) + f v ≡ total f vs + f w
 total_set f [] j v w e = absurd (some-ne-none v (sym e))

@@ -1,17 +1,7 @@
 -- What a place knows once the core is out of the slot.
 use Rattle.std.proofs.Common.{◌≡◌, List, [], ◌∷◌, Option, Some, None, sym, ap, ◌∙◌, subst}
-use Rattle.atomic_table.specs.Table.{rest}
-use Rattle.cache_policy.specs.declared.mark.Mark.{Mark}
-use Rattle.counted_lock.specs.Logs.{IsLegalLog}
-use Rattle.counted_lock.specs.declared.board.Cored.{Cored}
-use Rattle.cache_policy.specs.declared.life.Limits.{Limits}
-use Rattle.counted_lock.specs.Standing.{Stands}
-use Rattle.counted_lock.specs.declared.board.Claim.{Claim}
-use Rattle.counted_lock.specs.declared.board.Stage.TheVariants.{Working}
-use Rattle.counted_lock.specs.Rule.{doing}
-use Rattle.counted_lock.specs.Logs.{marks_by}
-use Rattle.counted_lock.specs.Plays.{Hand, saw, number, Takes, Enters}
-use Rattle.counted_lock.specs.Claims.{Sat, own}
+use Rattle.{atomic_table.specs.Table.rest, cache_policy.specs.declared.{mark.Mark.Mark, life.Limits.Limits}}
+use Rattle.counted_lock.specs.{Logs.{IsLegalLog, marks_by}, declared.board.{Cored.Cored, Claim.Claim, Stage.TheVariants.Working}, Standing.Stands, Rule.doing, Plays.{Hand, saw, number, Takes, Enters}, Claims.{Sat, own}}
 
 abbrev first_in : Hand → Option Cored
 first_in [] = None

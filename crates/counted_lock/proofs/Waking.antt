@@ -1,36 +1,14 @@
 -- Only a Close, a Put and a Stop end another's stand: no other step frees the seat, ends the agent, or makes an entry live.
-use Rattle.std.proofs.Common.{◌≡◌, ◌≤◌, ◌&&◌, ◌||◌, ℕ, List, [], Bool, true, false, Option, Some, None, IfSome, cond, max, not, refl, sym, ap, ◌∙◌}
-use Rattle.std.specs.Prelude.{if◌then◌else◌, ◌==◌}
+use Rattle.std.{proofs.{Common.{◌≡◌, ◌≤◌, ◌&&◌, ◌||◌, ℕ, List, [], Bool, true, false, Option, Some, None, IfSome, cond, max, not, refl, sym, ap, ◌∙◌}, Math.Bool.or-false}, specs.Prelude.{if◌then◌else◌, ◌==◌}}
 use Rattle.std.specs.Option.{option_or, option_and_then, is_some}
-use Rattle.std.proofs.Math.Bool.{or-false}
-use Rattle.cache_policy.specs.declared.entry.Entry.{Entry}
-use Rattle.cache_policy.specs.declared.history.Held.{Held}
-use Rattle.cache_policy.specs.declared.life.Limits.{Limits}
-use Rattle.cache_policy.specs.declared.mark.Mark.{Mark}
-use Rattle.cache_policy.specs.declared.mark.MarkReply.{MarkReply}
-use Rattle.cache_policy.specs.declared.mark.MarkReply.TheVariants as reply
-use Rattle.cache_policy.specs.declared.mark.MarkStep.{MarkStep}
-use Rattle.cache_policy.specs.declared.mark.MarkStep.TheVariants.{Ask, Seat, Close, Put, Clear, Flush, Peek, Stop}
-use Rattle.cache_policy.specs.declared.mark.Way.{Way}
-use Rattle.cache_policy.specs.declared.mark.Way.TheVariants.{Quiet, Prompt}
-use Rattle.cache_policy.specs.declared.mode.Mode.{Mode}
-use Rattle.cache_policy.specs.Entries.{stored}
-use Rattle.cache_policy.specs.Entry.{within}
-use Rattle.cache_policy.specs.Histories.{History, next_number, with_mark}
-use Rattle.cache_policy.specs.Live.{newest_of, newest, takes_away, gone, gives, last_use, is_live, live}
-use Rattle.cache_policy.specs.Policy.{Reply, Stand, policy, prompt_ruling, ask_ruling}
-use Rattle.cache_policy.specs.Seat.{under_of, is_open, is_stop, gives_back, unless_given_back, seat, stopped}
-use Rattle.cache_policy.specs.declared.life.Life.{Life}
-use Rattle.cache_policy.specs.declared.step.Step.{Step}
-use Rattle.cache_policy.specs.declared.step.Step.TheVariants as asked
-use Rattle.cache_policy.specs.Turns.{asked_step, with_since}
-use Rattle.cache_policy.specs.Waits.{is_late}
-use Rattle.cache_policy.proofs.ReturnLemmas.{prompt_gives_nothing}
-use Rattle.cache_policy.proofs.OneMore.{stopped_with_mark, seat_with_mark, newest_with_mark, is_live_with_mark}
-use Rattle.cache_book.proofs.Known.{IsKnown, all_known, all_newest}
-use Rattle.cache_book.proofs.Live.{live_is_live}
-use Rattle.cache_book.proofs.Marking.{both_true, within_earlier}
+use Rattle.cache_policy.specs.declared.{entry.Entry.Entry, history.Held.Held, life.{Limits.Limits, Life.Life}, mark.{Mark.Mark, MarkReply.MarkReply, MarkStep.{MarkStep, TheVariants.{Ask, Seat, Close, Put, Clear, Flush, Peek, Stop}}}}
+use Rattle.cache_policy.specs.{declared.{mark.Way.{Way, TheVariants.{Quiet, Prompt}}, mode.Mode.Mode, step.Step.Step}, Entries.stored, Entry.within, Histories.{History, next_number, with_mark}}
+use Rattle.cache_policy.specs.{Live.{newest_of, newest, takes_away, gone, gives, last_use, is_live, live}, Policy.{Reply, Stand, policy, prompt_ruling, ask_ruling}}
+use Rattle.cache_policy.{specs.{Seat.{under_of, is_open, is_stop, gives_back, unless_given_back, seat, stopped}, Turns.{asked_step, with_since}, Waits.is_late}, proofs.ReturnLemmas.prompt_gives_nothing}
+use Rattle.{cache_policy.proofs.OneMore.{stopped_with_mark, seat_with_mark, newest_with_mark, is_live_with_mark}, cache_book.proofs.{Known.{IsKnown, all_known, all_newest}, Live.live_is_live, Marking.{both_true, within_earlier}}}
 use Rattle.counted_lock.specs.Waking.{EndsStand}
+use Rattle.cache_policy.specs.declared.mark.MarkReply.TheVariants as reply
+use Rattle.cache_policy.specs.declared.step.Step.TheVariants as asked
 
 -- the steps that may
 abbrev pub may_end : MarkStep → Bool

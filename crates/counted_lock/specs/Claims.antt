@@ -1,11 +1,7 @@
 -- What a place knows of its pass. This is the project's own.
 use Rattle.std.specs.Prelude.{ℕ, List, [], ◌∷◌, Option}
-use Rattle.atomic_table.specs.Table.{Me}
-use Rattle.cache_policy.specs.declared.life.Limits.{Limits}
-use Rattle.cache_policy.specs.declared.mark.Mark.{Mark}
-use Rattle.counted_lock.specs.declared.board.Claim.{Claim}
-use Rattle.counted_lock.specs.declared.board.Cored.{Cored}
-use Rattle.counted_lock.specs.declared.board.Doing.{Doing}
+use Rattle.{atomic_table.specs.Table.Me, cache_policy.specs.declared.{life.Limits.Limits, mark.Mark.Mark}}
+use Rattle.counted_lock.specs.declared.board.{Claim.Claim, Cored.Cored, Doing.Doing}
 
 abbrev pub claim : Limits → ℕ → List Mark → Claim
 claim limits k seen = record { limits = limits; number = k; seen = seen }

@@ -1,16 +1,7 @@
 -- Private: what a pass, the lock and the places of passes keep.
-use Rattle.std.specs.Prelude.{◌≡◌, ◌<◌, ℕ, Bool, List, [], ◌∷◌, length, ⊤}
-use Rattle.std.specs.List.{AllByRecursion}
-use Rattle.atomic_table.specs.Seated.{TableId}
-use Rattle.cache_policy.specs.declared.mark.Mark.{Mark}
-use Rattle.counted_lock.specs.declared.board.About.{About}
-use Rattle.counted_lock.specs.declared.board.Claim.{Claim}
-use Rattle.counted_lock.specs.Logs.{IsLegalLog, is_stopped, marks_by}
-use Rattle.counted_lock.specs.Rule.{Fits}
-use Rattle.counted_lock.specs.Claims.{claim}
-use Rattle.counted_lock.specs.Plays.{IsIdle}
-use Rattle.counted_lock.specs.Claims.{Sat, own}
-use Rattle.counted_lock.specs.Passes.{AtPass}
+use Rattle.std.specs.{Prelude.{◌≡◌, ◌<◌, ℕ, Bool, List, [], ◌∷◌, length, ⊤}, List.AllByRecursion}
+use Rattle.{atomic_table.specs.Seated.TableId, cache_policy.specs.declared.mark.Mark.Mark}
+use Rattle.counted_lock.specs.{declared.board.{About.About, Claim.Claim}, Logs.{IsLegalLog, is_stopped, marks_by}, Rule.Fits, Claims.{claim, Sat, own}, Plays.IsIdle, Passes.AtPass}
 
 abbrev pub claim_of : AtPass → Claim
 claim_of pass = claim pass.limits pass.number pass.seen

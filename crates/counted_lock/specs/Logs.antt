@@ -1,13 +1,6 @@
 -- A run that begins without a mark and at base 0 is known by its marks alone: its log. This is the project's own.
-use Rattle.std.specs.Prelude.{◌≡◌, ℕ, ◌<◌, nat_eq, List, [], ◌∷◌, filter, Bool, false, Some}
-use Rattle.std.specs.Option.{option_map_or}
-use Rattle.cache_policy.specs.declared.life.Limits.{Limits}
-use Rattle.cache_policy.specs.declared.mark.Mark.{Mark}
-use Rattle.cache_policy.specs.Histories.{History}
-use Rattle.cache_policy.specs.Legal.{IsLegalRun}
-use Rattle.cache_policy.specs.Replay.{first_history}
-use Rattle.cache_policy.specs.Runs.{last_base, run_with_mark, last_history}
-use Rattle.cache_policy.specs.Seat.{stopped}
+use Rattle.std.specs.{Prelude.{◌≡◌, ℕ, ◌<◌, nat_eq, List, [], ◌∷◌, filter, Bool, false, Some}, Option.option_map_or}
+use Rattle.cache_policy.specs.{declared.{life.Limits.Limits, mark.Mark.Mark}, Histories.History, Legal.IsLegalRun, Replay.first_history, Runs.{last_base, run_with_mark, last_history}, Seat.stopped}
 
 -- a run that goes on by these marks
 abbrev pub run_from : List History → List Mark → List History

@@ -1,15 +1,8 @@
 -- Passes of the counted lock: what each has seen of the one run, what a look does to it, and what holds at the end. This is the project's own.
-use Rattle.std.specs.Prelude.{◌≡◌, ◌≤◌, ◌<◌, ℕ, suc, nat_eq, List, [], ◌∷◌, ◌++◌, filter, length, ⊤}
-use Rattle.std.specs.List.{AllByRecursion}
 use mathlib.Core.List.{IsPrefix}
-use Rattle.atomic_table.specs.Seated.{TableId}
-use Rattle.cache_policy.specs.declared.life.Limits.{Limits}
-use Rattle.cache_policy.specs.declared.mark.Mark.{Mark}
-use Rattle.cache_policy.specs.declared.tally.Tally.{Tally}
-use Rattle.cache_policy.specs.Legal.{IsLegalRun}
-use Rattle.agent_core.specs.Tallies.{tally_of}
-use Rattle.counted_lock.specs.Logs.{run_of_log}
-use Rattle.counted_lock.specs.Logs.{marks_by}
+use Rattle.std.specs.{Prelude.{◌≡◌, ◌≤◌, ◌<◌, ℕ, suc, nat_eq, List, [], ◌∷◌, ◌++◌, filter, length, ⊤}, List.AllByRecursion}
+use Rattle.{atomic_table.specs.Seated.TableId, cache_policy.specs.{declared.{life.Limits.Limits, mark.Mark.Mark, tally.Tally.Tally}, Legal.IsLegalRun}, agent_core.specs.Tallies.tally_of}
+use Rattle.counted_lock.specs.Logs.{run_of_log, marks_by}
 
 -- the lock: which table it is, its lifetimes, and how many passes it has
 pub record AtCounted : Type 0 where

@@ -1,19 +1,8 @@
 -- Private: what each step on the table tells.
 use Rattle.std.specs.Prelude.{◌≡◌, ◌≢◌, ℕ, ◌%◌, List, [], ◌∷◌, ◌++◌, length, Option, Some, None}
-use Rattle.atomic_table.specs.Table.{Step}
-use Rattle.atomic_table.specs.Seated.{TableId}
-use Rattle.cache_policy.specs.declared.mark.Mark.{Mark}
+use Rattle.{atomic_table.specs.{Table.Step, Seated.TableId}, cache_policy.specs.declared.mark.{Mark.Mark, MarkStep.TheVariants.Stop}}
+use Rattle.counted_lock.specs.{Logs.{IsLegalLog, marks_by}, declared.board.{Cored.Cored, Claim.Claim, Stage.{Stage, TheVariants.{Idle, Waiting, Working}}}, Standing.Stands, Rule.{wrap, doing}, Claims.{Sat, own}}
 use Rattle.cache_policy.specs.declared.mark.MarkReply.TheVariants as answer
-use Rattle.cache_policy.specs.declared.mark.MarkStep.TheVariants.{Stop}
-use Rattle.counted_lock.specs.Logs.{IsLegalLog}
-use Rattle.counted_lock.specs.declared.board.Cored.{Cored}
-use Rattle.counted_lock.specs.Standing.{Stands}
-use Rattle.counted_lock.specs.declared.board.Claim.{Claim}
-use Rattle.counted_lock.specs.declared.board.Stage.{Stage}
-use Rattle.counted_lock.specs.declared.board.Stage.TheVariants.{Idle, Waiting, Working}
-use Rattle.counted_lock.specs.Rule.{wrap, doing}
-use Rattle.counted_lock.specs.Claims.{Sat, own}
-use Rattle.counted_lock.specs.Logs.{marks_by}
 
 abbrev pub Hand : Type 0
 Hand = List (ℕ × Option Cored)

@@ -1,20 +1,10 @@
 -- Private: the rule of the table. There is one legal run, which the third word counts. While the core is at home it stands for that run.
-use Rattle.std.specs.Prelude.{◌≡◌, ◌≤◌, ◌<◌, ℕ, zero, suc, ◌+◌, ◌%◌, Bool, true, false, nat_eq, List, [], ◌∷◌, ◌++◌, length, Option, Some, ⊤, if◌then◌else◌}
-use mathlib.Core.Option.{some, none}
-use mathlib.Core.Option as maybe
 use lib.ListN.{get_elem?}
-use Rattle.atomic_table.specs.Table.{State}
-use Rattle.cache_policy.specs.declared.mark.Mark.{Mark}
-use Rattle.counted_lock.specs.Claims.{claim}
-use Rattle.counted_lock.specs.Logs.{IsLegalLog, marks_by}
-use Rattle.counted_lock.specs.declared.board.Cored.{Cored}
-use Rattle.cache_policy.specs.declared.life.Limits.{Limits}
-use Rattle.counted_lock.specs.Standing.{Stands}
-use Rattle.counted_lock.specs.declared.board.About.{About}
-use Rattle.counted_lock.specs.declared.board.Claim.{Claim}
-use Rattle.counted_lock.specs.declared.board.Doing.{Doing}
-use Rattle.counted_lock.specs.declared.board.Stage.{Stage}
-use Rattle.counted_lock.specs.declared.board.Stage.TheVariants.{Idle, Waiting, Working}
+use mathlib.Core.Option.{some, none}
+use Rattle.std.specs.Prelude.{◌≡◌, ◌≤◌, ◌<◌, ℕ, zero, suc, ◌+◌, ◌%◌, Bool, true, false, nat_eq, List, [], ◌∷◌, ◌++◌, length, Option, Some, ⊤, if◌then◌else◌}
+use Rattle.{atomic_table.specs.Table.State, cache_policy.specs.declared.{mark.Mark.Mark, life.Limits.Limits}}
+use Rattle.counted_lock.specs.{Claims.claim, Logs.{IsLegalLog, marks_by}, declared.board.{Cored.Cored, About.About, Claim.Claim, Doing.Doing, Stage.{Stage, TheVariants.{Idle, Waiting, Working}}}, Standing.Stands}
+use mathlib.Core.Option as maybe
 
 -- a word counts so far, and begins again
 abbrev pub wrap : ℕ

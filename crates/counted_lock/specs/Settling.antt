@@ -1,27 +1,8 @@
 -- Private: what a step of the core adds to the run.
-use Rattle.std.specs.Prelude.{◌≡◌, ◌↔◌, ℕ, ◌+◌, IsTrue, List, ◌∷◌, [], ◌++◌, length, Option, None, unwrap_or}
-use Rattle.std.specs.Option.{is_some}
-use Rattle.cache_policy.specs.declared.life.Limits.{Limits}
-use Rattle.cache_policy.specs.declared.mark.Mark.{Mark}
-use Rattle.cache_policy.specs.declared.mark.MarkReply.{MarkReply}
-use Rattle.cache_policy.specs.declared.mark.MarkStep.{MarkStep}
-use Rattle.cache_policy.specs.declared.tally.Tally.{Tally}
-use Rattle.cache_policy.specs.Entries.{stored}
-use Rattle.cache_policy.specs.Histories.{History}
-use Rattle.cache_policy.specs.Runs.{last_base, moment_before, moment_of}
-use Rattle.cache_policy.specs.Seat.{is_open, seat}
-use Rattle.cache_policy.specs.Tallies.{is_given, is_empty, is_clear, is_flush, one_if}
-use Rattle.cache_policy.specs.Turns.{Turn, Refused}
-use Rattle.agent_core.specs.Cores.{AtCore, IsStep}
-use Rattle.agent_core.specs.Known.{TakesStep}
-use Rattle.agent_core.specs.Recording.{KeepsRun}
-use Rattle.agent_core.specs.Tallies.{Tallied}
-use Rattle.counted_lock.specs.declared.trial.Trial.{Trial}
-use Rattle.counted_lock.specs.Logs.{run_of_log}
-use Rattle.counted_lock.specs.Plays.{saw, Works}
-use Rattle.counted_lock.specs.Claims.{Sat, own}
-use Rattle.counted_lock.specs.Standing.{Stands}
-use Rattle.counted_lock.specs.Turns.{WantsMemoryAt}
+use Rattle.std.specs.{Prelude.{◌≡◌, ◌↔◌, ℕ, ◌+◌, IsTrue, List, ◌∷◌, [], ◌++◌, length, Option, None, unwrap_or}, Option.is_some}
+use Rattle.cache_policy.specs.{declared.{life.Limits.Limits, mark.{Mark.Mark, MarkReply.MarkReply, MarkStep.MarkStep}, tally.Tally.Tally}, Entries.stored, Histories.History, Runs.{last_base, moment_before, moment_of}, Seat.{is_open, seat}}
+use Rattle.{cache_policy.specs.{Tallies.{is_given, is_empty, is_clear, is_flush, one_if}, Turns.{Turn, Refused}}, agent_core.specs.{Cores.{AtCore, IsStep}, Known.TakesStep, Recording.KeepsRun, Tallies.Tallied}}
+use Rattle.counted_lock.specs.{declared.trial.Trial.Trial, Logs.run_of_log, Plays.{saw, Works}, Claims.{Sat, own}, Standing.Stands, Turns.WantsMemoryAt}
 
 -- what was noted of a step before the core took it is so
 pub record IsTrial (before : AtCore) (asked : MarkStep) (trial : Trial) : Type 0 where

@@ -1,10 +1,7 @@
 -- Private: what the core in the slot stands for: the run with these marks.
 use Rattle.std.specs.Prelude.{List}
-use Rattle.cache_policy.specs.declared.mark.Mark.{Mark}
-use Rattle.agent_core.specs.Recording.{KeepsRun}
-use Rattle.agent_core.specs.Tallies.{Tallied}
-use Rattle.counted_lock.specs.declared.board.Cored.{Cored}
-use Rattle.counted_lock.specs.Logs.{run_of_log}
+use Rattle.{cache_policy.specs.declared.mark.Mark.Mark, agent_core.specs.{Recording.KeepsRun, Tallies.Tallied}}
+use Rattle.counted_lock.specs.{declared.board.Cored.Cored, Logs.run_of_log}
 
 -- the core stands for the run with these marks, and the tally is the run's
 pub record Stands (cored : Cored) (log : List Mark) : Type 0 where

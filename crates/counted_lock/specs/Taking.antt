@@ -1,18 +1,8 @@
 -- Private: a whole step at the core.
 use Rattle.std.specs.Prelude.{◌≡◌, ℕ, List, [], ◌++◌, length}
-use Rattle.agent_ports.specs.declared.session.SessionId.{SessionId}
-use Rattle.cache_policy.specs.declared.mark.Mark.{Mark}
-use Rattle.cache_policy.specs.declared.mark.MarkStep.{MarkStep}
-use Rattle.cache_policy.specs.Runs.{moment_before, moment_of}
-use Rattle.cache_policy.specs.Tallies.{one_if}
-use Rattle.cache_policy.specs.Turns.{Refused, turn_of}
+use Rattle.{agent_ports.specs.declared.session.SessionId.SessionId, cache_policy.specs.{declared.mark.{Mark.Mark, MarkStep.MarkStep}, Runs.{moment_before, moment_of}, Tallies.one_if, Turns.{Refused, turn_of}}}
 use Rattle.agent_core.specs.Known.{TakesStep}
-use Rattle.counted_lock.specs.declared.turn.Tried.{Tried}
-use Rattle.counted_lock.specs.Logs.{run_of_log, IsLegalLog, is_stopped}
-use Rattle.counted_lock.specs.Logs.{marks_by}
-use Rattle.counted_lock.specs.Plays.{IsIdle}
-use Rattle.counted_lock.specs.Claims.{Sat, own}
-use Rattle.counted_lock.specs.Turns.{WantsMemoryAt}
+use Rattle.counted_lock.specs.{declared.turn.Tried.Tried, Logs.{run_of_log, IsLegalLog, is_stopped, marks_by}, Plays.IsIdle, Claims.{Sat, own}, Turns.WantsMemoryAt}
 
 -- The place saw the marks of others behind those that it had seen, and then its own.
 pub record TakesTurn (session : SessionId) (reading : ℕ) (asked : MarkStep) (m : Sat) (tried : Tried) (m' : Sat) : Type 0 where

@@ -1,16 +1,8 @@
 -- Private: the tries of a step, which may have to stand.
 use Rattle.std.specs.Prelude.{◌≡◌, ◌≤◌, ℕ, List, [], ◌∷◌, ◌++◌, Option, Some, None}
-use Rattle.agent_ports.specs.Readings.{Readings, IsRead, HasGiven}
-use Rattle.agent_ports.specs.declared.session.SessionId.{SessionId}
-use Rattle.cache_policy.specs.declared.mark.Mark.{Mark}
-use Rattle.cache_policy.specs.declared.mark.MarkStep.{MarkStep}
-use Rattle.cache_policy.specs.Runs.{moment_before, moment_of}
-use Rattle.cache_policy.specs.Turns.{Turn, Refused, FitsReply, out_after}
-use Rattle.agent_core.specs.Known.{TakesStep}
-use Rattle.counted_lock.specs.Logs.{run_of_log, IsLegalLog}
-use Rattle.counted_lock.specs.Logs.{marks_by}
-use Rattle.counted_lock.specs.Passes.{AtPass, mine}
-use Rattle.counted_lock.specs.Turns.{AtCountedDesk, IsFirstTry, WantsMemoryAt}
+use Rattle.{agent_ports.specs.{Readings.{Readings, IsRead, HasGiven}, declared.session.SessionId.SessionId}, cache_policy.specs.{declared.mark.{Mark.Mark, MarkStep.MarkStep}, Runs.{moment_before, moment_of}}}
+use Rattle.{cache_policy.specs.Turns.{Turn, Refused, FitsReply, out_after}, agent_core.specs.Known.TakesStep}
+use Rattle.counted_lock.specs.{Logs.{run_of_log, IsLegalLog, marks_by}, Passes.{AtPass, mine}, Turns.{AtCountedDesk, IsFirstTry, WantsMemoryAt}}
 
 -- one try: the pass sees the marks of others behind those that it had seen, and then its own
 pub record Tries (session : SessionId) (first last : Readings) (tried : MarkStep) (before : AtPass) (turn : Turn) (after : AtPass) : Type 0 where

@@ -1,22 +1,9 @@
 -- What one turn at the counted lock does. This is the project's own.
-use Rattle.std.specs.Prelude.{◌≡◌, ◌≤◌, ℕ, true, List, [], ◌∷◌, ◌++◌, length, Option, Some, None}
-use Rattle.std.specs.List.{AllByRecursion}
 use mathlib.Core.List.{IsPrefix}
-use Rattle.agent_ports.specs.Counts.{Rose}
-use Rattle.agent_ports.specs.Readings.{Readings, HasGiven}
-use Rattle.agent_ports.specs.declared.session.SessionId.{SessionId}
-use Rattle.cache_policy.specs.declared.life.Limits.{Limits}
-use Rattle.cache_policy.specs.declared.mark.Mark.{Mark}
-use Rattle.cache_policy.specs.declared.mark.MarkStep.{MarkStep}
-use Rattle.cache_policy.specs.Desks.{AtDesk, MakesMarks, IsTurn}
-use Rattle.cache_policy.specs.Histories.{History}
-use Rattle.cache_policy.specs.Runs.{last_base, last_history, next_history, moment_before, moment_of}
-use Rattle.cache_policy.specs.Turns.{Turn, Stopping, Refused, opens, with_since}
-use Rattle.agent_core.specs.Cores.{WantsMemory}
-use Rattle.agent_core.specs.Solos.{NoneTriedBefore}
-use Rattle.counted_lock.specs.Logs.{run_of_log}
-use Rattle.counted_lock.specs.Logs.{marks_by}
-use Rattle.counted_lock.specs.Passes.{AtPass, mine}
+use Rattle.std.specs.{Prelude.{◌≡◌, ◌≤◌, ℕ, true, List, [], ◌∷◌, ◌++◌, length, Option, Some, None}, List.AllByRecursion}
+use Rattle.{agent_ports.specs.{Counts.Rose, Readings.{Readings, HasGiven}, declared.session.SessionId.SessionId}, cache_policy.specs.{declared.{life.Limits.Limits, mark.{Mark.Mark, MarkStep.MarkStep}}, Desks.{AtDesk, MakesMarks, IsTurn}}}
+use Rattle.{cache_policy.specs.{Histories.History, Runs.{last_base, last_history, next_history, moment_before, moment_of}, Turns.{Turn, Stopping, Refused, opens, with_since}}, agent_core.specs.{Cores.WantsMemory, Solos.NoneTriedBefore}}
+use Rattle.counted_lock.specs.{Logs.{run_of_log, marks_by}, Passes.{AtPass, mine}}
 
 -- a desk at the counted lock: its pass, the session, the ticket that this has, and its clock
 pub record AtCountedDesk (C : Type 0) : Type 0 where

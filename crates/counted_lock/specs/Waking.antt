@@ -1,10 +1,6 @@
 -- Private: which steps end another's stand. This is the project's own.
 use Rattle.std.specs.Prelude.{◌≡◌, ◌≢◌, ◌≤◌, ℕ}
-use Rattle.cache_policy.specs.declared.life.Limits.{Limits}
-use Rattle.cache_policy.specs.declared.mark.Mark.{Mark}
-use Rattle.cache_policy.specs.declared.mark.MarkStep.{MarkStep}
-use Rattle.cache_policy.specs.Histories.{History, with_mark}
-use Rattle.cache_policy.specs.Policy.{Reply, Stand, policy}
+use Rattle.cache_policy.specs.{declared.{life.Limits.Limits, mark.{Mark.Mark, MarkStep.MarkStep}}, Histories.{History, with_mark}, Policy.{Reply, Stand, policy}}
 
 -- A step that stood before this mark, and would stand still without it, is replied something else behind it.
 pub record EndsStand (limits : Limits) (history : History) (mark : Mark) : Type 0 where

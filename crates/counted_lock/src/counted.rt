@@ -3,17 +3,13 @@
 //! `Counted::new`, which makes all passes (workers' tokens), and `Counted::close`; a desk (cache
 //! handle) goes by `attempt`, which is `Tries` of `specs/Trying`.
 
-ghost use Rattle.std.specs.Prelude.{◌≡◌, ◌+◌, ◌<◌, ◌≤◌, ◌^◌, ℕ, List, length, IfOk, IfErr};
-ghost use Rattle.std.specs.Prelude.{vec_len};
-ghost use Rattle.cache_policy.specs.declared.mark.Mark.{Mark as AnyMark};
-ghost use Rattle.cache_policy.specs.Tallies.{one_if};
+ghost use Rattle.std.specs.Prelude.{◌≡◌, ◌+◌, ◌<◌, ◌≤◌, ◌^◌, ℕ, List, length, IfOk, IfErr, vec_len};
+ghost use Rattle.cache_policy.specs.{declared.mark.Mark.Mark as AnyMark, Tallies.one_if};
 ghost use Rattle.cache_policy.specs.Turns.{asked_step, mark_step, turn_of, FitsReply};
-ghost use Rattle.counted_lock.specs.declared.board.About.{About as AboutOf};
-ghost use Rattle.counted_lock.specs.Plays.{IsPlace};
+ghost use Rattle.counted_lock.specs.{declared.board.About.About as AboutOf, Plays.IsPlace};
 ghost use Rattle.counted_lock.specs.Rule.{AllFit, times};
 ghost use Rattle.counted_lock.specs.Passes.{HasLooked, AreNewPasses, AreOf, IsClosed, numbered};
-ghost use Rattle.counted_lock.specs.Keeping.{PassesFit};
-ghost use Rattle.counted_lock.specs.Trying.{Tries};
+ghost use Rattle.counted_lock.specs.{Keeping.PassesFit, Trying.Tries};
 
 use crate::board::{About, Board, Cored, MARKS, Place};
 use crate::monitor::Monitor;
@@ -38,8 +34,7 @@ pub struct Counted {
 }
 
 impl Model for Counted {
-    ghost use Rattle.counted_lock.specs.Passes.{AtCounted};
-    ghost use Rattle.counted_lock.specs.Keeping.{IsCounted};
+    ghost use Rattle.counted_lock.specs.{Passes.AtCounted, Keeping.IsCounted};
 
     ghost Value = { AtCounted };
 

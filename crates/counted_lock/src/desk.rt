@@ -4,15 +4,12 @@
 
 ghost use Rattle.std.specs.Prelude.{◌≡◌, ◌+◌, ◌<◌, ◌≤◌, ◌^◌, ◌-◌, true, None, Some, IfErr};
 ghost use Rattle.std.specs.Option.{is_some};
-ghost use Rattle.cache_policy.specs.declared.mark.MarkStep.{MarkStep as AskedStep};
-ghost use Rattle.cache_policy.specs.Turns.{asked_step, mark_step, turn_of, closes, out_after};
-ghost use Rattle.cache_policy.specs.Turns.{since_of, with_since};
-ghost use Rattle.cache_policy.specs.Histories.{History};
+ghost use Rattle.cache_policy.specs.declared.mark.{MarkStep.MarkStep as AskedStep, Mark.Mark};
 ghost use Rattle.cache_policy.specs.declared.life.Limits.{Limits};
-ghost use Rattle.cache_policy.specs.declared.mark.Mark.{Mark};
-ghost use Rattle.counted_lock.specs.Waking.{EndsStand};
+ghost use Rattle.cache_policy.specs.Turns.{asked_step, mark_step, turn_of, closes, out_after};
+ghost use Rattle.cache_policy.specs.{Turns.{since_of, with_since}, Histories.History};
 ghost use Rattle.agent_core.specs.Openings.{opening_step};
-ghost use Rattle.counted_lock.specs.Turns.{CountedTurn, at_counted};
+ghost use Rattle.counted_lock.specs.{Waking.EndsStand, Turns.{CountedTurn, at_counted}};
 ghost use Rattle.counted_lock.specs.Trying.{TriesAt};
 
 use crate::{Counted, CountedPass};

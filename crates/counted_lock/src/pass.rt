@@ -3,8 +3,7 @@
 //! with `CountedPass::keeps`; `IsSeen` of `specs/Passes` says what a pass always knows.
 
 ghost use Rattle.std.specs.Prelude.{◌≡◌, length};
-ghost use Rattle.counted_lock.specs.Logs.{is_stopped};
-ghost use Rattle.counted_lock.specs.Passes.{mine, IsSeen};
+ghost use Rattle.counted_lock.specs.{Logs.is_stopped, Passes.{mine, IsSeen}};
 
 use crate::board::Place;
 use std::marker::Model;
@@ -27,9 +26,7 @@ pub struct CountedPass {
 }
 
 impl Model for CountedPass {
-    ghost use Rattle.counted_lock.specs.Claims.{own};
-    ghost use Rattle.counted_lock.specs.Passes.{AtPass};
-    ghost use Rattle.counted_lock.specs.Keeping.{IsPass};
+    ghost use Rattle.counted_lock.specs.{Claims.own, Passes.AtPass, Keeping.IsPass};
 
     ghost Value = { AtPass };
 
@@ -92,9 +89,7 @@ impl CountedPass {
 }
 
 impl CountedPass {
-    ghost use Rattle.counted_lock.specs.Plays.{IsIdle};
-    ghost use Rattle.counted_lock.specs.Claims.{own};
-    ghost use Rattle.counted_lock.specs.Keeping.{claim_of};
+    ghost use Rattle.counted_lock.specs.{Plays.IsIdle, Claims.own, Keeping.claim_of};
 
     pub(crate) fn into_place(self) -> Place
         ensures table { result.table_id ≡ self.table }

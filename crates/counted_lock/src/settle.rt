@@ -4,8 +4,7 @@
 
 ghost use Rattle.std.specs.Prelude.{◌≡◌, [], ◌∷◌, None};
 ghost use Rattle.cache_policy.specs.Turns.{mark_step, turn_of};
-ghost use Rattle.counted_lock.specs.Plays.{Works, IsOfTable};
-ghost use Rattle.counted_lock.specs.Claims.{own};
+ghost use Rattle.counted_lock.specs.{Plays.{Works, IsOfTable}, Claims.own};
 ghost use Rattle.counted_lock.specs.Settling.{Stepped, Settles};
 
 use crate::board::{Board, Place};

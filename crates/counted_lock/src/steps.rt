@@ -3,11 +3,9 @@
 //! with `enter`; `Enters`, `Counts` and `Gives` of `specs/Plays` say what each does.
 
 ghost use Rattle.std.specs.Prelude.{◌≡◌, [], ◌∷◌, ◌++◌, None, Ok};
-ghost use Rattle.cache_policy.specs.Turns.{mark_step, turn_of};
-ghost use Rattle.agent_core.specs.Cores.{mark_of};
+ghost use Rattle.{cache_policy.specs.Turns.{mark_step, turn_of}, agent_core.specs.Cores.mark_of};
 ghost use Rattle.agent_core.specs.Recording.{reply_of};
-ghost use Rattle.counted_lock.specs.Logs.{IsLegalLog};
-ghost use Rattle.counted_lock.specs.Standing.{Stands};
+ghost use Rattle.counted_lock.specs.{Logs.IsLegalLog, Standing.Stands};
 ghost use Rattle.counted_lock.specs.Plays.{IsIdle, Works, Enters, Counts, Gives, IsOfTable, number};
 ghost use Rattle.counted_lock.specs.Claims.{own};
 

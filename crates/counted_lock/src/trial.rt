@@ -4,8 +4,7 @@
 
 ghost use Rattle.std.specs.Prelude.{◌≡◌, Ok};
 ghost use Rattle.cache_policy.specs.Turns.{mark_step, turn_of};
-ghost use Rattle.agent_core.specs.Recording.{reply_of};
-ghost use Rattle.agent_core.specs.Tallies.{CanCount};
+ghost use Rattle.agent_core.specs.{Recording.reply_of, Tallies.CanCount};
 ghost use Rattle.counted_lock.specs.Settling.{IsTrial, tally_with};
 
 use crate::board::Cored;

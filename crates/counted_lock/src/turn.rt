@@ -5,9 +5,7 @@
 ghost use Rattle.std.specs.Prelude.{◌≡◌, IfErr};
 ghost use Rattle.agent_ports.specs.Readings.{IsRead};
 ghost use Rattle.cache_policy.specs.Turns.{asked_step, mark_step, turn_of, FitsReply};
-ghost use Rattle.counted_lock.specs.Plays.{IsIdle, IsOfTable};
-ghost use Rattle.counted_lock.specs.Claims.{own};
-ghost use Rattle.counted_lock.specs.Taking.{TakesTurn};
+ghost use Rattle.counted_lock.specs.{Plays.{IsIdle, IsOfTable}, Claims.own, Taking.TakesTurn};
 
 use crate::board::{Board, Cored, Place};
 use crate::settle::settle;

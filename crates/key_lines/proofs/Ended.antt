@@ -1,11 +1,7 @@
 -- Lines that LF ends, one after another.
-use Rattle.std.proofs.Common.{◌≡◌, ◌<◌, ℕ, Bool, true, false, List, [], ◌∷◌, ◌++◌, length, take, drop, refl, ap, sym, ◌∙◌, arith, append_assoc}
-use Rattle.std.specs.Prelude.{not, ◌&&◌, ◌==◌, if◌then◌else◌}
-use Rattle.std.specs.List.{concat, list_all, onto_first}
+use Rattle.std.{proofs.Common.{◌≡◌, ◌<◌, ℕ, Bool, true, false, List, [], ◌∷◌, ◌++◌, length, take, drop, refl, ap, sym, ◌∙◌, arith, append_assoc}, specs.{Prelude.{not, ◌&&◌, ◌==◌, if◌then◌else◌}, List.{concat, list_all, onto_first}}}
 use Rattle.assuan_text.specs.LineEnds.{is_lf}
-use Rattle.key_lines.specs.Lines.{lines_of}
-use Rattle.key_lines.proofs.LineLemmas.{line_len, lines_step, concat_lines, long_at, long_before}
-use Rattle.key_lines.proofs.Plain.{is_plain, are_plain, both}
+use Rattle.key_lines.{specs.Lines.lines_of, proofs.{LineLemmas.{line_len, lines_step, concat_lines, long_at, long_before}, Plain.{is_plain, are_plain, both}}}
 
 abbrev is_none : List ℕ → Bool
 is_none [] = true

@@ -1,10 +1,7 @@
 -- Where the Key item stands among the lines, and its value.
-use Rattle.std.proofs.Common.{◌≡◌, suc, ◌+◌, ◌-◌, ℕ, Bool, true, false, cond, List, [], ◌∷◌, ◌++◌, length, map, take, drop, refl, ap, sym, ◌∙◌, arith, append_assoc, append-nil}
-use Rattle.std.specs.Prelude.{not, ◌||◌}
+use Rattle.std.{proofs.{Common.{◌≡◌, suc, ◌+◌, ◌-◌, ℕ, Bool, true, false, cond, List, [], ◌∷◌, ◌++◌, length, map, take, drop, refl, ap, sym, ◌∙◌, arith, append_assoc, append-nil}, lemmas.List.length-append}, specs.Prelude.{not, ◌||◌}}
 use Rattle.std.specs.List.{flat_map, join_with_byte, list_any, position_or_len, prefix_len, take_while}
-use Rattle.std.proofs.lemmas.List.{length-append}
-use Rattle.key_lines.specs.Lines.{line_text}
-use Rattle.key_lines.specs.KeyItem.{is_more}
+use Rattle.key_lines.specs.{Lines.line_text, KeyItem.is_more}
 
 step : (test : List ℕ → Bool) (x y : List ℕ) (xs ys : List (List ℕ)) → list_any test (x ∷ xs) ≡ false → (test x ≡ false) × (list_any test xs ≡ false)
 step test x y xs ys none = elim (test x) as (λ b. (b || list_any test xs) ≡ false → (b ≡ false) × (list_any test xs ≡ false)) [

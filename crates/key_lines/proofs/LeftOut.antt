@@ -1,15 +1,7 @@
 -- Lines that are well stay so where lines that go on with the Key item are left out.
-use Rattle.std.proofs.Common.{◌≡◌, Bool, true, false, List, [], ◌∷◌, ◌++◌, length, Some, None, Option, refl, ap, sym, ◌∙◌}
-use Rattle.std.specs.Prelude.{◌||◌, if◌then◌else◌}
-use Rattle.std.specs.List.{list_all, list_any}
-use Rattle.std.specs.Option.{option_or}
-use Rattle.key_lines.specs.Items.{is_key, goes_on}
-use Rattle.key_lines.specs.Faults.{is_in_item, fault_of_form, first_line_fault}
-use Rattle.key_lines.specs.declared.forms.LineForm.{LineForm}
-use Rattle.key_lines.specs.declared.forms.LineForm.TheVariants.{Comment, GoesOn, Item, Key, NoForm}
-use Rattle.key_lines.specs.declared.fault.LinesFault.{LinesFault}
-use Rattle.key_lines.specs.declared.fault.LinesFault.TheVariants.{BadLine, TwoKeys}
-use Rattle.key_lines.proofs.Plain.{both}
+use Rattle.std.{proofs.Common.{◌≡◌, Bool, true, false, List, [], ◌∷◌, ◌++◌, length, Some, None, Option, refl, ap, sym, ◌∙◌}, specs.{Prelude.{◌||◌, if◌then◌else◌}, List.{list_all, list_any}, Option.option_or}}
+use Rattle.key_lines.specs.{Items.{is_key, goes_on}, Faults.{is_in_item, fault_of_form, first_line_fault}, declared.{forms.LineForm.{LineForm, TheVariants.{Comment, GoesOn, Item, Key, NoForm}}, fault.LinesFault.LinesFault}}
+use Rattle.key_lines.{specs.declared.fault.LinesFault.TheVariants.{BadLine, TwoKeys}, proofs.Plain.both}
 
 neither : (x y : Option LinesFault) → option_or x y ≡ None → (x ≡ None) × (y ≡ None)
 neither None y e = (refl, e)

@@ -1,9 +1,6 @@
 -- The lines of a file, one after the other.
-use Rattle.std.proofs.Common.{◌≡◌, suc, ◌+◌, ℕ, Bool, true, false, cond, min, List, [], ◌∷◌, length, take, drop, refl, ap, sym, ◌∙◌, arith}
-use Rattle.std.specs.Prelude.{not, nat_lt, nat_le, ◌||◌, ◌&&◌}
+use Rattle.std.{proofs.{Common.{◌≡◌, suc, ◌+◌, ℕ, Bool, true, false, cond, min, List, [], ◌∷◌, length, take, drop, refl, ap, sym, ◌∙◌, arith}, lemmas.Bool.{cond_both, Decides.nat_tests}}, specs.Prelude.{not, nat_lt, nat_le, ◌||◌, ◌&&◌}}
 use Rattle.std.specs.List.{concat, list_all, list_any, onto_first, position_or_len, prefix_len}
-use Rattle.std.proofs.lemmas.Bool.{cond_both}
-use Rattle.std.proofs.lemmas.Bool.Decides.{nat_tests}
 use Rattle.assuan_text.specs.LineEnds.{is_lf}
 use Rattle.key_lines.specs.Lines.{lines_of}
 

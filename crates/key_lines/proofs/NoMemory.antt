@@ -1,13 +1,7 @@
 -- No text has a lack of memory as its fault.
-use Rattle.std.proofs.Common.{◌≡◌, inl, inr, ℕ, List, length, Some, None}
-use Rattle.std.specs.Prelude.{◌==◌}
-use Rattle.std.proofs.lemmas.Bool.{cond_both}
-use Rattle.sexp_canonical.specs.Spelling.{most_depth}
-use Rattle.sexp_advanced.specs.Bytes.{is_space_byte, without_front}
-use Rattle.sexp_advanced.specs.Signs.{Found, sign, broken_atom, ended, no_item}
-use Rattle.sexp_advanced.specs.Reading.{fault_of, place_of}
-use Rattle.sexp_advanced.specs.declared.signs.Sign.TheVariants.{Open, Close, Atom}
-use Rattle.sexp_advanced.specs.declared.fault.AdvFault.TheVariants.{BadByte, Deep, NoMemory}
+use Rattle.std.{proofs.{Common.{◌≡◌, inl, inr, ℕ, List, length, Some, None}, lemmas.Bool.cond_both}, specs.Prelude.◌==◌}
+use Rattle.{sexp_canonical.specs.Spelling.most_depth, sexp_advanced.specs.{Bytes.{is_space_byte, without_front}, Signs.{Found, sign, broken_atom, ended, no_item}, Reading.{fault_of, place_of}}}
+use Rattle.sexp_advanced.specs.declared.{signs.Sign.TheVariants.{Open, Close, Atom}, fault.AdvFault.TheVariants.{BadByte, Deep, NoMemory}}
 use Rattle.key_lines.specs.KeyText.{IsTextFault}
 
 never : (place lists_open : ℕ) (found : Found) → fault_of place lists_open found ≡ Some NoMemory → ⊥

@@ -1,20 +1,8 @@
 -- A file has one answer, where a text has one expression or fault.
-use Rattle.std.proofs.Common.{◌≡◌, ◌⊎◌, inl, inr, ◌+◌, ◌≤◌, ◌<◌, true, false, ℕ, List, length, drop, Some, None, Option, Result, Ok, Err, refl, ap, sym, ◌∙◌}
-use Rattle.std.specs.Prelude.{if◌then◌else◌, nat_le}
+use Rattle.std.{proofs.{Common.{◌≡◌, ◌⊎◌, inl, inr, ◌+◌, ◌≤◌, ◌<◌, true, false, ℕ, List, length, drop, Some, None, Option, Result, Ok, Err, refl, ap, sym, ◌∙◌}, lemmas.Bool.{le-leb, lt-leb}}, specs.Prelude.{if◌then◌else◌, nat_le}}
 use Rattle.std.specs.List.{list_all, prefix_len}
-use Rattle.std.proofs.lemmas.Bool.{le-leb, lt-leb}
-use Rattle.assuan_text.specs.Blanks.{is_blank}
-use Rattle.sexp_canonical.specs.Spelling.{most_bytes, spelling_of}
-use Rattle.sexp_canonical.specs.declared.tree.Sexp.{Sexp}
-use Rattle.sexp_advanced.specs.Reading.{ReadsAdvanced}
-use Rattle.sexp_advanced.specs.declared.fault.AdvFault.{AdvFault}
-use Rattle.sexp_advanced.specs.declared.fault.AdvFault.TheVariants.{BadByte}
-use Rattle.key_lines.specs.Faults.{line_fault}
-use Rattle.key_lines.specs.KeyItem.{has_key, key_value, before_key, after_key}
-use Rattle.key_lines.specs.KeyText.{IsWholeExpression}
-use Rattle.key_lines.specs.KeyFile.{KeyFile, HasKeyItem, Answers}
-use Rattle.key_lines.specs.Canon.{Canon}
-use Rattle.key_lines.specs.declared.fault.LinesFault.{LinesFault}
+use Rattle.{assuan_text.specs.Blanks.is_blank, sexp_canonical.specs.{Spelling.{most_bytes, spelling_of}, declared.tree.Sexp.Sexp}, sexp_advanced.specs.{Reading.ReadsAdvanced, declared.fault.AdvFault.{AdvFault, TheVariants.BadByte}}}
+use Rattle.key_lines.specs.{Faults.line_fault, KeyItem.{has_key, key_value, before_key, after_key}, KeyText.IsWholeExpression, KeyFile.{KeyFile, HasKeyItem, Answers}, Canon.Canon, declared.fault.LinesFault.LinesFault}
 use Rattle.key_lines.specs.declared.fault.LinesFault.TheVariants.{BadLine, NoKey, TwoKeys, BadKey, TooLong, NoMemory}
 
 -- each text is read in one way

@@ -1,22 +1,9 @@
 -- The text of the Key item that is written: it is one line, of the item Key.
-use Rattle.std.proofs.Common.{◌≡◌, ◌+◌, ◌-◌, ◌/◌, ◌%◌, ◌<◌, ◌≤◌, ℕ, Bool, true, false, get_or, List, [], ◌∷◌, ◌++◌, length, take, refl, ap, sym, ◌∙◌, arith}
-use Rattle.std.specs.Prelude.{not, ◌||◌, ◌&&◌, ◌==◌, nat_lt, codes, if◌then◌else◌}
-use Rattle.std.specs.Char.{is_ascii_digit}
-use Rattle.std.specs.List.{list_all}
-use Rattle.std.proofs.lemmas.Bool.{eqb-true, cond_both}
-use Rattle.std.proofs.lemmas.List.{length-append}
-use Rattle.std.proofs.lemmas.List.Folds.{list_all-append, list_all_at}
-use Rattle.std.proofs.Math.Seq.{take-append_seam, get_or-append_seam}
-use Rattle.assuan_text.specs.LineEnds.{is_lf}
-use Rattle.sexp_canonical.specs.Tree.{Tree, Row, leaf, branch, end, item}
-use Rattle.sexp_canonical.specs.View.{tree_of}
-use Rattle.sexp_canonical.specs.declared.tree.Sexp.{Sexp}
-use Rattle.sexp_advanced.specs.Bytes.{is_token_start, is_token_byte, is_token_mark}
+use Rattle.std.proofs.{Common.{◌≡◌, ◌+◌, ◌-◌, ◌/◌, ◌%◌, ◌<◌, ◌≤◌, ℕ, Bool, true, false, get_or, List, [], ◌∷◌, ◌++◌, length, take, refl, ap, sym, ◌∙◌, arith}, lemmas.{Bool.{eqb-true, cond_both}, List.length-append}}
+use Rattle.std.{proofs.{lemmas.List.Folds.{list_all-append, list_all_at}, Math.Seq.{take-append_seam, get_or-append_seam}}, specs.{Prelude.{not, ◌||◌, ◌&&◌, ◌==◌, nat_lt, codes, if◌then◌else◌}, Char.is_ascii_digit, List.list_all}}
+use Rattle.{assuan_text.specs.LineEnds.{is_lf, without_cr}, sexp_canonical.specs.{Tree.{Tree, Row, leaf, branch, end, item}, View.tree_of, declared.tree.Sexp.Sexp}, sexp_advanced.specs.Bytes.{is_token_start, is_token_byte, is_token_mark}}
 use Rattle.sexp_advanced.specs.Writing.{advanced, advanced_of, row_text, spaced_row, hex_glyph, hex_pairs, is_token, are_token_bytes}
-use Rattle.assuan_text.specs.LineEnds.{without_cr}
-use Rattle.key_lines.specs.Lines.{last_byte, without_last, line_text}
-use Rattle.key_lines.specs.Items.{line_form, form_of_text, value_in}
-use Rattle.key_lines.specs.declared.forms.LineForm.TheVariants.{Key}
+use Rattle.key_lines.specs.{Lines.{last_byte, without_last, line_text}, Items.{line_form, form_of_text, value_in}, declared.forms.LineForm.TheVariants.Key}
 
 -- neither LF nor CR
 abbrev pub is_plain : ℕ → Bool

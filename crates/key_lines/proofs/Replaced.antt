@@ -1,31 +1,12 @@
 -- The file with another key has that key.
-use Rattle.std.proofs.Common.{◌≡◌, inr, suc, ◌+◌, ◌≤◌, ℕ, Bool, true, false, cond, List, [], ◌∷◌, ◌++◌, length, map, take, drop, Some, None, Ok, refl, ap, sym, subst, ◌∙◌, arith, append_assoc}
-use Rattle.std.specs.Prelude.{not, ◌||◌, ◌&&◌, codes}
-use Rattle.std.specs.List.{concat, join_with_byte, list_all, list_any, position_or_len, prefix_len}
-use Rattle.std.proofs.lemmas.List.{take-append-drop, map-append}
-use Rattle.std.proofs.lemmas.List.Folds.{concat-append, list_any-append}
-use Rattle.assuan_text.specs.Blanks.{is_blank}
-use Rattle.sexp_canonical.specs.Spelling.{most_bytes, spelling_of}
-use Rattle.sexp_canonical.specs.Tree.{Tree, leaf, branch}
-use Rattle.sexp_canonical.specs.View.{tree_of}
-use Rattle.sexp_canonical.specs.declared.tree.Sexp.{Sexp}
-use Rattle.sexp_advanced.specs.Bytes.{is_space_byte as is_between}
-use Rattle.sexp_advanced.specs.Reading.{ReadsAdvanced, signs, Begins}
-use Rattle.sexp_advanced.specs.Writing.{advanced_of}
-use Rattle.key_lines.specs.Lines.{lines_of, line_text}
-use Rattle.key_lines.specs.Items.{line_form, is_key, goes_on, value_in}
-use Rattle.key_lines.specs.Faults.{first_line_fault, line_fault}
-use Rattle.key_lines.specs.KeyItem.{is_key_line, is_more, has_key, from_key, key_value, before_key, after_key, after_item, value_of}
-use Rattle.key_lines.specs.KeyText.{IsKeyText}
-use Rattle.key_lines.specs.KeyFile.{KeyFile, IsKeyFile, with_key}
-use Rattle.key_lines.specs.Canon.{is_canonical, Canon}
-use Rattle.key_lines.specs.declared.forms.LineForm.{LineForm}
-use Rattle.key_lines.specs.declared.forms.LineForm.TheVariants.{Comment, GoesOn, Item, Key, NoForm}
-use Rattle.key_lines.proofs.LineLemmas.{concat_lines}
-use Rattle.key_lines.proofs.KeyLemmas.{place_behind, take_front, drop_front}
-use Rattle.key_lines.proofs.Plain.{key_text, key_line, text_plain, form_of_key, value_of_key}
-use Rattle.key_lines.proofs.Ended.{line_first, lines_first, before_ended, lines_last, plain_ended}
-use Rattle.key_lines.proofs.LeftOut.{well_without}
+use Rattle.std.proofs.{Common.{◌≡◌, inr, suc, ◌+◌, ◌≤◌, ℕ, Bool, true, false, cond, List, [], ◌∷◌, ◌++◌, length, map, take, drop, Some, None, Ok, refl, ap, sym, subst, ◌∙◌, arith, append_assoc}, lemmas.List.{take-append-drop, map-append}}
+use Rattle.std.{proofs.lemmas.List.Folds.{concat-append, list_any-append}, specs.{Prelude.{not, ◌||◌, ◌&&◌, codes}, List.{concat, join_with_byte, list_all, list_any, position_or_len, prefix_len}}}
+use Rattle.{assuan_text.specs.Blanks.is_blank, sexp_canonical.specs.{Spelling.{most_bytes, spelling_of}, Tree.{Tree, leaf, branch}, View.tree_of, declared.tree.Sexp.Sexp}, sexp_advanced.specs.Bytes.is_space_byte as is_between}
+use Rattle.sexp_advanced.specs.{Reading.{ReadsAdvanced, signs, Begins}, Writing.advanced_of}
+use Rattle.key_lines.specs.{Lines.{lines_of, line_text}, Items.{line_form, is_key, goes_on, value_in}, Faults.{first_line_fault, line_fault}}
+use Rattle.key_lines.specs.{KeyItem.{is_key_line, is_more, has_key, from_key, key_value, before_key, after_key, after_item, value_of}, KeyText.IsKeyText, KeyFile.{KeyFile, IsKeyFile, with_key}, Canon.{is_canonical, Canon}}
+use Rattle.key_lines.{specs.declared.forms.LineForm.{LineForm, TheVariants.{Comment, GoesOn, Item, Key, NoForm}}, proofs.{LineLemmas.concat_lines, KeyLemmas.{place_behind, take_front, drop_front}}}
+use Rattle.key_lines.proofs.{Plain.{key_text, key_line, text_plain, form_of_key, value_of_key}, Ended.{line_first, lines_first, before_ended, lines_last, plain_ended}, LeftOut.well_without}
 
 -- ---- where the first that passes stands
 

@@ -1,26 +1,10 @@
 -- The definitions on worked examples, each by computation.
-use Rattle.std.proofs.Common.{inr, sym, subst, lit≤}
-use Rattle.std.specs.Prelude.{◌≡◌, ℕ, ◌≤◌, List, [], ◌∷◌, ◌++◌, length, codes, false, Some, None, refl}
-use Rattle.std.specs.List.{repeat}
-use Rattle.sexp_canonical.specs.Tree.{Tree, leaf, list_of}
-use Rattle.sexp_canonical.specs.View.{tree_of}
-use Rattle.sexp_canonical.specs.Spelling.{numeral, most_bytes, spelling_of}
-use Rattle.sexp_canonical.specs.declared.tree.Sexp.{Sexp}
-use Rattle.sexp_advanced.specs.Bytes.{is_space_byte as is_between, hex_value, is_token_byte, is_token_start, is_token_mark, class_of}
-use Rattle.sexp_advanced.specs.Pieces.{quoted_piece, escape, pair, pair_here, low_digit}
-use Rattle.sexp_advanced.specs.Signs.{sign, IsDelimited}
-use Rattle.sexp_advanced.specs.Reading.{signs, Begins}
-use Rattle.sexp_advanced.specs.declared.pieces.Form.TheVariants.{Hexadecimal, Quoted}
-use Rattle.sexp_advanced.specs.declared.signs.Sign.TheVariants.{Atom}
-use Rattle.key_lines.specs.Lines.{lines_of, line_text}
-use Rattle.key_lines.specs.Items.{line_form}
-use Rattle.key_lines.specs.Faults.{line_fault}
-use Rattle.key_lines.specs.KeyItem.{has_key, key_value, before_key, after_key}
-use Rattle.key_lines.specs.KeyFile.{IsKeyFile, with_key}
-use Rattle.key_lines.specs.Canon.{is_canonical, Canon}
-use Rattle.key_lines.specs.Codes.{sexp_of}
-use Rattle.key_lines.specs.declared.forms.LineForm.TheVariants.{Comment, GoesOn, Item, NoForm}
-use Rattle.key_lines.specs.declared.fault.LinesFault.TheVariants.{BadLine, NoKey, TwoKeys}
+use Rattle.std.{proofs.Common.{inr, sym, subst, lit≤}, specs.{Prelude.{◌≡◌, ℕ, ◌≤◌, List, [], ◌∷◌, ◌++◌, length, codes, false, Some, None, refl}, List.repeat}}
+use Rattle.sexp_canonical.specs.{Tree.{Tree, leaf, list_of}, View.tree_of, Spelling.{numeral, most_bytes, spelling_of}, declared.tree.Sexp.Sexp}
+use Rattle.sexp_advanced.specs.{Bytes.{is_space_byte as is_between, hex_value, is_token_byte, is_token_start, is_token_mark, class_of}, Pieces.{quoted_piece, escape, pair, pair_here, low_digit}, Signs.{sign, IsDelimited}}
+use Rattle.sexp_advanced.specs.{Reading.{signs, Begins}, declared.{pieces.Form.TheVariants.{Hexadecimal, Quoted}, signs.Sign.TheVariants.Atom}}
+use Rattle.key_lines.specs.{Lines.{lines_of, line_text}, Items.line_form, Faults.line_fault, KeyItem.{has_key, key_value, before_key, after_key}, KeyFile.{IsKeyFile, with_key}, Canon.{is_canonical, Canon}, Codes.sexp_of}
+use Rattle.key_lines.specs.declared.{forms.LineForm.TheVariants.{Comment, GoesOn, Item, NoForm}, fault.LinesFault.TheVariants.{BadLine, NoKey, TwoKeys}}
 
 abbrev lf : List ℕ
 lf = 10 ∷ []

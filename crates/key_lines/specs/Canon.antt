@@ -2,8 +2,7 @@
 -- canonical expression, and any other is in the extended format (GnuPG's notes on the format of private keys, agent/keyformat.txt).
 use Rattle.std.specs.Prelude.{◌≡◌, ℕ, ◌==◌, Bool, true, false, List, slice_index, Option, Some, None, ◌⊎◌}
 use Rattle.sexp_canonical.specs.Spelling.{spelling_of}
-use Rattle.key_lines.specs.KeyFile.{KeyFile, IsKeyFile, IsFault}
-use Rattle.key_lines.specs.declared.fault.LinesFault.{LinesFault}
+use Rattle.key_lines.specs.{KeyFile.{KeyFile, IsKeyFile, IsFault}, declared.fault.LinesFault.LinesFault}
 
 abbrev pub is_canonical : List ℕ → Bool
 is_canonical file = slice_index file 0 == 40

@@ -1,12 +1,6 @@
 -- Private: a code for keys in files, by which proofs tell them apart.
-use Rattle.std.specs.Prelude.{◌≡◌, ℕ, List, [], ◌∷◌, refl}
-use Rattle.std.specs.Coded.{Coded, code_by, coded×, coded_ℕ, coded_list}
-use Rattle.std.proofs.Common.{ap}
-use Rattle.sexp_canonical.specs.Tree.{Tree, leaf, branch, row, items_of}
-use Rattle.sexp_canonical.specs.TreeCode.{tree_code}
-use Rattle.sexp_canonical.specs.View.{tree_of}
-use Rattle.sexp_canonical.specs.declared.tree.Sexp.{Sexp}
-use Rattle.sexp_canonical.specs.declared.tree.Sexp.TheVariants.{Atom, List as Listed}
+use Rattle.std.{specs.{Prelude.{◌≡◌, ℕ, List, [], ◌∷◌, refl}, Coded.{Coded, code_by, coded×, coded_ℕ, coded_list}}, proofs.Common.ap}
+use Rattle.sexp_canonical.specs.{Tree.{Tree, leaf, branch, row, items_of}, TreeCode.tree_code, View.tree_of, declared.tree.Sexp.{Sexp, TheVariants.{Atom, List as Listed}}}
 use Rattle.key_lines.specs.KeyFile.{KeyFile}
 
 abbrev pub sexp_of : Tree → Sexp

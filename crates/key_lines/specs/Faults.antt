@@ -1,12 +1,6 @@
 -- The first line of a key file that is wrong. Which fault it is, and its number, is this project's own.
-use Rattle.std.specs.Prelude.{ℕ, Bool, false, not, List, [], ◌∷◌, length, Option, Some, None, if◌then◌else◌}
-use Rattle.std.specs.List.{list_any}
-use Rattle.std.specs.Option.{option_or}
-use Rattle.key_lines.specs.Items.{is_comment, is_key, forms_of}
-use Rattle.key_lines.specs.declared.forms.LineForm.{LineForm}
-use Rattle.key_lines.specs.declared.forms.LineForm.TheVariants.{Comment, GoesOn, Item, Key, NoForm}
-use Rattle.key_lines.specs.declared.fault.LinesFault.{LinesFault}
-use Rattle.key_lines.specs.declared.fault.LinesFault.TheVariants.{BadLine, TwoKeys}
+use Rattle.std.specs.{Prelude.{ℕ, Bool, false, not, List, [], ◌∷◌, length, Option, Some, None, if◌then◌else◌}, List.list_any, Option.option_or}
+use Rattle.key_lines.specs.{Items.{is_comment, is_key, forms_of}, declared.{forms.LineForm.{LineForm, TheVariants.{Comment, GoesOn, Item, Key, NoForm}}, fault.LinesFault.{LinesFault, TheVariants.{BadLine, TwoKeys}}}}
 
 -- There is an item to go on with where the line just before isn't a comment. Lines before come nearest first.
 abbrev pub is_in_item : List LineForm → Bool

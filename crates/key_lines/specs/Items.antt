@@ -1,14 +1,9 @@
 -- What a line of a key file is (GnuPG's notes on the format of private keys, agent/keyformat.txt, "Names", "Values" and "Comments").
 -- How long a name may be, and that a comment ends its item, is this project's own rule.
-use Rattle.std.specs.Prelude.{ℕ, ◌==◌, ◌||◌, ◌&&◌, nat_le, Bool, true, false, List, length, map, codes, slice_index, if◌then◌else◌}
-use Rattle.std.specs.Char.{is_ascii_alphabetic, is_ascii_alphanumeric}
-use Rattle.std.specs.List.{list_any, list_all, before_first, after_first}
+use Rattle.std.specs.{Prelude.{ℕ, ◌==◌, ◌||◌, ◌&&◌, nat_le, Bool, true, false, List, length, map, codes, slice_index, if◌then◌else◌}, Char.{is_ascii_alphabetic, is_ascii_alphanumeric}, List.{list_any, list_all, before_first, after_first}}
 use Rattle.std.specs.Str.{str_eq_ignore_ascii_case}
-use Rattle.assuan_text.specs.Blanks.{is_blank}
-use Rattle.assuan_text.specs.Forms.{is_idle}
-use Rattle.key_lines.specs.Lines.{lines_of, line_text}
-use Rattle.key_lines.specs.declared.forms.LineForm.{LineForm}
-use Rattle.key_lines.specs.declared.forms.LineForm.TheVariants.{Comment, GoesOn, Item, Key, NoForm}
+use Rattle.assuan_text.specs.{Blanks.is_blank, Forms.is_idle}
+use Rattle.key_lines.specs.{Lines.{lines_of, line_text}, declared.forms.LineForm.{LineForm, TheVariants.{Comment, GoesOn, Item, Key, NoForm}}}
 
 abbrev pub is_colon : ℕ → Bool
 is_colon byte = byte == 58

@@ -1,13 +1,8 @@
 -- What reading a key file in the extended format answers: the key and the bytes around its item, or else the first fault. The
 -- order of faults is this project's own: the lines from the top, then that there is no key, then the key's own.
 use Rattle.std.specs.Prelude.{◌≡◌, ℕ, true, false, codes, List, ◌∷◌, ◌++◌, Some, None, Result, Ok, Err}
-use Rattle.sexp_canonical.specs.declared.tree.Sexp.{Sexp}
-use Rattle.sexp_advanced.specs.Writing.{advanced_of}
-use Rattle.key_lines.specs.Faults.{line_fault}
-use Rattle.key_lines.specs.KeyItem.{has_key, key_value, before_key, after_key}
-use Rattle.key_lines.specs.KeyText.{IsKeyText, IsKeyFault}
-use Rattle.key_lines.specs.declared.fault.LinesFault.{LinesFault}
-use Rattle.key_lines.specs.declared.fault.LinesFault.TheVariants.{BadLine, NoKey, TwoKeys, BadKey, TooLong, NoMemory}
+use Rattle.{sexp_canonical.specs.declared.tree.Sexp.Sexp, sexp_advanced.specs.Writing.advanced_of}
+use Rattle.key_lines.specs.{Faults.line_fault, KeyItem.{has_key, key_value, before_key, after_key}, KeyText.{IsKeyText, IsKeyFault}, declared.fault.LinesFault.{LinesFault, TheVariants.{BadLine, NoKey, TwoKeys, BadKey, TooLong, NoMemory}}}
 
 -- the key of a file, the bytes before the lines of its item, and the bytes after them
 pub record KeyFile : Type 0 where

@@ -1,8 +1,6 @@
 -- The item of a key file that has the key: its first line, and the lines that go on with it.
-use Rattle.std.specs.Prelude.{ℕ, Bool, List, [], ◌∷◌, map, drop}
-use Rattle.std.specs.List.{list_any, before_first, position_or_len, prefix_len, take_while, concat, join_with_byte}
-use Rattle.key_lines.specs.Lines.{lines_of, line_text}
-use Rattle.key_lines.specs.Items.{line_form, is_key, goes_on, value_in}
+use Rattle.std.specs.{Prelude.{ℕ, Bool, List, [], ◌∷◌, map, drop}, List.{list_any, before_first, position_or_len, prefix_len, take_while, concat, join_with_byte}}
+use Rattle.key_lines.specs.{Lines.{lines_of, line_text}, Items.{line_form, is_key, goes_on, value_in}}
 
 abbrev pub is_key_line : List ℕ → Bool
 is_key_line line = is_key (line_form line)

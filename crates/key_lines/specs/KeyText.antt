@@ -1,15 +1,8 @@
 -- The key as the value of its item: one advanced expression, with blanks around it. Which fault it is, and its place, is this
 -- project's own.
-use Rattle.std.specs.Prelude.{◌≡◌, ℕ, ◌+◌, ◌≤◌, ◌<◌, true, false, List, length, drop, Ok, Err, ◌⊎◌}
-use Rattle.std.specs.List.{list_all, prefix_len}
-use Rattle.assuan_text.specs.Blanks.{is_blank}
-use Rattle.sexp_canonical.specs.Spelling.{most_bytes, spelling_of}
-use Rattle.sexp_canonical.specs.declared.tree.Sexp.{Sexp}
-use Rattle.sexp_advanced.specs.Reading.{ReadsAdvanced}
-use Rattle.sexp_advanced.specs.declared.fault.AdvFault.{AdvFault}
-use Rattle.sexp_advanced.specs.declared.fault.AdvFault.TheVariants.{BadByte}
-use Rattle.key_lines.specs.declared.fault.LinesFault.{LinesFault}
-use Rattle.key_lines.specs.declared.fault.LinesFault.TheVariants.{BadLine, NoKey, TwoKeys, BadKey, TooLong, NoMemory}
+use Rattle.std.specs.{Prelude.{◌≡◌, ℕ, ◌+◌, ◌≤◌, ◌<◌, true, false, List, length, drop, Ok, Err, ◌⊎◌}, List.{list_all, prefix_len}}
+use Rattle.{assuan_text.specs.Blanks.is_blank, sexp_canonical.specs.{Spelling.{most_bytes, spelling_of}, declared.tree.Sexp.Sexp}, sexp_advanced.specs.{Reading.ReadsAdvanced, declared.fault.AdvFault.{AdvFault, TheVariants.BadByte}}}
+use Rattle.key_lines.specs.declared.fault.LinesFault.{LinesFault, TheVariants.{BadLine, NoKey, TwoKeys, BadKey, TooLong, NoMemory}}
 
 -- the value is this expression, and nothing but blanks and tabs behind it
 pub record IsWholeExpression (value : List ℕ) (tree : Sexp) : Type 0 where

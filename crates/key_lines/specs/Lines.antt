@@ -1,7 +1,6 @@
 -- The lines of a key file in GnuPG's extended format (GnuPG's notes on the format of private keys, agent/keyformat.txt, "Extended
 -- Private Key Format"). That a line may end in CR LF, and the last one in nothing, is this project's own rule.
-use Rattle.std.specs.Prelude.{ℕ, ◌-◌, List, [], ◌∷◌, length, take, slice_index, if◌then◌else◌}
-use Rattle.std.specs.List.{onto_first}
+use Rattle.std.specs.{Prelude.{ℕ, ◌-◌, List, [], ◌∷◌, length, take, slice_index, if◌then◌else◌}, List.onto_first}
 use Rattle.assuan_text.specs.LineEnds.{is_lf, without_cr}
 
 -- the lines, each with the LF that ends it; the end of the file ends the last one

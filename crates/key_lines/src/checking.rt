@@ -5,8 +5,7 @@
 ghost use Rattle.std.specs.Prelude.{◌≡◌, ◌||◌, not, Some, None, IfErr, OnOk, List, length};
 ghost use Rattle.std.specs.List.{list_any};
 ghost use Rattle.key_lines.specs.Items.{is_comment, is_key};
-ghost use Rattle.key_lines.specs.Faults.{line_fault, fault_of_form, is_in_item};
-ghost use Rattle.key_lines.specs.KeyFile.{IsFault};
+ghost use Rattle.key_lines.specs.{Faults.{line_fault, fault_of_form, is_in_item}, KeyFile.IsFault};
 ghost use Rattle.key_lines.specs.declared.forms.LineForm.{LineForm};
 
 use crate::fault::LinesFault;

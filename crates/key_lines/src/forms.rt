@@ -3,8 +3,7 @@
 //! and with its namesake in `specs/Items`.
 
 ghost use Rattle.std.specs.Prelude.{◌≡◌, true, false, slice_index, MatchOption};
-ghost use Rattle.std.specs.Char.{is_ascii_alphabetic};
-ghost use Rattle.std.specs.List.{list_all};
+ghost use Rattle.std.specs.{Char.is_ascii_alphabetic, List.list_all};
 ghost use Rattle.assuan_text.specs.Blanks.{is_blank};
 ghost use Rattle.key_lines.specs.Items.{is_name_byte, is_name, begins_item, name_in, names_key};
 ghost use Rattle.key_lines.specs.Items.{value_in, line_form, form_of_text, is_key, goes_on};

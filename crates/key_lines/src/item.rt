@@ -2,8 +2,7 @@
 //! what comes behind. Only the value is copied, into bytes that are overwritten. Begin with
 //! `cut_at_key`; definitions begin in `specs/KeyItem`.
 
-ghost use Rattle.std.specs.Prelude.{◌≡◌, true, false, IfOk, MatchOption};
-ghost use Rattle.std.specs.List.{concat};
+ghost use Rattle.std.specs.{Prelude.{◌≡◌, true, false, IfOk, MatchOption}, List.concat};
 ghost use Rattle.key_lines.specs.Lines.{lines_of};
 ghost use Rattle.key_lines.specs.KeyItem.{has_key, before_key, from_key, value_of, after_item};
 

@@ -29,8 +29,7 @@ pub struct KeyLines {
 }
 
 impl Model for KeyLines {
-    ghost use Rattle.key_lines.specs.KeyFile.{KeyFile};
-    ghost use Rattle.key_lines.specs.Codes.{key_code};
+    ghost use Rattle.key_lines.specs.{KeyFile.KeyFile, Codes.key_code};
 
     ghost Value = { KeyFile };
 

@@ -5,11 +5,10 @@
 ghost use Rattle.std.specs.Prelude.{◌≡◌, ◌⊎◌, ◌+◌, ◌≤◌, length, drop, Result, IfOk, IfErr};
 ghost use Rattle.std.specs.List.{prefix_len};
 ghost use Rattle.assuan_text.specs.Blanks.{is_blank};
-ghost use Rattle.sexp_canonical.specs.Spelling.{most_bytes, spelling_of};
-ghost use Rattle.sexp_canonical.specs.declared.tree.Sexp.{Sexp};
+ghost use Rattle.sexp_canonical.specs.{Spelling.{most_bytes, spelling_of}, declared.tree.Sexp.Sexp};
+ghost use Rattle.sexp_advanced.specs.declared.fault.AdvFault.{AdvFault};
 ghost use Rattle.key_lines.specs.KeyText.{IsWholeExpression, IsTextFault, IsKeyText, IsKeyFault};
 ghost use Rattle.key_lines.specs.declared.fault.LinesFault.{LinesFault};
-ghost use Rattle.sexp_advanced.specs.declared.fault.AdvFault.{AdvFault};
 
 use crate::fault::LinesFault;
 use assuan_text::is_blank;

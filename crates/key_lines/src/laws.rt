@@ -6,8 +6,7 @@ ghost use Rattle.std.specs.Prelude.{◌≡◌, ◌≤◌, false, Some, ℕ, List
 ghost use Rattle.sexp_canonical.specs.View.{tree_of};
 ghost use Rattle.sexp_canonical.specs.Spelling.{most_bytes, most_depth, spelling_of, depth};
 ghost use Rattle.sexp_canonical.specs.declared.tree.Sexp.{Sexp};
-ghost use Rattle.sexp_advanced.specs.declared.fault.AdvFault.{AdvFault};
-ghost use Rattle.sexp_advanced.specs.Octets.{IsOfOctets};
+ghost use Rattle.sexp_advanced.specs.{declared.fault.AdvFault.AdvFault, Octets.IsOfOctets};
 ghost use Rattle.key_lines.specs.KeyFile.{KeyFile, IsKeyFile, IsFault, Answers, with_key};
 ghost use Rattle.key_lines.specs.Canon.{is_canonical, Canon};
 ghost use Rattle.key_lines.specs.declared.fault.LinesFault.{LinesFault};

@@ -3,10 +3,8 @@
 //! file.
 
 ghost use Rattle.std.specs.Prelude.{◌≡◌, ◌==◌, ◌+◌, ◌<◌, ◌≤◌, [], ◌∷◌, ◌++◌, length, MatchOption};
-ghost use Rattle.std.specs.Prelude.{min};
-ghost use Rattle.std.specs.List.{position_or_len};
-ghost use Rattle.assuan_text.specs.LineEnds.{is_lf};
-ghost use Rattle.assuan_text.specs.LineEnds.{without_cr};
+ghost use Rattle.std.specs.{Prelude.min, List.position_or_len};
+ghost use Rattle.assuan_text.specs.LineEnds.{is_lf, without_cr};
 ghost use Rattle.key_lines.specs.Lines.{lines_of, line_text};
 
 /// The first line, with its end, and what comes after it.

@@ -1,7 +1,6 @@
 -- The limits of the files on worked examples: 65,536 bytes are within them, and one more isn't.
 use Rattle.std.proofs.Common.{◌≡◌, ℕ, ◌≤◌, List, length, arith}
-use Rattle.agent_ports.specs.declared.keys.TheConstants.{MAX_KEY_FILE_LEN}
-use Rattle.trust_list.specs.declared.TheConstants.{MAX_TRUST_FILE_LEN}
+use Rattle.{agent_ports.specs.declared.keys.TheConstants.MAX_KEY_FILE_LEN, trust_list.specs.declared.TheConstants.MAX_TRUST_FILE_LEN}
 
 longest_key_file : (file : List ℕ) → length file ≡ 65536 → length file ≤ MAX_KEY_FILE_LEN
 longest_key_file file len = omega (arith, len)

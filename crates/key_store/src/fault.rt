@@ -1,11 +1,10 @@
 //! Why a call on the files came to nothing. Plain data, made of the system's errors and a lack of
 //! memory. Begin with `Fault`; `count_fault` is where each one raises its port's count.
 
-ghost use Rattle.std.specs.Prelude.{◌≡◌, ◌↔◌, ◌≤◌};
-ghost use Rattle.std.specs.IoError.{error_kind};
-ghost use Rattle.std.specs.declared.io.ErrorKind.TheVariants as kind;
+ghost use Rattle.std.specs.{Prelude.{◌≡◌, ◌↔◌, ◌≤◌}, IoError.error_kind};
 ghost use Rattle.agent_ports.specs.Counts.{Rose};
 ghost use Rattle.key_store.specs.declared.fault.Fault.TheVariants.{Absent, NoMemory};
+ghost use Rattle.std.specs.declared.io.ErrorKind.TheVariants as kind;
 
 use std::alloc::AllocError;
 use std::io;

@@ -2,8 +2,7 @@
 //! old one, syncs and the rename. Begin with `read_file` and `replace_file`; tests show what they
 //! do, since no contract says what files hold.
 
-ghost use Rattle.std.specs.Prelude.{◌≤◌, length, IfOk, IsTrue};
-ghost use Rattle.std.specs.Io.KnownBytes.{Consumes, IsAtEnd};
+ghost use Rattle.std.specs.{Prelude.{◌≤◌, length, IfOk, IsTrue}, Io.KnownBytes.{Consumes, IsAtEnd}};
 
 use crate::fault::Fault;
 use std::alloc::Global;

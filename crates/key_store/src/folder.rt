@@ -2,10 +2,8 @@
 //! files to which links there lead; changes hold its lock. Begin with `read_key` and `replace_key`,
 //! each a few calls of `files`; the clauses are those of `Keys`, with the files left unknown.
 
-ghost use Rattle.std.specs.Prelude.{◌≡◌, ◌≤◌, length, None, IfOk};
-ghost use Rattle.std.specs.List.Sorted.{IsStrictlySortedBy};
-ghost use Rattle.agent_ports.specs.KeyFiles.{grip_cmp};
-ghost use Rattle.agent_ports.specs.declared.keys.TheConstants.{MAX_KEY_FILE_LEN};
+ghost use Rattle.std.specs.{Prelude.{◌≡◌, ◌≤◌, length, None, IfOk}, List.Sorted.IsStrictlySortedBy};
+ghost use Rattle.agent_ports.specs.{KeyFiles.grip_cmp, declared.keys.TheConstants.MAX_KEY_FILE_LEN};
 
 use crate::fault::{Fault, count_fault};
 use crate::files::{Place, WholeFile, lock_folder, read_file, remove_leftover, replace_file};

@@ -2,8 +2,7 @@
 //! says which names in the folder are those of keys.
 
 ghost use Rattle.std.specs.Prelude.{◌≡◌, ◌++◌, ℕ, List, codes, string_bytes, length, IsSome};
-ghost use Rattle.std.specs.Prelude.{IfSome, IfOk};
-ghost use Rattle.std.specs.List.{AllPass};
+ghost use Rattle.std.specs.{Prelude.{IfSome, IfOk}, List.AllPass};
 ghost use Rattle.hex.specs.Hex.{decode_of, encode_upper, is_hex_digit};
 
 use agent_ports::Grip;

@@ -1,14 +1,7 @@
 -- The loops over the registers, step by step.
 use Rattle.std.proofs.Common.{◌≡◌, ℕ, suc, ◌+◌, ◌-◌, ◌*◌, ◌/◌, ◌<◌, ◌≤◌, List, [], ◌∷◌, ◌++◌, length, get_or, set, take, drop, refl, ap, ap₂, ◌∙◌, sym, arith, append_assoc, length-take, add-one}
-use Rattle.std.specs.Int.{w64, to_be_bytes}
-use Rattle.std.proofs.lemmas.List.{drop-set-lt, set_at, get_or_at, append-nil, take_more, take_all, drop_all}
-use Rattle.std.specs.List.{concat}
-use Rattle.std.specs.Simd.{first_chunks}
-use Rattle.std.proofs.lemmas.List.Folds.{concat-append}
-use Rattle.std.proofs.Math.Seq.{drop-cons, take-suc-set}
-use Rattle.aes_block.specs.Aes.{xor_of, encrypted, decrypted}
-use Rattle.aes_block.proofs.Lists.{literal}
-use Rattle.aes_block.proofs.Blocks.{length_first_chunks}
+use Rattle.std.{proofs.{lemmas.List.{drop-set-lt, set_at, get_or_at, append-nil, take_more, take_all, drop_all, Folds.concat-append}, Math.Seq.{drop-cons, take-suc-set}}, specs.{Int.{w64, to_be_bytes}, List.concat, Simd.first_chunks}}
+use Rattle.aes_block.{specs.Aes.{xor_of, encrypted, decrypted}, proofs.{Lists.literal, Blocks.length_first_chunks}}
 use Rattle.key_wrap.specs.KeyWrap.{Registers, initial_value, wrap_pass, unwrap_pass, wrap_passes, unwrap_passes, wrapped_of, unwrapped_of}
 
 pub two_halves : (left right : List ℕ) → length left ≡ 8 → length right ≡ 8

@@ -1,13 +1,8 @@
 -- Unwrapping undoes wrapping.
 use Rattle.std.proofs.Common.{◌≡◌, ℕ, zero, suc, ◌+◌, ◌-◌, ◌*◌, ◌/◌, ◌%◌, ◌<◌, ◌≤◌, true, List, [], ◌∷◌, ◌++◌, length, slice_index, get_or, take, drop, replicate, refl, ap, ap₂, ◌∙◌, sym, arith, lit<, length-append}
-use Rattle.std.specs.Int.{w64, to_be_bytes, byte_at, bytes_high_first}
-use Rattle.std.specs.List.{concat}
-use Rattle.std.specs.Simd.{first_chunks}
-use Rattle.std.proofs.lemmas.List.{take_at, drop_at, take-append-drop}
-use Rattle.std.proofs.lemmas.Bool.{and_from, eq-eqb, le-leb}
+use Rattle.std.{proofs.lemmas.{List.{take_at, drop_at, take-append-drop}, Bool.{and_from, eq-eqb, le-leb}}, specs.{Int.{w64, to_be_bytes, byte_at, bytes_high_first}, List.concat, Simd.first_chunks}}
 use Rattle.aes_block.specs.Aes.{IsBytes, xor_of, encrypted, decrypted}
-use Rattle.aes_block.proofs.Blocks.{AreBlocks, IsBytes_take, IsBytes_drop, IsBytes_append, concat_first_chunks, first_chunks_concat, length_concat, first_chunks_blocks, length_first_chunks}
-use Rattle.aes_block.proofs.XorLemmas.{xor_of_twice}
+use Rattle.aes_block.proofs.{Blocks.{AreBlocks, IsBytes_take, IsBytes_drop, IsBytes_append, concat_first_chunks, first_chunks_concat, length_concat, first_chunks_blocks, length_first_chunks}, XorLemmas.xor_of_twice}
 use Rattle.aes_block.proofs.Undone.{decrypted_encrypted, encrypted_bytes, xor_of_bytes}
 use Rattle.key_wrap.specs.KeyWrap.{Registers, initial_value, wrap_pass, unwrap_pass, wrap_passes, unwrap_passes, wrapped_of, unwrapped_of, is_wrapped_length}
 

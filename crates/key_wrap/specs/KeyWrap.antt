@@ -1,8 +1,5 @@
 -- The key wrap of RFC 3394, 2.2, with AES-128, on lists of blocks of 8 bytes.
-use Rattle.std.specs.Prelude.{ℕ, zero, suc, ◌+◌, ◌-◌, ◌*◌, ◌/◌, ◌%◌, Bool, ◌&&◌, ◌==◌, nat_le, List, [], ◌∷◌, ◌++◌, length, take, drop, replicate}
-use Rattle.std.specs.Int.{w64, to_be_bytes}
-use Rattle.std.specs.List.{concat}
-use Rattle.std.specs.Simd.{first_chunks}
+use Rattle.std.specs.{Prelude.{ℕ, zero, suc, ◌+◌, ◌-◌, ◌*◌, ◌/◌, ◌%◌, Bool, ◌&&◌, ◌==◌, nat_le, List, [], ◌∷◌, ◌++◌, length, take, drop, replicate}, Int.{w64, to_be_bytes}, List.concat, Simd.first_chunks}
 use Rattle.aes_block.specs.Aes.{xor_of, encrypted, decrypted}
 
 -- the integrity check register A, and the registers R1 to Rn

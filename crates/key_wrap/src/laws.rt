@@ -1,8 +1,7 @@
 //! A law: unwrapping undoes wrapping. A function without a body, whose contract is a fact about
 //! `wrapped_of` and `unwrapped_of` of `specs/KeyWrap`; it touches nothing.
 
-ghost use Rattle.std.specs.Prelude.{◌≡◌, ◌%◌, ◌≤◌, ℕ, List, length, IsTrue};
-ghost use Rattle.std.specs.List.{concat};
+ghost use Rattle.std.specs.{Prelude.{◌≡◌, ◌%◌, ◌≤◌, ℕ, List, length, IsTrue}, List.concat};
 ghost use Rattle.aes_block.specs.Aes.{IsBytes};
 ghost use Rattle.key_wrap.specs.KeyWrap.{initial_value, wrapped_of, unwrapped_of};
 ghost use Rattle.key_wrap.specs.KeyWrap.{is_wrapped_length};

@@ -6,8 +6,7 @@
 #![tactic(auto)]
 
 ghost use Rattle.std.specs.Prelude.{◌≡◌, ◌≢◌, ◌⊎◌, ℕ, ◌+◌, ◌*◌, ◌/◌, ◌-◌, ◌%◌, ◌≤◌, ◌↔◌, List};
-ghost use Rattle.std.specs.Prelude.{true, false, length, IfOk, MatchResult, IsTrue};
-ghost use Rattle.std.specs.List.{concat};
+ghost use Rattle.std.specs.{Prelude.{true, false, length, IfOk, MatchResult, IsTrue}, List.concat};
 ghost use Rattle.aes_block.specs.Aes.{IsBytes};
 ghost use Rattle.key_wrap.specs.KeyWrap.{Registers, initial_value, wrapped_of, unwrapped_of};
 ghost use Rattle.key_wrap.specs.KeyWrap.{is_wrapped_length};

@@ -1,15 +1,9 @@
 -- Prompts, one after another, have their children.
 use Rattle.std.proofs.Common.{◌≡◌, ℕ, List, [], ◌∷◌, ◌++◌, refl, sym, ap, subst, ◌∙◌}
-use Rattle.agent_ask.specs.Events.{Call}
-use Rattle.agent_ports.specs.Launches.{Launches, child_then}
-use Rattle.agent_ports.specs.Leads.{Leads, none, one}
-use Rattle.pinentry_client.specs.Children.{ArePrompts, next, Child, HaveChildren, unlaunched, launched_with, finished_with, HaveTheirChildren}
+use Rattle.{agent_ask.specs.Events.Call, agent_ports.specs.{Launches.{Launches, child_then}, Leads.{Leads, none, one}}}
+use Rattle.pinentry_client.{specs.{Children.{ArePrompts, next, Child, HaveChildren, unlaunched, launched_with, finished_with, HaveTheirChildren}, Dialogues.PinentryDoes, States.AtPinentry, Whole.HasItsChild}, proofs.WholeLemmas.its_child}
 use Rattle.pinentry_client.specs.Children as children
-use Rattle.pinentry_client.specs.Dialogues.{PinentryDoes}
 use Rattle.pinentry_client.specs.Dialogues as does
-use Rattle.pinentry_client.specs.States.{AtPinentry}
-use Rattle.pinentry_client.specs.Whole.{HasItsChild}
-use Rattle.pinentry_client.proofs.WholeLemmas.{its_child}
 
 -- some events, and those behind them
 record Parts {S E : Type 0} (Does : S → E → S → Type 0) (start : S) (first second : List E) (now : S) : Type 0 where

@@ -1,23 +1,11 @@
 -- A child's bytes decide what the calls of a prompt are answered.
 use Rattle.std.proofs.Common.{◌≡◌, ◌+◌, ℕ, Bool, true, false, List, ◌∷◌, ◌++◌, length, is_ok, Option, Some, Result, Ok, Err, refl, ap, sym, subst, ◌∙◌}
-use Rattle.agent_ask.specs.Events.{Call, Start}
-use Rattle.agent_ask.specs.declared.prompter.Consent.{Consent}
-use Rattle.agent_ask.specs.declared.prompter.Consent.TheVariants as consent
-use Rattle.agent_ask.specs.declared.prompter.Outcome.{Outcome}
-use Rattle.agent_ask.specs.declared.prompter.Outcome.TheVariants as outcome
-use Rattle.agent_ask.specs.declared.spec.PromptSpec.{PromptSpec}
-use Rattle.agent_ports.specs.Sides.{Side}
-use Rattle.assuan_client.specs.Connections.{Connection}
+use Rattle.{agent_ask.specs.{Events.{Call, Start}, declared.{prompter.{Consent.Consent, Outcome.Outcome}, spec.PromptSpec.PromptSpec}}, agent_ports.specs.Sides.Side, assuan_client.{specs.Connections.Connection, proofs.Alike.Alike}}
 use Rattle.assuan_line.specs.Next.{Reader}
-use Rattle.pinentry_client.specs.Dialogues.{opened_of, stays_ready, stays_open}
-use Rattle.pinentry_client.specs.Talking.{StartTalk, PinTalk, ConsentTalk}
-use Rattle.pinentry_client.specs.Whole.{Questions, Dialogue, AskAlike}
-use Rattle.pinentry_client.specs.declared.answers.Trouble.{Trouble}
-use Rattle.pinentry_client.specs.declared.answers.Trouble.TheVariants.{Failed, Broken}
-use Rattle.assuan_client.proofs.Alike.{Alike}
-use Rattle.pinentry_client.proofs.Calling.{pin_is_failed, consent_is_failed, start_is_failed}
-use Rattle.pinentry_client.proofs.Faults.{fails_by, pin_failed, consent_failed}
-use Rattle.pinentry_client.proofs.OnlyTalk.{CameAlike, start_alike, pin_alike, consent_alike}
+use Rattle.pinentry_client.specs.{Dialogues.{opened_of, stays_ready, stays_open}, Talking.{StartTalk, PinTalk, ConsentTalk}, Whole.{Questions, Dialogue, AskAlike}, declared.answers.Trouble.{Trouble, TheVariants.{Failed, Broken}}}
+use Rattle.pinentry_client.proofs.{Calling.{pin_is_failed, consent_is_failed, start_is_failed}, Faults.{fails_by, pin_failed, consent_failed}, OnlyTalk.{CameAlike, start_alike, pin_alike, consent_alike}}
+use Rattle.agent_ask.specs.declared.prompter.Consent.TheVariants as consent
+use Rattle.agent_ask.specs.declared.prompter.Outcome.TheVariants as outcome
 
 -- what failed came to the same
 failed_pin : (what : Outcome) → pin_failed what ≡ true → what ≡ outcome.Failed

@@ -1,25 +1,12 @@
 -- To connections to which the same bytes come, what is said is answered the same, unless it failed.
-use Rattle.std.proofs.Common.{◌≡◌, ◌&&◌, codes, ℕ, Bool, true, false, List, [], ◌∷◌, is_ok, Option, Some, None, Result, Ok, Err, refl, ap, sym, subst, ◌∙◌}
-use Rattle.std.specs.Str.{bytes_eq}
-use Rattle.agent_ask.specs.declared.prompter.Consent.{Consent}
-use Rattle.agent_ask.specs.declared.prompter.Outcome.{Outcome}
-use Rattle.agent_ask.specs.declared.spec.PromptSpec.{PromptSpec}
-use Rattle.assuan_client.specs.Connections.{Connection}
-use Rattle.assuan_client.specs.Skipping.{Tally}
-use Rattle.assuan_client.specs.Writing.{Command, reply_text, cancel_text}
-use Rattle.assuan_client.specs.declared.answer.Answer.{Answer}
+use Rattle.std.{proofs.Common.{◌≡◌, ◌&&◌, codes, ℕ, Bool, true, false, List, [], ◌∷◌, is_ok, Option, Some, None, Result, Ok, Err, refl, ap, sym, subst, ◌∙◌}, specs.Str.bytes_eq}
+use Rattle.{agent_ask.specs.declared.{prompter.{Consent.Consent, Outcome.Outcome}, spec.PromptSpec.PromptSpec}, assuan_client.specs.{Connections.Connection, Skipping.Tally, Writing.{Command, reply_text, cancel_text}}}
+use Rattle.assuan_client.{specs.declared.answer.Answer.Answer, proofs.Alike.{Alike, is_fault, goes_on, SaidAlike, answered_alike, exchanged_alike}}
+use Rattle.pinentry_client.specs.{Answers.{greeted, accepted, pid_after, pin_outcome, consent_of}, Dialogues.{stays_ready, stays_open}, Settings.{IsSettingLine, IsWhereGiven}}
+use Rattle.pinentry_client.specs.Talking.{TellsSetting, unsent, sent, Sets, done, next, StartTalk, greets, Settles, answered, inquired, ErrorTalk, none, shown, PinTalk, ConsentTalk, outcome_by, ChildReplies}
+use Rattle.pinentry_client.{specs.declared.{answers.Trouble.{Trouble, TheVariants.{Failed, Broken}}, settings.Setting.Setting}, proofs.Faults.{fails_by, fails_at, pin_failed, consent_failed, trouble_fails}}
 use Rattle.assuan_client.specs.declared.answer.Answer.TheVariants as answer
-use Rattle.pinentry_client.specs.Answers.{greeted, accepted, pid_after, pin_outcome, consent_of}
-use Rattle.pinentry_client.specs.Dialogues.{stays_ready, stays_open}
-use Rattle.pinentry_client.specs.Settings.{IsSettingLine, IsWhereGiven}
-use Rattle.pinentry_client.specs.Talking.{TellsSetting, unsent, sent, Sets, done, next, StartTalk, greets, Settles, answered, inquired, ErrorTalk, none, shown, PinTalk, ConsentTalk, outcome_by}
-use Rattle.pinentry_client.specs.Talking.{ChildReplies}
-use Rattle.pinentry_client.specs.declared.answers.Trouble.{Trouble}
-use Rattle.pinentry_client.specs.declared.answers.Trouble.TheVariants.{Failed, Broken}
-use Rattle.pinentry_client.specs.declared.settings.Setting.{Setting}
 use Rattle.pinentry_client.specs.declared.settings.Setting.TheVariants as setting
-use Rattle.assuan_client.proofs.Alike.{Alike, is_fault, goes_on, SaidAlike, answered_alike, exchanged_alike}
-use Rattle.pinentry_client.proofs.Faults.{fails_by, fails_at, pin_failed, consent_failed, trouble_fails}
 
 -- the same came of it, and the connections go on alike where it is well
 pub record CameAlike {T : Type 0} (well : T → Bool) (end last : T) (one two : Connection) : Type 0 where

@@ -1,11 +1,7 @@
 -- After which answers a child can be asked again.
 use Rattle.std.proofs.Common.{◌≡◌, true, refl}
-use Rattle.assuan_client.specs.Answers.{state_after}
-use Rattle.assuan_client.specs.declared.answer.Answer.{Answer}
-use Rattle.assuan_client.specs.declared.answer.Answer.TheVariants.{Ok, Got, Err, Asked, Broken, ReadFault, WriteFault}
-use Rattle.assuan_client.specs.declared.answer.State.TheVariants.{Ready}
-use Rattle.pinentry_client.specs.Answers.{pin_outcome, consent_of}
-use Rattle.pinentry_client.specs.Dialogues.{stays_ready, stays_open}
+use Rattle.assuan_client.specs.{Answers.state_after, declared.answer.{Answer.{Answer, TheVariants.{Ok, Got, Err, Asked, Broken, ReadFault, WriteFault}}, State.TheVariants.Ready}}
+use Rattle.pinentry_client.specs.{Answers.{pin_outcome, consent_of}, Dialogues.{stays_ready, stays_open}}
 
 pub pin_ready : (said : Answer) → stays_ready (pin_outcome said) ≡ true → state_after said ≡ Ready
 pin_ready Ok ready = refl

@@ -1,12 +1,7 @@
 -- Answers that are none to an inquiry, and texts of no bytes.
-use Rattle.std.proofs.Common.{◌≡◌, ◌<◌, ◌≤◌, ◌+◌, ℕ, suc, Bool, cond, true, false, List, [], ◌∷◌, length, drop, get_or, refl, ap, ◌∙◌, subst, arith, drop-cons}
-use Rattle.std.proofs.Math.ListN.{drop_of_length-le}
-use Rattle.assuan_client.specs.Connections.{Connection}
-use Rattle.assuan_client.specs.declared.answer.Answer.{Answer}
-use Rattle.assuan_client.specs.declared.answer.Answer.TheVariants.{Ok, Got, Err, Asked, Broken, ReadFault, WriteFault}
-use Rattle.pinentry_client.specs.Settings.{all_settings}
-use Rattle.pinentry_client.specs.Talking.{Commands, is_asked}
-use Rattle.pinentry_client.specs.declared.settings.Setting.TheVariants.{TtyName}
+use Rattle.std.proofs.{Common.{◌≡◌, ◌<◌, ◌≤◌, ◌+◌, ℕ, suc, Bool, cond, true, false, List, [], ◌∷◌, length, drop, get_or, refl, ap, ◌∙◌, subst, arith, drop-cons}, Math.ListN.drop_of_length-le}
+use Rattle.assuan_client.specs.{Connections.Connection, declared.answer.Answer.{Answer, TheVariants.{Ok, Got, Err, Asked, Broken, ReadFault, WriteFault}}}
+use Rattle.pinentry_client.specs.{Settings.all_settings, Talking.{Commands, is_asked}, declared.settings.Setting.TheVariants.TtyName}
 
 pub not_asked : (said : Answer) → ((word text : List ℕ) → said ≡ Asked word text → ⊥) → is_asked said ≡ false
 not_asked Ok not = refl

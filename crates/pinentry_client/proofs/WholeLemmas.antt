@@ -1,12 +1,7 @@
 -- A prompt's calls are one dialogue.
 use Rattle.std.proofs.Common.{◌≡◌, ℕ, Bool, List, [], ◌∷◌, is_ok, refl, ap, ◌∙◌}
-use Rattle.agent_ask.specs.Events.{Call, Shut}
-use Rattle.agent_ports.specs.Leads.{Leads, none, one}
-use Rattle.agent_ports.specs.Launches.{Launches, then_finished}
-use Rattle.agent_ports.specs.Sides.{Side}
-use Rattle.assuan_client.specs.Connections.{Connection}
-use Rattle.pinentry_client.specs.Dialogues.{HasFinished, PinentryDoes, unlaunched, started, pin_asked, consent_asked, shut, shut_alone, PinentryCall}
-use Rattle.pinentry_client.specs.States.{PinentryState, AtPinentry, idle, asked, at_pinentry}
+use Rattle.{agent_ask.specs.Events.{Call, Shut}, agent_ports.specs.{Leads.{Leads, none, one}, Launches.{Launches, then_finished}, Sides.Side}, assuan_client.specs.Connections.Connection}
+use Rattle.pinentry_client.specs.{Dialogues.{HasFinished, PinentryDoes, unlaunched, started, pin_asked, consent_asked, shut, shut_alone, PinentryCall}, States.{PinentryState, AtPinentry, idle, asked, at_pinentry}}
 use Rattle.pinentry_client.specs.Whole.{AreQuestions, IsOnePrompt, Questions, HasItsChild}
 
 -- the questions to a child, and its end

@@ -1,29 +1,17 @@
 -- Worked examples: two prompts, the launch of the first of which failed, and whose second one has a child that ends without a word.
 use Rattle.std.proofs.Common.{◌≡◌, ℕ, List, [], ◌∷◌, Some, None, Err, refl, inl, arith}
-use Rattle.agent_ask.specs.Events.{Call, Start, Shut}
+use Rattle.{agent_ask.specs.{Events.{Call, Start, Shut}, declared.spec.PromptSpec.PromptSpec}, agent_ports.specs.{Launches.Launches, Leads.{Leads, none, one}, Sides.Side}, assuan_client.specs.{Answers.ReadOn, Connections.Connection}}
+use Rattle.{assuan_client.specs.Skipping.nothing, assuan_line.specs.{Next.next_of, declared.reader.TheConstants.BUDGET}}
+use Rattle.pinentry_client.specs.{Children.{ArePrompts, next, HaveTheirChildren}, Dialogues.{PinentryDoes, unlaunched, started, shut, shut_alone}, States.idle, Whole.{AreQuestions, IsOnePrompt}, declared.answers.Trouble.TheVariants.Broken}
+use Rattle.pinentry_client.proofs.Children.{their_children}
 use Rattle.agent_ask.specs.declared.prompter.Opened.TheVariants as opened
-use Rattle.agent_ask.specs.declared.spec.PromptSpec.{PromptSpec}
-use Rattle.agent_ports.specs.Launches.{Launches}
-use Rattle.agent_ports.specs.Leads.{Leads, none, one}
-use Rattle.agent_ports.specs.Sides.{Side}
-use Rattle.assuan_client.specs.Answers.{ReadOn}
 use Rattle.assuan_client.specs.Answers as answers
-use Rattle.assuan_client.specs.Connections.{Connection}
-use Rattle.assuan_client.specs.Skipping.{nothing}
 use Rattle.assuan_client.specs.declared.answer.Answer.TheVariants as answer
 use Rattle.assuan_client.specs.declared.answer.State.TheVariants as state
-use Rattle.assuan_line.specs.Next.{next_of}
 use Rattle.assuan_line.specs.Skipping as skipping
 use Rattle.assuan_line.specs.declared.breach.Breach.TheVariants as breach
-use Rattle.assuan_line.specs.declared.reader.TheConstants.{BUDGET}
 use Rattle.assuan_line.specs.declared.reader.Took.TheVariants as took
-use Rattle.pinentry_client.specs.Children.{ArePrompts, next, HaveTheirChildren}
-use Rattle.pinentry_client.specs.Dialogues.{PinentryDoes, unlaunched, started, shut, shut_alone}
-use Rattle.pinentry_client.specs.States.{idle}
 use Rattle.pinentry_client.specs.Talking as talking
-use Rattle.pinentry_client.specs.Whole.{AreQuestions, IsOnePrompt}
-use Rattle.pinentry_client.specs.declared.answers.Trouble.TheVariants.{Broken}
-use Rattle.pinentry_client.proofs.Children.{their_children}
 
 module _ (program : List ℕ) (spec : PromptSpec) where
   -- no bytes, of which all are known

@@ -1,27 +1,13 @@
 -- What a pinentry does by each call of a prompter: what is launched, said, answered and finished (pinentry manual, "protocol").
 use Rattle.std.specs.Prelude.{◌≡◌, ◌≤◌, ◌+◌, ℕ, Bool, true, false, List, [], codes, is_ok, None, Result, Ok, Err}
-use Rattle.agent_ask.specs.Events.{Call, Start, GetPin, Confirm, Shut}
-use Rattle.agent_ask.specs.Prompters.{IsCall}
-use Rattle.agent_ask.specs.declared.prompter.Consent.{Consent}
+use Rattle.{agent_ask.specs.{Events.{Call, Start, GetPin, Confirm, Shut}, Prompters.IsCall, declared.{prompter.{Consent.Consent, Opened.Opened, Outcome.Outcome}, spec.PromptSpec.PromptSpec}}, agent_ports.specs.Counts.{Rose, RoseBy}}
+use Rattle.{agent_ports.specs.{Launches.{Launches, IsFresh, child_then, then_launched, then_finished}, Sides.{Side, with_bytes, sent_part, IsCut}, declared.link.Sent.Sent}, assuan_client.specs.{Connections.Connection, Skipping.nothing}}
+use Rattle.{assuan_text.specs.LineEnds.line_of, assuan_line.specs.declared.reader.TheConstants.BUDGET}
+use Rattle.pinentry_client.specs.{States.{PinentryState, AtPinentry, idle, asked, at_pinentry, at_prompter}, Talking.{StartTalk, PinTalk, ConsentTalk}, declared.answers.Trouble.{Trouble, TheVariants.{Failed, Broken}}}
 use Rattle.agent_ask.specs.declared.prompter.Consent.TheVariants as consent
-use Rattle.agent_ask.specs.declared.prompter.Opened.{Opened}
 use Rattle.agent_ask.specs.declared.prompter.Opened.TheVariants as opened
-use Rattle.agent_ask.specs.declared.prompter.Outcome.{Outcome}
 use Rattle.agent_ask.specs.declared.prompter.Outcome.TheVariants as outcome
-use Rattle.agent_ask.specs.declared.spec.PromptSpec.{PromptSpec}
-use Rattle.agent_ports.specs.Counts.{Rose, RoseBy}
-use Rattle.agent_ports.specs.Launches.{Launches, IsFresh, child_then, then_launched, then_finished}
-use Rattle.agent_ports.specs.Sides.{Side, with_bytes, sent_part, IsCut}
-use Rattle.agent_ports.specs.declared.link.Sent.{Sent}
-use Rattle.assuan_client.specs.Connections.{Connection}
-use Rattle.assuan_client.specs.Skipping.{nothing}
 use Rattle.assuan_client.specs.declared.answer.State.TheVariants as state
-use Rattle.assuan_text.specs.LineEnds.{line_of}
-use Rattle.pinentry_client.specs.States.{PinentryState, AtPinentry, idle, asked, at_pinentry, at_prompter}
-use Rattle.pinentry_client.specs.Talking.{StartTalk, PinTalk, ConsentTalk}
-use Rattle.pinentry_client.specs.declared.answers.Trouble.{Trouble}
-use Rattle.pinentry_client.specs.declared.answers.Trouble.TheVariants.{Failed, Broken}
-use Rattle.assuan_line.specs.declared.reader.TheConstants.{BUDGET}
 
 -- a launch gave no child
 pub record HasNoChild (before after : Launches) : Type 0 where

@@ -1,10 +1,6 @@
 -- A pinentry as contracts see it: its launcher, and its child.
-use Rattle.std.specs.Prelude.{◌≡◌, ◌+◌, ◌-◌, ◌^◌, ℕ, Bool, true, false, List, min, is_some, Option, Some, None, ⊤}
-use Rattle.std.specs.Borrow.{GName}
-use Rattle.agent_ask.specs.Prompters.{AtPrompter}
-use Rattle.agent_ports.specs.Launches.{Launches}
-use Rattle.assuan_client.specs.Connections.{Connection}
-use Rattle.assuan_client.specs.declared.answer.State.TheVariants.{Ready}
+use Rattle.std.specs.{Prelude.{◌≡◌, ◌+◌, ◌-◌, ◌^◌, ℕ, Bool, true, false, List, min, is_some, Option, Some, None, ⊤}, Borrow.GName}
+use Rattle.{agent_ask.specs.Prompters.AtPrompter, agent_ports.specs.Launches.Launches, assuan_client.specs.{Connections.Connection, declared.answer.State.TheVariants.Ready}}
 
 pub record PinentryState (La : Type 0) : Type 0 where
   -- what a child runs

@@ -2,18 +2,15 @@
 //! nothing. Begin with `a_prompt_has_its_child` (`specs/Children`) and `a_dialogue_has_one_outcome`
 //! (`specs/Whole`).
 
-ghost use Rattle.std.specs.List.{count_by};
-ghost use Rattle.std.specs.Prelude.{◌≡◌, ◌+◌, ℕ, List, length, Option, Some};
-ghost use Rattle.agent_ask.specs.Events.{Call};
-ghost use Rattle.agent_ask.specs.Prompters.{IsCall, is_failed};
-ghost use Rattle.agent_ports.specs.Counts.{RoseBy};
-ghost use Rattle.agent_ports.specs.Leads.{Leads};
+ghost use Rattle.std.specs.{List.count_by, Prelude.{◌≡◌, ◌+◌, ℕ, List, length, Option, Some}};
+ghost use Rattle.agent_ask.specs.{Events.Call, Prompters.{IsCall, is_failed}};
+ghost use Rattle.agent_ports.specs.{Counts.RoseBy, Leads.Leads};
+ghost use Rattle.assuan_line.specs.declared.reader.TheConstants.{BUDGET};
 ghost use Rattle.pinentry_client.specs.Children.{ArePrompts, HaveTheirChildren};
 ghost use Rattle.pinentry_client.specs.Dialogues.{PinentryCall, PinentryDoes};
 ghost use Rattle.pinentry_client.specs.States.{AtPinentry, PinentryState, at_prompter};
 ghost use Rattle.pinentry_client.specs.Whole.{IsOnePrompt, HasItsChild, Dialogue, AskAlike};
 ghost use Rattle.pinentry_client.specs.Whole.{HasSpent};
-ghost use Rattle.assuan_line.specs.declared.reader.TheConstants.{BUDGET};
 
 use agent_ports::Launcher;
 

@@ -3,8 +3,7 @@
 //! `specs/Settings` says which line each one has.
 
 ghost use Rattle.std.specs.Prelude.{◌≡◌, ◌≤◌, ◌+◌, ◌++◌, length, false};
-ghost use Rattle.assuan_line.specs.Lines.{IsLine};
-ghost use Rattle.assuan_text.specs.LineEnds.{has_lf};
+ghost use Rattle.{assuan_line.specs.Lines.IsLine, assuan_text.specs.LineEnds.has_lf};
 ghost use Rattle.assuan_text.specs.declared.TheConstants.{MAX_LINE_LEN};
 ghost use Rattle.session_options.specs.Text.{has_line_end};
 ghost use Rattle.pinentry_client.specs.Settings.{IsSettingLine, IsWhereGiven, IsTextLine};

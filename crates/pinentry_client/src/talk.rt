@@ -4,16 +4,14 @@
 //! `specs/Talking`.
 
 ghost use Rattle.std.specs.Prelude.{◌≡◌, ◌≢◌, ◌≤◌, ◌<◌, ◌*◌, true, false, length, min, OnOk};
-ghost use Rattle.assuan_client.specs.Answers.{state_after};
-ghost use Rattle.assuan_client.specs.declared.answer.State.TheVariants as state;
-ghost use Rattle.assuan_line.specs.Next.{held};
+ghost use Rattle.{assuan_client.specs.Answers.state_after, assuan_line.specs.Next.held};
 ghost use Rattle.assuan_escape.specs.Escapes.{unescaped};
 ghost use Rattle.assuan_text.specs.declared.TheConstants.{MAX_LINE_LEN};
 ghost use Rattle.pinentry_client.specs.Dialogues.{stays_ready, stays_open};
 ghost use Rattle.pinentry_client.specs.Talking.{TellsSetting, Sets, StartTalk, Settles};
-ghost use Rattle.pinentry_client.specs.Talking.{ChildInquires};
-ghost use Rattle.pinentry_client.specs.Talking.{is_asked, ErrorTalk, PinTalk, ConsentTalk};
-ghost use Rattle.pinentry_client.specs.Settings.{all_settings};
+ghost use Rattle.pinentry_client.specs.Talking.{ChildInquires, is_asked, ErrorTalk, PinTalk};
+ghost use Rattle.pinentry_client.specs.{Talking.ConsentTalk, Settings.all_settings};
+ghost use Rattle.assuan_client.specs.declared.answer.State.TheVariants as state;
 
 use crate::answers::{Trouble, accepted, consent_of, greeted, pid_after, pin_outcome};
 use crate::settings::{SETTINGS, Setting, plain_line, setting_line, text_line};

@@ -1,17 +1,8 @@
 -- Lines of a file, and what they stand for.
-use Rattle.std.proofs.Common.{◌≡◌, ◌+◌, ◌-◌, ◌&&◌, ◌==◌, ℕ, true, false, List, [], ◌∷◌, length, take, drop, Some, None, refl, ap, sym, ◌∙◌, arith}
-use Rattle.std.specs.List.{position, list_all, before_first}
-use Rattle.std.specs.Option.{is_some, option_map_or}
-use Rattle.std.proofs.Math.Bool.{and_assoc}
-use Rattle.std.proofs.lemmas.Bool.{or_parts}
-use Rattle.std.proofs.lemmas.List.{take-append-drop, length-drop, take_all}
-use Rattle.std.proofs.lemmas.List.Folds.{list_any-append}
-use Rattle.assuan_text.specs.LineEnds.{is_lf, has_lf}
-use Rattle.assuan_line.specs.Lines.{after_line, pieces_of, rest_of}
-use Rattle.assuan_line.proofs.Parts.{pieces_none, rest_none, pieces_some, rest_some}
-use Rattle.assuan_line.proofs.Places.{none_there, some_there, none_before}
-use Rattle.pinentry_script.specs.Entries.{Entry, entry_of, is_script, entries_of}
-use Rattle.pinentry_script.specs.Writing.{IsShortText}
+use Rattle.std.proofs.{Common.{◌≡◌, ◌+◌, ◌-◌, ◌&&◌, ◌==◌, ℕ, true, false, List, [], ◌∷◌, length, take, drop, Some, None, refl, ap, sym, ◌∙◌, arith}, Math.Bool.and_assoc, lemmas.Bool.or_parts}
+use Rattle.std.{proofs.lemmas.List.{take-append-drop, length-drop, take_all, Folds.list_any-append}, specs.{List.{position, list_all, before_first}, Option.{is_some, option_map_or}}}
+use Rattle.{assuan_text.specs.LineEnds.{is_lf, has_lf}, assuan_line.{specs.Lines.{after_line, pieces_of, rest_of}, proofs.{Parts.{pieces_none, rest_none, pieces_some, rest_some}, Places.{none_there, some_there, none_before}}}}
+use Rattle.pinentry_script.specs.{Entries.{Entry, entry_of, is_script, entries_of}, Writing.IsShortText}
 
 -- what is behind some bytes has no line feed either
 drop_whole : (n : ℕ) (bytes : List ℕ) → has_lf bytes ≡ false → has_lf (drop n bytes) ≡ false

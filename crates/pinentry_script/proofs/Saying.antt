@@ -1,15 +1,7 @@
 -- What is said, as lines.
-use Rattle.std.proofs.Common.{◌≡◌, ℕ, List, [], ◌∷◌, ◌++◌, length, ◌==◌, false, Result, Ok, Err, refl, ap, sym, ◌∙◌, append-nil, arith}
-use Rattle.std.specs.Prelude.{codes}
-use Rattle.std.specs.Result.{IsErr}
-use Rattle.std.proofs.lemmas.Bool.{false≢true}
-use Rattle.agent_ports.specs.Sides.{Side}
-use Rattle.agent_ports.specs.Writing.{Writes}
-use Rattle.agent_ports.specs.declared.link.WriteFault.{WriteFault}
-use Rattle.agent_ports.proofs.Writing.{writes_as, writes_then, writes_first}
-use Rattle.assuan_text.specs.LineEnds.{line_of}
-use Rattle.pinentry_script.specs.Responses.{give}
-use Rattle.pinentry_script.specs.Sessions.{text_of}
+use Rattle.std.{proofs.{Common.{◌≡◌, ℕ, List, [], ◌∷◌, ◌++◌, length, ◌==◌, false, Result, Ok, Err, refl, ap, sym, ◌∙◌, append-nil, arith}, lemmas.Bool.false≢true}, specs.{Prelude.codes, Result.IsErr}}
+use Rattle.{agent_ports.{specs.{Sides.Side, Writing.Writes, declared.link.WriteFault.WriteFault}, proofs.Writing.{writes_as, writes_then, writes_first}}, assuan_text.specs.LineEnds.line_of}
+use Rattle.pinentry_script.specs.{Responses.give, Sessions.text_of}
 
 -- the text of one line, and of a text that is given
 pub one_line : (line : List ℕ) → text_of (line ∷ []) ≡ line_of line

@@ -1,32 +1,12 @@
 -- A session in the code, from line to line.
-use Rattle.std.proofs.Common.{◌≡◌, ◌≢◌, ◌≤◌, ◌+◌, ℕ, List, [], ◌∷◌, ◌++◌, length, None, Ok, Err, refl, ap, sym, ◌∙◌, subst, append_assoc, arith}
-use Rattle.std.proofs.lemmas.List.Sums.{fold-append}
-use Rattle.std.proofs.lemmas.Grind.{flat_map-append}
-use Rattle.agent_ports.specs.Counts.{Rose}
-use Rattle.agent_ports.specs.Sides.{Side, with_bytes, WhereKnown}
-use Rattle.agent_ports.specs.Writing.{StopsWriting, WentOrStopped}
-use Rattle.agent_ports.proofs.Known.{known_then, known_both, known_same, with_bytes_append}
-use Rattle.assuan_line.specs.Lines.{pieces_of}
-use Rattle.assuan_line.specs.Next.{Reader, next_of, TakesWhatItNeeds}
-use Rattle.assuan_line.specs.Reading.{HasRead}
-use Rattle.assuan_line.specs.Skipping.{ReadsNext}
-use Rattle.assuan_line.specs.declared.reader.Took.{Took}
-use Rattle.assuan_line.specs.declared.reader.Took.TheVariants as took
-use Rattle.assuan_text.specs.LineEnds.{line_of}
-use Rattle.assuan_line.specs.declared.reader.TheConstants.{BUDGET}
-use Rattle.pinentry_script.specs.declared.end.ScriptEnd.{ScriptEnd}
-use Rattle.pinentry_script.specs.declared.end.ScriptEnd.TheVariants.{Bye, Ended, TooLong, Spent, ReadFault, WriteFault}
-use Rattle.pinentry_script.specs.declared.response.Phrase.TheVariants.{Greeting}
-use Rattle.pinentry_script.specs.declared.response.Response.{Response}
-use Rattle.pinentry_script.specs.declared.session.Session.{Session as Code}
-use Rattle.pinentry_script.specs.declared.session.Stage.TheVariants.{Closed}
-use Rattle.pinentry_script.specs.Entries.{answers_in, entries_of, pid_of}
-use Rattle.pinentry_script.specs.Responses.{phrase_text, says}
-use Rattle.pinentry_script.specs.Sessions.{Session, ReadsLines, none, more, greeting, answer, Leaves, IsClosedBy, last_line, Writes, RunsSession, session_of, after_one, text_of, with_turn}
-use Rattle.pinentry_script.specs.Steps.{IsTurn}
-use Rattle.pinentry_script.specs.Turns.{turn_of}
-use Rattle.pinentry_script.specs.Writing.{IsShortText}
+use Rattle.std.proofs.{Common.{◌≡◌, ◌≢◌, ◌≤◌, ◌+◌, ℕ, List, [], ◌∷◌, ◌++◌, length, None, Ok, Err, refl, ap, sym, ◌∙◌, subst, append_assoc, arith}, lemmas.{List.Sums.fold-append, Grind.flat_map-append}}
+use Rattle.{agent_ports.{specs.{Counts.Rose, Sides.{Side, with_bytes, WhereKnown}, Writing.{StopsWriting, WentOrStopped}}, proofs.Known.{known_then, known_both, known_same, with_bytes_append}}, assuan_line.specs.Lines.pieces_of}
+use Rattle.{assuan_line.specs.{Next.{Reader, next_of, TakesWhatItNeeds}, Reading.HasRead, Skipping.ReadsNext, declared.reader.{Took.Took, TheConstants.BUDGET}}, assuan_text.specs.LineEnds.line_of}
+use Rattle.pinentry_script.specs.declared.{end.ScriptEnd.{ScriptEnd, TheVariants.{Bye, Ended, TooLong, Spent, ReadFault, WriteFault}}, response.{Phrase.TheVariants.Greeting, Response.Response}, session.Session.Session as Code}
+use Rattle.pinentry_script.specs.{declared.session.Stage.TheVariants.Closed, Entries.{answers_in, entries_of, pid_of}, Responses.{phrase_text, says}}
+use Rattle.pinentry_script.specs.{Sessions.{Session, ReadsLines, none, more, greeting, answer, Leaves, IsClosedBy, last_line, Writes, RunsSession, session_of, after_one, text_of, with_turn}, Steps.IsTurn, Turns.turn_of, Writing.IsShortText}
 use Rattle.pinentry_script.proofs.Saying.{one_line}
+use Rattle.assuan_line.specs.declared.reader.Took.TheVariants as took
 
 -- a session over the file that has come so far, with what it was said and what was read
 pub record IsServing (file : List ℕ) (input output : Side) (session : Code) (reader : Reader) (input_now output_now : Side) : Type 0 where

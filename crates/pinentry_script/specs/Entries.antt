@@ -1,16 +1,9 @@
 -- The file of a script: what each of its lines stands for. All bytes before a line feed are the line's, a carriage return too. This is the
 -- project's own.
-use Rattle.std.specs.Prelude.{ℕ, ◌==◌, ◌&&◌, ◌||◌, not, nat_le, Bool, List, [], ◌∷◌, length, take, drop, slice_index, codes, Option, Some, None, if◌then◌else◌}
-use Rattle.std.specs.List.{list_all}
-use Rattle.std.specs.Option.{is_some, option_map, option_map_or}
-use Rattle.std.specs.Str.{bytes_eq}
+use Rattle.std.specs.{Prelude.{ℕ, ◌==◌, ◌&&◌, ◌||◌, not, nat_le, Bool, List, [], ◌∷◌, length, take, drop, slice_index, codes, Option, Some, None, if◌then◌else◌}, List.list_all, Option.{is_some, option_map, option_map_or}, Str.bytes_eq}
 use Rattle.std.specs.Char.{is_ascii_digit}
-use Rattle.assuan_line.specs.Lines.{pieces_of, rest_of}
-use Rattle.assuan_text.specs.Rows.{found}
-use Rattle.pinentry_script.specs.declared.entries.TheConstants.{MAX_ENTRY_LEN}
-use Rattle.pinentry_script.specs.declared.response.Phrase.{Phrase}
-use Rattle.pinentry_script.specs.declared.response.Phrase.TheVariants.{Done, Cancelled, TimedOut, NotConfirmed}
-use Rattle.pinentry_script.specs.declared.entries.Entry.{Entry as CodeEntry}
+use Rattle.{assuan_line.specs.Lines.{pieces_of, rest_of}, assuan_text.specs.Rows.found}
+use Rattle.pinentry_script.specs.declared.{entries.{TheConstants.MAX_ENTRY_LEN, Entry.Entry as CodeEntry}, response.Phrase.{Phrase, TheVariants.{Done, Cancelled, TimedOut, NotConfirmed}}}
 use Rattle.pinentry_script.specs.declared.entries.Entry.TheVariants as code
 
 -- what a line of the file stands for

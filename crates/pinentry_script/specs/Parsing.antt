@@ -1,7 +1,5 @@
 -- Private: what the code knows of an entry beside what it stands for.
-use Rattle.pinentry_script.specs.declared.entries.Entry.{Entry}
-use Rattle.pinentry_script.specs.declared.entries.Entry.TheVariants.{Pid, Quality, Pin, Phrase}
-use Rattle.pinentry_script.specs.Writing.{IsShortText}
+use Rattle.pinentry_script.specs.{declared.entries.Entry.{Entry, TheVariants.{Pid, Quality, Pin, Phrase}}, Writing.IsShortText}
 
 -- its text fits into a line
 abbrev pub IsShortEntry : Entry → Type 0

@@ -1,10 +1,7 @@
 -- What a scripted pinentry says (pinentry manual, "protocol"; Assuan manual, "server responses"). The error lines are those of
 -- libgpg-error, whose source is the pinentry.
 use Rattle.std.specs.Prelude.{ℕ, List, [], ◌∷◌, ◌++◌, codes}
-use Rattle.pinentry_script.specs.declared.response.Phrase.{Phrase}
-use Rattle.pinentry_script.specs.declared.response.Phrase.TheVariants.{Greeting, Done, Closing, Cancelled, TimedOut, NotConfirmed, Unknown}
-use Rattle.pinentry_script.specs.declared.response.Response.{Response}
-use Rattle.pinentry_script.specs.declared.response.Response.TheVariants.{Nothing, Say, Give, Inquire}
+use Rattle.pinentry_script.specs.declared.response.{Phrase.{Phrase, TheVariants.{Greeting, Done, Closing, Cancelled, TimedOut, NotConfirmed, Unknown}}, Response.{Response, TheVariants.{Nothing, Say, Give, Inquire}}}
 
 abbrev pub phrase_text : Phrase → List ℕ
 phrase_text Greeting = codes "OK Pleased to meet you"

@@ -1,22 +1,11 @@
 -- A session of a scripted pinentry, from its file and the bytes that it reads to the bytes that it writes. How it ends is this
 -- project's own.
-use Rattle.std.specs.Prelude.{◌≡◌, ◌≢◌, ◌≤◌, ◌<◌, ◌+◌, ℕ, List, [], ◌∷◌, ◌++◌, length}
-use Rattle.std.specs.List.{flat_map, fold}
-use Rattle.agent_ports.specs.Counts.{Rose}
-use Rattle.agent_ports.specs.Sides.{Side, with_bytes, WhereKnown}
-use Rattle.assuan_line.specs.Lines.{after_line, pieces_of}
-use Rattle.assuan_line.specs.Next.{next_of, TakesWhatItNeeds, IsCutShort, IsTooLong}
-use Rattle.assuan_line.specs.declared.reader.Took.TheVariants as took
+use Rattle.std.specs.{Prelude.{◌≡◌, ◌≢◌, ◌≤◌, ◌<◌, ◌+◌, ℕ, List, [], ◌∷◌, ◌++◌, length}, List.{flat_map, fold}}
+use Rattle.{agent_ports.specs.{Counts.Rose, Sides.{Side, with_bytes, WhereKnown}}, assuan_line.specs.{Lines.{after_line, pieces_of}, Next.{next_of, TakesWhatItNeeds, IsCutShort, IsTooLong}, declared.reader.TheConstants.BUDGET}}
 use Rattle.assuan_text.specs.LineEnds.{line_of}
-use Rattle.assuan_line.specs.declared.reader.TheConstants.{BUDGET}
-use Rattle.pinentry_script.specs.declared.end.ScriptEnd.{ScriptEnd}
-use Rattle.pinentry_script.specs.declared.end.ScriptEnd.TheVariants.{Bye, Ended, TooLong, Spent, ReadFault, WriteFault}
-use Rattle.pinentry_script.specs.declared.response.Phrase.TheVariants.{Greeting}
-use Rattle.pinentry_script.specs.declared.session.Stage.{Stage}
-use Rattle.pinentry_script.specs.declared.session.Stage.TheVariants.{Request, Closed}
-use Rattle.pinentry_script.specs.Entries.{Entry, entries_of, pid_of, answers_of}
-use Rattle.pinentry_script.specs.Responses.{phrase_text}
-use Rattle.pinentry_script.specs.Turns.{Turn, turn_of}
+use Rattle.pinentry_script.specs.declared.{end.ScriptEnd.{ScriptEnd, TheVariants.{Bye, Ended, TooLong, Spent, ReadFault, WriteFault}}, response.Phrase.TheVariants.Greeting, session.Stage.{Stage, TheVariants.{Request, Closed}}}
+use Rattle.pinentry_script.specs.{Entries.{Entry, entries_of, pid_of, answers_of}, Responses.phrase_text, Turns.{Turn, turn_of}}
+use Rattle.assuan_line.specs.declared.reader.Took.TheVariants as took
 
 -- what was said so far, and how the session stands
 pub record Session : Type 0 where

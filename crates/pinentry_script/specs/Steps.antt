@@ -1,10 +1,6 @@
 -- Private: a turn, as the code takes it.
 use Rattle.std.specs.Prelude.{◌≡◌}
-use Rattle.pinentry_script.specs.declared.response.Response.{Response}
-use Rattle.pinentry_script.specs.declared.session.Session.{Session}
-use Rattle.pinentry_script.specs.Entries.{answers_in}
-use Rattle.pinentry_script.specs.Responses.{says}
-use Rattle.pinentry_script.specs.Turns.{Turn}
+use Rattle.pinentry_script.specs.{declared.{response.Response.Response, session.Session.Session}, Entries.answers_in, Responses.says, Turns.Turn}
 
 pub record IsTurn (turn : Turn) (before : Session) (response : Response) (after : Session) : Type 0 where
   pub says : says response ≡ turn.says

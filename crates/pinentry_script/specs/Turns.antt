@@ -1,18 +1,9 @@
 -- What a scripted pinentry does with each line that it is sent (pinentry manual, "protocol"; Assuan manual, "client requests"). Which
 -- answers it gives is this project's own.
-use Rattle.std.specs.Prelude.{ℕ, Bool, true, List, [], ◌∷◌, take, codes, Option, Some, None, if◌then◌else◌}
-use Rattle.std.specs.Str.{bytes_eq, str_eq_ignore_ascii_case}
-use Rattle.assuan_text.specs.Forms.{is_ignored}
-use Rattle.assuan_text.specs.Options.{arguments_of}
-use Rattle.assuan_text.specs.Rows.{found_in_any_case}
-use Rattle.assuan_text.specs.Words.{command_of, rest_of, words}
-use Rattle.pinentry_script.specs.declared.response.Phrase.TheVariants.{Done, Closing, Cancelled, Unknown}
-use Rattle.pinentry_script.specs.declared.session.Command.{Command}
-use Rattle.pinentry_script.specs.declared.session.Command.TheVariants.{Set, GetInfo, GetPin, Confirm, Bye}
-use Rattle.pinentry_script.specs.declared.session.Stage.{Stage}
-use Rattle.pinentry_script.specs.declared.session.Stage.TheVariants.{Request, Inquiry, Closed}
-use Rattle.pinentry_script.specs.Entries.{Entry, pid, quality, pin, phrase}
-use Rattle.pinentry_script.specs.Responses.{phrase_text, give, quality_inquiry}
+use Rattle.std.specs.{Prelude.{ℕ, Bool, true, List, [], ◌∷◌, take, codes, Option, Some, None, if◌then◌else◌}, Str.{bytes_eq, str_eq_ignore_ascii_case}}
+use Rattle.assuan_text.specs.{Forms.is_ignored, Options.arguments_of, Rows.found_in_any_case, Words.{command_of, rest_of, words}}
+use Rattle.pinentry_script.specs.declared.{response.Phrase.TheVariants.{Done, Closing, Cancelled, Unknown}, session.{Command.{Command, TheVariants.{Set, GetInfo, GetPin, Confirm, Bye}}, Stage.Stage}}
+use Rattle.pinentry_script.specs.{declared.session.Stage.TheVariants.{Request, Inquiry, Closed}, Entries.{Entry, pid, quality, pin, phrase}, Responses.{phrase_text, give, quality_inquiry}}
 
 -- What a line brings: lines that are said, what the session waits for then, and the answers that are left. It waits for a request, or
 -- for the end of an inquiry, or for nothing more.

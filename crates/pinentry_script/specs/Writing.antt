@@ -1,9 +1,7 @@
 -- Private: texts that a line has room for.
 use Rattle.std.specs.Prelude.{◌≡◌, ◌≤◌, ℕ, List, length, false}
 use Rattle.assuan_text.specs.LineEnds.{has_lf}
-use Rattle.pinentry_script.specs.declared.entries.TheConstants.{MAX_ENTRY_LEN}
-use Rattle.pinentry_script.specs.declared.response.Response.{Response}
-use Rattle.pinentry_script.specs.declared.response.Response.TheVariants.{Nothing, Say, Give, Inquire}
+use Rattle.pinentry_script.specs.declared.{entries.TheConstants.MAX_ENTRY_LEN, response.Response.{Response, TheVariants.{Nothing, Say, Give, Inquire}}}
 
 -- a text of one line of the file
 pub record IsShortText (text : List ℕ) : Type 0 where

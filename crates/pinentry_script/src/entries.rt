@@ -3,17 +3,14 @@
 //! `specs/Entries` say what a file holds.
 
 ghost use Rattle.std.specs.Prelude.{◌≡◌, ◌<◌, ◌∷◌, [], true, false, length, MatchOption, IfSome};
-ghost use Rattle.std.specs.Prelude.{map, drop};
-ghost use Rattle.std.specs.Option.{option_map, is_some};
+ghost use Rattle.std.specs.{Prelude.{map, drop}, Option.{option_map, is_some}};
+ghost use Rattle.std.specs.{List.{position, list_all, before_first}, Char.is_ascii_digit};
 ghost use Rattle.assuan_line.specs.Lines.{after_line, pieces_of};
-ghost use Rattle.std.specs.List.{position, list_all, before_first};
-ghost use Rattle.std.specs.Char.{is_ascii_digit};
 ghost use Rattle.assuan_text.specs.LineEnds.{is_lf, has_lf};
 ghost use Rattle.pinentry_script.specs.Entries.{text_behind, behind_blank, is_number, phrases};
 ghost use Rattle.pinentry_script.specs.Entries.{entry_in, entry_of, entry_seen, is_script};
 ghost use Rattle.pinentry_script.specs.Entries.{entries_of, pid_of, answers_in};
-ghost use Rattle.pinentry_script.specs.Writing.{IsShortText};
-ghost use Rattle.pinentry_script.specs.Parsing.{IsShortEntry};
+ghost use Rattle.pinentry_script.specs.{Writing.IsShortText, Parsing.IsShortEntry};
 
 use crate::response::Phrase;
 use assuan_text::found;

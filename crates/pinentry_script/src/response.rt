@@ -1,13 +1,10 @@
 //! What is said to a line of the agent, and its writing. It writes to the link alone, and takes no
 //! memory. Begin with `write_response`; `says` of `specs/Responses` has the lines of each response.
 
-ghost use Rattle.std.specs.Prelude.{◌≡◌};
-ghost use Rattle.std.specs.List.{flat_map};
-ghost use Rattle.agent_ports.specs.Writing.{Writes};
-ghost use Rattle.assuan_line.specs.Lines.{IsLine};
+ghost use Rattle.std.specs.{Prelude.◌≡◌, List.flat_map};
+ghost use Rattle.{agent_ports.specs.Writing.Writes, assuan_line.specs.Lines.IsLine};
 ghost use Rattle.assuan_text.specs.LineEnds.{line_of};
-ghost use Rattle.pinentry_script.specs.Responses.{phrase_text, give, says};
-ghost use Rattle.pinentry_script.specs.Sessions.{text_of};
+ghost use Rattle.pinentry_script.specs.{Responses.{phrase_text, give, says}, Sessions.text_of};
 ghost use Rattle.pinentry_script.specs.Writing.{IsShort, IsShortText};
 
 use agent_ports::{Link, WriteFault};

@@ -3,11 +3,8 @@
 //! `run_script`; `RunsSession` of `specs/Sessions` says what is written.
 
 ghost use Rattle.std.specs.Prelude.{◌≡◌, true, false, [], None};
-ghost use Rattle.assuan_line.specs.Next.{next_of};
-ghost use Rattle.assuan_line.specs.Reading.{HasRead};
-ghost use Rattle.assuan_line.specs.Skipping.{ReadsNext};
-ghost use Rattle.pinentry_script.specs.Entries.{is_script};
-ghost use Rattle.pinentry_script.specs.Sessions.{RunsSession, status_of};
+ghost use Rattle.assuan_line.specs.{Next.next_of, Reading.HasRead, Skipping.ReadsNext};
+ghost use Rattle.pinentry_script.specs.{Entries.is_script, Sessions.{RunsSession, status_of}};
 
 use crate::ScriptEnd;
 use crate::entries::is_script;

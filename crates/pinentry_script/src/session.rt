@@ -2,17 +2,13 @@
 //! through the script's answers, and reads and writes nothing. Begin with `Session::turn`, and with
 //! `turn_of` of `specs/Turns`.
 
-ghost use Rattle.std.specs.Prelude.{◌≡◌, false, length, map};
-ghost use Rattle.std.specs.List.{before_first};
-ghost use Rattle.assuan_text.specs.Options.{arguments_of};
-ghost use Rattle.assuan_text.specs.Words.{words, command_of};
-ghost use Rattle.pinentry_script.specs.Entries.{answers_in, pid_of, entries_of};
+ghost use Rattle.std.specs.{Prelude.{◌≡◌, false, length, map}, List.before_first};
+ghost use Rattle.assuan_text.specs.{Options.arguments_of, Words.{words, command_of}};
 ghost use Rattle.assuan_line.specs.Lines.{pieces_of};
-ghost use Rattle.pinentry_script.specs.Responses.{says};
+ghost use Rattle.pinentry_script.specs.{Entries.{answers_in, pid_of, entries_of}, Responses.says};
 ghost use Rattle.pinentry_script.specs.Turns.{Turn, command_named, turn_of, next_answer};
 ghost use Rattle.pinentry_script.specs.Turns.{without_qualities, carried_out, ends_inquiry, info};
-ghost use Rattle.pinentry_script.specs.Writing.{IsShort, IsShortText};
-ghost use Rattle.pinentry_script.specs.Steps.{IsTurn};
+ghost use Rattle.pinentry_script.specs.{Writing.{IsShort, IsShortText}, Steps.IsTurn};
 
 use crate::entries::{Entry, next_answer, pid_of};
 use crate::response::{Phrase, Response};

@@ -1,8 +1,7 @@
 -- A text copies_of without end.
-use Rattle.std.proofs.Common.{◌≡◌, ℕ, zero, suc, ◌+◌, ◌-◌, ◌*◌, ◌/◌, ◌%◌, ◌<◌, ◌≤◌, List, [], ◌∷◌, ◌++◌, length, get_or, slice_index, take, refl, ap, ap₂, ◌∙◌, sym, arith, append_assoc, add-zero}
 use native.Mathlib.Nat.{div-add-mod', mul-mod_left, mul_assoc, mul-add-mod_self_left}
+use Rattle.std.proofs.{Common.{◌≡◌, ℕ, zero, suc, ◌+◌, ◌-◌, ◌*◌, ◌/◌, ◌%◌, ◌<◌, ◌≤◌, List, [], ◌∷◌, ◌++◌, length, get_or, slice_index, take, refl, ap, ap₂, ◌∙◌, sym, arith, append_assoc, add-zero}, lemmas.List.{append-nil, length-append}}
 use Rattle.std.proofs.lemmas.List.FromFn.{take-map-range_with_len, map-range_with_len_more, fill_by_all, length-map-range_with_len}
-use Rattle.std.proofs.lemmas.List.{append-nil, length-append}
 use Rattle.s2k_derive.specs.S2k.{copies_of}
 
 -- one place

@@ -1,6 +1,5 @@
 -- Iterated and salted S2K (RFC 4880, 3.7.1.3) with SHA-1, for a key of 16 bytes.
-use Rattle.std.specs.Prelude.{ℕ, ◌+◌, ◌*◌, ◌/◌, ◌%◌, ◌^◌, List, ◌++◌, length, take, map, max, nat_lt, slice_index, ◌≤◌, if◌then◌else◌}
-use Rattle.std.specs.List.{range_with_len}
+use Rattle.std.specs.{Prelude.{ℕ, ◌+◌, ◌*◌, ◌/◌, ◌%◌, ◌^◌, List, ◌++◌, length, take, map, max, nat_lt, slice_index, ◌≤◌, if◌then◌else◌}, List.range_with_len}
 use Rattle.sha1.specs.Sha1.{sha1}
 use Rattle.s2k_derive.specs.declared.TheConstants.{MIN_COUNT, MAX_COUNT}
 

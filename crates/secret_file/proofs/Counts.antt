@@ -1,16 +1,9 @@
 -- The count of a protection, as it is written.
-use Rattle.std.proofs.Common.{◌≡◌, ◌&&◌, cond, inl, inr, ℕ, ◌+◌, ◌-◌, ◌*◌, ◌%◌, ◌≤◌, Bool, true, false, List, [], ◌∷◌, length, Option, Some, None, IfSome, IfNone, refl, sym, ap, subst, ◌∙◌, arith}
-use Rattle.std.specs.Prelude.{not, bytes_eq, SomeIff, nat_le}
-use Rattle.std.proofs.lemmas.Slice.Eq.{bytes_eq-Decides}
-use Rattle.std.specs.Str.{all_ascii_digits}
-use Rattle.std.proofs.lemmas.Bool.{le-leb, lt-leb, cases_lt}
-use Rattle.std.proofs.lemmas.Grind.{fold-append}
-use Rattle.assuan_text.specs.Numbers as numbers
-use Rattle.s2k_derive.specs.S2k.{octets, IsAccepted}
-use Rattle.sexp_canonical.specs.Spelling.{numeral}
-use Rattle.sexp_canonical.proofs.Numerals.{AreDigits, AreDigits_numeral, numeral_by_steps}
-use Rattle.sexp_canonical.proofs.Trees.{numeral_begins}
+use Rattle.std.proofs.{Common.{◌≡◌, ◌&&◌, cond, inl, inr, ℕ, ◌+◌, ◌-◌, ◌*◌, ◌%◌, ◌≤◌, Bool, true, false, List, [], ◌∷◌, length, Option, Some, None, IfSome, IfNone, refl, sym, ap, subst, ◌∙◌, arith}, lemmas.Slice.Eq.bytes_eq-Decides}
+use Rattle.std.{proofs.lemmas.{Bool.{le-leb, lt-leb, cases_lt}, Grind.fold-append}, specs.{Prelude.{not, bytes_eq, SomeIff, nat_le}, Str.all_ascii_digits}}
+use Rattle.{s2k_derive.specs.S2k.{octets, IsAccepted}, sexp_canonical.{specs.Spelling.numeral, proofs.{Numerals.{AreDigits, AreDigits_numeral, numeral_by_steps}, Trees.numeral_begins}}}
 use Rattle.secret_file.specs.Protection.{IsCount}
+use Rattle.assuan_text.specs.Numbers as numbers
 
 all_digits : (ds : List ℕ) → AreDigits ds → all_ascii_digits ds ≡ true
 all_digits [] h = refl

@@ -1,28 +1,10 @@
 -- What is decrypted is read in one way.
-use Rattle.std.proofs.Common.{◌≡◌, ◌⊎◌, inl, inr, ℕ, ◌-◌, ◌<◌, ◌≤◌, List, [], ◌∷◌, ◌++◌, length, take, drop, Option, Some, None, IfSome, IfNone}
-use Rattle.std.proofs.Common.{Bool, true, false, ◌&&◌, Result, Ok, Err, refl, sym, ap, subst, ◌∙◌, arith, length-append, length-drop}
-use Rattle.std.proofs.lemmas.List.{take-append-drop}
-use Rattle.sexp_canonical.specs.Tree.{Tree, leaf, list_of}
-use Rattle.sexp_canonical.specs.View.{tree_of}
-use Rattle.sexp_canonical.specs.Spelling.{IsReadable, most_bytes, most_depth, depth, spelling, spelling_of}
-use Rattle.sexp_canonical.specs.declared.tree.Sexp.{Sexp}
-use Rattle.sexp_canonical.specs.declared.tree.Sexp.TheVariants.{List as Listed}
-use Rattle.sexp_canonical.specs.declared.fault.SexpFault.{SexpFault}
-use Rattle.sexp_canonical.specs.declared.fault.SexpFault.TheVariants.{NoMemory}
-use Rattle.sexp_canonical.proofs.Trees.{one_spelling, row_injective}
-use Rattle.std.specs.List.{list_all}
-use Rattle.std.specs.Cmp.Lexicographic.{pointwise}
-use Rattle.sexp_canonical.specs.Tree.{Row, branch, end, item, items, items_of}
-use Rattle.sexp_canonical.specs.Spelling.{depths}
-use Rattle.sexp_canonical.specs.Tree.{row}
-use Rattle.sha1.specs.Sha1.{sha1}
-use Rattle.sexp_keys.specs.Names.{secret_names}
-use Rattle.sexp_keys.specs.Parameters.{is_atom, is_parameter_len, has_name, is_parameter, is_named, are_secret}
-use Rattle.sexp_keys.specs.Key.{Key, clear_with}
-use Rattle.sexp_keys.specs.Lists.{hashed_list_of}
-use Rattle.sexp_keys.specs.declared.algorithm.Algorithm.{Algorithm}
-use Rattle.secret_file.specs.Opens.{secret_tree, hash_tree, time_of, AreSpelled}
-use Rattle.secret_file.specs.Steps.{AreSecrets}
+use Rattle.std.proofs.Common.{◌≡◌, ◌⊎◌, inl, inr, ℕ, ◌-◌, ◌<◌, ◌≤◌, List, [], ◌∷◌, ◌++◌, length, take, drop, Option, Some, None, IfSome, IfNone, Bool, true, false, ◌&&◌, Result, Ok, Err, refl, sym, ap, subst, ◌∙◌, arith, length-append}
+use Rattle.std.{proofs.{Common.length-drop, lemmas.List.take-append-drop}, specs.{List.list_all, Cmp.Lexicographic.pointwise}}
+use Rattle.sexp_canonical.specs.{Tree.{Tree, leaf, list_of, Row, branch, end, item, items, items_of, row}, View.tree_of, Spelling.{IsReadable, most_bytes, most_depth, depth, spelling, spelling_of, depths}, declared.tree.Sexp.Sexp}
+use Rattle.{sexp_canonical.{specs.declared.{tree.Sexp.TheVariants.List as Listed, fault.SexpFault.{SexpFault, TheVariants.NoMemory}}, proofs.Trees.{one_spelling, row_injective}}, sha1.specs.Sha1.sha1, sexp_keys.specs.Names.secret_names}
+use Rattle.sexp_keys.{specs.{Parameters.{is_atom, is_parameter_len, has_name, is_parameter, is_named, are_secret}, Key.{Key, clear_with}, Lists.hashed_list_of, declared.algorithm.Algorithm.Algorithm}, proofs.Parts.and_second}
+use Rattle.secret_file.specs.{Opens.{secret_tree, hash_tree, time_of, AreSpelled}, Steps.AreSecrets}
 
 pub again_read : (r : Result (Sexp × ℕ) SexpFault) (x y : Sexp × ℕ) → r ≡ Ok y → (r ≡ Err NoMemory) ⊎ (r ≡ Ok x) → Some y ≡ Some x
 again_read r x y e (inl f) = absurd cc
@@ -76,10 +58,6 @@ items_are tree ts us e f = let same : list_of ts ≡ list_of us = ap tree_of (sy
 and_first : (a b : Bool) → (a && b) ≡ true → a ≡ true
 and_first true b e = refl
 and_first false b e = absurd cc
-
-and_second : (a b : Bool) → (a && b) ≡ true → b ≡ true
-and_second true b e = e
-and_second false b e = absurd cc
 
 flat_items : (r : Row) → list_all is_atom (items_of r) ≡ true → depths r ≤ 0
 flat_items end e = omega arith

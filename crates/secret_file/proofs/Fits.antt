@@ -1,21 +1,10 @@
 -- A file that is made is within the limits of one that is read.
-use Rattle.std.proofs.Common.{◌≡◌, ℕ, ◌+◌, ◌^◌, ◌<◌, ◌≤◌, true, false, IfSome, List, [], ◌∷◌, ◌++◌, length, Option, Some, None, ap, ◌∙◌, arith, length-append}
-use Rattle.std.specs.List.{flat_map}
-use Rattle.std.proofs.lemmas.Grind.{flat_map-append}
-use Rattle.std.proofs.lemmas.List.Concat.{flat_map-cons}
-use Rattle.sexp_canonical.specs.Tree.{Tree, leaf, list_of, row}
-use Rattle.sexp_canonical.specs.Spelling.{numeral, spelling, depth, depths}
-use Rattle.sexp_canonical.proofs.Numerals.{length_numeral}
-use Rattle.sexp_canonical.proofs.Trees.{numeral_begins, spelled_list}
-use Rattle.sexp_keys.specs.Names.{algorithm_name, form_name, protected_name, time_name}
-use Rattle.sexp_keys.specs.Key.{Key, key_tree, algorithm_list}
-use Rattle.sexp_keys.specs.Lists.{time_lists}
-use Rattle.secret_file.specs.Protection.{Protection, protection_name, iv_of, hash_name, hashing_tree, derivation_tree, protection_tree}
-use Rattle.secret_file.specs.Opens.{hash_tree, secret_tree}
-use Rattle.secret_file.specs.declared.cipher.Cipher.{Cipher}
-use Rattle.secret_file.specs.declared.cipher.Cipher.TheVariants.{Cbc, Ocb}
+use Rattle.std.proofs.{Common.{◌≡◌, ℕ, ◌+◌, ◌^◌, ◌<◌, ◌≤◌, true, false, IfSome, List, [], ◌∷◌, ◌++◌, length, Option, Some, None, ap, ◌∙◌, arith, length-append}, lemmas.{Grind.flat_map-append, List.Concat.flat_map-cons}}
+use Rattle.std.specs.{List.flat_map, Prelude.codes}
+use Rattle.sexp_canonical.{specs.{Tree.{Tree, leaf, list_of, row}, Spelling.{numeral, spelling, depth, depths}}, proofs.{Numerals.length_numeral, Trees.{numeral_begins, spelled_list}}}
+use Rattle.sexp_keys.{specs.{Names.{algorithm_name, form_name, protected_name, time_name}, Key.{Key, key_tree, algorithm_list}, Lists.time_lists}, proofs.Measured.depths_front}
+use Rattle.secret_file.specs.{Protection.{Protection, protection_name, iv_of, hash_name, hashing_tree, derivation_tree, protection_tree}, Opens.{hash_tree, secret_tree}, declared.cipher.Cipher.{Cipher, TheVariants.{Cbc, Ocb}}}
 use Rattle.secret_file.specs.Protects.{written_protection, locked_by}
-use Rattle.std.specs.Prelude.{codes}
 
 pub list_len : (ts : List Tree) → length (spelling (list_of ts)) ≡ length (flat_map spelling ts) + 2
 list_len ts = omega (arith, ap length (spelled_list ts), length-append (flat_map spelling ts) (41 ∷ []))
@@ -135,10 +124,6 @@ locked_len key p time clear h short =
 pub depths_le_append : (ts us : List Tree) (n : ℕ) → depths (row ts) ≤ n → depths (row us) ≤ n → depths (row (ts ++ us)) ≤ n
 depths_le_append [] us n h g = g
 depths_le_append (t ∷ ts) us n h g = omega (arith, depths_le_append ts us n (omega arith) g)
-
-pub depths_front : (ts us : List Tree) → depths (row ts) ≤ depths (row (ts ++ us))
-depths_front [] us = omega arith
-depths_front (t ∷ ts) us = omega (arith, depths_front ts us)
 
 times_depth : (time : Option (List ℕ)) → depths (row (time_lists time)) ≤ 1
 times_depth None = omega arith

@@ -1,25 +1,11 @@
 -- What is made of a key opens to it.
 use Rattle.std.proofs.Common.{◌≡◌, ℕ, ◌+◌, ◌-◌, ◌%◌, ◌<◌, ◌≤◌, Bool, true, false, List, [], ◌∷◌, ◌++◌, length, take, Result, Ok, Err, IfOk, IfSome, Option, Some, None, refl, sym, ap, subst, ◌∙◌, arith, length-append}
-use Rattle.std.proofs.lemmas.List.{length-take}
-use Rattle.std.specs.List.{flat_map}
-use Rattle.std.proofs.lemmas.Bool.{le-ltb}
-use Rattle.s2k_derive.specs.S2k.{octets, derived_key}
-use Rattle.s2k_derive.specs.declared.TheConstants.{MIN_COUNT, MAX_COUNT}
-use Rattle.sha1.specs.Sha1.{sha1}
-use Rattle.sexp_canonical.specs.Tree.{leaf, list_of}
-use Rattle.sexp_canonical.specs.Spelling.{numeral, spelling, depth}
-use Rattle.sexp_canonical.specs.declared.tree.Sexp.TheVariants.{List as Listed}
-use Rattle.sexp_canonical.proofs.Numerals.{length_numeral}
-use Rattle.sexp_keys.specs.Names.{algorithm_name, form_name}
-use Rattle.sexp_keys.specs.Parameters.{are_protection, are_private}
-use Rattle.sexp_keys.specs.Key.{Key, IsFormed, key_tree, algorithm_list, clear_with}
-use Rattle.sexp_keys.specs.Lists.{associated_list_of, hashed_list_of, time_lists}
-use Rattle.secret_file.specs.Protection.{Protection, iv_of, iv_len, AreOctets, IsCount, IsProtection}
-use Rattle.secret_file.specs.Opens.{time_of, hash_tree, AreSealed, Hold, Opens}
-use Rattle.secret_file.specs.Protects.{padded, secret_text, sealed_text, written_protection, locked_by, protected_file}
-use Rattle.aes_modes.specs.Cbc.{cbc_decrypted}
-use Rattle.secret_file.specs.declared.cipher.Cipher.TheVariants.{Cbc, Ocb}
-use Rattle.secret_file.proofs.Within.{sealed_size}
+use Rattle.std.{proofs.lemmas.{List.length-take, Bool.le-ltb}, specs.List.flat_map}
+use Rattle.{s2k_derive.specs.{S2k.{octets, derived_key}, declared.TheConstants.{MIN_COUNT, MAX_COUNT}}, sha1.specs.Sha1.sha1, sexp_canonical.specs.{Tree.{leaf, list_of}, Spelling.{numeral, spelling, depth}}}
+use Rattle.{sexp_canonical.{specs.declared.tree.Sexp.TheVariants.List as Listed, proofs.Numerals.length_numeral}, sexp_keys.specs.{Names.{algorithm_name, form_name}, Parameters.{are_protection, are_private}}}
+use Rattle.{sexp_keys.specs.{Key.{Key, IsFormed, key_tree, algorithm_list, clear_with}, Lists.{associated_list_of, hashed_list_of, time_lists}}, aes_modes.specs.Cbc.cbc_decrypted}
+use Rattle.secret_file.specs.{Protection.{Protection, iv_of, iv_len, AreOctets, IsCount, IsProtection}, Opens.{time_of, hash_tree, AreSealed, Hold, Opens}}
+use Rattle.secret_file.{specs.{Protects.{padded, secret_text, sealed_text, written_protection, locked_by, protected_file}, declared.cipher.Cipher.TheVariants.{Cbc, Ocb}}, proofs.Within.sealed_size}
 use Rattle.secret_file.proofs.Fits.{list_len, size_cons, size_append, key_len, FitsLocked, list_some, times_len, locked_len, locked_depth}
 
 large_count : (n : ℕ) → 256 ≤ n → octets n ≡ n

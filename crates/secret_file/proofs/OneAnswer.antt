@@ -1,33 +1,15 @@
 -- A file and a passphrase have one answer.
 use Rattle.std.proofs.Common.{◌≡◌, ◌⊎◌, inl, inr, ℕ, ◌++◌, false, IsTrue, List, [], Ok, Err, refl, sym, ap, subst, ◌∙◌}
-use Rattle.sexp_canonical.specs.Tree.{Tree}
-use Rattle.sexp_canonical.specs.View.{tree_of}
-use Rattle.sexp_canonical.specs.Spelling.{IsReadable}
-use Rattle.sexp_canonical.specs.declared.tree.Sexp.{Sexp}
-use Rattle.sexp_canonical.proofs.Numerals.{numeral_injective}
-use Rattle.sexp_canonical.proofs.Trees.{one_spelling, tree_of_injective}
-use Rattle.s2k_derive.specs.S2k.{octets}
-use Rattle.sexp_keys.specs.Key.{Key, IsKey, clear_with}
-use Rattle.sexp_keys.specs.Faults.{IsFirstKeyFault}
-use Rattle.sexp_keys.proofs.Keys as keys
-use Rattle.sexp_keys.specs.declared.fault.KeyFault.{KeyFault}
-use Rattle.sexp_keys.specs.declared.fault.KeyFault.TheVariants as faults
-use Rattle.sha1.specs.Sha1.{sha1}
-use Rattle.sexp_keys.specs.Lists.{associated_list_of, hashed_list_of}
-use Rattle.aes_modes.specs.Cbc.{cbc_decrypted}
-use Rattle.sexp_canonical.specs.Spelling.{spelling}
+use Rattle.{sexp_canonical.{specs.{Tree.Tree, View.tree_of, Spelling.{IsReadable, spelling}, declared.tree.Sexp.Sexp}, proofs.{Numerals.numeral_injective, Trees.{one_spelling, tree_of_injective}}}, s2k_derive.specs.S2k.octets}
+use Rattle.{sexp_keys.specs.{Key.{Key, IsKey, clear_with}, Faults.IsFirstKeyFault, declared.fault.KeyFault.KeyFault, Lists.{associated_list_of, hashed_list_of}}, sha1.specs.Sha1.sha1, aes_modes.specs.Cbc.cbc_decrypted}
 use Rattle.secret_file.specs.Protection.{Protection, protection_name, iv_of, hashing_tree, protection_tree, has_other_name, IsProtection, IsProtectionFault}
-use Rattle.secret_file.specs.Opens.{first_of, key_by, hash_tree, sealed_tree, time_of, IsFile, LockedKey, IsLocked, Hold, OpensTo, Opens}
-use Rattle.secret_file.specs.declared.cipher.Cipher.{Cipher}
-use Rattle.secret_file.specs.declared.cipher.Cipher.TheVariants.{Cbc, Ocb}
-use Rattle.secret_file.specs.Answers.{refused, unlocked, IsFileFault, IsLockedFault, AnswersOpening, AnswersLocked, AnswersKey, Answers}
-use Rattle.secret_file.specs.declared.locked.Opened.{Opened}
+use Rattle.secret_file.specs.{Opens.{first_of, key_by, hash_tree, sealed_tree, time_of, IsFile, LockedKey, IsLocked, Hold, OpensTo, Opens}, declared.{cipher.Cipher.{Cipher, TheVariants.{Cbc, Ocb}}, locked.Opened.Opened}}
+use Rattle.secret_file.{specs.{declared.unlocked.Unlocked.Unlocked, Answers.{refused, unlocked, IsFileFault, IsLockedFault, AnswersOpening, AnswersLocked, AnswersKey, Answers}}, proofs.Decrypted.one_secret}
+use Rattle.secret_file.proofs.{Unsealing.{key_bytes, one_plain, one_sealed}, Shapes.one_cipher}
+use Rattle.sexp_keys.proofs.Keys as keys
+use Rattle.sexp_keys.specs.declared.fault.KeyFault.TheVariants as faults
 use Rattle.secret_file.specs.declared.locked.Opened.TheVariants as openings
-use Rattle.secret_file.specs.declared.unlocked.Unlocked.{Unlocked}
 use Rattle.secret_file.specs.declared.unlocked.Unlocked.TheVariants as answers
-use Rattle.secret_file.proofs.Decrypted.{one_secret}
-use Rattle.secret_file.proofs.Unsealing.{key_bytes, one_plain, one_sealed}
-use Rattle.secret_file.proofs.Shapes.{one_cipher}
 
 -- ---- the key
 

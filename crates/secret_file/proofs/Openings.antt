@@ -1,26 +1,12 @@
 -- The steps of opening.
-use Rattle.std.proofs.Common.{◌≡◌, ◌⊎◌, inl, inr, ℕ, false, List, [], length, Option, Some, None, Result, Ok, Err, IfOk, IfSome, IfNone, refl, sym, ap, subst, ◌∙◌, arith}
-use Rattle.std.proofs.lemmas.List.{append-nil}
-use Rattle.sexp_canonical.specs.Spelling.{IsReadable, spelling_of}
-use Rattle.sexp_canonical.specs.declared.tree.Sexp.{Sexp}
-use Rattle.sexp_keys.specs.Key.{Key}
-use Rattle.sexp_keys.specs.declared.fault.KeyFault.{KeyFault}
-use Rattle.sexp_keys.specs.declared.fault.KeyFault.TheVariants as faults
-use Rattle.sha1.specs.Sha1.{sha1}
-use Rattle.s2k_derive.specs.S2k.{derived_key}
+use Rattle.std.proofs.{Common.{◌≡◌, ◌⊎◌, inl, inr, ℕ, false, List, [], length, Option, Some, None, Result, Ok, Err, IfOk, IfSome, IfNone, refl, sym, ap, subst, ◌∙◌, arith}, lemmas.List.append-nil}
+use Rattle.{sexp_canonical.specs.{Spelling.{IsReadable, spelling_of}, declared.tree.Sexp.Sexp}, sexp_keys.specs.{Key.Key, declared.fault.KeyFault.KeyFault, Lists.hashed_list_of}, sha1.specs.Sha1.sha1, s2k_derive.specs.S2k.derived_key}
 use Rattle.aes_modes.specs.Cbc.{cbc_decrypted}
-use Rattle.sexp_keys.specs.Lists.{hashed_list_of}
-use Rattle.secret_file.specs.Protection.{Protection}
-use Rattle.secret_file.specs.Opens.{hash_tree, secret_tree, time_of, AreSpelled, FitsFile, LockedKey, IsLocked, OpensTo}
-use Rattle.secret_file.specs.Steps.{AreSecrets, IsOpening, opening_of}
-use Rattle.secret_file.specs.declared.cipher.Cipher.TheVariants.{Cbc}
-use Rattle.secret_file.proofs.Within.{secret_size, fits_opened}
-use Rattle.secret_file.specs.Answers.{refused, unlocked, IsLockedFault, AnswersOpening, AnswersKey}
-use Rattle.secret_file.specs.declared.locked.Opened.{Opened}
-use Rattle.secret_file.specs.declared.locked.Opened.TheVariants as openings
-use Rattle.secret_file.specs.declared.unlocked.Unlocked.{Unlocked}
-use Rattle.secret_file.specs.declared.unlocked.Unlocked.TheVariants.{NoMemory}
+use Rattle.secret_file.specs.{Protection.Protection, Opens.{hash_tree, secret_tree, time_of, AreSpelled, FitsFile, LockedKey, IsLocked, OpensTo}, Steps.{AreSecrets, IsOpening, opening_of}, declared.cipher.Cipher.TheVariants.Cbc}
+use Rattle.secret_file.{specs.{declared.{locked.Opened.Opened, unlocked.Unlocked.{Unlocked, TheVariants.NoMemory}}, Answers.{refused, unlocked, IsLockedFault, AnswersOpening, AnswersKey}}, proofs.Within.{secret_size, fits_opened}}
 use Rattle.secret_file.proofs.Decrypted.{ReadsFront}
+use Rattle.sexp_keys.specs.declared.fault.KeyFault.TheVariants as faults
+use Rattle.secret_file.specs.declared.locked.Opened.TheVariants as openings
 
 pub not_whole : (file : List ℕ) (read : Option (Sexp × ℕ)) (t : Sexp) (n : ℕ) → ReadsFront file read → read ≡ Some (t, n) → (n ≡ length file → ⊥) → (tree : Sexp) → IsReadable file tree → ⊥
 not_whole file read t n again e other tree h =

@@ -1,17 +1,8 @@
 -- The shape of a protection, list by list.
-use Rattle.std.proofs.Common.{◌≡◌, ℕ, ◌+◌, List, [], ◌∷◌, ◌++◌, length, refl, sym, ap, subst, ◌∙◌, arith, length-append}
-use Rattle.std.proofs.lemmas.List.{length-map}
-use Rattle.sexp_canonical.specs.Tree.{Tree, leaf, list_of, items}
-use Rattle.sexp_canonical.specs.View.{tree_of, trees}
-use Rattle.sexp_canonical.specs.declared.tree.Sexp.{Sexp}
-use Rattle.sexp_keys.specs.Names.{protected_name}
-use Rattle.secret_file.specs.Protection.{Protection, protection_name, iv_of, hash_name, derivation_tree, protection_tree, AreOctets, IsCount, IsHashing, IsProtection}
-use Rattle.secret_file.specs.Steps.{IsCipher}
-use Rattle.secret_file.specs.declared.cipher.Cipher.{Cipher}
-use Rattle.secret_file.specs.declared.cipher.Cipher.TheVariants.{Cbc, Ocb}
-use Rattle.secret_file.specs.Opens.{hash_tree}
-use Rattle.std.specs.Prelude.{codes}
-use Rattle.sexp_keys.proofs.OneName.{listed}
+use Rattle.std.{proofs.{Common.{◌≡◌, ℕ, ◌+◌, List, [], ◌∷◌, ◌++◌, length, refl, sym, ap, subst, ◌∙◌, arith, length-append}, lemmas.List.length-map}, specs.Prelude.codes}
+use Rattle.{sexp_canonical.specs.{Tree.{Tree, leaf, list_of, items}, View.{tree_of, trees}, declared.tree.Sexp.Sexp}, sexp_keys.{specs.Names.protected_name, proofs.OneName.listed}}
+use Rattle.secret_file.specs.{Protection.{Protection, protection_name, iv_of, hash_name, derivation_tree, protection_tree, AreOctets, IsCount, IsHashing, IsProtection}, Steps.IsCipher, declared.cipher.Cipher.Cipher}
+use Rattle.secret_file.specs.{declared.cipher.Cipher.TheVariants.{Cbc, Ocb}, Opens.hash_tree}
 
 pub hashing_is : (t : Tree) (xs b1 b2 : List Tree) (salt digits array : List ℕ) (count : ℕ) → xs ≡ items t → xs ≡ leaf hash_name ∷ b1 → b1 ≡ leaf salt ∷ b2 → b2 ≡ leaf digits ∷ []
     → (salt ≡ array) × (length array ≡ 8) → IsCount digits count → IsHashing t array count

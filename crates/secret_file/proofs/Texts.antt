@@ -1,17 +1,7 @@
 -- The text that is encrypted.
-use Rattle.std.proofs.Common.{◌≡◌, ℕ, ◌+◌, ◌≤◌, List, [], ◌∷◌, ◌++◌, length, Option, sym, ap, ◌∙◌, arith, append_assoc}
-use Rattle.std.specs.List.{flat_map}
-use Rattle.std.proofs.lemmas.List.{append-nil}
-use Rattle.std.proofs.lemmas.List.Concat.{flat_map-cons}
-use Rattle.sha1.specs.Sha1.{sha1}
-use Rattle.sexp_canonical.specs.Tree.{Tree, list_of}
-use Rattle.sexp_canonical.specs.Spelling.{spelling}
-use Rattle.sexp_keys.specs.Key.{Key}
-use Rattle.sexp_keys.specs.Lists.{hashed_list_of}
-use Rattle.sexp_canonical.proofs.WrittenLists.{list_written}
-use Rattle.secret_file.specs.Opens.{hash_tree, secret_tree}
-use Rattle.secret_file.specs.Protects.{secret_text}
-use Rattle.secret_file.proofs.Fits.{secret_len}
+use Rattle.std.{proofs.{Common.{◌≡◌, ℕ, ◌+◌, ◌≤◌, List, [], ◌∷◌, ◌++◌, length, Option, sym, ap, ◌∙◌, arith, append_assoc}, lemmas.List.{append-nil, Concat.flat_map-cons}}, specs.List.flat_map}
+use Rattle.{sha1.specs.Sha1.sha1, sexp_canonical.{specs.{Tree.{Tree, list_of}, Spelling.spelling}, proofs.WrittenLists.list_written}, sexp_keys.specs.{Key.Key, Lists.hashed_list_of}}
+use Rattle.secret_file.{specs.{Opens.{hash_tree, secret_tree}, Protects.secret_text}, proofs.Fits.secret_len}
 
 two_written : (t0 t1 t2 : List ℕ) (a b : Tree) → t1 ≡ t0 ++ spelling a → t2 ≡ t1 ++ spelling b → t2 ≡ t0 ++ flat_map spelling (a ∷ b ∷ [])
 two_written t0 t1 t2 a b e f =

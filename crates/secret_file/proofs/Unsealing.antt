@@ -1,29 +1,10 @@
 -- What is sealed by OCB is read in one way.
-use Rattle.std.proofs.Common.{◌≡◌, ◌↔◌, ℕ, zero, suc, ◌+◌, ◌*◌, ◌<◌, ◌≤◌, Bool, true, false, IsTrue, IsSome, IfSome, List, [], ◌∷◌, ◌++◌, length, take, drop, slice_index, Option, Some, None, refl, sym, ap, subst, ◌∙◌, arith, lit<, length-append}
-use Rattle.std.proofs.Math.Seq.{take-append_seam, drop-append_seam, take-length}
-use Rattle.std.proofs.lemmas.List.{append-nil, take-append-drop}
-use Rattle.std.specs.List.{flat_map}
-use Rattle.std.specs.Int.{w32, to_be_bytes, bytes_high_first, byte_at}
-use Rattle.sha1.specs.Sha1.{sha1, digest_bytes}
-use Rattle.s2k_derive.specs.S2k.{derived_key}
-use Rattle.aes_block.specs.Aes.{IsBytes}
-use Rattle.aes_block.proofs.Blocks.{IsBytes_take, IsBytes_append}
-use Rattle.aes_modes.specs.Ocb.{ocb_encrypted, ocb_decrypted, ocb_tag}
-use Rattle.aes_modes.proofs.OcbUndone.{ocb_encrypted_bytes, ocb_decrypted_ocb_encrypted}
-use Rattle.sexp_canonical.specs.Tree.{Tree, list_of, row}
-use Rattle.sexp_canonical.specs.View.{tree_of}
-use Rattle.sexp_canonical.specs.Spelling.{IsReadable, most_bytes, most_depth, depth, spelling}
-use Rattle.sexp_canonical.specs.declared.tree.Sexp.{Sexp}
-use Rattle.sexp_canonical.specs.declared.tree.Sexp.TheVariants.{List as Listed}
-use Rattle.sexp_canonical.proofs.Trees.{one_spelling, row_injective}
-use Rattle.sexp_keys.specs.Parameters.{are_secret}
-use Rattle.sexp_keys.specs.Key.{Key, clear_with}
-use Rattle.sexp_keys.specs.Lists.{associated_list_of}
-use Rattle.secret_file.specs.Opens.{sealed_tree, time_of, AreSealed, LockedKey, OpensTo}
-use Rattle.secret_file.specs.Steps.{IsOpening}
-use Rattle.secret_file.specs.declared.cipher.Cipher.TheVariants.{Ocb}
-use Rattle.secret_file.proofs.Decrypted.{ReadsFront, flat_secret}
-use Rattle.secret_file.proofs.Within.{sealed_size}
+use Rattle.std.proofs.Common.{◌≡◌, ◌↔◌, ℕ, zero, suc, ◌+◌, ◌*◌, ◌<◌, ◌≤◌, Bool, true, false, IsTrue, IsSome, IfSome, List, [], ◌∷◌, ◌++◌, length, take, drop, slice_index, Option, Some, None, refl, sym, ap, subst, ◌∙◌, arith, lit<}
+use Rattle.std.{proofs.{Common.length-append, Math.Seq.{take-append_seam, drop-append_seam, take-length}, lemmas.List.{append-nil, take-append-drop}}, specs.{List.flat_map, Int.{w32, to_be_bytes, bytes_high_first, byte_at}}}
+use Rattle.{sha1.specs.Sha1.{sha1, digest_bytes}, s2k_derive.specs.S2k.derived_key, aes_block.{specs.Aes.IsBytes, proofs.Blocks.{IsBytes_take, IsBytes_append}}, aes_modes.specs.Ocb.{ocb_encrypted, ocb_decrypted, ocb_tag}}
+use Rattle.{aes_modes.proofs.OcbUndone.{ocb_encrypted_bytes, ocb_decrypted_ocb_encrypted}, sexp_canonical.specs.{Tree.{Tree, list_of, row}, View.tree_of, Spelling.{IsReadable, most_bytes, most_depth, depth, spelling}}}
+use Rattle.{sexp_canonical.{specs.declared.tree.Sexp.{Sexp, TheVariants.List as Listed}, proofs.Trees.{one_spelling, row_injective}}, sexp_keys.specs.{Parameters.are_secret, Key.{Key, clear_with}, Lists.associated_list_of}}
+use Rattle.secret_file.{specs.{Opens.{sealed_tree, time_of, AreSealed, LockedKey, OpensTo}, Steps.IsOpening, declared.cipher.Cipher.TheVariants.Ocb}, proofs.{Decrypted.{ReadsFront, flat_secret}, Within.sealed_size}}
 
 -- ---- the key of a passphrase is bytes
 

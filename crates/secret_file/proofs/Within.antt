@@ -1,20 +1,9 @@
 -- A key that is opened is within the limits of its file.
-use Rattle.std.proofs.Common.{◌≡◌, ℕ, ◌+◌, ◌≤◌, Bool, true, false, List, [], ◌∷◌, ◌++◌, length, refl, sym, ap, subst, ◌∙◌, arith, length-append}
-use Rattle.std.specs.List.{flat_map}
-use Rattle.sexp_canonical.specs.Tree.{Tree, leaf, branch, list_of, row, items}
-use Rattle.sexp_canonical.specs.View.{tree_of}
-use Rattle.sexp_canonical.specs.Spelling.{most_bytes, most_depth, spelling, depth, depths}
-use Rattle.sexp_keys.specs.Names.{algorithm_name, form_name, protected_name, time_name}
-use Rattle.sexp_keys.proofs.OneName.{listed}
-use Rattle.sha1.specs.Sha1.{sha1}
-use Rattle.sexp_keys.specs.Parameters.{are_secret}
-use Rattle.sexp_keys.specs.Key.{Key, key_tree, clear_with}
-use Rattle.sexp_keys.specs.Lists.{associated_list_of, hashed_list_of, key_list_of, time_lists}
-use Rattle.secret_file.specs.Protection.{Protection, protection_name, iv_of, derivation_tree, IsProtection}
-use Rattle.secret_file.specs.Opens.{first_of, hash_tree, secret_tree, sealed_tree, time_in, time_of, IsFile, FitsFile, LockedKey, IsLocked, OpensTo}
-use Rattle.secret_file.specs.Steps.{AreSecrets}
-use Rattle.secret_file.proofs.Fits.{list_len, size_cons, size_append, atom_len, atom_least, short_atom_len, key_len, depths_le_append, depths_front}
-use Rattle.secret_file.proofs.Decrypted.{flat_secret}
+use Rattle.std.{proofs.Common.{◌≡◌, ℕ, ◌+◌, ◌≤◌, Bool, true, false, List, [], ◌∷◌, ◌++◌, length, refl, sym, ap, subst, ◌∙◌, arith, length-append}, specs.List.flat_map}
+use Rattle.{sexp_canonical.specs.{Tree.{Tree, leaf, branch, list_of, row, items}, View.tree_of, Spelling.{most_bytes, most_depth, spelling, depth, depths}}, sexp_keys.specs.Names.{algorithm_name, form_name, protected_name, time_name}}
+use Rattle.{sexp_keys.{specs.{Parameters.are_secret, Key.{Key, key_tree, clear_with}, Lists.{associated_list_of, hashed_list_of, key_list_of, time_lists}}, proofs.{OneName.listed, Measured.depths_front}}, sha1.specs.Sha1.sha1}
+use Rattle.secret_file.specs.{Protection.{Protection, protection_name, iv_of, derivation_tree, IsProtection}, Opens.{first_of, hash_tree, secret_tree, sealed_tree, time_in, time_of, IsFile, FitsFile, LockedKey, IsLocked, OpensTo}}
+use Rattle.secret_file.{specs.Steps.AreSecrets, proofs.{Fits.{list_len, size_cons, size_append, atom_len, atom_least, short_atom_len, key_len, depths_le_append}, Decrypted.flat_secret}}
 
 pub file_fits : (file : List ℕ) (key : Key) → IsFile file key → FitsFile key
 file_fits file key h =

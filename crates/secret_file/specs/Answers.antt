@@ -1,17 +1,9 @@
 -- What is answered for a file and a passphrase: the key, or else the first fault in this order.
 use Rattle.std.specs.Prelude.{◌≡◌, ℕ, ◌⊎◌, List, true, false}
-use Rattle.sexp_canonical.specs.View.{tree_of}
-use Rattle.sexp_canonical.specs.Spelling.{IsReadable}
-use Rattle.sexp_canonical.specs.declared.tree.Sexp.{Sexp}
-use Rattle.sexp_keys.specs.Key.{Key}
-use Rattle.sexp_keys.specs.Faults.{IsFirstKeyFault}
-use Rattle.sexp_keys.specs.declared.fault.KeyFault.{KeyFault}
+use Rattle.{sexp_canonical.specs.{View.tree_of, Spelling.IsReadable, declared.tree.Sexp.Sexp}, sexp_keys.specs.{Key.Key, Faults.IsFirstKeyFault, declared.fault.KeyFault.KeyFault}}
+use Rattle.secret_file.specs.{Protection.IsProtectionFault, Opens.{first_of, LockedKey, IsFile, IsLocked, OpensTo}, declared.{locked.Opened.Opened, unlocked.Unlocked.Unlocked}}
 use Rattle.sexp_keys.specs.declared.fault.KeyFault.TheVariants as faults
-use Rattle.secret_file.specs.Protection.{IsProtectionFault}
-use Rattle.secret_file.specs.Opens.{first_of, LockedKey, IsFile, IsLocked, OpensTo}
-use Rattle.secret_file.specs.declared.locked.Opened.{Opened}
 use Rattle.secret_file.specs.declared.locked.Opened.TheVariants as openings
-use Rattle.secret_file.specs.declared.unlocked.Unlocked.{Unlocked}
 use Rattle.secret_file.specs.declared.unlocked.Unlocked.TheVariants as answers
 
 -- the answer that a fault of a key is

@@ -1,12 +1,7 @@
 -- Private: codes for locked keys, by which proofs tell them apart.
-use Rattle.std.specs.Prelude.{◌≡◌, ◌⊎◌, ℕ, List, refl}
-use Rattle.std.specs.Coded.{Coded, code_by, coded×, coded⊎, coded_ℕ, coded_list}
-use Rattle.std.proofs.Common.{inl, inr}
+use Rattle.std.{specs.{Prelude.{◌≡◌, ◌⊎◌, ℕ, List, refl}, Coded.{Coded, code_by, coded×, coded⊎, coded_ℕ, coded_list}}, proofs.Common.{inl, inr}}
 use Rattle.sexp_keys.specs.Key.{Key, key_code}
-use Rattle.secret_file.specs.declared.cipher.Cipher.{Cipher}
-use Rattle.secret_file.specs.declared.cipher.Cipher.TheVariants.{Cbc, Ocb}
-use Rattle.secret_file.specs.Protection.{Protection}
-use Rattle.secret_file.specs.Opens.{LockedKey}
+use Rattle.secret_file.specs.{declared.cipher.Cipher.{Cipher, TheVariants.{Cbc, Ocb}}, Protection.Protection, Opens.LockedKey}
 
 abbrev pub cipher_sum : Cipher → List ℕ ⊎ List ℕ
 cipher_sum (Cbc iv) = inl iv

@@ -1,20 +1,9 @@
 -- A protected key file opens by a passphrase to a key (GnuPG's notes on the format of private keys, agent/keyformat.txt).
 use Rattle.std.specs.Prelude.{◌≡◌, ℕ, ◌≤◌, List, [], ◌∷◌, ◌++◌, length, false, Option, Some, None, IsTrue, codes}
-use Rattle.sha1.specs.Sha1.{sha1}
-use Rattle.sexp_canonical.specs.Tree.{Tree, leaf, list_of, items}
-use Rattle.sexp_canonical.specs.View.{tree_of}
-use Rattle.sexp_canonical.specs.Spelling.{IsReadable, most_bytes, most_depth, depth, spelling}
-use Rattle.sexp_canonical.specs.declared.tree.Sexp.{Sexp}
-use Rattle.s2k_derive.specs.S2k.{derived_key}
-use Rattle.aes_block.specs.Aes.{IsBytes}
-use Rattle.aes_modes.specs.Cbc.{cbc_decrypted}
-use Rattle.aes_modes.specs.Ocb.{ocb_tag, ocb_sealed}
-use Rattle.sexp_keys.specs.Parameters.{are_secret}
-use Rattle.sexp_keys.specs.Key.{Key, IsKey, clear_with, key_tree}
+use Rattle.{sha1.specs.Sha1.sha1, sexp_canonical.specs.{Tree.{Tree, leaf, list_of, items}, View.tree_of, Spelling.{IsReadable, most_bytes, most_depth, depth, spelling}, declared.tree.Sexp.Sexp}, s2k_derive.specs.S2k.derived_key}
+use Rattle.{aes_block.specs.Aes.IsBytes, aes_modes.specs.{Cbc.cbc_decrypted, Ocb.{ocb_tag, ocb_sealed}}, sexp_keys.specs.{Parameters.are_secret, Key.{Key, IsKey, clear_with, key_tree}}}
 use Rattle.sexp_keys.specs.Lists.{associated_list_of, hashed_list_of, key_list_of}
-use Rattle.secret_file.specs.Protection.{Protection, hash_name, IsProtection}
-use Rattle.secret_file.specs.declared.cipher.Cipher.{Cipher}
-use Rattle.secret_file.specs.declared.cipher.Cipher.TheVariants.{Cbc, Ocb}
+use Rattle.secret_file.specs.{Protection.{Protection, hash_name, IsProtection}, declared.cipher.Cipher.{Cipher, TheVariants.{Cbc, Ocb}}}
 
 -- the key of a passphrase
 abbrev pub key_by : List ℕ → Protection → List ℕ

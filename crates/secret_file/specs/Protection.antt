@@ -1,14 +1,9 @@
 -- How a protected key is protected (GnuPG's notes on the format of private keys, agent/keyformat.txt, "Protected Private Key
 -- Format"), under the two names that are known.
 use Rattle.std.specs.Prelude.{◌≡◌, ℕ, ◌<◌, ◌≤◌, ◌%◌, ◌⊎◌, Bool, true, false, not, ◌&&◌, ◌||◌, List, [], ◌∷◌, length, drop, codes, bytes_eq}
-use Rattle.sexp_canonical.specs.Tree.{Tree, leaf, branch, list_of, items}
-use Rattle.sexp_canonical.specs.Spelling.{numeral}
-use Rattle.s2k_derive.specs.S2k.{octets, IsAccepted}
-use Rattle.sexp_keys.specs.Names.{protected_name}
-use Rattle.secret_file.specs.declared.cipher.Cipher.{Cipher}
-use Rattle.secret_file.specs.declared.cipher.Cipher.TheVariants.{Cbc, Ocb}
-use Rattle.sexp_keys.specs.declared.fault.KeyFault.{KeyFault}
+use Rattle.{sexp_canonical.specs.{Tree.{Tree, leaf, branch, list_of, items}, Spelling.numeral}, s2k_derive.specs.S2k.{octets, IsAccepted}, sexp_keys.specs.{Names.protected_name, declared.fault.KeyFault.KeyFault}}
 use Rattle.sexp_keys.specs.declared.fault.KeyFault.TheVariants.{BadSecKey, NotSupported}
+use Rattle.secret_file.specs.declared.cipher.Cipher.{Cipher, TheVariants.{Cbc, Ocb}}
 
 -- the name of the protection, by its cipher, and that of its hash
 abbrev pub protection_name : Cipher → List ℕ

@@ -1,16 +1,8 @@
 -- The protected file that is made of a clear key.
 use Rattle.std.specs.Prelude.{ℕ, ◌-◌, ◌%◌, List, ◌∷◌, ◌++◌, length, take, Option}
-use Rattle.sha1.specs.Sha1.{sha1}
-use Rattle.sexp_canonical.specs.Tree.{Tree}
-use Rattle.sexp_canonical.specs.Spelling.{numeral, spelling}
-use Rattle.s2k_derive.specs.S2k.{derived_key}
-use Rattle.aes_modes.specs.Cbc.{cbc_encrypted}
-use Rattle.aes_modes.specs.Ocb.{ocb_sealed}
-use Rattle.sexp_keys.specs.Key.{Key, protected_with}
+use Rattle.{sha1.specs.Sha1.sha1, sexp_canonical.specs.{Tree.Tree, Spelling.{numeral, spelling}}, s2k_derive.specs.S2k.derived_key, aes_modes.specs.{Cbc.cbc_encrypted, Ocb.ocb_sealed}, sexp_keys.specs.Key.{Key, protected_with}}
 use Rattle.sexp_keys.specs.Lists.{key_list_of, associated_list_of, hashed_list_of, time_lists}
-use Rattle.secret_file.specs.Protection.{Protection, hashing_tree, protection_tree}
-use Rattle.secret_file.specs.Opens.{hash_tree, secret_tree, sealed_tree}
-use Rattle.secret_file.specs.declared.cipher.Cipher.TheVariants.{Cbc, Ocb}
+use Rattle.secret_file.specs.{Protection.{Protection, hashing_tree, protection_tree}, Opens.{hash_tree, secret_tree, sealed_tree}, declared.cipher.Cipher.TheVariants.{Cbc, Ocb}}
 
 -- the text and the fewest first bytes of the padding with which it is whole blocks
 abbrev pub padded : List ℕ → List ℕ → List ℕ

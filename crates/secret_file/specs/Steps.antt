@@ -1,18 +1,8 @@
 -- Private: what the steps of reading a protection and of opening know.
-use Rattle.std.specs.Prelude.{◌≡◌, ◌≤◌, ℕ, List, length, Option, Some, None, Result, Ok, Err, IsTrue}
-use Rattle.std.specs.List.{flat_map}
-use Rattle.sha1.specs.Sha1.{sha1}
-use Rattle.sexp_canonical.specs.Tree.{Tree}
-use Rattle.sexp_canonical.specs.Spelling.{spelling}
-use Rattle.sexp_keys.specs.Parameters.{are_secret}
-use Rattle.sexp_keys.specs.Key.{Key, clear_with}
-use Rattle.sexp_keys.specs.Lists.{hashed_list_of}
-use Rattle.sexp_keys.specs.declared.fault.KeyFault.{KeyFault}
-use Rattle.secret_file.specs.declared.locked.Opened.{Opened}
+use Rattle.std.specs.{Prelude.{◌≡◌, ◌≤◌, ℕ, List, length, Option, Some, None, Result, Ok, Err, IsTrue}, List.flat_map}
+use Rattle.{sha1.specs.Sha1.sha1, sexp_canonical.specs.{Tree.Tree, Spelling.spelling}, sexp_keys.specs.{Parameters.are_secret, Key.{Key, clear_with}, Lists.hashed_list_of, declared.fault.KeyFault.KeyFault}}
+use Rattle.secret_file.specs.{declared.{locked.Opened.Opened, cipher.Cipher.Cipher}, Protection.{protection_name, iv_of, iv_len}, Opens.{secret_tree, hash_tree, time_of, AreSpelled, LockedKey, OpensTo}}
 use Rattle.secret_file.specs.declared.locked.Opened.TheVariants as openings
-use Rattle.secret_file.specs.declared.cipher.Cipher.{Cipher}
-use Rattle.secret_file.specs.Protection.{protection_name, iv_of, iv_len}
-use Rattle.secret_file.specs.Opens.{secret_tree, hash_tree, time_of, AreSpelled, LockedKey, OpensTo}
 
 -- what is decrypted by CBC is the secret parameters of the locked key and the digest of the clear one
 pub record AreSecrets (locked : Key) (bytes : List ℕ) (key : Key) : Type 0 where

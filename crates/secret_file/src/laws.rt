@@ -3,13 +3,11 @@
 //! `Answers` of `specs/Answers` and `Opens` of `specs/Opens`.
 
 ghost use Rattle.std.specs.Prelude.{◌≡◌, ℕ, List, IsTrue};
-ghost use Rattle.sexp_keys.specs.Key.{Key};
-ghost use Rattle.sexp_keys.specs.declared.fault.KeyFault.{KeyFault};
+ghost use Rattle.sexp_keys.specs.{Key.Key, declared.fault.KeyFault.KeyFault};
 ghost use Rattle.secret_file.specs.Opens.{LockedKey, IsFile, IsLocked};
 ghost use Rattle.secret_file.specs.Answers.{refused, unlocked, IsFileFault, IsLockedFault};
 ghost use Rattle.secret_file.specs.Answers.{AnswersOpening, Answers};
-ghost use Rattle.secret_file.specs.declared.locked.Opened.{Opened};
-ghost use Rattle.secret_file.specs.declared.unlocked.Unlocked.{Unlocked};
+ghost use Rattle.secret_file.specs.declared.{locked.Opened.Opened, unlocked.Unlocked.Unlocked};
 
 /// A law: a file and a passphrase have one answer at most, a key or a fault, and no key hides a
 /// fault.

@@ -4,13 +4,10 @@
 
 ghost use Rattle.std.specs.Prelude.{◌≡◌, ◌≤◌, ◌⊎◌, length, IfOk, IfErr};
 ghost use Rattle.s2k_derive.specs.declared.TheConstants.{MAX_PASSPHRASE_LEN, MAX_COUNT};
-ghost use Rattle.sexp_canonical.specs.Spelling.{most_bytes};
-ghost use Rattle.sexp_keys.specs.Key.{Key};
-ghost use Rattle.sexp_keys.specs.declared.fault.KeyFault.{KeyFault};
+ghost use Rattle.{sexp_canonical.specs.Spelling.most_bytes, sexp_keys.specs.Key.Key};
+ghost use Rattle.sexp_keys.specs.{declared.fault.KeyFault.KeyFault, Lists.key_list_of};
 ghost use Rattle.secret_file.specs.Opens.{FitsFile, IsLocked};
-ghost use Rattle.secret_file.specs.Answers.{IsLockedFault, AnswersOpening};
-ghost use Rattle.sexp_keys.specs.Lists.{key_list_of};
-ghost use Rattle.secret_file.specs.Protection.{AreOctets};
+ghost use Rattle.secret_file.specs.{Answers.{IsLockedFault, AnswersOpening}, Protection.AreOctets};
 ghost use Rattle.secret_file.specs.Steps.{IsOpening, opening_of};
 
 use crate::cipher::Cipher;
@@ -33,8 +30,7 @@ pub struct Locked {
 }
 
 impl Model for Locked {
-    ghost use Rattle.secret_file.specs.Opens.{LockedKey, FitsFile, IsLocked};
-    ghost use Rattle.secret_file.specs.Codes.{locked_code};
+    ghost use Rattle.secret_file.specs.{Opens.{LockedKey, FitsFile, IsLocked}, Codes.locked_code};
 
     ghost Value = { LockedKey };
 

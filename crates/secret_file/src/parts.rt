@@ -4,10 +4,8 @@
 
 ghost use Rattle.std.specs.Prelude.{◌≡◌, ◌≤◌, ℕ, List, [], ◌∷◌, ◌++◌, length, take, IfOk, IfErr};
 ghost use Rattle.std.specs.Prelude.{IfSome, IfNone};
-ghost use Rattle.sexp_canonical.specs.Tree.{Tree, leaf};
-ghost use Rattle.sexp_canonical.specs.View.{tree_of, trees};
-ghost use Rattle.sexp_canonical.specs.Spelling.{IsReadable, spelling_of};
-ghost use Rattle.sexp_canonical.specs.declared.tree.Sexp.{Sexp};
+ghost use Rattle.sexp_canonical.specs.{Tree.{Tree, leaf}, View.{tree_of, trees}};
+ghost use Rattle.sexp_canonical.specs.{Spelling.{IsReadable, spelling_of}, declared.tree.Sexp.Sexp};
 ghost use Rattle.sexp_canonical.specs.declared.fault.SexpFault.{SexpFault};
 ghost use Rattle.sexp_keys.specs.declared.fault.KeyFault.{KeyFault};
 

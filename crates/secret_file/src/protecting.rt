@@ -4,21 +4,14 @@
 //! file.
 
 ghost use Rattle.std.specs.Prelude.{◌≡◌, ◌≤◌, ◌%◌, ◌+◌, ◌<◌, ℕ, [], ◌∷◌, ◌++◌, length, IfOk};
-ghost use Rattle.std.specs.Prelude.{IfSome, OnOk, IsTrue};
-ghost use Rattle.std.specs.List.{flat_map};
-ghost use Rattle.std.specs.Option.{option_copied};
-ghost use Rattle.sexp_canonical.specs.Tree.{leaf, list_of};
-ghost use Rattle.sexp_canonical.specs.declared.tree.Sexp.{Sexp};
+ghost use Rattle.std.specs.{Prelude.{IfSome, OnOk, IsTrue}, List.flat_map, Option.option_copied};
+ghost use Rattle.sexp_canonical.specs.{Tree.{leaf, list_of}, declared.tree.Sexp.Sexp};
 ghost use Rattle.sexp_canonical.specs.View.{tree_of, trees};
-ghost use Rattle.sexp_canonical.specs.Spelling.{most_depth, depth, spelling};
+ghost use Rattle.sexp_canonical.specs.Spelling.{most_depth, depth, spelling, numeral};
 ghost use Rattle.s2k_derive.specs.S2k.{derived_key};
 ghost use Rattle.s2k_derive.specs.declared.TheConstants.{MAX_PASSPHRASE_LEN, MIN_COUNT, MAX_COUNT};
-ghost use Rattle.aes_modes.specs.Cbc.{cbc_encrypted, cbc_decrypted};
-ghost use Rattle.aes_modes.specs.Ocb.{ocb_sealed};
-ghost use Rattle.sexp_keys.specs.Names.{time_name};
-ghost use Rattle.sexp_keys.specs.Key.{key_tree};
-ghost use Rattle.sexp_keys.specs.Lists.{key_list_of, time_lists};
-ghost use Rattle.sexp_canonical.specs.Spelling.{numeral};
+ghost use Rattle.aes_modes.specs.{Cbc.{cbc_encrypted, cbc_decrypted}, Ocb.ocb_sealed};
+ghost use Rattle.sexp_keys.specs.{Names.time_name, Key.key_tree, Lists.{key_list_of, time_lists}};
 ghost use Rattle.secret_file.specs.Protection.{iv_of, hashing_tree, derivation_tree};
 ghost use Rattle.secret_file.specs.Opens.{hash_tree, AreSealed, Opens};
 ghost use Rattle.secret_file.specs.Protects.{padded, secret_text, sealed_text, written_protection};

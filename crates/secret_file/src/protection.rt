@@ -3,18 +3,15 @@
 //! with `protection_of`; `IsProtection` of `specs/Protection` has the form.
 
 ghost use Rattle.std.specs.Prelude.{◌≡◌, ℕ, List, [], ◌∷◌, drop, length, IfOk, IfErr, IfSome};
-ghost use Rattle.std.specs.Prelude.{IfNone, IsTrue, ◌↔◌};
-ghost use Rattle.sexp_canonical.specs.View.{tree_of, trees};
-ghost use Rattle.sexp_canonical.specs.Tree.{Tree};
-ghost use Rattle.secret_file.specs.Protection as parts;
+ghost use Rattle.std.specs.{Prelude.{IfNone, IsTrue, ◌↔◌}, Option.option_copied};
+ghost use Rattle.sexp_canonical.specs.{View.{tree_of, trees}, Tree.Tree};
 ghost use Rattle.secret_file.specs.Protection.{hash_name, protection_name, derivation_tree};
 ghost use Rattle.secret_file.specs.Protection.{is_other, is_unknown, first_items, has_other_name};
 ghost use Rattle.secret_file.specs.Protection.{AreOctets, IsCount, IsHashing, IsProtection};
 ghost use Rattle.secret_file.specs.Protection.{IsProtectionFault};
-ghost use Rattle.std.specs.Option.{option_copied};
-ghost use Rattle.secret_file.specs.Opens.{first_of, time_in, time_of};
-ghost use Rattle.secret_file.specs.Steps.{IsCipher};
+ghost use Rattle.secret_file.specs.{Opens.{first_of, time_in, time_of}, Steps.IsCipher};
 ghost use Rattle.secret_file.specs.declared.cipher.Cipher.{Cipher};
+ghost use Rattle.secret_file.specs.Protection as parts;
 
 use crate::cipher::Cipher;
 use crate::parts::{array_of, behind_name, only_atom, split_atom, split_tree};

@@ -6,13 +6,10 @@ ghost use Rattle.std.specs.Prelude.{◌≡◌, ◌<◌, ◌≤◌, ℕ, List, []
 ghost use Rattle.std.specs.Prelude.{IfOk, IfErr, IfSome, IfNone};
 ghost use Rattle.s2k_derive.specs.S2k.{derived_key};
 ghost use Rattle.s2k_derive.specs.declared.TheConstants.{MAX_PASSPHRASE_LEN, MAX_COUNT};
-ghost use Rattle.sexp_canonical.specs.Tree.{Tree, list_of};
-ghost use Rattle.sexp_canonical.specs.View.{tree_of, trees};
+ghost use Rattle.sexp_canonical.specs.{Tree.{Tree, list_of}, View.{tree_of, trees}};
 ghost use Rattle.sexp_canonical.specs.Spelling.{most_bytes, most_depth, depth, spelling};
-ghost use Rattle.sexp_keys.specs.Lists.{key_list_of};
-ghost use Rattle.sexp_keys.specs.declared.fault.KeyFault.{KeyFault};
-ghost use Rattle.secret_file.specs.Opens.{sealed_tree, AreSealed};
-ghost use Rattle.secret_file.specs.Steps.{IsOpening};
+ghost use Rattle.sexp_keys.specs.{Lists.key_list_of, declared.fault.KeyFault.KeyFault};
+ghost use Rattle.secret_file.specs.{Opens.{sealed_tree, AreSealed}, Steps.IsOpening};
 ghost use Rattle.secret_file.specs.declared.cipher.Cipher.{Cipher};
 
 use crate::parts::{array_of, front_of, only};

@@ -3,21 +3,15 @@
 //! `AreSecrets` and `IsOpening` of `specs/Steps` say which bytes open, and to which key.
 
 ghost use Rattle.std.specs.Prelude.{◌≡◌, ◌↔◌, ◌≤◌, ◌%◌, ℕ, List, length, IfOk, IfErr, IfSome};
-ghost use Rattle.std.specs.Prelude.{IfNone, IsTrue};
-ghost use Rattle.std.specs.Option.{option_copied};
-ghost use Rattle.sha1.specs.Sha1.{sha1};
-ghost use Rattle.s2k_derive.specs.S2k.{derived_key};
+ghost use Rattle.std.specs.{Prelude.{IfNone, IsTrue}, Option.option_copied};
+ghost use Rattle.{sha1.specs.Sha1.sha1, s2k_derive.specs.S2k.derived_key};
 ghost use Rattle.s2k_derive.specs.declared.TheConstants.{MAX_PASSPHRASE_LEN, MAX_COUNT};
-ghost use Rattle.aes_modes.specs.Cbc.{cbc_decrypted};
-ghost use Rattle.sexp_canonical.specs.Tree.{Tree};
+ghost use Rattle.{aes_modes.specs.Cbc.cbc_decrypted, sexp_canonical.specs.Tree.Tree};
 ghost use Rattle.sexp_canonical.specs.View.{tree_of, trees};
 ghost use Rattle.sexp_canonical.specs.Spelling.{most_bytes, most_depth, depth};
-ghost use Rattle.sexp_keys.specs.Key.{Key};
-ghost use Rattle.sexp_keys.specs.Lists.{hashed_list_of};
-ghost use Rattle.sexp_keys.specs.declared.fault.KeyFault.{KeyFault};
+ghost use Rattle.sexp_keys.specs.{Key.Key, Lists.hashed_list_of, declared.fault.KeyFault.KeyFault};
 ghost use Rattle.secret_file.specs.Opens.{hash_tree, secret_tree, AreSpelled};
-ghost use Rattle.secret_file.specs.Steps.{AreSecrets, IsOpening};
-ghost use Rattle.secret_file.specs.declared.cipher.Cipher.{Cipher};
+ghost use Rattle.secret_file.specs.{Steps.{AreSecrets, IsOpening}, declared.cipher.Cipher.Cipher};
 
 use crate::parts::{behind_name, both, front_of, only_atom};
 use crate::protection::{HASH_NAME, Protection, time_of};

@@ -4,8 +4,7 @@
 
 ghost use Rattle.std.specs.Prelude.{◌≡◌, ◌≤◌, ◌⊎◌, ℕ, length, IfOk, IfErr};
 ghost use Rattle.s2k_derive.specs.declared.TheConstants.{MAX_PASSPHRASE_LEN};
-ghost use Rattle.sexp_keys.specs.Key.{Key};
-ghost use Rattle.sexp_keys.specs.declared.fault.KeyFault.{KeyFault};
+ghost use Rattle.sexp_keys.specs.{Key.Key, declared.fault.KeyFault.KeyFault};
 ghost use Rattle.secret_file.specs.Opens.{FitsFile, IsFile, Opens};
 ghost use Rattle.secret_file.specs.Answers.{refused, unlocked, IsFileFault, Answers, AnswersKey};
 

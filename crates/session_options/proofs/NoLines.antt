@@ -1,7 +1,5 @@
 -- Values without an end of a line.
-use Rattle.std.proofs.Common.{◌≡◌, ◌+◌, ◌≤◌, ℕ, Bool, false, ◌||◌, ◌==◌, List, [], ◌∷◌, ◌++◌, length, refl, ◌∙◌, arith, length-append}
-use Rattle.std.proofs.lemmas.Bool.{or_parts, or_from}
-use Rattle.std.proofs.lemmas.List.Folds.{list_any-append}
+use Rattle.std.proofs.{Common.{◌≡◌, ◌+◌, ◌≤◌, ℕ, Bool, false, ◌||◌, ◌==◌, List, [], ◌∷◌, ◌++◌, length, refl, ◌∙◌, arith, length-append}, lemmas.{Bool.{or_parts, or_from}, List.Folds.list_any-append}}
 use Rattle.assuan_text.specs.LineEnds.{has_lf, is_lf}
 use Rattle.session_options.specs.Text.{has_line_end, ends_line}
 

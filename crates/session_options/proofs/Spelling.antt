@@ -1,13 +1,8 @@
 -- How an option may be spelled.
-use Rattle.std.proofs.Common.{◌≡◌, ◌≢◌, ℕ, suc, ◌+◌, ◌&&◌, ◌||◌, Bool, true, false, cond, List, [], ◌∷◌, ◌++◌, length, take, drop, get_or, refl, ap, sym, ◌∙◌, arith}
-use Rattle.std.specs.Prelude.{◌==◌, not, codes}
-use Rattle.std.specs.Str.{bytes_eq}
-use Rattle.std.specs.List.{prefix_len, position_or_len, list_any, list_all}
-use Rattle.std.proofs.lemmas.Bool.{or_parts, and_parts, ne_eqb}
-use Rattle.std.proofs.Math.Seq.{take-append_seam, drop-append_seam}
+use Rattle.std.proofs.{Common.{◌≡◌, ◌≢◌, ℕ, suc, ◌+◌, ◌&&◌, ◌||◌, Bool, true, false, cond, List, [], ◌∷◌, ◌++◌, length, take, drop, get_or, refl, ap, sym, ◌∙◌, arith}, lemmas.Bool.{or_parts, and_parts, ne_eqb}}
+use Rattle.std.{proofs.Math.Seq.{take-append_seam, drop-append_seam}, specs.{Prelude.{◌==◌, not, codes}, Str.bytes_eq, List.{prefix_len, position_or_len, list_any, list_all}}}
 use Rattle.assuan_text.specs.Blanks.{is_blank, without_blanks}
-use Rattle.session_options.specs.Text.{ends_name, without, name_of, after_name, option_value}
-use Rattle.session_options.specs.OptionValues.{OptionValues, applied_as, applied}
+use Rattle.session_options.specs.{Text.{ends_name, without, name_of, after_name, option_value}, OptionValues.{OptionValues, applied_as, applied}}
 
 -- what may come behind a name: nothing, or what begins with an end of names
 abbrev pub ends : List ℕ → Bool

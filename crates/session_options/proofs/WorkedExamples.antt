@@ -1,6 +1,5 @@
 -- The bounds of counts and of workers: what is within them, and what is not.
-use Rattle.std.proofs.Common.{◌≡◌, ℕ, true, arith}
-use Rattle.std.proofs.lemmas.Bool.Decides.{nat_tests}
+use Rattle.std.proofs.{Common.{◌≡◌, ℕ, true, arith}, lemmas.Bool.Decides.nat_tests}
 use Rattle.session_options.specs.Counts.{IsS2kCount, IsWorkers, is_s2k_count}
 
 -- the test says what the count is

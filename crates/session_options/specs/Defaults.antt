@@ -1,7 +1,6 @@
 -- The defaults: the lifetimes and the fewest bytes of a passphrase are those of the GnuPG manual ("agent options"), the others this
 -- project's own.
-use Rattle.std.specs.Prelude.{ℕ, true, false, List, codes}
-use Rattle.std.proofs.Common.{lit≤}
+use Rattle.std.{specs.Prelude.{ℕ, true, false, List, codes}, proofs.Common.lit≤}
 use Rattle.arrayvec.specs.ArrayVec.{ArrayVec}
 use Rattle.session_options.specs.declared.rules.Rules.{Rules}
 use Rattle.session_options.specs.declared.rules.TheConstants.{

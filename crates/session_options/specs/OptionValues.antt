@@ -1,15 +1,9 @@
 -- The option values of a session, and what an option makes of them (GnuPG manual, "Agent OPTION"). What is refused is this
 -- project's own.
 use Rattle.std.specs.Prelude.{ℕ, Bool, true, false, List, [], Option, Some, None, if◌then◌else◌}
-use Rattle.session_options.specs.Text.{name_of, option_value, can_be_kept}
-use Rattle.session_options.specs.Table.{named, mode_of, count_of}
-use Rattle.session_options.specs.declared.env.Env.{Env}
-use Rattle.session_options.specs.declared.names.OptionName.{OptionName}
-use Rattle.session_options.specs.declared.names.OptionName.TheVariants.{TtyName, TtyType, LcCtype, LcMessages, NoEffect, AllowPinentryNotify, PinentryMode, S2kCount}
-use Rattle.session_options.specs.declared.options.PinMode.{PinMode}
-use Rattle.session_options.specs.declared.options.PinMode.TheVariants.{Ask, Loopback}
-use Rattle.session_options.specs.declared.options.OptionAnswer.{OptionAnswer}
-use Rattle.session_options.specs.declared.options.OptionAnswer.TheVariants.{Set, Unknown, Parameter, NotSupported}
+use Rattle.session_options.specs.{Text.{name_of, option_value, can_be_kept}, Table.{named, mode_of, count_of}, declared.{env.Env.Env, names.OptionName.OptionName}}
+use Rattle.session_options.specs.declared.{names.OptionName.TheVariants.{TtyName, TtyType, LcCtype, LcMessages, NoEffect, AllowPinentryNotify, PinentryMode, S2kCount}, options.PinMode.{PinMode, TheVariants.{Ask, Loopback}}}
+use Rattle.session_options.specs.declared.options.OptionAnswer.{OptionAnswer, TheVariants.{Set, Unknown, Parameter, NotSupported}}
 
 -- the words of an `Env`; an empty one means none
 pub record EnvWords : Type 0 where

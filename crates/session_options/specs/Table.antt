@@ -1,13 +1,8 @@
 -- The options of a session, by their names (GnuPG manual, "agent options"; gpg-agent's OPTION command). Which of them have no
 -- effect is this project's own.
-use Rattle.std.specs.Prelude.{ℕ, ◌==◌, List, [], ◌∷◌, codes, Option, Some, None, if◌then◌else◌}
-use Rattle.std.specs.Option.{option_and_then}
-use Rattle.assuan_text.specs.Numbers.{number_of}
-use Rattle.session_options.specs.Counts.{is_s2k_count}
-use Rattle.assuan_text.specs.Rows.{found}
-use Rattle.session_options.specs.declared.names.OptionName.{OptionName}
-use Rattle.session_options.specs.declared.names.OptionName.TheVariants.{TtyName, TtyType, LcCtype, LcMessages, NoEffect, AllowPinentryNotify, PinentryMode, S2kCount}
-use Rattle.session_options.specs.declared.options.PinMode.{PinMode}
+use Rattle.std.specs.{Prelude.{ℕ, ◌==◌, List, [], ◌∷◌, codes, Option, Some, None, if◌then◌else◌}, Option.option_and_then}
+use Rattle.assuan_text.specs.{Numbers.number_of, Rows.found}
+use Rattle.session_options.specs.{Counts.is_s2k_count, declared.{names.OptionName.{OptionName, TheVariants.{TtyName, TtyType, LcCtype, LcMessages, NoEffect, AllowPinentryNotify, PinentryMode, S2kCount}}, options.PinMode.PinMode}}
 use Rattle.session_options.specs.declared.options.PinMode.TheVariants.{Ask, Cancel, Error, Loopback}
 
 -- the names, which are compared exactly

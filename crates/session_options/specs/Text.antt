@@ -1,10 +1,8 @@
 -- The text of an option, as the client of an Assuan server writes it: a name, which two dashes may precede, then blanks,
 -- at most one `=`, blanks, and the value to the end of the line.
-use Rattle.std.specs.Prelude.{ℕ, ◌==◌, ◌||◌, ◌&&◌, nat_le, not, Bool, List, length, take, drop, codes, if◌then◌else◌}
-use Rattle.std.specs.List.{position_or_len, before_first, list_any}
-use Rattle.std.specs.Str.{bytes_eq}
-use Rattle.session_options.specs.declared.TheConstants.{MAX_VALUE_LEN}
+use Rattle.std.specs.{Prelude.{ℕ, ◌==◌, ◌||◌, ◌&&◌, nat_le, not, Bool, List, length, take, drop, codes, if◌then◌else◌}, List.{position_or_len, before_first, list_any}, Str.bytes_eq}
 use Rattle.assuan_text.specs.Blanks.{is_blank, without_blanks}
+use Rattle.session_options.specs.declared.TheConstants.{MAX_VALUE_LEN}
 
 -- a name goes up to the first blank, tab or `=`
 abbrev pub ends_name : ℕ → Bool

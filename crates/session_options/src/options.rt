@@ -4,9 +4,8 @@
 
 ghost use Rattle.std.specs.Prelude.{◌≡◌, ◌≢◌, ℕ, List, [], ◌∷◌, ◌++◌, true, false, slice_index};
 ghost use Rattle.std.specs.List.{list_any, list_all};
-ghost use Rattle.session_options.specs.Counts.{IsS2kCount};
 ghost use Rattle.assuan_text.specs.Blanks.{is_blank};
-ghost use Rattle.session_options.specs.Text.{ends_name};
+ghost use Rattle.session_options.specs.{Counts.IsS2kCount, Text.ends_name};
 ghost use Rattle.session_options.specs.OptionValues.{OptionValues, applied, applied_as};
 
 use crate::names::OptionName;
@@ -76,11 +75,10 @@ impl Model for Options {
 }
 
 impl Options {
+    ghost use Rattle.std.specs.Option.{option_map};
     ghost use Rattle.session_options.specs.OptionValues.{at_start, words_of, with_description};
     ghost use Rattle.session_options.specs.OptionValues.{without_description, with_mode};
-    ghost use Rattle.session_options.specs.OptionValues.{with_count};
-    ghost use Rattle.std.specs.Option.{option_map};
-    ghost use Rattle.session_options.specs.Table.{mode_of, count_of};
+    ghost use Rattle.session_options.specs.{OptionValues.with_count, Table.{mode_of, count_of}};
 
     /// Those before any option.
     pub fn new(rules: &Rules) -> Self

@@ -1,31 +1,13 @@
 -- What is written reads as the tree again.
 use Rattle.std.proofs.Common.{◌≡◌, ℕ, zero, suc, ◌+◌, ◌*◌, ◌/◌, ◌%◌, ◌<◌, ◌≤◌, Bool, true, false, eqb, ◌||◌, ◌&&◌, List, [], ◌∷◌, ◌++◌, length, drop, Some, Ok, refl, sym, ap, subst, ◌∙◌, ◌⊎◌, inl, inr, append_assoc, arith, length-append}
-use Rattle.std.specs.Char.{is_ascii_digit}
-use Rattle.std.proofs.lemmas.Bool.{eqb-true, ne_eqb}
-use Rattle.std.proofs.lemmas.Bool.Decides.{nat_tests}
-use Rattle.std.proofs.lemmas.List.{append-nil}
-use Rattle.sexp_canonical.specs.Tree.{Tree, Row, leaf, branch, end, item}
-use Rattle.sexp_canonical.specs.View.{tree_of}
-use Rattle.sexp_canonical.specs.Spelling.{most_depth, depth}
-use Rattle.sexp_canonical.specs.declared.tree.Sexp.{Sexp}
-use Rattle.sexp_advanced.specs.Bytes.{is_space_byte, is_token_mark, is_token_start, is_token_byte, hex_value, class_of, front_of, without_front}
-use Rattle.sexp_advanced.specs.Pieces.{byte, low_digit, pair_here, pair}
-use Rattle.sexp_advanced.specs.Signs.{sign, Spells, IsDelimited, IsOf, IsAt}
-use Rattle.sexp_advanced.specs.Reading.{signs, row_signs, Begins, ReadsAdvanced}
-use Rattle.sexp_advanced.specs.Writing.{are_token_bytes, is_token, hex_glyph, hex_pairs, advanced, row_text, spaced_row, advanced_of, EndsToken}
-use Rattle.sexp_advanced.specs.Octets.{AreOctets, IsOfOctets, AreOfOctets}
-use Rattle.sexp_advanced.specs.declared.bytes.Class.{Class}
-use Rattle.sexp_advanced.specs.declared.bytes.Class.TheVariants.{Token}
-use Rattle.sexp_advanced.specs.declared.pieces.Form.TheVariants.{Hexadecimal as InHexadecimal}
-use Rattle.sexp_advanced.specs.declared.signs.Sign.{Sign}
-use Rattle.sexp_advanced.specs.declared.signs.Sign.TheVariants.{Close, Atom}
+use Rattle.std.{proofs.lemmas.{Bool.{eqb-true, ne_eqb, Decides.nat_tests}, List.append-nil}, specs.Char.is_ascii_digit}
+use Rattle.sexp_canonical.{specs.{Tree.{Tree, Row, leaf, branch, end, item}, View.tree_of, Spelling.{most_depth, depth}, declared.tree.Sexp.Sexp}, proofs.Faults.or_true}
+use Rattle.sexp_advanced.specs.{Bytes.{is_space_byte, is_token_mark, is_token_start, is_token_byte, hex_value, class_of, front_of, without_front}, Pieces.{byte, low_digit, pair_here, pair}, Signs.{sign, Spells, IsDelimited, IsOf, IsAt}}
+use Rattle.sexp_advanced.specs.{Reading.{signs, row_signs, Begins, ReadsAdvanced}, Writing.{are_token_bytes, is_token, hex_glyph, hex_pairs, advanced, row_text, spaced_row, advanced_of, EndsToken}}
+use Rattle.sexp_advanced.specs.{Octets.{AreOctets, IsOfOctets, AreOfOctets}, declared.{bytes.Class.{Class, TheVariants.Token}, pieces.Form.TheVariants.Hexadecimal as InHexadecimal, signs.Sign.{Sign, TheVariants.{Close, Atom}}}}
 use Rattle.sexp_advanced.proofs.Open.{begins_more}
 
 -- ---- tokens
-
-pub or_true : (a b : Bool) → (a || b) ≡ true → (a ≡ true) ⊎ (b ≡ true)
-or_true true b e = inl refl
-or_true false b e = inr e
 
 pub and_true : (a b : Bool) → (a && b) ≡ true → (a ≡ true) × (b ≡ true)
 and_true true b e = (refl, e)

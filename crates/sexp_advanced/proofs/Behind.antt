@@ -1,11 +1,7 @@
 -- What stands behind a part of a text is shorter, and is an end of the text.
-use Rattle.std.proofs.Common.{◌≡◌, ℕ, ◌+◌, ◌-◌, ◌*◌, ◌<◌, ◌≤◌, ◌⊎◌, inl, inr, Bool, true, false, cond, ◌==◌, ◌||◌, List, [], ◌∷◌, length, take, drop, Option, Some, None, refl, sym, ap, subst, arith}
-use Rattle.std.proofs.Common.{add-one}
-use Rattle.std.specs.Int.{is_in_range}
-use Rattle.sexp_advanced.specs.Bytes.{is_space_byte, hex_value, front_of, without_front}
-use Rattle.sexp_advanced.specs.Pieces.{Piece, byte, close, broken, cut, low_digit, pair_here, pair, hex_escape, third_octal, second_octal, letter, escape, quoted_piece, piece_at}
-use Rattle.sexp_advanced.specs.declared.pieces.Form.{Form}
-use Rattle.sexp_advanced.specs.declared.pieces.Form.TheVariants.{Hexadecimal, Quoted}
+use Rattle.std.{proofs.Common.{◌≡◌, ℕ, ◌+◌, ◌-◌, ◌*◌, ◌<◌, ◌≤◌, ◌⊎◌, inl, inr, Bool, true, false, cond, ◌==◌, ◌||◌, List, [], ◌∷◌, length, take, drop, Option, Some, None, refl, sym, ap, subst, arith, add-one}, specs.Int.is_in_range}
+use Rattle.sexp_advanced.specs.{Bytes.{is_space_byte, hex_value, front_of, without_front}, Pieces.{Piece, byte, close, broken, cut, low_digit, pair_here, pair, hex_escape, third_octal, second_octal, letter, escape, quoted_piece, piece_at}}
+use Rattle.sexp_advanced.specs.declared.pieces.Form.{Form, TheVariants.{Hexadecimal, Quoted}}
 
 -- the first is a proper end of the second
 abbrev pub IsBehind : List ℕ → List ℕ → Type 0

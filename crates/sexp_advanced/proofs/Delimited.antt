@@ -1,10 +1,6 @@
 -- Atoms between two marks.
 use Rattle.std.proofs.Common.{◌≡◌, ℕ, List, [], ◌∷◌, ◌++◌, Option, Some, None, refl, sym, ap, subst, ◌∙◌}
-use Rattle.sexp_advanced.specs.Pieces.{Piece, byte, close, broken, cut, piece_at}
-use Rattle.sexp_advanced.specs.Signs.{Found, sign, broken_atom, ended, Spells, outcome, IsDelimited}
-use Rattle.sexp_advanced.specs.Steps.{HasNoSign}
-use Rattle.sexp_advanced.specs.declared.pieces.Form.{Form}
-use Rattle.sexp_advanced.specs.declared.signs.Sign.TheVariants.{Atom}
+use Rattle.sexp_advanced.specs.{Pieces.{Piece, byte, close, broken, cut, piece_at}, Signs.{Found, sign, broken_atom, ended, Spells, outcome, IsDelimited}, Steps.HasNoSign, declared.{pieces.Form.Form, signs.Sign.TheVariants.Atom}}
 use Rattle.sexp_advanced.specs.declared.fault.AdvFault.TheVariants.{BadAtom, Short}
 
 -- ---- the steps of the loop

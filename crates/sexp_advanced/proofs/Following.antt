@@ -1,30 +1,14 @@
 -- What follows an expression doesn't matter, but for a byte that goes on a token.
-use Rattle.std.proofs.Common.{◌≡◌, ℕ, zero, suc, ◌+◌, ◌-◌, ◌*◌, ◌≤◌, ◌⊎◌, inl, inr, Bool, true, false, cond, ◌==◌, ◌||◌, List, []}
-use Rattle.std.proofs.Common.{◌∷◌, ◌++◌, length, take, drop, Option, Some, None, Result, Ok, Err, refl, sym, ap, subst, ◌∙◌, arith, length-append, length-drop}
-use Rattle.std.specs.Int.{is_in_range}
-use Rattle.std.proofs.lemmas.List.{take-append-le, take-append-drop, length-take-le}
-use Rattle.sexp_canonical.specs.View.{tree_of}
-use Rattle.sexp_canonical.specs.Spelling.{IsReadable}
-use Rattle.sexp_canonical.specs.Reading.{ReadsCanonical}
-use Rattle.sexp_canonical.specs.declared.tree.Sexp.{Sexp}
-use Rattle.sexp_canonical.specs.declared.tree.Sexp.TheVariants.{Atom as Atomic, List as Listed}
-use Rattle.sexp_canonical.specs.declared.fault.SexpFault.{SexpFault}
+use Rattle.std.proofs.Common.{◌≡◌, ℕ, zero, suc, ◌+◌, ◌-◌, ◌*◌, ◌≤◌, ◌⊎◌, inl, inr, Bool, true, false, cond, ◌==◌, ◌||◌, List, [], ◌∷◌, ◌++◌, length, take, drop, Option, Some, None, Result, Ok, Err, refl, sym, ap, subst, ◌∙◌, arith}
+use Rattle.std.{proofs.{Common.{length-append, length-drop}, lemmas.List.{take-append-le, take-append-drop, length-take-le}}, specs.Int.is_in_range}
+use Rattle.sexp_canonical.specs.{View.tree_of, Spelling.IsReadable, Reading.ReadsCanonical, declared.{tree.Sexp.{Sexp, TheVariants.{Atom as Atomic, List as Listed}}, fault.SexpFault.SexpFault}}
 use Rattle.sexp_advanced.specs.Bytes.{is_space_byte, is_token_byte, hex_value, class_of, front_of, without_front}
 use Rattle.sexp_advanced.specs.Pieces.{Piece, byte, close, broken, cut, low_digit, pair_here, pair, hex_escape, is_octal, third_octal, second_octal, letter, escape, quoted_piece, piece_at}
-use Rattle.sexp_advanced.specs.Signs.{sign, no_item, Spells, outcome, IsDelimited, verbatim, verbatim_tree, IsVerbatim, IsOf, IsAt}
-use Rattle.sexp_advanced.specs.Reading.{signs, Begins, IsExpression}
-use Rattle.sexp_advanced.specs.Writing.{EndsToken}
-use Rattle.sexp_advanced.specs.declared.bytes.Class.{Class}
-use Rattle.sexp_advanced.specs.declared.bytes.Class.TheVariants.{Opens, Closes, Hexadecimal, Quoted, Verbatim, Token, Nothing}
-use Rattle.sexp_advanced.specs.declared.pieces.Form.{Form}
-use Rattle.sexp_advanced.specs.declared.pieces.Form.TheVariants.{Hexadecimal as InHexadecimal, Quoted as InQuotes}
-use Rattle.sexp_advanced.specs.declared.signs.Sign.{Sign}
+use Rattle.sexp_advanced.specs.{Signs.{sign, no_item, Spells, outcome, IsDelimited, verbatim, verbatim_tree, IsVerbatim, IsOf, IsAt}, Reading.{signs, Begins, IsExpression}, Writing.EndsToken, declared.bytes.Class.Class}
+use Rattle.sexp_advanced.specs.declared.{bytes.Class.TheVariants.{Opens, Closes, Hexadecimal, Quoted, Verbatim, Token, Nothing}, pieces.Form.{Form, TheVariants.{Hexadecimal as InHexadecimal, Quoted as InQuotes}}, signs.Sign.Sign}
 use Rattle.sexp_advanced.specs.declared.signs.Sign.TheVariants.{Open, Close, Atom}
-use Rattle.sexp_advanced.proofs.Behind.{IsEnd, LiesBehind, without_front_end, without_front_le, close_behind, behind_shorter, lies_more}
-use Rattle.sexp_advanced.proofs.Behind.{low_digit_behind, pair_here_behind, hex_escape_behind, third_octal_behind, second_octal_behind, escape_behind, quoted_piece_behind}
-use Rattle.sexp_advanced.proofs.OneSign.{sign_behind, spells_end, no_sign}
-use Rattle.sexp_advanced.proofs.Again.{drop_front}
-use Rattle.sexp_advanced.proofs.Open.{begins_end, end_shorter}
+use Rattle.sexp_advanced.proofs.Behind.{IsEnd, LiesBehind, without_front_end, without_front_le, close_behind, behind_shorter, lies_more, low_digit_behind, pair_here_behind, hex_escape_behind, third_octal_behind, second_octal_behind}
+use Rattle.sexp_advanced.proofs.{Behind.{escape_behind, quoted_piece_behind}, OneSign.{sign_behind, spells_end, no_sign}, Again.drop_front, Open.{begins_end, end_shorter}}
 
 no_length : (v : List ℕ) → length v ≡ 0 → v ≡ []
 no_length [] e = refl

@@ -1,25 +1,10 @@
 -- A text has one answer at most: no fault where an expression is read, and no two faults.
-use Rattle.std.proofs.Common.{◌≡◌, ℕ, zero, suc, ◌+◌, ◌-◌, ◌≤◌, max, Bool, true, false, cond, eqb, List, [], ◌∷◌, ◌++◌, length}
-use Rattle.std.proofs.Common.{drop, Option, Some, None, Result, Ok, Err, refl, sym, ap, subst, ◌∙◌, ◌⊎◌, inl, inr, append_assoc, arith, length-drop}
-use Rattle.std.specs.Prelude.{IfOk, IfErr}
-use Rattle.std.specs.List.{flat_map}
-use Rattle.std.proofs.lemmas.Bool.{eqb-true}
-use Rattle.std.proofs.lemmas.List.{append-nil}
-use Rattle.std.proofs.lemmas.List.Concat.{flat_map-cons}
-use Rattle.sexp_canonical.specs.Tree.{Tree, Row, leaf, branch, end, item, row}
-use Rattle.sexp_canonical.specs.View.{tree_of}
-use Rattle.sexp_canonical.specs.Spelling.{most_depth, depth, depths, spelling, spellings}
-use Rattle.sexp_canonical.specs.Reading.{OpenLists, open_depth}
-use Rattle.sexp_canonical.specs.declared.tree.Sexp.{Sexp}
-use Rattle.sexp_canonical.proofs.Trees.{one_spelling, tree_of_injective}
-use Rattle.sexp_advanced.specs.Bytes.{is_space_byte, without_front}
-use Rattle.sexp_advanced.specs.Signs.{Found, sign, IsAt}
-use Rattle.sexp_advanced.specs.Reading.{signs, row_signs, opening_signs, Begins, IsExpression, IsFirstAdvFault, ReadsAdvanced, sign_fault, fault_of, place_of}
-use Rattle.sexp_advanced.specs.declared.signs.Sign.{Sign}
-use Rattle.sexp_advanced.specs.declared.signs.Sign.TheVariants.{Open, Close, Atom}
-use Rattle.sexp_advanced.specs.declared.fault.AdvFault.{AdvFault}
-use Rattle.sexp_advanced.specs.declared.fault.AdvFault.TheVariants.{BadByte, Deep, NoMemory}
-use Rattle.sexp_advanced.proofs.OneSign.{one_here}
+use Rattle.std.proofs.Common.{◌≡◌, ℕ, zero, suc, ◌+◌, ◌-◌, ◌≤◌, max, Bool, true, false, cond, eqb, List, [], ◌∷◌, ◌++◌, length, drop, Option, Some, None, Result, Ok, Err, refl, sym, ap, subst, ◌∙◌, ◌⊎◌, inl, inr, append_assoc, arith}
+use Rattle.std.{proofs.{Common.length-drop, lemmas.{Bool.eqb-true, List.{append-nil, Concat.flat_map-cons}}}, specs.{Prelude.{IfOk, IfErr}, List.flat_map}}
+use Rattle.sexp_canonical.specs.{Tree.{Tree, Row, leaf, branch, end, item, row}, View.tree_of, Spelling.{most_depth, depth, depths, spelling, spellings}, Reading.{OpenLists, open_depth}, declared.tree.Sexp.Sexp}
+use Rattle.sexp_canonical.proofs.{Trees.{one_spelling, tree_of_injective}, Depths.length_le_open_depth}
+use Rattle.sexp_advanced.specs.{Bytes.{is_space_byte, without_front}, Signs.{Found, sign, IsAt}, Reading.{signs, row_signs, opening_signs, Begins, IsExpression, IsFirstAdvFault, ReadsAdvanced, sign_fault, fault_of, place_of}}
+use Rattle.sexp_advanced.{specs.declared.{signs.Sign.{Sign, TheVariants.{Open, Close, Atom}}, fault.AdvFault.{AdvFault, TheVariants.{BadByte, Deep, NoMemory}}}, proofs.OneSign.one_here}
 
 -- ---- signs alone: where an expression is at its end
 
@@ -197,10 +182,6 @@ deepest_open lists = omega (arith, ap (deepest 0) (append-nil (opening_signs lis
 
 deepest_whole : (t : Tree) → deepest 0 (signs t) ≡ depth t
 deepest_whole t = omega (arith, ap (deepest 0) (append-nil (signs t)), deepest_tree 0 t [])
-
-length_le_open_depth : (lists : OpenLists) → length lists ≤ open_depth lists
-length_le_open_depth [] = omega arith
-length_le_open_depth (o ∷ lists) = omega (arith, length_le_open_depth lists)
 
 going_done : (n : ℕ) (xs : List Sign) → going n ≡ done xs → ⊥
 going_done n xs e = cc

@@ -1,26 +1,11 @@
 -- What stands at a place is one thing, and what is behind a sign is an end of the text.
-use Rattle.std.proofs.Common.{◌≡◌, ℕ, zero, suc, ◌≤◌, Bool, true, false, cond, List, [], ◌∷◌, length, take, drop, Some, Result, Ok, Err, refl, sym, ap, subst, ◌∙◌, ◌⊎◌, inl, inr, arith, length-append}
-use Rattle.std.specs.Prelude.{IfErr}
-use Rattle.sexp_canonical.specs.Spelling.{numeral, spelling_of}
-use Rattle.sexp_canonical.specs.Reading.{ReadsCanonical}
-use Rattle.sexp_canonical.specs.declared.tree.Sexp.{Sexp}
-use Rattle.sexp_canonical.specs.declared.tree.Sexp.TheVariants.{Atom as Atomic, List as Listed}
-use Rattle.sexp_canonical.specs.declared.fault.SexpFault.{SexpFault}
-use Rattle.sexp_canonical.specs.declared.fault.SexpFault.TheVariants.{BadByte, BadLength, Deep, Short, NoMemory as NoRoom}
-use Rattle.sexp_canonical.proofs.OneAnswer.{one_answer as one_canonical}
-use Rattle.sexp_advanced.specs.Bytes.{is_token_start, is_token_byte, front_of, without_front, class_of}
-use Rattle.sexp_advanced.specs.Pieces.{Piece, byte, close, broken, cut, piece_at}
-use Rattle.sexp_advanced.specs.Signs.{Found, sign, broken_atom, ended, no_item, Spells, outcome, IsDelimited, verbatim, verbatim_tree, verbatim_fault, IsVerbatim, IsOf, IsAt}
-use Rattle.sexp_advanced.specs.Steps.{HasNoSign}
-use Rattle.sexp_advanced.specs.declared.bytes.Class.{Class}
-use Rattle.sexp_advanced.specs.declared.bytes.Class.TheVariants.{Opens, Closes, Hexadecimal, Quoted, Verbatim, Token, Nothing}
-use Rattle.sexp_advanced.specs.declared.pieces.Form.{Form}
-use Rattle.sexp_advanced.specs.declared.signs.Sign.{Sign}
-use Rattle.sexp_advanced.specs.declared.signs.Sign.TheVariants.{Open, Close, Atom}
-use Rattle.sexp_advanced.specs.declared.fault.AdvFault.{AdvFault}
-use Rattle.sexp_advanced.specs.declared.fault.AdvFault.TheVariants.{NoMemory}
-use Rattle.sexp_advanced.proofs.Behind.{IsBehind, IsEnd, behind_more, behind_end, byte_behind, close_behind, without_front_end}
-use Rattle.sexp_advanced.proofs.Delimited.{one_delimited}
+use Rattle.std.{proofs.Common.{◌≡◌, ℕ, zero, suc, ◌≤◌, Bool, true, false, cond, List, [], ◌∷◌, length, take, drop, Some, Result, Ok, Err, refl, sym, ap, subst, ◌∙◌, ◌⊎◌, inl, inr, arith, length-append}, specs.Prelude.IfErr}
+use Rattle.sexp_canonical.specs.{Spelling.{numeral, spelling_of}, Reading.ReadsCanonical, declared.{tree.Sexp.{Sexp, TheVariants.{Atom as Atomic, List as Listed}}, fault.SexpFault.SexpFault}}
+use Rattle.sexp_canonical.{specs.declared.fault.SexpFault.TheVariants.{BadByte, BadLength, Deep, Short, NoMemory as NoRoom}, proofs.OneAnswer.one_answer as one_canonical}
+use Rattle.sexp_advanced.specs.{Bytes.{is_token_start, is_token_byte, front_of, without_front, class_of}, Pieces.{Piece, byte, close, broken, cut, piece_at}}
+use Rattle.sexp_advanced.specs.{Signs.{Found, sign, broken_atom, ended, no_item, Spells, outcome, IsDelimited, verbatim, verbatim_tree, verbatim_fault, IsVerbatim, IsOf, IsAt}, Steps.HasNoSign, declared.bytes.Class.Class}
+use Rattle.sexp_advanced.specs.declared.{bytes.Class.TheVariants.{Opens, Closes, Hexadecimal, Quoted, Verbatim, Token, Nothing}, pieces.Form.Form, signs.Sign.{Sign, TheVariants.{Open, Close, Atom}}, fault.AdvFault.AdvFault}
+use Rattle.sexp_advanced.{specs.declared.fault.AdvFault.TheVariants.NoMemory, proofs.{Behind.{IsBehind, IsEnd, behind_more, behind_end, byte_behind, close_behind, without_front_end}, Delimited.one_delimited}}
 
 -- ---- an atom in the canonical form
 

@@ -1,24 +1,10 @@
 -- Where reading stands: the open lists, and the signs up to there.
-use Rattle.std.proofs.Common.{◌≡◌, ℕ, ◌+◌, ◌-◌, ◌<◌, ◌≤◌, List, [], ◌∷◌, ◌++◌, length, drop, Option, Some, None, refl, sym, ap, subst, ◌∙◌, inl, inr, append_assoc, arith}
-use Rattle.std.specs.List.{flat_map}
-use Rattle.std.proofs.lemmas.List.{append-nil}
-use Rattle.std.proofs.lemmas.List.Concat.{flat_map-cons}
-use Rattle.std.proofs.lemmas.Grind.{flat_map-append}
-use Rattle.sexp_canonical.specs.Tree.{Tree, leaf, row, list_of}
-use Rattle.sexp_canonical.specs.View.{tree_of}
-use Rattle.sexp_canonical.specs.Spelling.{most_depth, depth}
-use Rattle.sexp_canonical.specs.Reading.{OpenLists, open_depth}
-use Rattle.sexp_canonical.specs.Adding.{AddsTree}
-use Rattle.sexp_canonical.specs.declared.tree.Sexp.{Sexp}
+use Rattle.std.proofs.{Common.{◌≡◌, ℕ, ◌+◌, ◌-◌, ◌<◌, ◌≤◌, List, [], ◌∷◌, ◌++◌, length, drop, Option, Some, None, refl, sym, ap, subst, ◌∙◌, inl, inr, append_assoc, arith}, lemmas.List.{append-nil, Concat.flat_map-cons}}
+use Rattle.std.{proofs.lemmas.Grind.flat_map-append, specs.List.flat_map}
+use Rattle.sexp_canonical.specs.{Tree.{Tree, leaf, row, list_of}, View.tree_of, Spelling.{most_depth, depth}, Reading.{OpenLists, open_depth}, Adding.AddsTree, declared.tree.Sexp.Sexp}
 use Rattle.sexp_canonical.proofs.Depths.{deeper_more, deeper_new, deeper_outer, deeper_last, length_le_open_depth}
-use Rattle.sexp_advanced.specs.Bytes.{is_space_byte, without_front}
-use Rattle.sexp_advanced.specs.Signs.{sign, IsAt}
-use Rattle.sexp_advanced.specs.Reading.{signs, row_signs, opening_signs, Begins, IsExpression, IsFirstAdvFault, sign_fault, place_of}
-use Rattle.sexp_advanced.specs.Steps.{HasNoSign, Adds}
-use Rattle.sexp_advanced.specs.declared.signs.Sign.{Sign}
-use Rattle.sexp_advanced.specs.declared.signs.Sign.TheVariants.{Open, Close, Atom}
-use Rattle.sexp_advanced.specs.declared.fault.AdvFault.{AdvFault}
-use Rattle.sexp_advanced.proofs.Behind.{IsBehind, IsEnd, behind_shorter, behind_drop, behind_more, without_front_end, without_front_le}
+use Rattle.sexp_advanced.specs.{Bytes.{is_space_byte, without_front}, Signs.{sign, IsAt}, Reading.{signs, row_signs, opening_signs, Begins, IsExpression, IsFirstAdvFault, sign_fault, place_of}, Steps.{HasNoSign, Adds}}
+use Rattle.sexp_advanced.{specs.declared.{signs.Sign.{Sign, TheVariants.{Open, Close, Atom}}, fault.AdvFault.AdvFault}, proofs.Behind.{IsBehind, IsEnd, behind_shorter, behind_drop, behind_more, without_front_end, without_front_le}}
 use Rattle.sexp_advanced.proofs.OneSign.{sign_behind}
 
 -- ---- signs one after another

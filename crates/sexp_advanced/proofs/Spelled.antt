@@ -1,16 +1,10 @@
 -- The atoms that are read are those of the grammar.
 use Rattle.std.proofs.Common.{◌≡◌, ℕ, ◌+◌, ◌-◌, ◌*◌, ◌<◌, ◌≤◌, ◌⊎◌, inl, inr, ◌↔◌, Bool, true, false, cond, eqb, leb, ◌==◌, ◌||◌, List, [], ◌∷◌, ◌++◌, Option, Some, None, refl, sym, ap, subst, ◌∙◌, append_assoc, arith}
-use Rattle.std.specs.Int.{is_in_range}
-use Rattle.std.proofs.lemmas.Bool.{eqb-true, eq-eqb, ne_eqb, leb-true, le-leb, cases_lt}
-use Rattle.sexp_advanced.specs.Bytes.{is_space_byte, hex_value, without_front}
-use Rattle.sexp_advanced.specs.Pieces.{Piece, byte, close, broken, low_digit, pair_here, pair, hex_escape, is_octal, third_octal, second_octal, letter, escape, quoted_piece, piece_at}
-use Rattle.sexp_advanced.specs.Signs.{sign, Spells, outcome, IsDelimited}
-use Rattle.sexp_advanced.specs.Grammar.{AreBlanks, IsPair, IsSpelling, IsClosed, IsSpelled}
-use Rattle.sexp_advanced.specs.declared.pieces.Form.{Form}
-use Rattle.sexp_advanced.specs.declared.pieces.Form.TheVariants.{Hexadecimal, Quoted}
-use Rattle.sexp_advanced.specs.declared.signs.Sign.TheVariants.{Atom}
-use Rattle.sexp_advanced.proofs.Again.{blanks_front, or_true, and_true, not_true}
-use Rattle.sexp_advanced.proofs.Following.{closed_by}
+use Rattle.std.{proofs.lemmas.Bool.{eqb-true, eq-eqb, ne_eqb, leb-true, le-leb, cases_lt}, specs.Int.is_in_range}
+use Rattle.sexp_advanced.specs.{Bytes.{is_space_byte, hex_value, without_front}, Pieces.{Piece, byte, close, broken, low_digit, pair_here, pair, hex_escape, is_octal, third_octal, second_octal, letter, escape, quoted_piece, piece_at}}
+use Rattle.sexp_advanced.specs.{Signs.{sign, Spells, outcome, IsDelimited}, Grammar.{AreBlanks, IsPair, IsSpelling, IsClosed, IsSpelled}, declared.{pieces.Form.{Form, TheVariants.{Hexadecimal, Quoted}}, signs.Sign.TheVariants.Atom}}
+use Rattle.sexp_advanced.proofs.{Again.{blanks_front, and_true, not_true}, Following.closed_by}
+use Rattle.sexp_canonical.proofs.Faults.{or_true}
 
 -- ---- what a test or a look-up gave
 

@@ -1,31 +1,15 @@
 -- A fault is that of what stands before it: it stays, whatever follows, but for texts that are cut off.
-use Rattle.std.proofs.Common.{◌≡◌, ℕ, zero, suc, ◌+◌, ◌-◌, ◌*◌, inl, inr, Bool, true, false, cond, ltb, ◌==◌, ◌||◌, List, [], ◌∷◌, ◌++◌, length, take, Option, Some, None}
-use Rattle.std.proofs.Common.{Result, Ok, Err, refl, sym, ap, subst, ◌∙◌, append_assoc, arith, length-append}
-use Rattle.std.specs.Int.{is_in_range}
-use Rattle.std.specs.Char.{is_ascii_digit}
-use Rattle.std.proofs.lemmas.List.{append-nil, take-append-le}
-use Rattle.sexp_canonical.specs.Spelling.{most_bytes, numeral, IsReadable}
-use Rattle.sexp_canonical.specs.Reading.{opening_bytes, item_fault, length_fault, IsFaultAt, IsFirstSexpFault, ReadsCanonical}
-use Rattle.sexp_canonical.specs.declared.tree.Sexp.{Sexp}
-use Rattle.sexp_canonical.specs.declared.tree.Sexp.TheVariants.{Atom as Atomic, List as Listed}
-use Rattle.sexp_canonical.specs.declared.fault.SexpFault.{SexpFault}
+use Rattle.std.proofs.Common.{◌≡◌, ℕ, zero, suc, ◌+◌, ◌-◌, ◌*◌, inl, inr, Bool, true, false, cond, ltb, ◌==◌, ◌||◌, List, [], ◌∷◌, ◌++◌, length, take, Option, Some, None, Result, Ok, Err, refl, sym, ap, subst, ◌∙◌, append_assoc, arith}
+use Rattle.std.{proofs.{Common.length-append, lemmas.List.{append-nil, take-append-le}}, specs.{Int.is_in_range, Char.is_ascii_digit}}
+use Rattle.sexp_canonical.specs.{Spelling.{most_bytes, numeral, IsReadable}, Reading.{opening_bytes, item_fault, length_fault, IsFaultAt, IsFirstSexpFault, ReadsCanonical}, declared.tree.Sexp.Sexp}
+use Rattle.sexp_canonical.specs.declared.{tree.Sexp.TheVariants.{Atom as Atomic, List as Listed}, fault.SexpFault.SexpFault}
 use Rattle.sexp_canonical.specs.declared.fault.SexpFault.TheVariants.{Short as CanonicalShort, BadByte as CanonicalBadByte, BadLength as CanonicalBadLength, Deep as CanonicalDeep, NoMemory as CanonicalNoMemory}
 use Rattle.sexp_advanced.specs.Bytes.{is_space_byte, hex_value, class_of, without_front}
 use Rattle.sexp_advanced.specs.Pieces.{Piece, byte, close, broken, cut, low_digit, pair_here, pair, hex_escape, is_octal, third_octal, second_octal, letter, escape, quoted_piece, piece_at}
 use Rattle.sexp_advanced.specs.Signs.{Found, sign, broken_atom, ended, no_item, Spells, outcome, IsDelimited, verbatim, verbatim_tree, verbatim_fault, IsVerbatim, IsOf, IsAt}
-use Rattle.sexp_advanced.specs.Reading.{opening_signs, Begins, IsFirstAdvFault, fault_of, place_of}
-use Rattle.sexp_advanced.specs.Writing.{EndsToken}
-use Rattle.sexp_advanced.specs.declared.bytes.Class.{Class}
-use Rattle.sexp_advanced.specs.declared.bytes.Class.TheVariants.{Opens, Closes, Hexadecimal, Quoted, Verbatim, Token, Nothing}
-use Rattle.sexp_advanced.specs.declared.pieces.Form.{Form}
-use Rattle.sexp_advanced.specs.declared.pieces.Form.TheVariants.{Hexadecimal as InHexadecimal, Quoted as InQuotes}
-use Rattle.sexp_advanced.specs.declared.signs.Sign.{Sign}
-use Rattle.sexp_advanced.specs.declared.signs.Sign.TheVariants.{Open, Close, Atom}
-use Rattle.sexp_advanced.specs.declared.fault.AdvFault.{AdvFault}
-use Rattle.sexp_advanced.specs.declared.fault.AdvFault.TheVariants.{Short}
-use Rattle.sexp_advanced.proofs.Behind.{IsEnd}
-use Rattle.sexp_advanced.proofs.Open.{begins_end}
-use Rattle.sexp_advanced.proofs.Following.{closed_by, spells_swaps, begins_swaps}
+use Rattle.sexp_advanced.specs.{Reading.{opening_signs, Begins, IsFirstAdvFault, fault_of, place_of}, Writing.EndsToken, declared.bytes.Class.{Class, TheVariants.{Opens, Closes, Hexadecimal, Quoted, Verbatim, Token, Nothing}}}
+use Rattle.sexp_advanced.specs.declared.{pieces.Form.{Form, TheVariants.{Hexadecimal as InHexadecimal, Quoted as InQuotes}}, signs.Sign.{Sign, TheVariants.{Open, Close, Atom}}, fault.AdvFault.{AdvFault, TheVariants.Short}}
+use Rattle.sexp_advanced.proofs.{Behind.IsEnd, Open.begins_end, Following.{closed_by, spells_swaps, begins_swaps}}
 
 -- ---- texts
 

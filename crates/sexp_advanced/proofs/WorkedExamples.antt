@@ -1,17 +1,9 @@
 -- The definitions at worked rows.
 use Rattle.std.proofs.Common.{◌≡◌, ℕ, zero, suc, List, [], ◌∷◌, ◌++◌, replicate, Ok, Err, refl, inr, arith}
-use Rattle.sexp_canonical.specs.Tree.{leaf}
-use Rattle.sexp_canonical.specs.Spelling.{numeral}
-use Rattle.sexp_canonical.specs.Reading.{OpenLists, length_fault}
-use Rattle.sexp_canonical.specs.declared.tree.Sexp.TheVariants.{Atom as Atomic, List as Listed}
-use Rattle.sexp_canonical.specs.declared.fault.SexpFault.TheVariants.{BadLength as CanonicalBadLength}
+use Rattle.sexp_canonical.specs.{Tree.leaf, Spelling.numeral, Reading.{OpenLists, length_fault}, declared.{tree.Sexp.TheVariants.{Atom as Atomic, List as Listed}, fault.SexpFault.TheVariants.BadLength as CanonicalBadLength}}
 use Rattle.sexp_advanced.specs.Bytes.{is_space_byte, is_token_mark, is_token_start, is_token_byte, hex_value, class_of}
-use Rattle.sexp_advanced.specs.Pieces.{byte, close, broken, cut, low_digit, pair_here, pair, hex_escape, third_octal, second_octal, letter, escape, quoted_piece, piece_at}
-use Rattle.sexp_advanced.specs.Signs.{sign, broken_atom, ended, no_item}
-use Rattle.sexp_advanced.specs.Reading.{opening_signs, Begins, ReadsAdvanced}
-use Rattle.sexp_advanced.specs.Writing.{advanced_of}
-use Rattle.sexp_advanced.specs.declared.pieces.Form.TheVariants.{Quoted}
-use Rattle.sexp_advanced.specs.declared.signs.Sign.TheVariants.{Open, Close}
+use Rattle.sexp_advanced.specs.{Pieces.{byte, close, broken, cut, low_digit, pair_here, pair, hex_escape, third_octal, second_octal, letter, escape, quoted_piece, piece_at}, Signs.{sign, broken_atom, ended, no_item}}
+use Rattle.sexp_advanced.specs.{Reading.{opening_signs, Begins, ReadsAdvanced}, Writing.advanced_of, declared.{pieces.Form.TheVariants.Quoted, signs.Sign.TheVariants.{Open, Close}}}
 use Rattle.sexp_advanced.specs.declared.fault.AdvFault.TheVariants.{BadByte, BadAtom, Deep, Short}
 
 -- ---- quoted texts: each escape, and what is none

@@ -1,14 +1,7 @@
 -- Steps of writing.
 use Rattle.std.proofs.Common.{◌≡◌, ℕ, suc, ◌+◌, ◌-◌, ◌*◌, ◌<◌, List, [], ◌∷◌, ◌++◌, get_or, Option, None, Bor, refl, sym, ap, subst, ◌∙◌, append_assoc, arith}
-use Rattle.sexp_canonical.specs.Tree.{Tree, row, leaf, branch, node_count}
-use Rattle.sexp_canonical.specs.View.{tree_of, trees}
-use Rattle.sexp_canonical.specs.Writing.{begun_lists}
-use Rattle.sexp_canonical.specs.declared.tree.Sexp.{Sexp}
-use Rattle.sexp_canonical.specs.declared.tree.Sexp.TheVariants.{Atom, List as Listed}
-use Rattle.sexp_canonical.proofs.Written.{begun_last}
-use Rattle.sexp_advanced.specs.Writing.{advanced, advanced_of, spaced_row}
-use Rattle.sexp_advanced.specs.Octets.{AreOctets, IsOfOctets, AreOfOctets}
-use Rattle.sexp_advanced.specs.Left.{spaced_text, lists_left, text_left, list_steps, lists_steps, AreListsOfOctets}
+use Rattle.sexp_canonical.{specs.{Tree.{Tree, row, leaf, branch, node_count}, View.{tree_of, trees}, Writing.begun_lists, declared.tree.Sexp.{Sexp, TheVariants.{Atom, List as Listed}}}, proofs.Written.begun_last}
+use Rattle.sexp_advanced.specs.{Writing.{advanced, advanced_of, spaced_row}, Octets.{AreOctets, IsOfOctets, AreOfOctets}, Left.{spaced_text, lists_left, text_left, list_steps, lists_steps, AreListsOfOctets}}
 
 -- ---- what is left
 

@@ -1,8 +1,6 @@
 -- The bytes of the advanced form, as Rivest's "S-Expressions" (draft-rivest-sexp, Advanced Transport Representation) and libgcrypt have them.
-use Rattle.std.specs.Prelude.{ℕ, Bool, List, [], ◌∷◌, ◌||◌, ◌==◌, nat_lt, if◌then◌else◌, Option, Some, None}
-use Rattle.std.specs.Char.{is_ascii_alphabetic, is_ascii_digit, digit_value}
-use Rattle.sexp_advanced.specs.declared.bytes.Class.{Class}
-use Rattle.sexp_advanced.specs.declared.bytes.Class.TheVariants.{Opens, Closes, Hexadecimal, Quoted, Verbatim, Token, Nothing}
+use Rattle.std.specs.{Prelude.{ℕ, Bool, List, [], ◌∷◌, ◌||◌, ◌==◌, nat_lt, if◌then◌else◌, Option, Some, None}, Char.{is_ascii_alphabetic, is_ascii_digit, digit_value}}
+use Rattle.sexp_advanced.specs.declared.bytes.Class.{Class, TheVariants.{Opens, Closes, Hexadecimal, Quoted, Verbatim, Token, Nothing}}
 
 -- space, tab, LF and CR, which stand between items and within hexadecimal atoms
 unfoldable pub is_space_byte : ℕ → Bool

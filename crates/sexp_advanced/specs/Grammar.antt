@@ -1,10 +1,7 @@
 -- The atoms between two marks in the words of the standard (draft-rivest-sexp, hexadecimal and quoted-string representation): the spellings of each
 -- byte, one after another, and the closing mark. The law `atoms_are_spelled` says that these are the atoms that are read.
 use Rattle.std.specs.Prelude.{◌≡◌, ℕ, ◌+◌, ◌*◌, ◌≤◌, true, List, [], ◌∷◌, ◌++◌, Some, ◌⊎◌}
-use Rattle.sexp_advanced.specs.Bytes.{is_space_byte, hex_value}
-use Rattle.sexp_advanced.specs.Pieces.{letter}
-use Rattle.sexp_advanced.specs.declared.pieces.Form.{Form}
-use Rattle.sexp_advanced.specs.declared.pieces.Form.TheVariants.{Hexadecimal, Quoted}
+use Rattle.sexp_advanced.specs.{Bytes.{is_space_byte, hex_value}, Pieces.letter, declared.pieces.Form.{Form, TheVariants.{Hexadecimal, Quoted}}}
 
 abbrev pub AreBlanks : List ℕ → Type 0
 AreBlanks [] = Unit {0}

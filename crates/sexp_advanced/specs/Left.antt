@@ -1,11 +1,7 @@
 -- Private: what is left to be written.
-use Rattle.std.specs.Prelude.{ℕ, ◌+◌, ◌*◌, ◌-◌, List, [], ◌∷◌, ◌++◌, Option, Some, None}
-use Rattle.std.specs.Borrow.{Bor}
-use Rattle.sexp_canonical.specs.Tree.{Tree, row, node_count}
-use Rattle.sexp_canonical.specs.View.{tree_of}
-use Rattle.sexp_canonical.specs.declared.tree.Sexp.{Sexp}
-use Rattle.sexp_advanced.specs.Writing.{advanced, spaced_row}
-use Rattle.sexp_advanced.specs.Octets.{IsOfOctets, AreOfOctets}
+use Rattle.std.specs.{Prelude.{ℕ, ◌+◌, ◌*◌, ◌-◌, List, [], ◌∷◌, ◌++◌, Option, Some, None}, Borrow.Bor}
+use Rattle.sexp_canonical.specs.{Tree.{Tree, row, node_count}, View.tree_of, declared.tree.Sexp.Sexp}
+use Rattle.sexp_advanced.specs.{Writing.{advanced, spaced_row}, Octets.{IsOfOctets, AreOfOctets}}
 
 abbrev pub next_tree : Option (Bor Sexp) → Option Tree
 next_tree None = None

@@ -1,11 +1,6 @@
 -- What stands at a place within a hexadecimal atom or a quoted text, by the bytes from there on.
-use Rattle.std.specs.Prelude.{ℕ, ◌+◌, ◌*◌, ◌-◌, Bool, List, [], ◌∷◌, ◌||◌, ◌==◌, if◌then◌else◌, Option, Some, None}
-use Rattle.std.specs.Int.{is_in_range}
-use Rattle.sexp_advanced.specs.Bytes.{is_space_byte, hex_value, without_front}
-use Rattle.sexp_advanced.specs.declared.pieces.Piece.{Piece as Seen}
-use Rattle.sexp_advanced.specs.declared.pieces.Piece.TheVariants.{Byte, Close, Broken, Cut}
-use Rattle.sexp_advanced.specs.declared.pieces.Form.{Form}
-use Rattle.sexp_advanced.specs.declared.pieces.Form.TheVariants.{Hexadecimal, Quoted}
+use Rattle.std.specs.{Prelude.{ℕ, ◌+◌, ◌*◌, ◌-◌, Bool, List, [], ◌∷◌, ◌||◌, ◌==◌, if◌then◌else◌, Option, Some, None}, Int.is_in_range}
+use Rattle.sexp_advanced.specs.{Bytes.{is_space_byte, hex_value, without_front}, declared.pieces.{Piece.{Piece as Seen, TheVariants.{Byte, Close, Broken, Cut}}, Form.{Form, TheVariants.{Hexadecimal, Quoted}}}}
 
 -- a byte and what is behind it, the closing mark and what is behind it, a break of the form, or the end of the text
 pub data Piece : Type 0 where

@@ -1,17 +1,8 @@
 -- What reading a text answers: the expression at its front, or else the first fault from the left. Which fault it is, and its
 -- place, is this project's own.
-use Rattle.std.specs.Prelude.{◌≡◌, ℕ, ◌-◌, ◌≤◌, List, [], ◌∷◌, ◌++◌, length, drop, ◌==◌, if◌then◌else◌, Option, Some, None, Result, Ok, Err}
-use Rattle.std.specs.List.{flat_map}
-use Rattle.sexp_canonical.specs.Tree.{Tree, Row, leaf, branch, end, item}
-use Rattle.sexp_canonical.specs.View.{tree_of}
-use Rattle.sexp_canonical.specs.Spelling.{most_depth, depth}
-use Rattle.sexp_canonical.specs.Reading.{OpenLists, open_depth}
-use Rattle.sexp_canonical.specs.declared.tree.Sexp.{Sexp}
-use Rattle.sexp_advanced.specs.Bytes.{is_space_byte, without_front}
-use Rattle.sexp_advanced.specs.Signs.{Found, sign, broken_atom, ended, no_item, IsAt}
-use Rattle.sexp_advanced.specs.declared.signs.Sign.{Sign}
-use Rattle.sexp_advanced.specs.declared.signs.Sign.TheVariants.{Open, Close, Atom}
-use Rattle.sexp_advanced.specs.declared.fault.AdvFault.{AdvFault}
+use Rattle.std.specs.{Prelude.{◌≡◌, ℕ, ◌-◌, ◌≤◌, List, [], ◌∷◌, ◌++◌, length, drop, ◌==◌, if◌then◌else◌, Option, Some, None, Result, Ok, Err}, List.flat_map}
+use Rattle.sexp_canonical.specs.{Tree.{Tree, Row, leaf, branch, end, item}, View.tree_of, Spelling.{most_depth, depth}, Reading.{OpenLists, open_depth}, declared.tree.Sexp.Sexp}
+use Rattle.sexp_advanced.specs.{Bytes.{is_space_byte, without_front}, Signs.{Found, sign, broken_atom, ended, no_item, IsAt}, declared.{signs.Sign.{Sign, TheVariants.{Open, Close, Atom}}, fault.AdvFault.AdvFault}}
 use Rattle.sexp_advanced.specs.declared.fault.AdvFault.TheVariants.{BadByte, BadAtom, Deep, Short}
 
 abbrev mutual

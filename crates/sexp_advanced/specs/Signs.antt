@@ -1,17 +1,9 @@
 -- What an item of a text is: a mark of a list, or an atom in one of its four forms.
 use Rattle.std.specs.Prelude.{◌≡◌, ℕ, List, [], ◌∷◌, drop, Option, Some, None, Result, Ok, Err}
-use Rattle.sexp_canonical.specs.Reading.{ReadsCanonical}
-use Rattle.sexp_canonical.specs.declared.tree.Sexp.{Sexp}
-use Rattle.sexp_canonical.specs.declared.tree.Sexp.TheVariants.{Atom as Atomic, List as Listed}
-use Rattle.sexp_canonical.specs.declared.fault.SexpFault.{SexpFault}
+use Rattle.sexp_canonical.specs.{Reading.ReadsCanonical, declared.{tree.Sexp.{Sexp, TheVariants.{Atom as Atomic, List as Listed}}, fault.SexpFault.SexpFault}}
 use Rattle.sexp_canonical.specs.declared.fault.SexpFault.TheVariants.{BadByte as CanonicalBadByte, BadLength as CanonicalBadLength, Deep as CanonicalDeep, Short as CanonicalShort, NoMemory as CanonicalNoMemory}
-use Rattle.sexp_advanced.specs.Bytes.{is_token_byte, front_of, without_front, class_of}
-use Rattle.sexp_advanced.specs.Pieces.{Piece, byte, close, broken, cut, piece_at}
-use Rattle.sexp_advanced.specs.declared.bytes.Class.{Class}
-use Rattle.sexp_advanced.specs.declared.bytes.Class.TheVariants.{Opens, Closes, Hexadecimal, Quoted, Verbatim, Token, Nothing}
-use Rattle.sexp_advanced.specs.declared.pieces.Form.{Form}
-use Rattle.sexp_advanced.specs.declared.pieces.Form.TheVariants.{Hexadecimal as InHexadecimal, Quoted as InQuotes}
-use Rattle.sexp_advanced.specs.declared.signs.Sign.{Sign}
+use Rattle.sexp_advanced.specs.{Bytes.{is_token_byte, front_of, without_front, class_of}, Pieces.{Piece, byte, close, broken, cut, piece_at}, declared.bytes.Class.Class}
+use Rattle.sexp_advanced.specs.declared.{bytes.Class.TheVariants.{Opens, Closes, Hexadecimal, Quoted, Verbatim, Token, Nothing}, pieces.Form.{Form, TheVariants.{Hexadecimal as InHexadecimal, Quoted as InQuotes}}, signs.Sign.Sign}
 use Rattle.sexp_advanced.specs.declared.signs.Sign.TheVariants.{Open, Close, Atom}
 
 -- what stands at a place: a sign and what is behind it, or why there is none

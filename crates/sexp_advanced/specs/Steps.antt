@@ -1,18 +1,8 @@
 -- What the steps of reading know of a text.
 use Rattle.std.specs.Prelude.{◌≡◌, ℕ, List, [], ◌∷◌, ◌++◌, length, Option, Some, None}
-use Rattle.sexp_canonical.specs.Tree.{Tree, leaf, list_of}
-use Rattle.sexp_canonical.specs.Spelling.{most_depth}
-use Rattle.sexp_canonical.specs.Reading.{OpenLists}
-use Rattle.sexp_canonical.specs.Adding.{AddsTree}
-use Rattle.sexp_canonical.specs.declared.tree.Sexp.{Sexp}
-use Rattle.sexp_advanced.specs.declared.signs.Sign.{Sign}
-use Rattle.sexp_advanced.specs.declared.signs.Sign.TheVariants.{Open, Close, Atom}
-use Rattle.sexp_canonical.specs.declared.fault.SexpFault.{SexpFault}
+use Rattle.sexp_canonical.specs.{Tree.{Tree, leaf, list_of}, Spelling.most_depth, Reading.OpenLists, Adding.AddsTree, declared.{tree.Sexp.Sexp, fault.SexpFault.SexpFault}}
 use Rattle.sexp_canonical.specs.declared.fault.SexpFault.TheVariants.{BadByte as CanonicalBadByte, BadLength as CanonicalBadLength, Deep as CanonicalDeep, Short as CanonicalShort, NoMemory as CanonicalNoMemory}
-use Rattle.sexp_advanced.specs.Signs.{Found}
-use Rattle.sexp_advanced.specs.Reading.{fault_of}
-use Rattle.sexp_advanced.specs.declared.fault.AdvFault.{AdvFault}
-use Rattle.sexp_advanced.specs.declared.fault.AdvFault.TheVariants.{BadAtom, Short, NoMemory}
+use Rattle.sexp_advanced.specs.{declared.{signs.Sign.{Sign, TheVariants.{Open, Close, Atom}}, fault.AdvFault.{AdvFault, TheVariants.{BadAtom, Short, NoMemory}}}, Signs.Found, Reading.fault_of}
 
 -- at the place stands no sign, and that is the fault
 pub record HasNoSign (Is : Found → Type 0) (place : ℕ) (fault : AdvFault) : Type 0 where

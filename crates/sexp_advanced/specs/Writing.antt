@@ -1,8 +1,6 @@
 -- The advanced form of an expression as this crate writes it: one line, with one blank between two items.
 use Rattle.std.specs.Prelude.{◌≡◌, ℕ, ◌+◌, ◌-◌, ◌/◌, ◌%◌, Bool, true, false, List, [], ◌∷◌, ◌++◌, ◌&&◌, nat_lt, if◌then◌else◌}
-use Rattle.sexp_canonical.specs.Tree.{Tree, Row, leaf, branch, end, item}
-use Rattle.sexp_canonical.specs.View.{tree_of}
-use Rattle.sexp_canonical.specs.declared.tree.Sexp.{Sexp}
+use Rattle.sexp_canonical.specs.{Tree.{Tree, Row, leaf, branch, end, item}, View.tree_of, declared.tree.Sexp.Sexp}
 use Rattle.sexp_advanced.specs.Bytes.{is_token_start, is_token_byte}
 
 abbrev pub are_token_bytes : List ℕ → Bool

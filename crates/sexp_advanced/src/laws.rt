@@ -4,17 +4,13 @@
 //! `specs/Grammar`.
 
 ghost use Rattle.std.specs.Prelude.{◌≡◌, ◌↔◌, ◌≤◌, [], ◌++◌, ℕ, List, length, Result};
-ghost use Rattle.sexp_canonical.specs.View.{tree_of};
-ghost use Rattle.sexp_canonical.specs.Spelling.{most_depth, depth};
+ghost use Rattle.sexp_canonical.specs.{View.tree_of, Spelling.{most_depth, depth}};
 ghost use Rattle.sexp_canonical.specs.declared.tree.Sexp.{Sexp};
 ghost use Rattle.sexp_advanced.specs.Bytes.{is_space_byte, without_front};
 ghost use Rattle.sexp_advanced.specs.Reading.{ReadsAdvanced, IsExpression, IsFirstAdvFault};
-ghost use Rattle.sexp_advanced.specs.Writing.{advanced_of, EndsToken};
-ghost use Rattle.sexp_advanced.specs.Octets.{IsOfOctets};
-ghost use Rattle.sexp_advanced.specs.Signs.{sign, IsDelimited};
-ghost use Rattle.sexp_advanced.specs.Grammar.{IsSpelled};
-ghost use Rattle.sexp_advanced.specs.declared.pieces.Form.{Form};
-ghost use Rattle.sexp_advanced.specs.declared.signs.Sign.{Sign};
+ghost use Rattle.sexp_advanced.specs.{Writing.{advanced_of, EndsToken}, Octets.IsOfOctets};
+ghost use Rattle.sexp_advanced.specs.{Signs.{sign, IsDelimited}, Grammar.IsSpelled};
+ghost use Rattle.sexp_advanced.specs.declared.{pieces.Form.Form, signs.Sign.Sign};
 ghost use Rattle.sexp_advanced.specs.declared.fault.AdvFault.{AdvFault};
 
 /// What is to be answered for some bytes is determined: where an expression is read there is no

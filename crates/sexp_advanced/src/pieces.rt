@@ -2,8 +2,7 @@
 //! escapes. Pure, over slices. Begin with `piece_at`, and with its namesake in `specs/Pieces`; the
 //! standard's own words for these atoms are in `specs/Grammar`.
 
-ghost use Rattle.std.specs.Prelude.{◌≡◌, ◌<◌, ◌≤◌, ◌⊎◌, MatchBool};
-ghost use Rattle.std.specs.Int.{is_in_range};
+ghost use Rattle.std.specs.{Prelude.{◌≡◌, ◌<◌, ◌≤◌, ◌⊎◌, MatchBool}, Int.is_in_range};
 ghost use Rattle.sexp_advanced.specs.Pieces.{low_digit, pair, hex_escape, second_octal};
 ghost use Rattle.sexp_advanced.specs.Pieces.{third_octal, letter, escape, quoted_piece, piece_at};
 ghost use Rattle.sexp_advanced.specs.Pieces.{piece_of};

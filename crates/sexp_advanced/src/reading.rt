@@ -4,16 +4,12 @@
 
 ghost use Rattle.std.specs.Prelude.{◌≡◌, ◌⊎◌, ◌≤◌, [], ◌++◌, ℕ, List, length, take, drop, Some};
 ghost use Rattle.std.specs.Prelude.{Result, IfOk, IfErr};
-ghost use Rattle.sexp_canonical.specs.View.{tree_of};
-ghost use Rattle.sexp_canonical.specs.Spelling.{most_depth, depth};
-ghost use Rattle.sexp_canonical.specs.Adding.{AddsTree, lists_of};
-ghost use Rattle.sexp_canonical.specs.declared.tree.Sexp.{Sexp};
+ghost use Rattle.sexp_canonical.specs.{View.tree_of, Spelling.{most_depth, depth}};
+ghost use Rattle.sexp_canonical.specs.{Adding.{AddsTree, lists_of}, declared.tree.Sexp.Sexp};
 ghost use Rattle.sexp_advanced.specs.Bytes.{is_space_byte, without_front};
-ghost use Rattle.sexp_advanced.specs.Writing.{advanced_of, EndsToken};
-ghost use Rattle.sexp_advanced.specs.Octets.{IsOfOctets};
+ghost use Rattle.sexp_advanced.specs.{Writing.{advanced_of, EndsToken}, Octets.IsOfOctets};
 ghost use Rattle.sexp_advanced.specs.Reading.{ReadsAdvanced, IsExpression, IsFirstAdvFault};
-ghost use Rattle.sexp_advanced.specs.Reading.{sign_fault};
-ghost use Rattle.sexp_advanced.specs.Steps.{Adds};
+ghost use Rattle.sexp_advanced.specs.{Reading.sign_fault, Steps.Adds};
 ghost use Rattle.sexp_advanced.specs.declared.fault.AdvFault.{AdvFault};
 
 use crate::bytes::after_blanks;

@@ -4,10 +4,8 @@
 
 ghost use Rattle.std.specs.Prelude.{◌≡◌, ◌+◌, ◌-◌, ◌*◌, ◌<◌, ◌≤◌, [], ◌∷◌, ◌++◌, length, IfOk};
 ghost use Rattle.std.specs.Prelude.{OnOk};
-ghost use Rattle.sexp_canonical.specs.Tree.{leaf, row};
-ghost use Rattle.sexp_canonical.specs.View.{tree_of, trees};
-ghost use Rattle.sexp_canonical.specs.Spelling.{most_depth, depth};
-ghost use Rattle.sexp_canonical.specs.Writing.{begun_lists};
+ghost use Rattle.sexp_canonical.specs.{Tree.{leaf, row}, View.{tree_of, trees}};
+ghost use Rattle.sexp_canonical.specs.{Spelling.{most_depth, depth}, Writing.begun_lists};
 ghost use Rattle.sexp_advanced.specs.Reading.{ReadsAdvanced};
 ghost use Rattle.sexp_advanced.specs.Writing.{advanced, advanced_of, is_token, are_token_bytes};
 ghost use Rattle.sexp_advanced.specs.Writing.{hex_pairs, hex_glyph};

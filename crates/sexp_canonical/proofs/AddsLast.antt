@@ -1,11 +1,6 @@
 -- A list's last item is changed in its place.
-use Rattle.std.proofs.Common.{◌≡◌, ℕ, ◌+◌, ◌<◌, List, [], ◌∷◌, ◌++◌, length, get_or, take, drop, set, suc, sym, ap, ◌∙◌, arith, drop-cons}
-use Rattle.std.specs.Global.{Vec}
-use Rattle.std.proofs.lemmas.List.{map-append, take-append-drop, set_split, drop_all}
-use Rattle.sexp_canonical.specs.Tree.{Tree}
-use Rattle.sexp_canonical.specs.View.{tree_of, trees}
-use Rattle.sexp_canonical.specs.declared.tree.Sexp.{Sexp}
-use Rattle.sexp_canonical.specs.Adding.{lists_of, AddsItem}
+use Rattle.std.{proofs.{Common.{◌≡◌, ℕ, ◌+◌, ◌<◌, List, [], ◌∷◌, ◌++◌, length, get_or, take, drop, set, suc, sym, ap, ◌∙◌, arith, drop-cons}, lemmas.List.{map-append, take-append-drop, set_split, drop_all}}, specs.Global.Vec}
+use Rattle.sexp_canonical.specs.{Tree.Tree, View.{tree_of, trees}, declared.tree.Sexp.Sexp, Adding.{lists_of, AddsItem}}
 
 pub adds_last : (old : List (Vec Sexp)) (i : ℕ) (items more : Vec Sexp) (tree : Sexp) → i + 1 ≡ length old → items ≡ get_or old i items → more.items ≡ items.items ++ tree ∷ [] → AddsItem (lists_of old) (lists_of (set old i more)) (tree_of tree)
 adds_last old i items more tree len at more-is =

@@ -1,11 +1,6 @@
 -- Steps of copying.
-use Rattle.std.proofs.Common.{◌≡◌, ℕ, ◌+◌, ◌*◌, ◌<◌, List, [], ◌∷◌, ◌++◌, refl, sym, ap, ◌∙◌, append_assoc, arith}
-use Rattle.std.proofs.lemmas.List.{map-append, append-nil}
-use Rattle.sexp_canonical.specs.Tree.{Tree, list_of, node_count}
-use Rattle.sexp_canonical.specs.View.{tree_of, trees}
-use Rattle.sexp_canonical.specs.declared.tree.Sexp.{Sexp}
-use Rattle.sexp_canonical.specs.declared.tree.Sexp.TheVariants.{Atom, List as Listed}
-use Rattle.sexp_canonical.specs.declared.copying.Begun.{Begun}
+use Rattle.std.proofs.{Common.{◌≡◌, ℕ, ◌+◌, ◌*◌, ◌<◌, List, [], ◌∷◌, ◌++◌, refl, sym, ap, ◌∙◌, append_assoc, arith}, lemmas.List.{map-append, append-nil}}
+use Rattle.sexp_canonical.specs.{Tree.{Tree, list_of, node_count}, View.{tree_of, trees}, declared.{tree.Sexp.{Sexp, TheVariants.{Atom, List as Listed}}, copying.Begun.Begun}}
 
 -- the items of the outermost list, where the innermost one has these
 abbrev pub whole : List Begun → List Tree → List Tree

@@ -1,8 +1,6 @@
 -- How deep open lists are.
 use Rattle.std.proofs.Common.{◌≡◌, ◌+◌, ◌≤◌, max, List, [], ◌∷◌, ◌++◌, length, arith}
-use Rattle.sexp_canonical.specs.Tree.{Tree, row}
-use Rattle.sexp_canonical.specs.Spelling.{depth, depths}
-use Rattle.sexp_canonical.specs.Reading.{OpenLists, open_depth}
+use Rattle.sexp_canonical.specs.{Tree.{Tree, row}, Spelling.{depth, depths}, Reading.{OpenLists, open_depth}}
 
 depths_last : (items : List Tree) (t : Tree) → depths (row (items ++ t ∷ [])) ≡ max (depths (row items)) (depth t)
 depths_last [] t = omega arith

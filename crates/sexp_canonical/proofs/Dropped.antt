@@ -1,12 +1,6 @@
 -- Taking trees apart in place ends.
-use Rattle.std.proofs.Common.{◌≡◌, ℕ, ◌+◌, ◌*◌, ◌-◌, ◌<◌, ◌≤◌, List, [], ◌∷◌, ◌++◌, refl, sym, ap, subst, ◌∙◌, arith}
-use Rattle.std.proofs.Math.Nat.{mul-le-mul_left}
-use Rattle.std.proofs.lemmas.List.{map-append}
-use Rattle.sexp_canonical.specs.Tree.{Tree, list_of, leaf, node_count}
-use Rattle.sexp_canonical.specs.Dropping.{first_nodes, drop_steps}
-use Rattle.sexp_canonical.specs.View.{tree_of, trees}
-use Rattle.sexp_canonical.specs.declared.tree.Sexp.{Sexp}
-use Rattle.sexp_canonical.specs.declared.tree.Sexp.TheVariants.{Atom, List as Listed}
+use Rattle.std.proofs.{Common.{◌≡◌, ℕ, ◌+◌, ◌*◌, ◌-◌, ◌<◌, ◌≤◌, List, [], ◌∷◌, ◌++◌, refl, sym, ap, subst, ◌∙◌, arith}, Math.Nat.mul-le-mul_left, lemmas.List.map-append}
+use Rattle.sexp_canonical.specs.{Tree.{Tree, list_of, leaf, node_count}, Dropping.{first_nodes, drop_steps}, View.{tree_of, trees}, declared.tree.Sexp.{Sexp, TheVariants.{Atom, List as Listed}}}
 
 node_count_append : (ts us : List Tree) → node_count (ts ++ us) ≡ node_count ts + node_count us
 node_count_append [] us = omega arith

@@ -1,15 +1,8 @@
 -- A text has one answer at most: no fault where an expression is read, and no two faults.
 use Rattle.std.proofs.Common.{◌≡◌, ℕ, ◌+◌, ◌*◌, ◌-◌, ◌<◌, ◌≤◌, Bool, true, false, cond, ◌||◌, eqb, ltb, List, [], ◌∷◌, ◌++◌, length, Option, Some, None, refl, sym, ap, subst, ◌∙◌, ◌⊎◌, inl, inr, append_assoc, arith, length-append}
-use Rattle.std.specs.List.{flat_map}
-use Rattle.std.proofs.lemmas.Bool.{le-ltb, ltb-true, eqb-true, ne_eqb, lt-ltb}
-use Rattle.std.proofs.lemmas.List.Concat.{flat_map-cons}
-use Rattle.std.specs.Char.{is_ascii_digit}
-use Rattle.sexp_canonical.specs.Tree.{Tree, Row, leaf, branch, end, item, row}
-use Rattle.sexp_canonical.specs.Spelling.{most_bytes, most_depth, numeral, spelling, spellings, depth, depths}
-use Rattle.sexp_canonical.specs.Reading.{OpenLists, opening_bytes, open_depth, item_fault, length_fault, IsFaultAt}
-use Rattle.sexp_canonical.specs.declared.fault.SexpFault.{SexpFault}
-use Rattle.sexp_canonical.specs.declared.fault.SexpFault.TheVariants.{BadLength}
-use Rattle.sexp_canonical.proofs.Numerals.{Ends, one_numeral}
+use Rattle.std.{proofs.lemmas.{Bool.{le-ltb, ltb-true, eqb-true, ne_eqb, lt-ltb}, List.Concat.flat_map-cons}, specs.{List.flat_map, Char.is_ascii_digit}}
+use Rattle.sexp_canonical.specs.{Tree.{Tree, Row, leaf, branch, end, item, row}, Spelling.{most_bytes, most_depth, numeral, spelling, spellings, depth, depths}}
+use Rattle.sexp_canonical.{specs.{Reading.{OpenLists, opening_bytes, open_depth, item_fault, length_fault, IsFaultAt}, declared.fault.SexpFault.{SexpFault, TheVariants.BadLength}}, proofs.Numerals.{Ends, one_numeral}}
 use Rattle.sexp_canonical.proofs.Trees.{numeral_begins, no_numeral, first_is, rest_is, leaf_then, branch_then, item_then, no_end, colon_ends, one_spelling}
 
 abbrev fault_or_none : Option SexpFault
@@ -55,7 +48,7 @@ pub held : {A : Type 0} (b : Bool) (x y : A) → cond b (Some x) None ≡ Some y
 held true x y e = (refl, cc)
 held false x y e = absurd cc
 
-or_true : (a b : Bool) → (a || b) ≡ true → (a ≡ true) ⊎ (b ≡ true)
+pub or_true : (a b : Bool) → (a || b) ≡ true → (a ≡ true) ⊎ (b ≡ true)
 or_true true b e = inl refl
 or_true false b e = inr e
 

@@ -1,13 +1,6 @@
 -- Steps of measuring: what is left of the items, and of the room.
-use Rattle.std.proofs.Common.{◌≡◌, ℕ, ◌+◌, ◌-◌, ◌≤◌, max, List, [], ◌∷◌, length, ap, sym, ◌∙◌, arith, length-append}
-use Rattle.std.specs.List.{flat_map}
-use Rattle.std.proofs.lemmas.List.Concat.{flat_map-cons}
-use Rattle.sexp_canonical.specs.Tree.{Tree, list_of, row}
-use Rattle.sexp_canonical.specs.View.{tree_of, trees}
-use Rattle.sexp_canonical.specs.Spelling.{spelling, depths}
-use Rattle.sexp_canonical.specs.declared.tree.Sexp.{Sexp}
-use Rattle.sexp_canonical.specs.declared.tree.Sexp.TheVariants.{List as Listed}
-use Rattle.sexp_canonical.proofs.Trees.{spelled_list}
+use Rattle.std.{proofs.{Common.{◌≡◌, ℕ, ◌+◌, ◌-◌, ◌≤◌, max, List, [], ◌∷◌, length, ap, sym, ◌∙◌, arith, length-append}, lemmas.List.Concat.flat_map-cons}, specs.List.flat_map}
+use Rattle.sexp_canonical.{specs.{Tree.{Tree, list_of, row}, View.{tree_of, trees}, Spelling.{spelling, depths}, declared.tree.Sexp.{Sexp, TheVariants.List as Listed}}, proofs.Trees.spelled_list}
 
 -- how many bytes these expressions have
 abbrev pub size : List Tree → ℕ

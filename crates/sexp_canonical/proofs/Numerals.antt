@@ -1,9 +1,6 @@
 -- Numbers in decimal: their digits, their value, and where a numeral ends.
-use Rattle.std.proofs.Common.{◌≡◌, ℕ, zero, suc, ◌+◌, ◌*◌, ◌-◌, ◌/◌, ◌%◌, ◌^◌, ◌<◌, ◌≤◌, true, false, ltb, List, [], ◌∷◌, ◌++◌, length, refl, sym, ap, subst, ◌∙◌, ◌⊎◌, inl, inr, arith}
-use Rattle.std.proofs.lemmas.Bool.{cases_lt, lt-ltb, le-ltb, le-leb}
-use Rattle.std.proofs.lemmas.List.{append-nil, length-append}
-use Rattle.std.proofs.Math.Nat.{pow-suc}
-use Rattle.std.specs.Char.{is_ascii_digit}
+use Rattle.std.proofs.{Common.{◌≡◌, ℕ, zero, suc, ◌+◌, ◌*◌, ◌-◌, ◌/◌, ◌%◌, ◌^◌, ◌<◌, ◌≤◌, true, false, ltb, List, [], ◌∷◌, ◌++◌, length, refl, sym, ap, subst, ◌∙◌, ◌⊎◌, inl, inr, arith}, lemmas.Bool.{cases_lt, lt-ltb, le-ltb, le-leb}}
+use Rattle.std.{proofs.{lemmas.List.{append-nil, length-append}, Math.Nat.pow-suc}, specs.Char.is_ascii_digit}
 use Rattle.sexp_canonical.specs.Spelling.{numeral_within, numeral}
 
 -- any number of steps that is enough gives the same digits

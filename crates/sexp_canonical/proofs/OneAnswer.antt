@@ -1,17 +1,8 @@
 -- What reading a text answers is determined.
 use Rattle.std.proofs.Common.{◌≡◌, ℕ, ◌≤◌, List, ◌++◌, length, take, drop, Result, Ok, Err, sym, ap, subst, ◌∙◌, ◌⊎◌, inl, inr, min, arith, length-append}
-use Rattle.std.proofs.lemmas.List.{take-append-drop, take-append-le, length-take, length-take-le, take_min}
-use Rattle.std.proofs.Math.Seq.{take-append_seam}
-use Rattle.std.specs.Prelude.{IfOk, IfErr}
-use Rattle.sexp_canonical.specs.View.{tree_of}
-use Rattle.sexp_canonical.specs.Spelling.{most_bytes, spelling, spelling_of, IsReadable}
-use Rattle.sexp_canonical.specs.Reading.{opening_bytes, IsFirstSexpFault, ReadsCanonical}
-use Rattle.sexp_canonical.specs.declared.tree.Sexp.{Sexp}
-use Rattle.sexp_canonical.specs.declared.fault.SexpFault.{SexpFault}
-use Rattle.sexp_canonical.specs.declared.fault.SexpFault.TheVariants.{NoMemory}
-use Rattle.sexp_canonical.specs.Steps.{HasExpression}
-use Rattle.sexp_canonical.proofs.Trees.{one_spelling, tree_of_injective}
-use Rattle.sexp_canonical.proofs.Faults.{no_fault, one_fault}
+use Rattle.std.{proofs.{lemmas.List.{take-append-drop, take-append-le, length-take, length-take-le, take_min}, Math.Seq.take-append_seam}, specs.Prelude.{IfOk, IfErr}}
+use Rattle.sexp_canonical.specs.{View.tree_of, Spelling.{most_bytes, spelling, spelling_of, IsReadable}, Reading.{opening_bytes, IsFirstSexpFault, ReadsCanonical}, declared.{tree.Sexp.Sexp, fault.SexpFault.SexpFault}}
+use Rattle.sexp_canonical.{specs.{declared.fault.SexpFault.TheVariants.NoMemory, Steps.HasExpression}, proofs.{Trees.{one_spelling, tree_of_injective}, Faults.{no_fault, one_fault}}}
 
 -- the front of the front
 take_take : (n m : ℕ) (bytes : List ℕ) → n ≤ m → n ≤ length bytes → take n (take m bytes) ≡ take n bytes

@@ -1,27 +1,10 @@
 -- Where reading stands: the open lists, and the text up to there.
 use Rattle.std.proofs.Common.{◌≡◌, ℕ, ◌+◌, ◌<◌, ◌≤◌, true, false, eqb, List, [], ◌∷◌, ◌++◌, length, get_or, take, drop, Some, refl, sym, ap, subst, ◌∙◌, inl, inr, append_assoc, arith, length-append, length-drop}
-use Rattle.std.specs.Global.{Vec}
-use Rattle.std.specs.Vec.{vec_len}
-use Rattle.std.specs.List.{flat_map}
-use Rattle.std.proofs.lemmas.List.{map-append, append-nil, drop_all, length-map, nil_from_length}
-use Rattle.std.proofs.lemmas.List.Concat.{flat_map-cons}
-use Rattle.std.proofs.lemmas.Grind.{flat_map-append}
-use Rattle.std.proofs.lemmas.Bool.{eq-eqb, ne_eqb}
-use Rattle.std.proofs.Math.Seq.{take-append_seam}
-use Rattle.std.specs.Char.{is_ascii_digit}
-use Rattle.sexp_canonical.specs.Tree.{Tree, list_of}
-use Rattle.sexp_canonical.specs.View.{tree_of, trees}
-use Rattle.sexp_canonical.specs.Spelling.{most_depth, spelling, spelling_of, depth}
-use Rattle.sexp_canonical.specs.Reading.{OpenLists, opening_bytes, open_depth, item_fault, IsLengthFault, IsFirstSexpFault}
-use Rattle.sexp_canonical.specs.Adding.{lists_of, AddsItem}
-use Rattle.sexp_canonical.specs.Steps.{HasAtom, HasExpression}
-use Rattle.sexp_canonical.specs.declared.tree.Sexp.{Sexp}
-use Rattle.sexp_canonical.specs.declared.tree.Sexp.TheVariants.{List as Listed}
-use Rattle.sexp_canonical.specs.declared.fault.SexpFault.{SexpFault}
-use Rattle.sexp_canonical.specs.declared.fault.SexpFault.TheVariants.{BadByte, Deep, Short}
-use Rattle.sexp_canonical.proofs.Depths.{deeper_more, deeper_new, deeper_outer, deeper_last, length_le_open_depth}
-use Rattle.sexp_canonical.proofs.Trees.{spelled_list}
-use Rattle.sexp_canonical.proofs.Steps.{drop_at_place}
+use Rattle.std.{proofs.{lemmas.{List.{map-append, append-nil, drop_all, length-map, nil_from_length, Concat.flat_map-cons}, Grind.flat_map-append, Bool.{eq-eqb, ne_eqb}}, Math.Seq.take-append_seam}, specs.{Global.Vec, Vec.vec_len}}
+use Rattle.std.specs.{List.flat_map, Char.is_ascii_digit}
+use Rattle.sexp_canonical.specs.{Tree.{Tree, list_of}, View.{tree_of, trees}, Spelling.{most_depth, spelling, spelling_of, depth}, Reading.{OpenLists, opening_bytes, open_depth, item_fault, IsLengthFault, IsFirstSexpFault}}
+use Rattle.sexp_canonical.specs.{Adding.{lists_of, AddsItem}, Steps.{HasAtom, HasExpression}, declared.{tree.Sexp.{Sexp, TheVariants.List as Listed}, fault.SexpFault.{SexpFault, TheVariants.{BadByte, Deep, Short}}}}
+use Rattle.sexp_canonical.proofs.{Depths.{deeper_more, deeper_new, deeper_outer, deeper_last, length_le_open_depth}, Trees.spelled_list, Steps.drop_at_place}
 
 -- ---- what lists are open
 

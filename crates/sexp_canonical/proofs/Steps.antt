@@ -1,19 +1,8 @@
 -- Steps of reading.
-use Rattle.std.proofs.Common.{◌≡◌, ℕ, ◌+◌, ◌*◌, ◌-◌, ◌<◌, ◌≤◌, Bool, true, false, eqb, ltb, leb, ◌||◌, ◌&&◌}
-use Rattle.std.proofs.Common.{List, [], ◌∷◌, ◌++◌, length, get_or, take, drop, Some, refl, sym, ap, ◌∙◌, ◌⊎◌, inl, inr, append_assoc, arith, length-append, length-drop, drop-cons, add-one}
-use Rattle.std.proofs.lemmas.List.{drop_all, drop-drop, take-append-drop, length-take}
-use Rattle.std.proofs.lemmas.Bool.{lt-ltb, ne_eqb, le-leb, lt-leb, eq-eqb}
-use Rattle.std.specs.Char.{is_ascii_digit}
-use Rattle.sexp_canonical.specs.Tree.{leaf}
-use Rattle.sexp_canonical.specs.View.{tree_of}
-use Rattle.sexp_canonical.specs.Spelling.{most_bytes, numeral, spelling, depth, spelling_of}
-use Rattle.sexp_canonical.specs.Reading.{length_fault, IsLengthFault}
-use Rattle.sexp_canonical.specs.Steps.{IsDigit, HasLength, HasAtom}
-use Rattle.sexp_canonical.specs.declared.tree.Sexp.{Sexp}
-use Rattle.sexp_canonical.specs.declared.tree.Sexp.TheVariants.{Atom}
-use Rattle.sexp_canonical.specs.declared.fault.SexpFault.{SexpFault}
-use Rattle.sexp_canonical.specs.declared.fault.SexpFault.TheVariants.{BadByte, BadLength, Short}
-use Rattle.sexp_canonical.proofs.Numerals.{numeral_small, numeral_digit}
+use Rattle.std.proofs.Common.{◌≡◌, ℕ, ◌+◌, ◌*◌, ◌-◌, ◌<◌, ◌≤◌, Bool, true, false, eqb, ltb, leb, ◌||◌, ◌&&◌, List, [], ◌∷◌, ◌++◌, length, get_or, take, drop, Some, refl, sym, ap, ◌∙◌, ◌⊎◌, inl, inr, append_assoc, arith, length-append}
+use Rattle.std.{proofs.{Common.{length-drop, drop-cons, add-one}, lemmas.{List.{drop_all, drop-drop, take-append-drop, length-take}, Bool.{lt-ltb, ne_eqb, le-leb, lt-leb, eq-eqb}}}, specs.Char.is_ascii_digit}
+use Rattle.sexp_canonical.specs.{Tree.leaf, View.tree_of, Spelling.{most_bytes, numeral, spelling, depth, spelling_of}, Reading.{length_fault, IsLengthFault}, Steps.{IsDigit, HasLength, HasAtom}, declared.tree.Sexp.{Sexp, TheVariants.Atom}}
+use Rattle.sexp_canonical.{specs.declared.fault.SexpFault.{SexpFault, TheVariants.{BadByte, BadLength, Short}}, proofs.Numerals.{numeral_small, numeral_digit}}
 
 -- the bytes from a place on begin with the byte there
 pub drop_at_place : (text : List ℕ) (place : ℕ) → place < length text → drop place text ≡ get_or text place 0 ∷ drop (place + 1) text

@@ -1,15 +1,7 @@
 -- No spelling begins another.
-use Rattle.std.proofs.Common.{◌≡◌, ℕ, ◌+◌, ◌≤◌, true, false, List, [], ◌∷◌, ◌++◌, length, refl, sym, ap, ◌∙◌, append_assoc, arith}
-use Rattle.std.specs.Prelude.{All}
-use Rattle.std.specs.List.{flat_map}
-use Rattle.std.proofs.lemmas.List.Elements.{All-nil, All-cons, All-head, All-tail}
-use Rattle.std.proofs.lemmas.List.Concat.{flat_map-cons}
-use Rattle.std.specs.Char.{is_ascii_digit}
-use Rattle.sexp_canonical.specs.Tree.{Tree, Row, leaf, branch, end, item, row, list_of, items_of, items}
-use Rattle.sexp_canonical.specs.View.{tree_of}
-use Rattle.sexp_canonical.specs.Spelling.{numeral, spelling, spellings, depth, depths}
-use Rattle.sexp_canonical.specs.declared.tree.Sexp.{Sexp}
-use Rattle.sexp_canonical.specs.declared.tree.Sexp.TheVariants.{Atom, List as Listed}
+use Rattle.std.{proofs.{Common.{◌≡◌, ℕ, ◌+◌, ◌≤◌, true, false, List, [], ◌∷◌, ◌++◌, length, refl, sym, ap, ◌∙◌, append_assoc, arith}, lemmas.List.{Elements.{All-nil, All-cons, All-head, All-tail}, Concat.flat_map-cons}}, specs.Prelude.All}
+use Rattle.std.specs.{List.flat_map, Char.is_ascii_digit}
+use Rattle.sexp_canonical.specs.{Tree.{Tree, Row, leaf, branch, end, item, row, list_of, items_of, items}, View.tree_of, Spelling.{numeral, spelling, spellings, depth, depths}, declared.tree.Sexp.{Sexp, TheVariants.{Atom, List as Listed}}}
 use Rattle.sexp_canonical.proofs.Numerals.{AreDigits, AreDigits_numeral, Leads, Leads_numeral, Ends, one_numeral}
 
 -- ---- trees in memory

@@ -1,19 +1,8 @@
 -- Steps of writing.
-use Rattle.std.proofs.Common.{◌≡◌, ℕ, suc, ◌+◌, ◌*◌, ◌^◌, ◌<◌, ◌≤◌, List, [], ◌∷◌, ◌++◌, length, Bor, refl, sym, ap, ◌∙◌, append_assoc, arith}
-use Rattle.std.specs.List.{flat_map}
-use Rattle.std.specs.Fmt.{decimal}
-use Rattle.std.proofs.lemmas.Fmt.{AppendsLastDigit, decimal_from_appends, length-decimal-le_succ}
-use Rattle.std.proofs.lemmas.Bool.{lt-ltb, le-ltb}
-use Rattle.std.proofs.lemmas.List.{map-append}
-use Rattle.std.proofs.lemmas.List.Concat.{flat_map-cons}
-use Rattle.sexp_canonical.specs.Tree.{Tree, row, node_count}
-use Rattle.sexp_canonical.specs.View.{tree_of, trees}
-use Rattle.sexp_canonical.specs.Spelling.{numeral, numeral_within, spelling, spelling_of}
-use Rattle.sexp_canonical.specs.Writing.{rest_of, steps_of, begun_lists}
-use Rattle.sexp_canonical.specs.declared.tree.Sexp.{Sexp}
-use Rattle.sexp_canonical.specs.declared.tree.Sexp.TheVariants.{List as Listed}
-use Rattle.sexp_canonical.proofs.Numerals.{enough}
-use Rattle.sexp_canonical.proofs.Trees.{branch_then, spellings_row}
+use Rattle.std.proofs.{Common.{◌≡◌, ℕ, suc, ◌+◌, ◌*◌, ◌^◌, ◌<◌, ◌≤◌, List, [], ◌∷◌, ◌++◌, length, Bor, refl, sym, ap, ◌∙◌, append_assoc, arith}, lemmas.Fmt.{AppendsLastDigit, decimal_from_appends, length-decimal-le_succ}}
+use Rattle.std.{proofs.lemmas.{Bool.{lt-ltb, le-ltb}, List.{map-append, Concat.flat_map-cons}}, specs.{List.flat_map, Fmt.decimal}}
+use Rattle.sexp_canonical.specs.{Tree.{Tree, row, node_count}, View.{tree_of, trees}, Spelling.{numeral, numeral_within, spelling, spelling_of}, Writing.{rest_of, steps_of, begun_lists}, declared.tree.Sexp.Sexp}
+use Rattle.sexp_canonical.{specs.declared.tree.Sexp.TheVariants.List as Listed, proofs.{Numerals.enough, Trees.{branch_then, spellings_row}}}
 
 -- ---- numerals as they are printed
 

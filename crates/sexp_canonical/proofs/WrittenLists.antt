@@ -1,14 +1,6 @@
 -- A list is written item by item.
-use Rattle.std.proofs.Common.{◌≡◌, ℕ, ◌+◌, ◌<◌, List, [], ◌∷◌, ◌++◌, length, get_or, take, sym, ap, ◌∙◌, append_assoc}
-use Rattle.std.specs.List.{flat_map}
-use Rattle.std.proofs.lemmas.List.{append-nil, map-append, take_more}
-use Rattle.std.proofs.lemmas.List.Concat.{flat_map-cons}
-use Rattle.std.proofs.lemmas.Grind.{flat_map-append}
-use Rattle.sexp_canonical.specs.Tree.{Tree, list_of}
-use Rattle.sexp_canonical.specs.View.{tree_of, trees}
-use Rattle.sexp_canonical.specs.Spelling.{spelling, spelling_of}
-use Rattle.sexp_canonical.specs.declared.tree.Sexp.{Sexp}
-use Rattle.sexp_canonical.proofs.Trees.{spelled_list}
+use Rattle.std.{proofs.{Common.{◌≡◌, ℕ, ◌+◌, ◌<◌, List, [], ◌∷◌, ◌++◌, length, get_or, take, sym, ap, ◌∙◌, append_assoc}, lemmas.{List.{append-nil, map-append, take_more, Concat.flat_map-cons}, Grind.flat_map-append}}, specs.List.flat_map}
+use Rattle.sexp_canonical.{specs.{Tree.{Tree, list_of}, View.{tree_of, trees}, Spelling.{spelling, spelling_of}, declared.tree.Sexp.Sexp}, proofs.Trees.spelled_list}
 
 abbrev pub Written : List ℕ → List ℕ → List Tree → Type 0
 Written old new ts = new ≡ old ++ flat_map spelling ts

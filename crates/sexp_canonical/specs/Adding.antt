@@ -1,10 +1,6 @@
 -- What a finished expression makes of the lists that are open.
-use Rattle.std.specs.Prelude.{◌≡◌, List, [], ◌∷◌, ◌++◌, map, Option, Some, None}
-use Rattle.std.specs.Global.{Vec}
-use Rattle.sexp_canonical.specs.Tree.{Tree}
-use Rattle.sexp_canonical.specs.View.{tree_of, trees}
-use Rattle.sexp_canonical.specs.Reading.{OpenLists}
-use Rattle.sexp_canonical.specs.declared.tree.Sexp.{Sexp}
+use Rattle.std.specs.{Prelude.{◌≡◌, List, [], ◌∷◌, ◌++◌, map, Option, Some, None}, Global.Vec}
+use Rattle.sexp_canonical.specs.{Tree.Tree, View.{tree_of, trees}, Reading.OpenLists, declared.tree.Sexp.Sexp}
 
 -- the lists that are open, as trees
 abbrev pub lists_of : List (Vec Sexp) → OpenLists

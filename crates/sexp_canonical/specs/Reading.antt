@@ -1,12 +1,7 @@
 -- What reading a text answers: the expression at its front, or else the first fault from the left. Which fault it is, and its
 -- place, is this project's own.
-use Rattle.std.specs.Prelude.{◌≡◌, ℕ, ◌+◌, ◌*◌, ◌-◌, ◌≤◌, max, List, [], ◌∷◌, ◌++◌, length, take, ◌==◌, ◌||◌, nat_lt, ◌&&◌, if◌then◌else◌, Option, Some, None, Result, Ok, Err, ◌⊎◌}
-use Rattle.std.specs.Char.{is_ascii_digit}
-use Rattle.std.specs.List.{flat_map}
-use Rattle.sexp_canonical.specs.Tree.{Tree, row}
-use Rattle.sexp_canonical.specs.Spelling.{most_bytes, most_depth, left_paren, right_paren, colon, numeral, spelling, depths, IsReadable}
-use Rattle.sexp_canonical.specs.declared.tree.Sexp.{Sexp}
-use Rattle.sexp_canonical.specs.declared.fault.SexpFault.{SexpFault}
+use Rattle.std.specs.{Prelude.{◌≡◌, ℕ, ◌+◌, ◌*◌, ◌-◌, ◌≤◌, max, List, [], ◌∷◌, ◌++◌, length, take, ◌==◌, ◌||◌, nat_lt, ◌&&◌, if◌then◌else◌, Option, Some, None, Result, Ok, Err, ◌⊎◌}, Char.is_ascii_digit, List.flat_map}
+use Rattle.sexp_canonical.specs.{Tree.{Tree, row}, Spelling.{most_bytes, most_depth, left_paren, right_paren, colon, numeral, spelling, depths, IsReadable}, declared.{tree.Sexp.Sexp, fault.SexpFault.SexpFault}}
 use Rattle.sexp_canonical.specs.declared.fault.SexpFault.TheVariants.{BadByte, BadLength, Deep, Short}
 
 -- The lists that are open at a place, the outermost first, each by its items so far.

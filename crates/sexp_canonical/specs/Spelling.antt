@@ -1,9 +1,7 @@
 -- The canonical form of an expression, as libgcrypt has it (GCRYSEXP_FMT_CANON): the canonical representation of Rivest's
 -- "S-Expressions" (1997), without display hints. The empty atom is `0:`, as Rivest has it; libgcrypt's own reader refuses it.
 use Rattle.std.specs.Prelude.{◌≡◌, ℕ, zero, suc, ◌+◌, ◌≤◌, ◌/◌, ◌%◌, max, List, [], ◌∷◌, ◌++◌, length, nat_lt, if◌then◌else◌}
-use Rattle.sexp_canonical.specs.Tree.{Tree, Row, leaf, branch, end, item}
-use Rattle.sexp_canonical.specs.View.{tree_of}
-use Rattle.sexp_canonical.specs.declared.tree.Sexp.{Sexp}
+use Rattle.sexp_canonical.specs.{Tree.{Tree, Row, leaf, branch, end, item}, View.tree_of, declared.tree.Sexp.Sexp}
 
 -- n in decimal, for a number of no more digits than steps + 1
 abbrev pub numeral_within : ℕ → ℕ → List ℕ

@@ -1,8 +1,6 @@
 -- Private: what the steps of reading know of a text.
 use Rattle.std.specs.Prelude.{◌≡◌, ℕ, ◌<◌, ◌≤◌, List, ◌∷◌, ◌++◌, length, take, drop, slice_index}
-use Rattle.sexp_canonical.specs.View.{tree_of}
-use Rattle.sexp_canonical.specs.Spelling.{most_bytes, most_depth, colon, numeral, spelling_of, depth}
-use Rattle.sexp_canonical.specs.declared.tree.Sexp.{Sexp}
+use Rattle.sexp_canonical.specs.{View.tree_of, Spelling.{most_bytes, most_depth, colon, numeral, spelling_of, depth}, declared.tree.Sexp.Sexp}
 
 -- a digit stands at the place
 pub record IsDigit (text : List ℕ) (place : ℕ) : Type 0 where

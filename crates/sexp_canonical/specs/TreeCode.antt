@@ -1,8 +1,6 @@
 -- A code for trees, by which proofs tell them apart.
-use Rattle.std.specs.Prelude.{◌≡◌, List}
-use Rattle.std.specs.Coded.{Coded, coded_ℕ, coded_list}
-use Rattle.std.proofs.Common.{ap}
 use base.Stored.{Gv, gnil, gnum, gcons}
+use Rattle.std.{specs.{Prelude.{◌≡◌, List}, Coded.{Coded, coded_ℕ, coded_list}}, proofs.Common.ap}
 use Rattle.sexp_canonical.specs.Tree.{Tree, Row, leaf, branch, end, item}
 
 abbrev mutual

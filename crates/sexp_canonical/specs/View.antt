@@ -1,8 +1,6 @@
 -- The tree that an expression in memory is.
 use Rattle.std.specs.Prelude.{List, map}
-use Rattle.sexp_canonical.specs.Tree.{Tree, leaf, list_of}
-use Rattle.sexp_canonical.specs.declared.tree.Sexp.{Sexp}
-use Rattle.sexp_canonical.specs.declared.tree.Sexp.TheVariants.{Atom, List as Listed}
+use Rattle.sexp_canonical.specs.{Tree.{Tree, leaf, list_of}, declared.tree.Sexp.{Sexp, TheVariants.{Atom, List as Listed}}}
 
 abbrev pub tree_of : Sexp → Tree
 tree_of (Atom bytes) = leaf bytes

@@ -1,12 +1,7 @@
 -- Each list within a list has fewer nodes than that list.
-use Rattle.std.specs.Prelude.{◌≤◌, max, List, [], ◌∷◌}
-use Rattle.std.proofs.Common.{arith}
 use denote.Param.Weighed.{most}
-use Rattle.sexp_canonical.specs.Tree.{node_count}
-use Rattle.sexp_canonical.specs.View.{trees}
-use Rattle.sexp_canonical.specs.declared.tree.Sexp.{Sexp}
-use Rattle.sexp_canonical.specs.declared.tree.Sexp.TheVariants.{Atom, List as Listed}
-use Rattle.sexp_canonical.specs.declared.tree.Items.TheDeep.{deep-Sexp}
+use Rattle.std.{specs.Prelude.{◌≤◌, max, List, [], ◌∷◌}, proofs.Common.arith}
+use Rattle.sexp_canonical.specs.{Tree.node_count, View.trees, declared.tree.{Sexp.{Sexp, TheVariants.{Atom, List as Listed}}, Items.TheDeep.deep-Sexp}}
 
 pub depth_le_node_count : (items : List Sexp) → max (most deep-Sexp items) 0 ≤ node_count (trees items)
 depth_le_node_count [] = omega arith

@@ -1,11 +1,6 @@
 -- Private: what is left to be written.
-use Rattle.std.specs.Prelude.{ℕ, ◌+◌, ◌*◌, List, [], ◌∷◌, ◌++◌, map}
-use Rattle.std.specs.List.{flat_map}
-use Rattle.std.specs.Borrow.{Bor}
-use Rattle.sexp_canonical.specs.Tree.{Tree, node_count}
-use Rattle.sexp_canonical.specs.View.{trees}
-use Rattle.sexp_canonical.specs.Spelling.{right_paren, spelling}
-use Rattle.sexp_canonical.specs.declared.tree.Sexp.{Sexp}
+use Rattle.std.specs.{Prelude.{ℕ, ◌+◌, ◌*◌, List, [], ◌∷◌, ◌++◌, map}, List.flat_map, Borrow.Bor}
+use Rattle.sexp_canonical.specs.{Tree.{Tree, node_count}, View.trees, Spelling.{right_paren, spelling}, declared.tree.Sexp.Sexp}
 
 -- the rest of each list that is begun, the innermost last
 abbrev pub rest_of : List (List Tree) → List ℕ

@@ -2,8 +2,7 @@
 //! begun, and no stack. Begin with `Sexp::copy`, whose clause says all.
 
 ghost use Rattle.std.specs.Prelude.{◌≡◌, ◌++◌, ◌+◌, ◌*◌, ◌<◌, IfOk};
-ghost use Rattle.sexp_canonical.specs.View.{trees};
-ghost use Rattle.sexp_canonical.specs.declared.tree.Sexp.{Sexp};
+ghost use Rattle.sexp_canonical.specs.{View.trees, declared.tree.Sexp.Sexp};
 
 use crate::tree::Sexp;
 use std::alloc::{AllocError, Global};

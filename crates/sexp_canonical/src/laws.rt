@@ -3,15 +3,11 @@
 //! touch nothing. Begin with `no_spelling_begins_another`.
 
 ghost use Rattle.std.specs.Prelude.{◌≡◌, ◌↔◌, ◌+◌, ◌^◌, ◌<◌, ◌≤◌, [], ◌∷◌, ◌++◌, ℕ, List, length};
-ghost use Rattle.std.specs.Prelude.{All, Result};
-ghost use Rattle.std.specs.Fmt.{decimal};
-ghost use Rattle.std.specs.List.{flat_map};
+ghost use Rattle.std.specs.{Prelude.{All, Result}, Fmt.decimal, List.flat_map};
 ghost use Rattle.sexp_canonical.specs.Tree.{Tree, Row, branch, row, list_of, items_of};
 ghost use Rattle.sexp_canonical.specs.Spelling.{left_paren, right_paren, numeral, spelling};
-ghost use Rattle.sexp_canonical.specs.Spelling.{spelling_of, depth};
-ghost use Rattle.sexp_canonical.specs.Reading.{ReadsCanonical};
-ghost use Rattle.sexp_canonical.specs.declared.tree.Sexp.{Sexp};
-ghost use Rattle.sexp_canonical.specs.declared.fault.SexpFault.{SexpFault};
+ghost use Rattle.sexp_canonical.specs.{Spelling.{spelling_of, depth}, Reading.ReadsCanonical};
+ghost use Rattle.sexp_canonical.specs.declared.{tree.Sexp.Sexp, fault.SexpFault.SexpFault};
 
 /// No spelling begins another, and none is that of two expressions: a spelling with anything after
 /// it is taken apart in one way.

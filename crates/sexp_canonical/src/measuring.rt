@@ -2,10 +2,8 @@
 //! for each open list within the limit. Begin with `spelled_len`; `IsReadable` of `specs/Spelling`
 //! has the limits.
 
-ghost use Rattle.std.specs.Prelude.{◌≡◌, ◌-◌, ◌≤◌, length, SomeIff};
-ghost use Rattle.std.specs.List.{flat_map};
-ghost use Rattle.sexp_canonical.specs.Tree.{leaf, row};
-ghost use Rattle.sexp_canonical.specs.View.{trees};
+ghost use Rattle.std.specs.{Prelude.{◌≡◌, ◌-◌, ◌≤◌, length, SomeIff}, List.flat_map};
+ghost use Rattle.sexp_canonical.specs.{Tree.{leaf, row}, View.trees};
 ghost use Rattle.sexp_canonical.specs.Spelling.{most_bytes, most_depth, spelling, spelling_of};
 ghost use Rattle.sexp_canonical.specs.Spelling.{depths, IsReadable};
 

@@ -6,11 +6,9 @@ ghost use Rattle.std.specs.Prelude.{◌≡◌, ◌⊎◌, ◌+◌, ◌-◌, ◌*
 ghost use Rattle.std.specs.Prelude.{drop, Result, IfOk, IfErr, MatchOption};
 ghost use Rattle.sexp_canonical.specs.Reading.{ReadsCanonical, IsFirstSexpFault, IsLengthFault};
 ghost use Rattle.sexp_canonical.specs.Spelling.{IsReadable, most_bytes, spelling_of};
-ghost use Rattle.sexp_canonical.specs.View.{tree_of};
-ghost use Rattle.sexp_canonical.specs.Adding.{AddsTree, lists_of};
+ghost use Rattle.sexp_canonical.specs.{View.tree_of, Adding.{AddsTree, lists_of}};
 ghost use Rattle.sexp_canonical.specs.Steps.{IsDigit, HasLength, HasAtom, HasExpression};
-ghost use Rattle.sexp_canonical.specs.declared.tree.Sexp.{Sexp};
-ghost use Rattle.sexp_canonical.specs.declared.fault.SexpFault.{SexpFault};
+ghost use Rattle.sexp_canonical.specs.declared.{tree.Sexp.Sexp, fault.SexpFault.SexpFault};
 
 use crate::fault::SexpFault;
 use crate::tree::Sexp;

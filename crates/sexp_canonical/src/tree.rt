@@ -3,8 +3,7 @@
 //! (`specs/View`), as definitions of keys do.
 
 ghost use Rattle.std.specs.Prelude.{◌≡◌, ◌<◌, [], ◌∷◌, ◌++◌, IfOk, vec_len, vec_capacity};
-ghost use Rattle.sexp_canonical.specs.Tree.{list_of, items};
-ghost use Rattle.sexp_canonical.specs.Dropping.{drop_steps};
+ghost use Rattle.sexp_canonical.specs.{Tree.{list_of, items}, Dropping.drop_steps};
 ghost use Rattle.sexp_canonical.specs.View.{tree_of, trees};
 
 use crate::bytes::Bytes;
@@ -27,8 +26,7 @@ pub struct Items(pub Vec<Sexp>);
 
 impl Model for Items {
     ghost use Rattle.std.specs.Prelude.{List};
-    ghost use Rattle.sexp_canonical.specs.Tree.{Tree, node_count};
-    ghost use Rattle.sexp_canonical.specs.TreeCode.{trees_code};
+    ghost use Rattle.sexp_canonical.specs.{Tree.{Tree, node_count}, TreeCode.trees_code};
 
     ghost Value = { List Tree };
 

@@ -4,8 +4,7 @@
 
 ghost use Rattle.std.specs.Prelude.{◌≡◌, ◌+◌, ◌*◌, ◌<◌, ◌≤◌, [], ◌∷◌, ◌++◌, IfOk, OnOk};
 ghost use Rattle.std.specs.List.{flat_map};
-ghost use Rattle.sexp_canonical.specs.Tree.{leaf, list_of, node_count};
-ghost use Rattle.sexp_canonical.specs.View.{tree_of, trees};
+ghost use Rattle.sexp_canonical.specs.{Tree.{leaf, list_of, node_count}, View.{tree_of, trees}};
 ghost use Rattle.sexp_canonical.specs.Spelling.{right_paren, spelling, spelling_of};
 ghost use Rattle.sexp_canonical.specs.Writing.{rest_of, steps_of, begun_lists};
 

@@ -1,17 +1,8 @@
 -- An expression is one key at most, and where it is one there is no fault.
-use Rattle.std.proofs.Common.{◌≡◌, Bool, true, false, List, ◌∷◌, ◌++◌, Some, None, Ok, Err, Result, IfOk, IfErr, refl, sym, ap, ap₂, ◌∙◌, ◌⊎◌, inl, inr}
-use Rattle.std.specs.List.{list_all}
+use Rattle.std.{proofs.Common.{◌≡◌, Bool, true, false, List, ◌∷◌, ◌++◌, Some, None, Ok, Err, Result, IfOk, IfErr, refl, sym, ap, ap₂, ◌∙◌, ◌⊎◌, inl, inr}, specs.List.list_all}
 use Rattle.sexp_canonical.specs.Tree.{Tree, leaf, list_of}
-use Rattle.sexp_keys.specs.Names.{algorithm_name, form_name}
-use Rattle.sexp_keys.specs.Parameters.{is_list, are_public, are_private}
-use Rattle.sexp_keys.specs.Key.{Key, IsKey}
-use Rattle.sexp_keys.specs.Faults.{named_fault, IsFirstKeyFault, ReadsKey}
-use Rattle.sexp_keys.specs.Named.{HasNames, AreParts}
-use Rattle.sexp_keys.specs.declared.algorithm.Algorithm.{Algorithm}
-use Rattle.sexp_keys.specs.declared.fault.KeyFault.{KeyFault}
-use Rattle.sexp_keys.specs.declared.fault.KeyFault.TheVariants.{BadSecKey, NoMemory}
-use Rattle.sexp_keys.proofs.OneName.{same_names, named_fault_names}
-use Rattle.sexp_keys.proofs.Parts.{counted_parts}
+use Rattle.sexp_keys.specs.{Names.{algorithm_name, form_name}, Parameters.{is_list, are_public, are_private}, Key.{Key, IsKey}, Faults.{named_fault, IsFirstKeyFault, ReadsKey}, Named.{HasNames, AreParts}}
+use Rattle.sexp_keys.{specs.declared.{algorithm.Algorithm.Algorithm, fault.KeyFault.{KeyFault, TheVariants.{BadSecKey, NoMemory}}}, proofs.{OneName.{same_names, named_fault_names}, Parts.counted_parts}}
 
 key_names : (t : Tree) (k : Key) → IsKey t k → HasNames t k.is_clear k.algorithm (k.public ++ k.private) k.further
 key_names t k h = record { parts = h.parts }

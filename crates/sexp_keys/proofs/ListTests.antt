@@ -1,14 +1,7 @@
 -- What the tests of parameters compute.
-use Rattle.std.proofs.Common.{◌≡◌, Bool, false, eqb, ◌&&◌, List, [], ◌∷◌, length, refl, sym, ap, ap₂, ◌∙◌, arith}
-use Rattle.std.proofs.lemmas.List.{length-map}
-use Rattle.std.proofs.lemmas.Bool.{lt-ltb}
-use Rattle.std.specs.List.{list_all}
-use Rattle.sexp_canonical.specs.Tree.{Tree, items}
-use Rattle.sexp_canonical.specs.View.{tree_of, trees}
-use Rattle.sexp_canonical.specs.declared.tree.Sexp.{Sexp}
-use Rattle.sexp_keys.specs.Parameters.{is_atom, is_parameter, is_parameter_len, is_curve_parameter, are_public}
-use Rattle.sexp_keys.specs.declared.algorithm.Algorithm.{Algorithm}
-use Rattle.sexp_keys.specs.declared.algorithm.Algorithm.TheVariants.{Ecc}
+use Rattle.std.{proofs.{Common.{◌≡◌, Bool, false, eqb, ◌&&◌, List, [], ◌∷◌, length, refl, sym, ap, ap₂, ◌∙◌, arith}, lemmas.{List.length-map, Bool.lt-ltb}}, specs.List.list_all}
+use Rattle.sexp_canonical.specs.{Tree.{Tree, items}, View.{tree_of, trees}, declared.tree.Sexp.Sexp}
+use Rattle.sexp_keys.specs.{Parameters.{is_atom, is_parameter, is_parameter_len, is_curve_parameter, are_public}, declared.algorithm.Algorithm.{Algorithm, TheVariants.Ecc}}
 
 pub list_all_trees : (f : Tree → Bool) (xs : List Sexp) → list_all f (trees xs) ≡ list_all (λ s. f (tree_of s)) xs
 list_all_trees f [] = refl

@@ -1,19 +1,7 @@
 -- How many bytes a key's list has, and how deep its parts are.
-use Rattle.std.proofs.Common.{◌≡◌, ℕ, ◌+◌, ◌<◌, ◌≤◌, Bool, true, false, List, [], ◌∷◌, ◌++◌, length, ap, ◌∙◌, arith, length-append}
-use Rattle.std.specs.List.{flat_map}
-use Rattle.std.proofs.Math.Nat.{lt_of_not-le}
-use Rattle.std.proofs.lemmas.Grind.{flat_map-append}
-use Rattle.std.proofs.lemmas.List.Concat.{flat_map-cons}
-use Rattle.sexp_canonical.specs.Tree.{Tree, leaf, list_of, row}
-use Rattle.sexp_canonical.specs.Spelling.{most_bytes, most_depth, numeral, spelling, depth, depths}
-use Rattle.sexp_canonical.proofs.Measured.{size}
-use Rattle.sexp_canonical.proofs.Numerals.{length_numeral}
-use Rattle.sexp_canonical.proofs.Trees.{spelled_list}
-use Rattle.sexp_keys.specs.Names.{algorithm_name, form_name}
-use Rattle.sexp_keys.specs.Key.{Key, algorithm_list, key_tree}
-use Rattle.sexp_keys.specs.Lists.{key_list_of}
-use Rattle.sexp_keys.specs.declared.algorithm.Algorithm.{Algorithm}
-use Rattle.sexp_keys.specs.declared.algorithm.Algorithm.TheVariants.{Rsa, Dsa, Elg, Ecc}
+use Rattle.std.{proofs.{Common.{◌≡◌, ℕ, ◌+◌, ◌<◌, ◌≤◌, Bool, true, false, List, [], ◌∷◌, ◌++◌, length, ap, ◌∙◌, arith, length-append}, Math.Nat.lt_of_not-le, lemmas.{Grind.flat_map-append, List.Concat.flat_map-cons}}, specs.List.flat_map}
+use Rattle.sexp_canonical.{specs.{Tree.{Tree, leaf, list_of, row}, Spelling.{most_bytes, most_depth, numeral, spelling, depth, depths}}, proofs.{Measured.size, Numerals.length_numeral, Trees.spelled_list}}
+use Rattle.sexp_keys.specs.{Names.{algorithm_name, form_name}, Key.{Key, algorithm_list, key_tree}, Lists.key_list_of, declared.algorithm.Algorithm.{Algorithm, TheVariants.{Rsa, Dsa, Elg, Ecc}}}
 
 size_list : (ts : List Tree) → length (spelling (list_of ts)) ≡ size ts + 2
 size_list ts = omega (arith, ap length (spelled_list ts), length-append (flat_map spelling ts) (41 ∷ []))
@@ -82,7 +70,7 @@ short_names key = omega (
 
 -- ---- a part that doesn't fit makes the key too long, where the key is shallow
 
-depths_front : (ts us : List Tree) → depths (row ts) ≤ depths (row (ts ++ us))
+pub depths_front : (ts us : List Tree) → depths (row ts) ≤ depths (row (ts ++ us))
 depths_front [] us = omega arith
 depths_front (t ∷ ts) us = omega (arith, depths_front ts us)
 

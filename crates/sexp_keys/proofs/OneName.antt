@@ -1,13 +1,7 @@
 -- The names of a key are in one place, and no two names are one.
-use Rattle.std.proofs.Common.{◌≡◌, ℕ, Bool, true, false, List, ◌∷◌, Some, None, refl, sym, ap, ◌∙◌}
-use Rattle.std.specs.Prelude.{bytes_eq}
-use Rattle.sexp_canonical.specs.Tree.{Tree, leaf, branch, row, list_of, items}
-use Rattle.sexp_canonical.proofs.Trees.{row_injective, row_items_of}
-use Rattle.sexp_keys.specs.Names.{algorithm_name, algorithm_of, form_name}
-use Rattle.sexp_keys.specs.Faults.{named_fault}
-use Rattle.sexp_keys.specs.Named.{HasNames}
-use Rattle.sexp_keys.specs.declared.algorithm.Algorithm.{Algorithm}
-use Rattle.sexp_keys.specs.declared.algorithm.Algorithm.TheVariants.{Rsa, Dsa, Elg, Ecc}
+use Rattle.std.{proofs.Common.{◌≡◌, ℕ, Bool, true, false, List, ◌∷◌, Some, None, refl, sym, ap, ◌∙◌}, specs.Prelude.bytes_eq}
+use Rattle.sexp_canonical.{specs.Tree.{Tree, leaf, branch, row, list_of, items}, proofs.Trees.{row_injective, row_items_of}}
+use Rattle.sexp_keys.specs.{Names.{algorithm_name, algorithm_of, form_name}, Faults.named_fault, Named.HasNames, declared.algorithm.Algorithm.{Algorithm, TheVariants.{Rsa, Dsa, Elg, Ecc}}}
 
 form_of_name : (a : Bool) → bytes_eq (form_name a) (form_name true) ≡ a
 form_of_name true = refl

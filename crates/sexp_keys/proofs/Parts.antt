@@ -1,24 +1,16 @@
 -- The parameters are cut in one place.
-use Rattle.std.proofs.Common.{◌≡◌, ℕ, zero, suc, ◌+◌, ◌-◌, ◌≤◌, Bool, true, false, ◌&&◌, List, [], ◌∷◌, ◌++◌, length, take, drop, refl, sym, ap, ◌∙◌, arith, length-append}
-use Rattle.std.specs.Cmp.Lexicographic.{as_long}
-use Rattle.std.proofs.lemmas.List.{take_at, drop_at, length-map}
-use Rattle.std.proofs.lemmas.Slice.Eq.{bytes_eq-Decides}
-use Rattle.std.specs.Prelude.{bytes_eq}
-use Rattle.sexp_canonical.specs.Tree.{Tree, leaf, branch, items}
-use Rattle.sexp_canonical.specs.View.{tree_of, trees}
-use Rattle.sexp_canonical.specs.declared.tree.Sexp.{Sexp}
-use Rattle.sexp_keys.specs.Names.{secret_names, protected_name, time_name}
-use Rattle.sexp_keys.specs.Parameters.{begin_with, has_name, is_named, is_time, are_protection, are_private}
-use Rattle.sexp_keys.specs.Named.{ends_with_time, private_count, AreParts}
-use Rattle.sexp_keys.specs.declared.algorithm.Algorithm.{Algorithm}
-use Rattle.sexp_keys.specs.declared.algorithm.Algorithm.TheVariants.{Rsa}
+use Rattle.std.proofs.{Common.{◌≡◌, ℕ, zero, suc, ◌+◌, ◌-◌, ◌≤◌, Bool, true, false, ◌&&◌, List, [], ◌∷◌, ◌++◌, length, take, drop, refl, sym, ap, ◌∙◌, arith, length-append}, lemmas.List.{take_at, drop_at, length-map}}
+use Rattle.std.{proofs.lemmas.Slice.Eq.bytes_eq-Decides, specs.{Cmp.Lexicographic.as_long, Prelude.bytes_eq}}
+use Rattle.sexp_canonical.specs.{Tree.{Tree, leaf, branch, items}, View.{tree_of, trees}, declared.tree.Sexp.Sexp}
+use Rattle.sexp_keys.specs.{Names.{secret_names, protected_name, time_name}, Parameters.{begin_with, has_name, is_named, is_time, are_protection, are_private}, Named.{ends_with_time, private_count, AreParts}}
+use Rattle.sexp_keys.specs.declared.algorithm.Algorithm.{Algorithm, TheVariants.Rsa}
 
 pub ends_append : (xs : List Tree) (y : Tree) (ys : List Tree) → ends_with_time (xs ++ y ∷ ys) ≡ ends_with_time (y ∷ ys)
 ends_append [] y ys = refl
 ends_append (x ∷ []) y ys = refl
 ends_append (x ∷ z ∷ xs) y ys = ends_append (z ∷ xs) y ys
 
-and_second : (a b : Bool) → (a && b) ≡ true → b ≡ true
+pub and_second : (a b : Bool) → (a && b) ≡ true → b ≡ true
 and_second true b e = e
 and_second false b e = absurd cc
 

@@ -1,12 +1,7 @@
 -- The lists of a key are written item by item.
-use Rattle.std.proofs.Common.{◌≡◌, ℕ, List, [], ◌∷◌, ◌++◌, Some, sym}
-use Rattle.std.specs.List.{flat_map}
-use Rattle.std.proofs.lemmas.List.{append-nil}
-use Rattle.sexp_canonical.specs.Tree.{Tree, leaf, list_of}
-use Rattle.sexp_canonical.specs.Spelling.{spelling}
-use Rattle.sexp_keys.specs.Names.{time_name}
-use Rattle.sexp_keys.specs.Lists.{time_lists}
-use Rattle.sexp_canonical.proofs.WrittenLists.{written_more, written_one, list_written}
+use Rattle.std.{proofs.{Common.{◌≡◌, ℕ, List, [], ◌∷◌, ◌++◌, Some, sym}, lemmas.List.append-nil}, specs.List.flat_map}
+use Rattle.sexp_canonical.{specs.{Tree.{Tree, leaf, list_of}, Spelling.spelling}, proofs.WrittenLists.{written_more, written_one, list_written}}
+use Rattle.sexp_keys.specs.{Names.time_name, Lists.time_lists}
 
 -- `(name (alg ..) further..)`
 pub key_written : (t0 t1 t2 t3 t4 t5 : List ℕ) (name : List ℕ) (u : Tree) (fs : List Tree) → t1 ≡ t0 ++ 40 ∷ [] → t2 ≡ t1 ++ spelling (leaf name) → t3 ≡ t2 ++ spelling u

@@ -1,10 +1,7 @@
 -- What reading a key from an expression answers: the key, or else the first fault.
 use Rattle.std.specs.Prelude.{◌≡◌, ◌⊎◌, ◌||◌, List, [], ◌∷◌, codes, bytes_eq, true, false, is_some, Option, Some, None, Result, Ok, Err, if◌then◌else◌}
 use Rattle.sexp_canonical.specs.Tree.{Tree, leaf, branch, items}
-use Rattle.sexp_keys.specs.Names.{algorithm_of, form_name}
-use Rattle.sexp_keys.specs.Key.{Key, IsKey}
-use Rattle.sexp_keys.specs.declared.fault.KeyFault.{KeyFault}
-use Rattle.sexp_keys.specs.declared.fault.KeyFault.TheVariants.{InvSexp, BadSecKey, Shadowed, NotSupported}
+use Rattle.sexp_keys.specs.{Names.{algorithm_of, form_name}, Key.{Key, IsKey}, declared.fault.KeyFault.{KeyFault, TheVariants.{InvSexp, BadSecKey, Shadowed, NotSupported}}}
 
 -- the fault of the first item, the name of a form
 abbrev pub form_fault : List Tree → Option KeyFault

@@ -1,13 +1,7 @@
 -- What a private key is, apart from where it lies in memory, and the expression that it is.
-use Rattle.std.specs.Prelude.{◌≡◌, ℕ, zero, suc, refl, Bool, true, false, IsTrue, List, ◌∷◌, ◌++◌}
-use Rattle.std.specs.List.{list_all}
-use Rattle.std.specs.Coded.{Coded, code_by, coded×, coded_ℕ, coded_bool}
-use Rattle.sexp_canonical.specs.Tree.{Tree, leaf, list_of}
-use Rattle.sexp_canonical.specs.TreeCode.{trees_code}
-use Rattle.sexp_keys.specs.Names.{algorithm_name, form_name}
-use Rattle.sexp_keys.specs.Parameters.{is_list, are_public, are_private}
-use Rattle.sexp_keys.specs.declared.algorithm.Algorithm.{Algorithm}
-use Rattle.sexp_keys.specs.declared.algorithm.Algorithm.TheVariants.{Rsa, Dsa, Elg, Ecc}
+use Rattle.std.specs.{Prelude.{◌≡◌, ℕ, zero, suc, refl, Bool, true, false, IsTrue, List, ◌∷◌, ◌++◌}, List.list_all, Coded.{Coded, code_by, coded×, coded_ℕ, coded_bool}}
+use Rattle.sexp_canonical.specs.{Tree.{Tree, leaf, list_of}, TreeCode.trees_code}
+use Rattle.sexp_keys.specs.{Names.{algorithm_name, form_name}, Parameters.{is_list, are_public, are_private}, declared.algorithm.Algorithm.{Algorithm, TheVariants.{Rsa, Dsa, Elg, Ecc}}}
 
 pub record Key : Type 0 where
   pub algorithm : Algorithm

@@ -1,10 +1,7 @@
 -- The lists of a key that are hashed, sent and written (agent/keyformat.txt), and its grip.
 use Rattle.std.specs.Prelude.{ℕ, List, [], ◌∷◌, ◌++◌, codes, Option, Some, None}
-use Rattle.sha1.specs.Sha1.{sha1}
-use Rattle.sexp_canonical.specs.Tree.{Tree, leaf, list_of}
-use Rattle.sexp_canonical.specs.Spelling.{spelling}
-use Rattle.sexp_keys.specs.Names.{time_name}
-use Rattle.sexp_keys.specs.Key.{Key, algorithm_list, key_tree}
+use Rattle.{sha1.specs.Sha1.sha1, sexp_canonical.specs.{Tree.{Tree, leaf, list_of}, Spelling.spelling}}
+use Rattle.sexp_keys.specs.{Names.time_name, Key.{Key, algorithm_list, key_tree}}
 
 -- `(public-key (alg public..))`
 abbrev pub public_list_of : Key → List ℕ

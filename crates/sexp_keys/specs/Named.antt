@@ -1,9 +1,7 @@
 -- Private: what the steps of reading know of a key.
 use Rattle.std.specs.Prelude.{◌≡◌, ℕ, Bool, true, false, List, [], ◌∷◌, ◌++◌, length, IsTrue, if◌then◌else◌}
 use Rattle.sexp_canonical.specs.Tree.{Tree, leaf, list_of}
-use Rattle.sexp_keys.specs.Names.{algorithm_name, form_name, secret_names, time_name}
-use Rattle.sexp_keys.specs.Parameters.{has_name, are_public, are_private}
-use Rattle.sexp_keys.specs.declared.algorithm.Algorithm.{Algorithm}
+use Rattle.sexp_keys.specs.{Names.{algorithm_name, form_name, secret_names, time_name}, Parameters.{has_name, are_public, are_private}, declared.algorithm.Algorithm.Algorithm}
 
 -- the names are right: behind that of the algorithm stand these parameters, and behind their list these items
 pub record HasNames (tree : Tree) (is_clear : Bool) (algorithm : Algorithm) (parameters further : List Tree) : Type 0 where

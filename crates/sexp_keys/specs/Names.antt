@@ -1,8 +1,7 @@
 -- The algorithms and the names of their parameters, as GnuPG's notes on the format of private keys have them
 -- (agent/keyformat.txt, "Private Key Format").
 use Rattle.std.specs.Prelude.{ℕ, List, [], ◌∷◌, codes, bytes_eq, Option, Some, None, Bool, if◌then◌else◌}
-use Rattle.sexp_keys.specs.declared.algorithm.Algorithm.{Algorithm}
-use Rattle.sexp_keys.specs.declared.algorithm.Algorithm.TheVariants.{Rsa, Dsa, Elg, Ecc}
+use Rattle.sexp_keys.specs.declared.algorithm.Algorithm.{Algorithm, TheVariants.{Rsa, Dsa, Elg, Ecc}}
 
 abbrev pub algorithm_name : Algorithm → List ℕ
 algorithm_name Rsa = codes "rsa"

@@ -1,11 +1,7 @@
 -- The parameters of a key: lists of atoms, the name first.
-use Rattle.std.specs.Prelude.{ℕ, Bool, true, false, not, ◌&&◌, ◌||◌, ◌==◌, nat_le, nat_lt, List, [], ◌∷◌, length, codes, bytes_eq, if◌then◌else◌}
-use Rattle.std.specs.List.{list_all}
-use Rattle.std.specs.Cmp.Lexicographic.{pointwise}
+use Rattle.std.specs.{Prelude.{ℕ, Bool, true, false, not, ◌&&◌, ◌||◌, ◌==◌, nat_le, nat_lt, List, [], ◌∷◌, length, codes, bytes_eq, if◌then◌else◌}, List.list_all, Cmp.Lexicographic.pointwise}
 use Rattle.sexp_canonical.specs.Tree.{Tree, leaf, branch, items}
-use Rattle.sexp_keys.specs.Names.{public_names, secret_names, protected_name, time_name}
-use Rattle.sexp_keys.specs.declared.algorithm.Algorithm.{Algorithm}
-use Rattle.sexp_keys.specs.declared.algorithm.Algorithm.TheVariants.{Rsa, Dsa, Elg, Ecc}
+use Rattle.sexp_keys.specs.{Names.{public_names, secret_names, protected_name, time_name}, declared.algorithm.Algorithm.{Algorithm, TheVariants.{Rsa, Dsa, Elg, Ecc}}}
 
 abbrev pub is_atom : Tree → Bool
 is_atom (leaf bytes) = true

@@ -4,8 +4,7 @@
 
 ghost use Rattle.std.specs.Prelude.{◌≡◌, ◌⊎◌, ◌↔◌, Result, IfOk, IfErr, IsSome, IfSome, IsTrue};
 ghost use Rattle.sexp_canonical.specs.View.{tree_of, trees};
-ghost use Rattle.sexp_keys.specs.Key.{Key, IsKey, clear_with};
-ghost use Rattle.sexp_keys.specs.Parameters.{are_secret};
+ghost use Rattle.sexp_keys.specs.{Key.{Key, IsKey, clear_with}, Parameters.are_secret};
 ghost use Rattle.sexp_keys.specs.Faults.{ReadsKey, IsFirstKeyFault};
 ghost use Rattle.sexp_keys.specs.declared.fault.KeyFault.{KeyFault};
 

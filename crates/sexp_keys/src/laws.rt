@@ -4,8 +4,7 @@
 
 ghost use Rattle.std.specs.Prelude.{◌≡◌, Result};
 ghost use Rattle.sexp_canonical.specs.Tree.{Tree};
-ghost use Rattle.sexp_keys.specs.Key.{Key, IsFormed, IsKey, key_tree};
-ghost use Rattle.sexp_keys.specs.Faults.{ReadsKey};
+ghost use Rattle.sexp_keys.specs.{Key.{Key, IsFormed, IsKey, key_tree}, Faults.ReadsKey};
 ghost use Rattle.sexp_keys.specs.declared.fault.KeyFault.{KeyFault};
 
 /// A law: an expression has one answer at most. It is one key, or has one first fault, and not

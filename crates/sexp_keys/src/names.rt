@@ -3,11 +3,9 @@
 //! `specs/Faults` the fault.
 
 ghost use Rattle.std.specs.Prelude.{◌≡◌, ◌∷◌, Some, IfOk, IfErr};
-ghost use Rattle.sexp_canonical.specs.Tree.{leaf};
-ghost use Rattle.sexp_canonical.specs.View.{tree_of, trees};
+ghost use Rattle.sexp_canonical.specs.{Tree.leaf, View.{tree_of, trees}};
 ghost use Rattle.sexp_keys.specs.Names.{algorithm_name, form_name};
-ghost use Rattle.sexp_keys.specs.Faults.{form_fault, name_fault, named_fault};
-ghost use Rattle.sexp_keys.specs.Named.{HasNames};
+ghost use Rattle.sexp_keys.specs.{Faults.{form_fault, name_fault, named_fault}, Named.HasNames};
 
 use crate::algorithm::Algorithm;
 use crate::fault::KeyFault;

@@ -2,10 +2,8 @@
 //! Begin with `parts_of`; most functions are their namesakes in `specs/Parameters`, and `AreParts`
 //! stands in `specs/Named`.
 
-ghost use Rattle.std.specs.Prelude.{◌≡◌, List, map, IfSome, IfNone};
-ghost use Rattle.std.specs.List.{list_all};
-ghost use Rattle.sexp_canonical.specs.Tree.{Tree};
-ghost use Rattle.sexp_canonical.specs.View.{tree_of, trees};
+ghost use Rattle.std.specs.{Prelude.{◌≡◌, List, map, IfSome, IfNone}, List.list_all};
+ghost use Rattle.sexp_canonical.specs.{Tree.Tree, View.{tree_of, trees}};
 ghost use Rattle.sexp_keys.specs.Named.{ends_with_time, private_count, AreParts};
 ghost use Rattle.sexp_keys.specs.Parameters.{is_atom, is_list, has_name, is_parameter};
 ghost use Rattle.sexp_keys.specs.Parameters.{is_parameter_len, is_named, are_named};

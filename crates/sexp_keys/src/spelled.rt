@@ -3,11 +3,8 @@
 //! list is.
 
 ghost use Rattle.std.specs.Prelude.{◌≡◌, ◌<◌, ◌≤◌, ◌∷◌, ◌++◌, length, IfOk, IfNone, IfSome, OnOk};
-ghost use Rattle.std.specs.Prelude.{IsTrue};
-ghost use Rattle.std.specs.Option.{option_copied};
-ghost use Rattle.std.specs.List.{flat_map};
-ghost use Rattle.sexp_canonical.specs.Tree.{leaf, list_of};
-ghost use Rattle.sexp_canonical.specs.View.{trees};
+ghost use Rattle.std.specs.{Prelude.IsTrue, Option.option_copied, List.flat_map};
+ghost use Rattle.sexp_canonical.specs.{Tree.{leaf, list_of}, View.trees};
 ghost use Rattle.sexp_canonical.specs.Spelling.{most_bytes, most_depth, depth, spelling};
 ghost use Rattle.sexp_keys.specs.Names.{form_name};
 ghost use Rattle.sexp_keys.specs.Key.{IsFormed, algorithm_list, key_tree, protected_with};

@@ -1,7 +1,5 @@
 -- What reads and writes of known bytes, one after another, come to.
-use Rattle.std.proofs.Common.{◌≡◌, ℕ, ◌+◌, ◌-◌, List, [], ◌++◌, length, take, drop, Option, Some, None, refl, ap, sym, ◌∙◌, arith, append_assoc}
-use Rattle.std.proofs.lemmas.List.{take_all, length-drop}
-use Rattle.std.proofs.Math.Seq.{take-add}
+use Rattle.std.proofs.{Common.{◌≡◌, ℕ, ◌+◌, ◌-◌, List, [], ◌++◌, length, take, drop, Option, Some, None, refl, ap, sym, ◌∙◌, arith, append_assoc}, lemmas.List.{take_all, length-drop}, Math.Seq.take-add}
 use Rattle.std.specs.Io.KnownBytes.{Keeps, Appends, Consumes}
 
 pub keeps_on : (first mid last : Option (List ℕ)) → Keeps first mid → Keeps mid last → Keeps first last

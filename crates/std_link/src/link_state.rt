@@ -3,8 +3,7 @@
 //! with `LinkState::read` and `LinkState::put`, which both adapters call.
 
 ghost use Rattle.std.specs.Prelude.{◌≡◌, ◌≤◌, ◌<◌, ◌↔◌, ◌⊎◌, true, false, length, take, IfSome};
-ghost use Rattle.std.specs.Prelude.{IfNone};
-ghost use Rattle.std.specs.Io.KnownBytes.{Keeps, Appends, Consumes, IsAtEnd};
+ghost use Rattle.std.specs.{Prelude.IfNone, Io.KnownBytes.{Keeps, Appends, Consumes, IsAtEnd}};
 ghost use Rattle.agent_ports.specs.Counts.{Rose};
 ghost use Rattle.agent_ports.specs.Sides.{taken_by, IfBytes, sent_part, IfCut, IsCut};
 

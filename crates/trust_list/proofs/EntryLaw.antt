@@ -1,20 +1,10 @@
 -- A line is judged so exactly where it is an entry that is written so.
 use Rattle.std.proofs.Common.{◌≡◌, ◌≤◌, ◌==◌, ℕ, Bool, true, false, cond, ◌||◌, List, [], ◌∷◌, ◌++◌, length, map, Some, None, refl, sym, ap, subst, ◌∙◌, arith, inl, inr}
-use Rattle.std.specs.Prelude.{codes, not}
-use Rattle.std.specs.Char.{to_ascii_uppercase}
-use Rattle.std.specs.List.{All, filter, list_all}
-use Rattle.std.specs.Str.{bytes_eq}
-use Rattle.std.proofs.lemmas.Bool.{and_from, and_parts, both_ways, cases_Bool, eqb-true, false_from_ne_true, or_cases}
-use Rattle.std.proofs.lemmas.List.Elements.{All-cons, All-nil}
-use Rattle.std.proofs.lemmas.List.Sums.{AllPass-from_list_all, list_all-from_AllPass}
-use Rattle.std.proofs.lemmas.Slice.Eq.{bytes_eq-Decides}
-use Rattle.assuan_text.specs.Blanks.{is_blank}
-use Rattle.assuan_text.specs.Words.{words}
-use Rattle.trust_list.specs.Entries.{capital_digits, first_word_judgement, is_colon, is_flag, is_in_pairs, judgement_of, spells}
-use Rattle.trust_list.specs.Written.{EndsWord, InPairs, IsEntry, IsFirstWord, IsFlag, IsSpelled, joined, last, parted}
-use Rattle.trust_list.proofs.LineWords.{HasWord_from_words, words_blanks, words_word}
-use Rattle.trust_list.proofs.NewEntries.{AreDigits, is_plain, IsPlain_from_test}
-use Rattle.trust_list.proofs.Pairs.{InPairs_from_test, is_in_pairs_written}
+use Rattle.std.proofs.lemmas.{Bool.{and_from, and_parts, both_ways, cases_Bool, eqb-true, false_from_ne_true, or_cases}, List.{Elements.{All-cons, All-nil}, Sums.{AllPass-from_list_all, list_all-from_AllPass}}, Slice.Eq.bytes_eq-Decides}
+use Rattle.std.specs.{Prelude.{codes, not}, Char.to_ascii_uppercase, List.{All, filter, list_all}, Str.bytes_eq}
+use Rattle.assuan_text.specs.{Blanks.is_blank, Words.words}
+use Rattle.trust_list.specs.{Entries.{capital_digits, first_word_judgement, is_colon, is_flag, is_in_pairs, judgement_of, spells}, Written.{EndsWord, InPairs, IsEntry, IsFirstWord, IsFlag, IsSpelled, joined, last, parted}}
+use Rattle.trust_list.proofs.{LineWords.{HasWord_from_words, words_blanks, words_word}, NewEntries.{AreDigits, is_plain, IsPlain_from_test}, Pairs.{InPairs_from_test, is_in_pairs_written}}
 
 -- ---- a spelling has no blank, and no `!` in front
 

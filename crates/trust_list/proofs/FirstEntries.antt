@@ -1,13 +1,8 @@
 -- The first entry for a fingerprint is the first line that says something of it.
-use Rattle.std.proofs.Common.{◌≡◌, ◌++◌, ℕ, Bool, List, [], ◌∷◌, Option, Some, None, refl, ap, ◌∙◌}
-use Rattle.std.specs.Prelude.{slice_get}
+use Rattle.std.{proofs.{Common.{◌≡◌, ◌++◌, ℕ, Bool, List, [], ◌∷◌, Option, Some, None, refl, ap, ◌∙◌}, lemmas.List.Elements.{All-cons, All-head, All-nil, All-tail, filter_map-append}}, specs.Prelude.slice_get}
 use Rattle.std.specs.List.{All, cons_option, filter_map}
-use Rattle.std.proofs.lemmas.List.Elements.{All-cons, All-head, All-nil, All-tail, filter_map-append}
 use Rattle.assuan_text.specs.Words.{words}
-use Rattle.trust_list.specs.Entries.{judgement_of}
-use Rattle.trust_list.specs.Written.{FirstEntry, IsSilent}
-use Rattle.trust_list.proofs.EntryLaw.{IsEntry_from_judgement, judgement_written}
-use Rattle.trust_list.proofs.NewEntries.{AreDigits}
+use Rattle.trust_list.{specs.{Entries.judgement_of, Written.{FirstEntry, IsSilent}}, proofs.{EntryLaw.{IsEntry_from_judgement, judgement_written}, NewEntries.AreDigits}}
 
 module _ (digits : List ℕ) (are : AreDigits digits) where
   abbrev judge : List ℕ → Option Bool

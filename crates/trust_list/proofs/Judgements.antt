@@ -1,9 +1,6 @@
 -- The first of what the lines say, one line after the other.
-use Rattle.std.proofs.Common.{◌≡◌, ◌<◌, ℕ, zero, suc, true, false, List, [], ◌∷◌, ◌++◌, length, map, take, get_or, Option, Some, None, refl, sym, ap, ◌∙◌, arith}
-use Rattle.std.specs.Prelude.{slice_get, is_some}
-use Rattle.std.proofs.lemmas.List.{map-append}
-use Rattle.std.proofs.lemmas.List.Elements.{filter_map-append}
-use Rattle.std.specs.List.{filter_map, cons_option}
+use Rattle.std.proofs.{Common.{◌≡◌, ◌<◌, ℕ, zero, suc, true, false, List, [], ◌∷◌, ◌++◌, length, map, take, get_or, Option, Some, None, refl, sym, ap, ◌∙◌, arith}, lemmas.List.{map-append, Elements.filter_map-append}}
+use Rattle.std.specs.{Prelude.{slice_get, is_some}, List.{filter_map, cons_option}}
 
 silent : {Y : Type 0} (judgement : Option Y) (judgements : List Y) → cons_option judgement judgements ≡ [] → (judgement ≡ None) × (judgements ≡ [])
 silent None judgements none = (refl, none)

@@ -1,11 +1,6 @@
 -- What is appended to a file whose last line has its end is read as lines of its own.
-use Rattle.std.proofs.Common.{◌≡◌, ◌-◌, ◌≤◌, ℕ, suc, Bool, true, false, cond, List, [], ◌∷◌, ◌++◌, length, Option, Some, None, refl, sym, ap, ◌∙◌, arith, append_assoc}
-use Rattle.std.specs.Prelude.{slice_get}
-use Rattle.std.specs.List.{filter_map, cons_option, slice_split, onto_first}
-use Rattle.std.specs.Option.{option_map_or}
-use Rattle.std.proofs.lemmas.List.{append-nil}
-use Rattle.std.proofs.lemmas.List.Elements.{filter_map-append}
-use Rattle.std.proofs.lemmas.List.Splits.{slice_split-cons_yes, length-slice_split}
+use Rattle.std.proofs.{Common.{◌≡◌, ◌-◌, ◌≤◌, ℕ, suc, Bool, true, false, cond, List, [], ◌∷◌, ◌++◌, length, Option, Some, None, refl, sym, ap, ◌∙◌, arith, append_assoc}, lemmas.List.{append-nil, Elements.filter_map-append}}
+use Rattle.std.{proofs.lemmas.List.Splits.{slice_split-cons_yes, length-slice_split}, specs.{Prelude.slice_get, List.{filter_map, cons_option, slice_split, onto_first}, Option.option_map_or}}
 use Rattle.assuan_text.specs.LineEnds.{is_lf}
 use Rattle.trust_list.specs.Trust.{missing_end}
 

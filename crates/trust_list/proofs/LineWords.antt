@@ -1,12 +1,7 @@
 -- The words of a line, and where they stand in it.
-use Rattle.std.proofs.Common.{◌≡◌, ◌≤◌, ℕ, true, false, cond, List, [], ◌∷◌, ◌++◌, length, refl, sym, ap, ◌∙◌, arith, inl, inr, append-nil}
-use Rattle.std.specs.Prelude.{nat_le}
-use Rattle.std.specs.List.{All, filter, list_all, slice_split}
-use Rattle.std.proofs.lemmas.Bool.{and_from, and_parts, cases_Bool, le-leb}
-use Rattle.std.proofs.lemmas.List.Elements.{All-cons, All-nil}
-use Rattle.std.proofs.lemmas.List.Splits.{slice_split-cons_yes, slice_split_at, slice_split_none}
-use Rattle.assuan_text.specs.Blanks.{is_blank}
-use Rattle.assuan_text.specs.Words.{words}
+use Rattle.std.proofs.{Common.{◌≡◌, ◌≤◌, ℕ, true, false, cond, List, [], ◌∷◌, ◌++◌, length, refl, sym, ap, ◌∙◌, arith, inl, inr, append-nil}, lemmas.{Bool.{and_from, and_parts, cases_Bool, le-leb}, List.Elements.{All-cons, All-nil}}}
+use Rattle.std.{proofs.lemmas.List.Splits.{slice_split-cons_yes, slice_split_at, slice_split_none}, specs.{Prelude.nat_le, List.{All, filter, list_all, slice_split}}}
+use Rattle.assuan_text.{specs.{Blanks.is_blank, Words.words}, proofs.WordLemmas.words_blank}
 use Rattle.trust_list.specs.Written.{EndsWord}
 
 abbrev AreNotBlank : List ℕ → Type 0
@@ -17,9 +12,6 @@ filled parts = filter (λ word. nat_le 1 (length word)) parts
 
 kept : (word : List ℕ) (parts : List (List ℕ)) → 1 ≤ length word → filled (word ∷ parts) ≡ word ∷ filled parts
 kept word parts some = ap (λ b. cond b (word ∷ filled parts) (filled parts)) (le-leb 1 (length word) some)
-
-words_blank : (byte : ℕ) (text : List ℕ) → is_blank byte ≡ true → words (byte ∷ text) ≡ words text
-words_blank byte text blank = ap filled (slice_split-cons_yes is_blank byte text blank)
 
 pub words_blanks : (front text : List ℕ) → list_all is_blank front ≡ true → words (front ++ text) ≡ words text
 words_blanks [] text blank = refl

@@ -1,23 +1,9 @@
 -- What a new entry says, and of whom.
-use Rattle.std.proofs.Common.{◌≡◌, ◌≢◌, ◌/◌, ◌%◌, ◌==◌, ℕ, zero, suc, Bool, true, false, cond, ◌&&◌, List, [], ◌∷◌, ◌++◌, length, map, Option, Some, None}
-use Rattle.std.proofs.Common.{refl, sym, ap, ap₂, ◌∙◌, inl, inr, slice_index, append_assoc, arith}
-use Rattle.std.specs.Prelude.{not, nat_le}
-use Rattle.std.specs.Char.{to_ascii_uppercase}
-use Rattle.std.specs.List.{All, list_all, filter, filter_map, cons_option, slice_split}
-use Rattle.std.specs.Str.{bytes_eq}
-use Rattle.std.proofs.lemmas.Bool.{and_parts, eqb-true, false_from_ne_true, not-true}
-use Rattle.std.proofs.lemmas.List.Elements.{All-weaker, All-append, All-cons, All-nil}
-use Rattle.std.proofs.lemmas.List.Splits.{slice_split_none, slice_split_at}
-use Rattle.std.proofs.lemmas.List.Sums.{AllPass-from_list_all}
-use Rattle.std.proofs.lemmas.Slice.Eq.{bytes_eq-Decides}
-use Rattle.hex.specs.Hex.{IsBytes, decode_of, encode_upper, encode_with, upper_digits}
-use Rattle.hex.proofs.HexLemmas.{decode_of-encode_upper, length-encode_with}
-use Rattle.assuan_text.specs.Blanks.{is_blank}
-use Rattle.assuan_text.specs.LineEnds.{is_lf}
-use Rattle.assuan_text.specs.Words.{words}
-use Rattle.trust_list.specs.Entries.{are_pairs, capital_digits, is_colon, is_flag, is_in_pairs, first_word_judgement, judgement_of, spells}
-use Rattle.trust_list.specs.Trust.{entry, IsNewFlag, judgements, with_entry}
-use Rattle.trust_list.proofs.LastLines.{judgements_append}
+use Rattle.std.proofs.Common.{◌≡◌, ◌≢◌, ◌/◌, ◌%◌, ◌==◌, ℕ, zero, suc, Bool, true, false, cond, ◌&&◌, List, [], ◌∷◌, ◌++◌, length, map, Option, Some, None, refl, sym, ap, ap₂, ◌∙◌, inl, inr, slice_index, append_assoc, arith}
+use Rattle.std.proofs.lemmas.{Bool.{and_parts, eqb-true, false_from_ne_true, not-true}, List.{Elements.{All-weaker, All-append, All-cons, All-nil}, Splits.{slice_split_none, slice_split_at}, Sums.AllPass-from_list_all}}
+use Rattle.std.{proofs.lemmas.Slice.Eq.bytes_eq-Decides, specs.{Prelude.{not, nat_le}, Char.to_ascii_uppercase, List.{All, list_all, filter, filter_map, cons_option, slice_split}, Str.bytes_eq}}
+use Rattle.{hex.{specs.Hex.{IsBytes, decode_of, encode_upper, encode_with, upper_digits}, proofs.HexLemmas.{decode_of-encode_upper, length-encode_with}}, assuan_text.specs.{Blanks.is_blank, LineEnds.is_lf, Words.words}}
+use Rattle.trust_list.{specs.{Entries.{are_pairs, capital_digits, is_colon, is_flag, is_in_pairs, first_word_judgement, judgement_of, spells}, Trust.{entry, IsNewFlag, judgements, with_entry}}, proofs.LastLines.judgements_append}
 
 -- no colon, blank, line feed or `!`, and no lowercase letter
 abbrev pub is_plain : ℕ → Bool

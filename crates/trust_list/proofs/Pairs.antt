@@ -1,12 +1,7 @@
 -- Digits are in pairs exactly where what stands between the colons is.
-use Rattle.std.proofs.Common.{◌≡◌, ◌≤◌, ◌%◌, ◌==◌, ℕ, true, false, List, [], ◌∷◌, length, refl, sym, ap, ◌∙◌, arith, inl, inr}
-use Rattle.std.specs.Prelude.{nat_le}
-use Rattle.std.specs.List.{list_all, slice_split, onto_first}
-use Rattle.std.proofs.lemmas.Bool.{and_parts, and_from, both_ways, cases_Bool, eq-eqb, eqb-true, false_from_ne_true, le-leb}
-use Rattle.std.proofs.lemmas.List.Splits.{slice_split-cons_no, slice_split-cons_yes}
-use Rattle.trust_list.specs.Entries.{are_pairs, is_colon, is_in_pairs}
-use Rattle.trust_list.specs.Written.{InPairs, last, joined, parted}
-use Rattle.trust_list.proofs.LastLines.{some_part}
+use Rattle.std.proofs.{Common.{◌≡◌, ◌≤◌, ◌%◌, ◌==◌, ℕ, true, false, List, [], ◌∷◌, length, refl, sym, ap, ◌∙◌, arith, inl, inr}, lemmas.Bool.{and_parts, and_from, both_ways, cases_Bool, eq-eqb, eqb-true, false_from_ne_true, le-leb}}
+use Rattle.std.{proofs.lemmas.List.Splits.{slice_split-cons_no, slice_split-cons_yes}, specs.{Prelude.nat_le, List.{list_all, slice_split, onto_first}}}
+use Rattle.trust_list.{specs.{Entries.{are_pairs, is_colon, is_in_pairs}, Written.{InPairs, last, joined, parted}}, proofs.LastLines.some_part}
 
 abbrev parts_of : List ℕ → List (List ℕ)
 parts_of word = slice_split is_colon word

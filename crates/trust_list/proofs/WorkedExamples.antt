@@ -1,8 +1,6 @@
 -- The definitions on worked examples, each by computation.
-use Rattle.std.proofs.Common.{◌≡◌, ℕ, true, false, List, [], ◌∷◌, ◌++◌, length, replicate, Some, None, refl, ap, arith, length-append}
-use Rattle.std.specs.Prelude.{codes}
-use Rattle.hex.specs.Hex.{encode_with, upper_digits}
-use Rattle.hex.proofs.HexLemmas.{length-encode_with}
+use Rattle.std.{proofs.Common.{◌≡◌, ℕ, true, false, List, [], ◌∷◌, ◌++◌, length, replicate, Some, None, refl, ap, arith, length-append}, specs.Prelude.codes}
+use Rattle.hex.{specs.Hex.{encode_with, upper_digits}, proofs.HexLemmas.length-encode_with}
 use Rattle.trust_list.specs.Trust.{entry, missing_end, trust, with_entry}
 
 -- the fingerprint of forty times `A`

@@ -2,10 +2,7 @@
 -- colons may separate bytes, behind `!` if it is marked as not trusted; then a flag; then what this agent passes over. All else is no
 -- entry, and so are comments and empty lines. That `!` stands right before the fingerprint, and that a flag is a capital letter or the
 -- star, is this project's own rule.
-use Rattle.std.specs.Prelude.{ℕ, ◌==◌, ◌%◌, nat_le, ◌||◌, ◌&&◌, not, Bool, true, false, List, [], ◌∷◌, length, map, filter, codes, Option, Some, None, if◌then◌else◌}
-use Rattle.std.specs.List.{list_all, slice_split}
-use Rattle.std.specs.Char.{to_ascii_uppercase}
-use Rattle.std.specs.Str.{bytes_eq}
+use Rattle.std.specs.{Prelude.{ℕ, ◌==◌, ◌%◌, nat_le, ◌||◌, ◌&&◌, not, Bool, true, false, List, [], ◌∷◌, length, map, filter, codes, Option, Some, None, if◌then◌else◌}, List.{list_all, slice_split}, Char.to_ascii_uppercase, Str.bytes_eq}
 
 abbrev pub is_colon : ℕ → Bool
 is_colon byte = byte == 58

@@ -1,11 +1,7 @@
 -- What the file says of a fingerprint (GnuPG manual, "Agent Configuration", `trustlist.txt`). That its first entry decides, and how
 -- long the file may be, is this project's own rule.
-use Rattle.std.specs.Prelude.{ℕ, ◌-◌, Bool, true, List, [], ◌∷◌, ◌++◌, length, slice_get, ◌⊎◌, ◌≡◌, Option, if◌then◌else◌}
-use Rattle.std.specs.List.{slice_split, filter_map}
-use Rattle.std.specs.Option.{option_map_or}
-use Rattle.hex.specs.Hex.{encode_upper}
-use Rattle.assuan_text.specs.LineEnds.{is_lf}
-use Rattle.assuan_text.specs.Words.{words}
+use Rattle.std.specs.{Prelude.{ℕ, ◌-◌, Bool, true, List, [], ◌∷◌, ◌++◌, length, slice_get, ◌⊎◌, ◌≡◌, Option, if◌then◌else◌}, List.{slice_split, filter_map}, Option.option_map_or}
+use Rattle.{hex.specs.Hex.encode_upper, assuan_text.specs.{LineEnds.is_lf, Words.words}}
 use Rattle.trust_list.specs.Entries.{judgement_of}
 
 -- all that the lines say of the fingerprint, in their order

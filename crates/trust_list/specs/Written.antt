@@ -1,6 +1,5 @@
 -- How an entry is written, apart from how it is read (GnuPG manual, "Agent Configuration", `trustlist.txt`).
-use Rattle.std.specs.Prelude.{◌≡◌, ◌⊎◌, ℕ, ◌≤◌, Bool, true, false, List, [], ◌∷◌, ◌++◌, length}
-use Rattle.std.specs.List.{All, AllPass}
+use Rattle.std.specs.{Prelude.{◌≡◌, ◌⊎◌, ℕ, ◌≤◌, Bool, true, false, List, [], ◌∷◌, ◌++◌, length}, List.{All, AllPass}}
 use Rattle.assuan_text.specs.Blanks.{is_blank}
 use Rattle.trust_list.specs.Entries.{capital_digits, is_colon}
 

@@ -4,11 +4,9 @@
 
 ghost use Rattle.std.specs.Prelude.{◌≡◌, ◌≢◌, ◌↔◌, ℕ, List, Bool, true, length, Some, None};
 ghost use Rattle.std.specs.List.{All, slice_split};
-ghost use Rattle.hex.specs.Hex.{IsBytes, encode_upper};
-ghost use Rattle.assuan_text.specs.LineEnds.{is_lf};
+ghost use Rattle.{hex.specs.Hex.{IsBytes, encode_upper}, assuan_text.specs.LineEnds.is_lf};
 ghost use Rattle.assuan_text.specs.Words.{words};
-ghost use Rattle.trust_list.specs.Entries.{judgement_of};
-ghost use Rattle.trust_list.specs.Trust.{IsNewFlag, trust, with_entry};
+ghost use Rattle.trust_list.specs.{Entries.judgement_of, Trust.{IsNewFlag, trust, with_entry}};
 ghost use Rattle.trust_list.specs.Written.{FirstEntry, IsEntry, IsSilent};
 
 /// A law: a line says that a fingerprint is trusted, or that it isn't, exactly where it is an entry

@@ -1,8 +1,7 @@
 //! What one line of the file says. Pure, over slices. Begin with `judgement_of`; each function is
 //! its namesake in `specs/Entries`, over the line's words.
 
-ghost use Rattle.std.specs.Prelude.{◌≡◌};
-ghost use Rattle.std.specs.Str.{bytes_eq};
+ghost use Rattle.std.specs.{Prelude.◌≡◌, Str.bytes_eq};
 ghost use Rattle.assuan_text.specs.Words.{words};
 ghost use Rattle.trust_list.specs.Entries.{are_pairs, capital_digits, first_word_judgement};
 ghost use Rattle.trust_list.specs.Entries.{is_flag, is_in_pairs, judgement_of, spells};

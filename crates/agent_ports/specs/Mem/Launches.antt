@@ -1,14 +1,7 @@
 -- The children of a launcher in memory, from its fields.
-use Rattle.std.specs.Prelude.{ℕ, List, [], ◌∷◌, map, drop, Option, Some, None, Box, Vec}
-use Rattle.std.specs.declared.alloc.Global.{Global}
-use Rattle.agent_ports.specs.Launches.{Finished}
-use Rattle.agent_ports.specs.Mem.Plans.{OpenLink, plan_of, read_plan, write_plan, open_link, planned_link}
-use Rattle.agent_ports.specs.Plans.{Plan}
-use Rattle.agent_ports.specs.declared.mem.launcher.MemChild.{MemChild}
-use Rattle.agent_ports.specs.declared.mem.launcher.MemLauncher.{MemLauncher}
-use Rattle.agent_ports.specs.declared.mem.link.MemLink.{MemLink}
-use Rattle.agent_ports.specs.declared.mem.link.PlannedLink.{PlannedLink}
-use Rattle.agent_ports.specs.declared.mem.launcher.Place.{Place, Place', Held-Place-earlier, None', Some', out-Place}
+use Rattle.std.specs.{Prelude.{ℕ, List, [], ◌∷◌, map, drop, Option, Some, None, Box, Vec}, declared.alloc.Global.Global}
+use Rattle.agent_ports.specs.{Launches.Finished, Mem.Plans.{OpenLink, plan_of, read_plan, write_plan, open_link, planned_link}, Plans.Plan, declared.mem.launcher.{MemChild.MemChild, MemLauncher.MemLauncher}}
+use Rattle.agent_ports.specs.declared.mem.{launcher.Place.{Place, Place', Held-Place-earlier, None', Some', out-Place}, link.{MemLink.MemLink, PlannedLink.PlannedLink}}
 
 -- all the bytes that each child gives
 abbrev pub gives_of : List PlannedLink → List (List ℕ)

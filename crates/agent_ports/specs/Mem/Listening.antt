@@ -1,12 +1,7 @@
 -- The links of a listener in memory, from its fields.
 use Rattle.std.specs.Prelude.{ℕ, ◌+◌, ◌-◌, ◌^◌, min, Bool, true, false, List, map, vec_capacity}
-use Rattle.agent_ports.specs.declared.listener.Next.{Next}
-use Rattle.agent_ports.specs.declared.listener.Next.TheVariants.{Link, Failed, Stopped}
-use Rattle.agent_ports.specs.declared.mem.link.MemLink.{MemLink}
-use Rattle.agent_ports.specs.declared.mem.listener.MemEar.{MemEar}
-use Rattle.agent_ports.specs.Plans.{Plan}
+use Rattle.agent_ports.specs.{declared.{listener.Next.{Next, TheVariants.{Link, Failed, Stopped}}, mem.{link.MemLink.MemLink, listener.{MemEar.MemEar, ListedLinks.ListedLinks}}}, Plans.Plan}
 use Rattle.agent_ports.specs.Mem.Plans.{OpenLink, plan_of, planned_link, written_text}
-use Rattle.agent_ports.specs.declared.mem.listener.ListedLinks.{ListedLinks}
 
 -- one more, up to the last count
 abbrev pub one_more : ℕ → ℕ

@@ -1,14 +1,6 @@
 -- The plans of the forms in memory, from their fields.
 use Rattle.std.specs.Prelude.{ℕ, List, [], Some, drop, max}
-use Rattle.agent_ports.specs.Sides.{Side}
-use Rattle.agent_ports.specs.Plans.{Plan}
-use Rattle.agent_ports.specs.declared.fault_plan.FaultPlan.{FaultPlan}
-use Rattle.agent_ports.specs.declared.mem.dice.ListDice.{ListDice}
-use Rattle.agent_ports.specs.declared.mem.keys.MapKeys.{MapKeys}
-use Rattle.agent_ports.specs.declared.mem.link.MemSource.{MemSource}
-use Rattle.agent_ports.specs.declared.mem.link.MemSink.{MemSink}
-use Rattle.agent_ports.specs.declared.mem.link.MemLink.{MemLink}
-use Rattle.agent_ports.specs.declared.mem.link.PlannedLink.{PlannedLink}
+use Rattle.agent_ports.specs.{Sides.Side, Plans.Plan, declared.{fault_plan.FaultPlan.FaultPlan, mem.{dice.ListDice.ListDice, keys.MapKeys.MapKeys, link.{MemSource.MemSource, MemSink.MemSink, MemLink.MemLink, PlannedLink.PlannedLink}}}}
 use Rattle.agent_ports.specs.declared.mem.trust.MemTrust.{MemTrust}
 
 -- calls of which some are to fail, with bytes of this size

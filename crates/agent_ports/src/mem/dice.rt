@@ -45,8 +45,7 @@ impl ListDice {
 }
 
 impl Dice for ListDice {
-    ghost use Rattle.agent_ports.specs.Draws.{IsDrawn};
-    ghost use Rattle.agent_ports.specs.Mem.Plans.{dice_plan};
+    ghost use Rattle.agent_ports.specs.{Draws.IsDrawn, Mem.Plans.dice_plan};
     ghost use Rattle.agent_ports.specs.Plans.{Fails, after_call};
 
     ghost draws = { λ d.

@@ -53,9 +53,8 @@ pub struct MapKeys {
 }
 
 impl MapKeys {
+    ghost use Rattle.agent_ports.specs.Mem.{Keys.inserted, Plans.keys_plan};
     ghost use Rattle.std.specs.FinMap as map;
-    ghost use Rattle.agent_ports.specs.Mem.Keys.{inserted};
-    ghost use Rattle.agent_ports.specs.Mem.Plans.{keys_plan};
 
     /// No files yet. It takes no memory.
     pub fn new(alloc: Global, failing: Vec<u64>) -> Self
@@ -95,8 +94,7 @@ impl MapKeys {
 
 impl Keys for MapKeys {
     ghost use Rattle.agent_ports.specs.KeyFiles.{ReadsKey, ListsKeys, ReplacesKey, RemovesKey};
-    ghost use Rattle.agent_ports.specs.Mem.Keys.{files_of};
-    ghost use Rattle.agent_ports.specs.Mem.Plans.{keys_plan};
+    ghost use Rattle.agent_ports.specs.Mem.{Keys.files_of, Plans.keys_plan};
     ghost use Rattle.agent_ports.specs.Plans.{Fails, after_call};
 
     ghost keys = { λ k.

@@ -5,17 +5,14 @@
 
 ghost use Rattle.std.specs.Prelude.{◌≡◌, ◌<◌, ◌≤◌, ◌+◌, ◌↔◌, ◌⊎◌, ◌∷◌, [], Some, None, IfSome};
 ghost use Rattle.std.specs.Prelude.{IsNone, MatchOption, length, map, min, reverse, slice_get};
-ghost use Rattle.std.specs.Prelude.{take, refl};
-ghost use Rattle.std.specs.Option.{option_map};
+ghost use Rattle.std.specs.{Prelude.{take, refl}, Option.option_map};
 ghost use Rattle.agent_ports.specs.Counts.{Rose, RoseBy};
 ghost use Rattle.agent_ports.specs.Launches.{IsFresh, child_then, then_launched, then_finished};
 ghost use Rattle.agent_ports.specs.Mem.Launches.{gives_of, programs_of, latest_of, latest_first};
 ghost use Rattle.agent_ports.specs.Mem.Launches.{coming_children, open_child, launch_plan};
-ghost use Rattle.agent_ports.specs.Mem.Plans.{planned_link};
-ghost use Rattle.agent_ports.specs.Plans.{Fails, after_call};
+ghost use Rattle.agent_ports.specs.{Mem.Plans.planned_link, Plans.{Fails, after_call}};
 ghost use Rattle.agent_ports.specs.Sides.{followed_by, with_bytes, taken_by, IfBytes, sent_part};
-ghost use Rattle.agent_ports.specs.Sides.{IfCut, IsCut};
-ghost use Rattle.agent_ports.specs.declared.mem.launcher.Place.{out-Place};
+ghost use Rattle.agent_ports.specs.{Sides.{IfCut, IsCut}, declared.mem.launcher.Place.out-Place};
 
 use crate::fault_plan::FaultPlan;
 use crate::{Got, Launcher, Link, MemLink, MemSink, MemSource, PlannedLink, Sent, Sink, Source};

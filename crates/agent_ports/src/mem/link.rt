@@ -4,8 +4,7 @@
 
 ghost use Rattle.std.specs.Prelude.{◌≡◌, ◌≤◌, ◌<◌, ◌+◌, ◌^◌, ◌-◌, ◌↔◌, ◌⊎◌, IsTrue, [], length};
 ghost use Rattle.std.specs.Prelude.{take, drop, Some, None, IfSome, vec_len, Contains, min, max};
-ghost use Rattle.std.specs.Prelude.{refl};
-ghost use Rattle.std.specs.Bool.{OnTrue, OnFalse};
+ghost use Rattle.std.specs.{Prelude.refl, Bool.{OnTrue, OnFalse}};
 ghost use Rattle.agent_ports.specs.Counts.{Rose, RoseBy};
 ghost use Rattle.agent_ports.specs.Sides.{Side, followed_by, with_bytes, taken_by, IfBytes};
 ghost use Rattle.agent_ports.specs.Sides.{sent_part, IfCut, IsCut};
@@ -46,8 +45,7 @@ impl MemSource {
 }
 
 impl Source for MemSource {
-    ghost use Rattle.agent_ports.specs.Plans.{Fails, after_call};
-    ghost use Rattle.agent_ports.specs.Mem.Plans.{source_plan};
+    ghost use Rattle.agent_ports.specs.{Plans.{Fails, after_call}, Mem.Plans.source_plan};
 
     ghost input = { λ s.
         record { bytes = Some (drop s.taken s.bytes.items); faults = s.plan.faults } };
@@ -123,8 +121,7 @@ impl MemSink {
 }
 
 impl Sink for MemSink {
-    ghost use Rattle.agent_ports.specs.Plans.{Fails, after_call};
-    ghost use Rattle.agent_ports.specs.Mem.Plans.{sink_plan};
+    ghost use Rattle.agent_ports.specs.{Plans.{Fails, after_call}, Mem.Plans.sink_plan};
 
     ghost output = { λ s. record { bytes = Some s.bytes.items; faults = s.plan.faults } };
 

@@ -3,12 +3,10 @@
 //! counter). Begin with `ListedLinks::next`; definitions begin in `specs/Mem/Listening`.
 
 ghost use Rattle.std.specs.Prelude.{◌≡◌, ◌≤◌, ◌<◌, ◌↔◌, ◌⊎◌, ◌∷◌, ◌++◌, [], ⊤, true, false, IfOk};
-ghost use Rattle.std.specs.Prelude.{map, length, slice_get, vec_len};
-ghost use Rattle.std.specs.Option.{option_map};
-ghost use Rattle.agent_ports.specs.Counts.{Rose};
-ghost use Rattle.agent_ports.specs.Listening.{IfLink, MatchNext, NothingFailed};
-ghost use Rattle.agent_ports.specs.Mem.Listening.{listen_plan, coming_links, ended_texts};
-ghost use Rattle.agent_ports.specs.Mem.Listening.{heard, is_stopped, room, told};
+ghost use Rattle.std.specs.{Prelude.{map, length, slice_get, vec_len}, Option.option_map};
+ghost use Rattle.agent_ports.specs.{Counts.Rose, Listening.{IfLink, MatchNext, NothingFailed}};
+ghost use Rattle.agent_ports.specs.Mem.Listening.{listen_plan, coming_links, ended_texts, heard};
+ghost use Rattle.agent_ports.specs.Mem.Listening.{is_stopped, room, told};
 ghost use Rattle.agent_ports.specs.Mem.Plans.{open_link, planned_link, written_text};
 ghost use Rattle.agent_ports.specs.Plans.{Fails, after_call};
 

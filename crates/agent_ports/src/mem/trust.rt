@@ -2,8 +2,7 @@
 //! planned. No call reaches the system. Begin with `MemTrust::new`; the clauses are those of
 //! `TrustFile` and of the plan (`specs/Plans`).
 
-ghost use Rattle.std.specs.Prelude.{◌≡◌, ◌↔◌, Some, None};
-ghost use Rattle.std.specs.Option.{option_map};
+ghost use Rattle.std.specs.{Prelude.{◌≡◌, ◌↔◌, Some, None}, Option.option_map};
 ghost use Rattle.agent_ports.specs.Mem.Plans.{trust_plan};
 
 use crate::fault_plan::FaultPlan;

@@ -1,8 +1,6 @@
-use Rattle.std.proofs.Common.{◌≡◌, ℕ, List, length, ap, ◌∙◌, sym}
-use Rattle.std.specs.List.{concat}
+use Rattle.std.{proofs.Common.{◌≡◌, ℕ, List, length, ap, ◌∙◌, sym}, specs.List.concat}
 use Rattle.aes_block.specs.Aes.{IsBytes}
-use Rattle.key_wrap.specs.KeyWrap.{initial_value, unwrapped_of, wrapped_of, is_wrapped_length}
-use Rattle.key_wrap.proofs.Undone.{IsPlain, start, is_wrapped_length_wrapped_of, unwrapped_of_wrapped_of, concat_start}
+use Rattle.key_wrap.{specs.KeyWrap.{initial_value, unwrapped_of, wrapped_of, is_wrapped_length}, proofs.Undone.{IsPlain, start, is_wrapped_length_wrapped_of, unwrapped_of_wrapped_of, concat_start}}
 use Rattle.key_wrap.proofs.unwrap.Goals as goal
 
 pub returns-then-not-is_wrapped_len-clause-undoes : goal.returns-then-not-is_wrapped_len-clause-undoes

@@ -1,7 +1,5 @@
-use Rattle.std.proofs.Common.{◌≡◌, ℕ, List, [], length, get_or, drop, ap, ◌∙◌, arith, sym}
-use Rattle.std.proofs.lemmas.List.{take_at, take_all, length-drop}
-use Rattle.key_wrap.specs.KeyWrap.{Registers, unwrap_passes}
-use Rattle.key_wrap.proofs.Steps.{unwrapped_from}
+use Rattle.std.proofs.{Common.{◌≡◌, ℕ, List, [], length, get_or, drop, ap, ◌∙◌, arith, sym}, lemmas.List.{take_at, take_all, length-drop}}
+use Rattle.key_wrap.{specs.KeyWrap.{Registers, unwrap_passes}, proofs.Steps.unwrapped_from}
 use Rattle.key_wrap.proofs.unwrapped_registers.Goals as goal
 
 pub returns-clause-registers : goal.returns-clause-registers

@@ -1,8 +1,5 @@
-use Rattle.std.proofs.Common.{◌≡◌, ℕ, List, ◌++◌, length, subst, ap, ◌∙◌, arith, drop, IfOk}
-use Rattle.std.proofs.lemmas.List.{take_at}
-use Rattle.std.specs.List.{concat}
-use Rattle.key_wrap.specs.KeyWrap.{Registers, initial_value, wrap_passes}
-use Rattle.key_wrap.proofs.Steps.{wrapped_from}
+use Rattle.std.{proofs.{Common.{◌≡◌, ℕ, List, ◌++◌, length, subst, ap, ◌∙◌, arith, drop, IfOk}, lemmas.List.take_at}, specs.List.concat}
+use Rattle.key_wrap.{specs.KeyWrap.{Registers, initial_value, wrap_passes}, proofs.Steps.wrapped_from}
 use Rattle.key_wrap.proofs.wrap.Goals as goal
 
 pub returns-clause-wrapped : goal.returns-clause-wrapped

@@ -1,9 +1,7 @@
-use Rattle.std.proofs.Common.{◌≡◌, ℕ, List, ◌+◌, ◌-◌, ◌%◌, ◌<◌, ◌++◌, max, length, take, ap, subst, sym, ◌∙◌, arith}
 use native.Mathlib.Nat.{mul-zero}
-use Rattle.std.proofs.lemmas.List.{length-append, length-take}
+use Rattle.std.proofs.{Common.{◌≡◌, ℕ, List, ◌+◌, ◌-◌, ◌%◌, ◌<◌, ◌++◌, max, length, take, ap, subst, sym, ◌∙◌, arith}, lemmas.List.{length-append, length-take}}
 use Rattle.sha1.specs.Sha1.{Holds, sha1}
-use Rattle.s2k_derive.specs.S2k.{copies_of}
-use Rattle.s2k_derive.proofs.Repeats.{copies_of_zero, length_repeated, piece_cut, piece_more, piece_last}
+use Rattle.s2k_derive.{specs.S2k.copies_of, proofs.Repeats.{copies_of_zero, length_repeated, piece_cut, piece_more, piece_last}}
 use Rattle.s2k_derive.proofs.derive.Goals as goal
 
 pub pieces-init : goal.pieces-init

@@ -1,12 +1,7 @@
-use Rattle.std.proofs.Common.{List, ℕ, Bool, length, Option, Bor, sym, ap, ◌∙◌, rules, tests}
-use Rattle.std.specs.Prelude.{slice_get, is_some}
-use Rattle.std.proofs.lemmas.Iterator.Consumers.{YieldsList-at, YieldsList-end, YieldsList-so_far, YieldsList-turn}
-use Rattle.std.proofs.lemmas.Iterator.Splits.{YieldsList-from_slice_split}
-use Rattle.std.specs.List.{filter_map, slice_split}
-use Rattle.assuan_text.specs.LineEnds.{is_lf}
-use Rattle.assuan_text.specs.Words.{words}
-use Rattle.trust_list.specs.Entries.{judgement_of}
-use Rattle.trust_list.proofs.Judgements.{first_judgement, silent_after}
+use Rattle.std.proofs.{Common.{List, ℕ, Bool, length, Option, Bor, sym, ap, ◌∙◌, rules, tests}, lemmas.Iterator.{Consumers.{YieldsList-at, YieldsList-end, YieldsList-so_far, YieldsList-turn}, Splits.YieldsList-from_slice_split}}
+use Rattle.std.specs.{Prelude.{slice_get, is_some}, List.{filter_map, slice_split}}
+use Rattle.assuan_text.specs.{LineEnds.is_lf, Words.words}
+use Rattle.trust_list.{specs.Entries.judgement_of, proofs.Judgements.{first_judgement, silent_after}}
 use Rattle.trust_list.proofs.trusted.Goals as goal
 
 -- the first of what the lines say of the fingerprint of these digits

@@ -1,5 +1,4 @@
-use Rattle.std.proofs.Common.{◌≡◌, [], map}
-use Rattle.std.specs.List.{filter_map}
+use Rattle.std.{proofs.Common.{◌≡◌, [], map}, specs.List.filter_map}
 use Rattle.assuan_text.specs.Words.{words}
 use Rattle.trust_list.specs.Entries.{judgement_of}
 use Rattle.trust_list.proofs.trusted.Given as goal

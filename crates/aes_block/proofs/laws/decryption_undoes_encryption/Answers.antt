@@ -1,6 +1,4 @@
-use Rattle.aes_block.proofs.Undone.{decrypted_encrypted, encrypted_bytes}
-use Rattle.aes_block.proofs.Restored.{encrypted_decrypted, decrypted_bytes}
-use Rattle.aes_block.proofs.XorLemmas.{xor_of_twice}
+use Rattle.aes_block.proofs.{Undone.{decrypted_encrypted, encrypted_bytes}, Restored.{encrypted_decrypted, decrypted_bytes}, XorLemmas.xor_of_twice}
 use Rattle.aes_block.proofs.laws.decryption_undoes_encryption.Goals as goal
 
 pub returns-clause-block : goal.returns-clause-block

@@ -1,9 +1,5 @@
-use Rattle.std.proofs.Common.{[], ◌∷◌, slice_index, ap, ◌∙◌}
-use Rattle.std.specs.Int.{w32, to_le_bytes}
-use Rattle.aes_block.specs.Aes.{xor_of}
-use Rattle.aes_block.specs.Columns.{bytes_of}
-use Rattle.aes_block.proofs.Words.{next_words, round_key_from}
-use Rattle.aes_block.proofs.WordBytes.{to_le_bytes_xor, four_words, state_bytes}
+use Rattle.std.{proofs.Common.{[], ◌∷◌, slice_index, ap, ◌∙◌}, specs.Int.{w32, to_le_bytes}}
+use Rattle.aes_block.{specs.{Aes.xor_of, Columns.bytes_of}, proofs.{Words.{next_words, round_key_from}, WordBytes.{to_le_bytes_xor, four_words, state_bytes}}}
 use Rattle.aes_block.proofs.schedule.next_round_key.Goals as goal
 
 pub returns : goal.returns

@@ -1,7 +1,5 @@
-use Rattle.std.proofs.Common.{◌∙◌, ap₂, arith}
-use Rattle.std.specs.Int.Bits.{xor_zero_r}
-use Rattle.aes_block.specs.Aes.{xor_of}
-use Rattle.aes_block.proofs.WordBytes.{to_le_bytes_xor, byte_word}
+use Rattle.std.{proofs.Common.{◌∙◌, ap₂, arith}, specs.Int.Bits.xor_zero_r}
+use Rattle.aes_block.{specs.Aes.xor_of, proofs.WordBytes.{to_le_bytes_xor, byte_word}}
 use Rattle.aes_block.proofs.schedule.turned_word.Goals as goal
 
 pub returns : goal.returns

@@ -1,7 +1,5 @@
 use Rattle.std.proofs.Common.{◌-◌, ◌∙◌, sym, arith, lit<}
-use Rattle.aes_block.specs.Aes.{round_key}
-use Rattle.aes_block.proofs.Words.{round_key_zero}
-use Rattle.aes_block.proofs.WordBytes.{written_more}
+use Rattle.aes_block.{specs.Aes.round_key, proofs.{Words.round_key_zero, WordBytes.written_more}}
 use Rattle.aes_block.proofs.schedule.write_round_keys.Goals as goal
 
 pub loop-round-init : goal.loop-round-init

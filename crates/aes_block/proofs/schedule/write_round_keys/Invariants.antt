@@ -1,5 +1,4 @@
-use Rattle.aes_block.specs.Aes.{round_key}
-use Rattle.aes_block.proofs.WordBytes.{Written}
+use Rattle.aes_block.{specs.Aes.round_key, proofs.WordBytes.Written}
 use Rattle.aes_block.proofs.schedule.write_round_keys.Given as goal
 
 abbrev pub invariant-loop-round : goal.invariant-loop-round

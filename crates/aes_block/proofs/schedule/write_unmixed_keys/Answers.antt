@@ -1,7 +1,5 @@
 use Rattle.std.proofs.Common.{arith, ◌+◌, get_or, []}
-use Rattle.aes_block.specs.Columns.{bytes_of}
-use Rattle.aes_block.specs.Aes.{inv_mix_columns}
-use Rattle.aes_block.proofs.WordBytes.{written_more}
+use Rattle.aes_block.{specs.{Columns.bytes_of, Aes.inv_mix_columns}, proofs.WordBytes.written_more}
 use Rattle.aes_block.proofs.schedule.write_unmixed_keys.Goals as goal
 
 pub loop-round-init : goal.loop-round-init

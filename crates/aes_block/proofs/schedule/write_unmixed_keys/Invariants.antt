@@ -1,7 +1,5 @@
 use Rattle.std.proofs.Common.{◌+◌, get_or, []}
-use Rattle.aes_block.specs.Columns.{bytes_of}
-use Rattle.aes_block.specs.Aes.{inv_mix_columns}
-use Rattle.aes_block.proofs.WordBytes.{Written}
+use Rattle.aes_block.{specs.{Columns.bytes_of, Aes.inv_mix_columns}, proofs.WordBytes.Written}
 use Rattle.aes_block.proofs.schedule.write_unmixed_keys.Given as goal
 
 abbrev pub invariant-loop-round : goal.invariant-loop-round

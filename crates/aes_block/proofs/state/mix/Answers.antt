@@ -1,6 +1,5 @@
 use Rattle.std.proofs.Common.{ℕ, List, ap, ◌∙◌}
-use Rattle.aes_block.specs.Aes.{sub_bytes, shift_rows, mix_column, mix_columns}
-use Rattle.aes_block.proofs.WordBytes.{four_words, state_bytes}
+use Rattle.aes_block.{specs.Aes.{sub_bytes, shift_rows, mix_column, mix_columns}, proofs.WordBytes.{four_words, state_bytes}}
 use Rattle.aes_block.proofs.state.mix.Goals as goal
 
 pub returns : goal.returns

@@ -1,5 +1,4 @@
-use Rattle.aes_block.specs.Aes.{mix_column}
-use Rattle.aes_block.proofs.WordBytes.{column_sum}
+use Rattle.aes_block.{specs.Aes.mix_column, proofs.WordBytes.column_sum}
 use Rattle.aes_block.proofs.state.mixed_column.Goals as goal
 
 pub returns : goal.returns

@@ -1,6 +1,4 @@
-use Rattle.aes_block.specs.Field.{inv_sub_byte}
-use Rattle.aes_block.proofs.Computed.{inv_sub_byte_lt}
-use Rattle.aes_block.proofs.WordBytes.{word_of}
+use Rattle.aes_block.{specs.Field.inv_sub_byte, proofs.{Computed.inv_sub_byte_lt, WordBytes.word_of}}
 use Rattle.aes_block.proofs.state.restored_word.Goals as goal
 
 pub returns : goal.returns

@@ -1,6 +1,5 @@
 use Rattle.std.proofs.Common.{ℕ, List, ap, ◌∙◌}
-use Rattle.aes_block.specs.Aes.{inv_sub_bytes, inv_shift_rows}
-use Rattle.aes_block.proofs.WordBytes.{four_words, state_bytes}
+use Rattle.aes_block.{specs.Aes.{inv_sub_bytes, inv_shift_rows}, proofs.WordBytes.{four_words, state_bytes}}
 use Rattle.aes_block.proofs.state.shift_and_restore.Goals as goal
 
 pub returns : goal.returns

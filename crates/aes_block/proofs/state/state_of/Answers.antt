@@ -1,6 +1,5 @@
 use Rattle.std.proofs.Common.{slice_index, ◌∙◌, sym}
-use Rattle.aes_block.proofs.Lists.{literal}
-use Rattle.aes_block.proofs.WordBytes.{four_words, word_of}
+use Rattle.aes_block.proofs.{Lists.literal, WordBytes.{four_words, word_of}}
 use Rattle.aes_block.proofs.state.state_of.Goals as goal
 
 pub returns : goal.returns

@@ -1,6 +1,5 @@
 use Rattle.std.proofs.Common.{ap, ◌∙◌}
-use Rattle.aes_block.specs.Aes.{inv_mix_column, inv_mix_columns}
-use Rattle.aes_block.proofs.WordBytes.{four_words, state_bytes}
+use Rattle.aes_block.{specs.Aes.{inv_mix_column, inv_mix_columns}, proofs.WordBytes.{four_words, state_bytes}}
 use Rattle.aes_block.proofs.state.unmix_columns.Goals as goal
 
 pub returns : goal.returns

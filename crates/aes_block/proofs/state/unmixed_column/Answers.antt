@@ -1,5 +1,4 @@
-use Rattle.aes_block.specs.Aes.{inv_mix_column}
-use Rattle.aes_block.proofs.WordBytes.{column_sum}
+use Rattle.aes_block.{specs.Aes.inv_mix_column, proofs.WordBytes.column_sum}
 use Rattle.aes_block.proofs.state.unmixed_column.Goals as goal
 
 pub returns : goal.returns

@@ -1,7 +1,5 @@
 use Rattle.std.proofs.Common.{refl, ◌∙◌, ◌%◌, ap, arith}
-use Rattle.aes_modes.specs.Cbc.{cbc_decrypted}
-use Rattle.aes_modes.proofs.Chains.{decrypt_more, decrypted_at_end}
-use Rattle.aes_modes.proofs.Undone.{cbc_decrypted_cbc_encrypted}
+use Rattle.aes_modes.{specs.Cbc.cbc_decrypted, proofs.{Chains.{decrypt_more, decrypted_at_end}, Undone.cbc_decrypted_cbc_encrypted}}
 use Rattle.aes_modes.proofs.cbc.cbc_decrypt.Goals as goal
 
 pub loop-i-preserved : goal.loop-i-preserved

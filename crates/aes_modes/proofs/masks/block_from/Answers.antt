@@ -1,5 +1,4 @@
-use Rattle.std.proofs.Common.{◌+◌, ◌*◌, arith}
-use Rattle.std.proofs.lemmas.List.FromFn.{fill_by_all}
+use Rattle.std.proofs.{Common.{◌+◌, ◌*◌, arith}, lemmas.List.FromFn.fill_by_all}
 use Rattle.aes_modes.specs.Ocb.{block_from, eight_bits}
 use Rattle.aes_modes.proofs.masks.block_from.Goals as goal
 

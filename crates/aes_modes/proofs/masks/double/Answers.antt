@@ -1,7 +1,5 @@
-use Rattle.std.proofs.Common.{◌++◌, ap, ◌∙◌}
-use Rattle.std.specs.Prelude.{replicate}
-use Rattle.aes_modes.specs.Ocb.{block_from}
-use Rattle.aes_modes.proofs.OcbMasks.{doubled}
+use Rattle.std.{proofs.Common.{◌++◌, ap, ◌∙◌}, specs.Prelude.replicate}
+use Rattle.aes_modes.{specs.Ocb.block_from, proofs.OcbMasks.doubled}
 use Rattle.aes_modes.proofs.masks.double.Goals as goal
 
 pub returns : goal.returns

@@ -1,5 +1,4 @@
-use Rattle.std.proofs.Common.{◌≡◌, ◌∙◌, sym, arith, eq-eqb, length, subst}
-use Rattle.std.proofs.lemmas.Bool.Decides.{nat_tests}
+use Rattle.std.proofs.{Common.{◌≡◌, ◌∙◌, sym, arith, eq-eqb, length, subst}, lemmas.Bool.Decides.nat_tests}
 use Rattle.aes_modes.proofs.Tags.{Seen, seen_more, seen_none, seen_some}
 use Rattle.aes_modes.proofs.ocb.are_equal.Goals as goal
 

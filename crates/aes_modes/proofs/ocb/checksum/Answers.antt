@@ -1,5 +1,4 @@
-use Rattle.std.proofs.Common.{refl, arith}
-use Rattle.std.proofs.lemmas.Bool.Decides.{nat_tests}
+use Rattle.std.proofs.{Common.{refl, arith}, lemmas.Bool.Decides.nat_tests}
 use Rattle.aes_modes.proofs.OcbSteps.{sum_more, checksum_whole, checksum_padded}
 use Rattle.aes_modes.proofs.ocb.checksum.Goals as goal
 

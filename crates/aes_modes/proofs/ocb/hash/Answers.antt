@@ -1,5 +1,4 @@
-use Rattle.std.proofs.Common.{arith, ap, ◌∙◌}
-use Rattle.std.proofs.lemmas.Bool.Decides.{nat_tests}
+use Rattle.std.proofs.{Common.{arith, ap, ◌∙◌}, lemmas.Bool.Decides.nat_tests}
 use Rattle.aes_block.specs.Aes.{xor_of}
 use Rattle.aes_modes.proofs.OcbSteps.{hash_none, hash_more, hash_whole, hash_padded}
 use Rattle.aes_modes.proofs.ocb.hash.Goals as goal

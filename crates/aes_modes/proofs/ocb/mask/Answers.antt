@@ -1,5 +1,4 @@
-use Rattle.aes_modes.specs.Masks.{cipher_of}
-use Rattle.aes_modes.proofs.OcbSteps.{masked_from}
+use Rattle.aes_modes.{specs.Masks.cipher_of, proofs.OcbSteps.masked_from}
 use Rattle.aes_modes.proofs.ocb.mask.Goals as goal
 
 pub returns : goal.returns

@@ -1,9 +1,6 @@
 use Rattle.std.proofs.Common.{◌≡◌, ◌/◌, ◌∙◌, ap, arith, length, rules}
-use Rattle.aes_modes.specs.Ocb.{offset}
-use Rattle.aes_modes.specs.Masks.{cipher_of}
-use Rattle.aes_modes.proofs.OcbSteps.{mask_none, mask_more, masked_at_end}
+use Rattle.aes_modes.{specs.{Ocb.offset, Masks.cipher_of}, proofs.{OcbSteps.{mask_none, mask_more, masked_at_end}, ocb.mask_blocks.Goals.{in-Encrypt, in-Decrypt}}}
 use Rattle.aes_modes.proofs.ocb.mask_blocks.Goals as goal
-use Rattle.aes_modes.proofs.ocb.mask_blocks.Goals.{in-Encrypt, in-Decrypt}
 
 pub loop-i-init : goal.loop-i-init
 loop-i-init c = mask_none (cipher_of c.args.direction c.args.cipher.now) c.args.cipher.now c.args.first.now c.args.bytes.now (λ k. omega (arith, c.type_inv.bytes k))

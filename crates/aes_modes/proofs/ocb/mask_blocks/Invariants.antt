@@ -1,5 +1,4 @@
-use Rattle.aes_modes.specs.Masks.{cipher_of}
-use Rattle.aes_modes.proofs.OcbSteps.{Masking}
+use Rattle.aes_modes.{specs.Masks.cipher_of, proofs.OcbSteps.Masking}
 use Rattle.aes_modes.proofs.ocb.mask_blocks.Given as goal
 
 abbrev pub invariant-loop-i : goal.invariant-loop-i

@@ -1,7 +1,6 @@
 use Rattle.std.proofs.Common.{ap, ◌∙◌}
 use Rattle.aes_block.specs.Aes.{xor_of}
-use Rattle.aes_modes.specs.Ocb.{partial_block}
-use Rattle.aes_modes.proofs.OcbSteps.{rest_none, no_rest_of, offset_after_none, rest_some}
+use Rattle.aes_modes.{specs.Ocb.partial_block, proofs.OcbSteps.{rest_none, no_rest_of, offset_after_none, rest_some}}
 use Rattle.aes_modes.proofs.ocb.mask_rest.Goals as goal
 
 pub returns-then-start-bytes : goal.returns-then-start-bytes

@@ -1,11 +1,8 @@
-use Rattle.std.proofs.Common.{◌≡◌, ap, ap₂, ◌∙◌, sym, length, refl}
-use Rattle.std.specs.Prelude.{IsTrue, false, replicate}
+use Rattle.std.{proofs.Common.{◌≡◌, ap, ap₂, ◌∙◌, sym, length, refl}, specs.Prelude.{IsTrue, false, replicate}}
 use Rattle.aes_block.specs.Aes.{IsBytes, decrypted}
-use Rattle.aes_modes.specs.Ocb.{masked, first_offset, ocb_encrypted, ocb_decrypted, ocb_tag}
-use Rattle.aes_modes.proofs.OcbSteps.{tag_from, last_offset_length}
-use Rattle.aes_modes.proofs.OcbUndone.{ocb_decrypted_ocb_encrypted, ocb_encrypted_ocb_decrypted}
-use Rattle.aes_modes.proofs.ocb.ocb_decrypt.Goals as goal
+use Rattle.aes_modes.{specs.Ocb.{masked, first_offset, ocb_encrypted, ocb_decrypted, ocb_tag}, proofs.{OcbSteps.{tag_from, last_offset_length}, OcbUndone.{ocb_decrypted_ocb_encrypted, ocb_encrypted_ocb_decrypted}}}
 use Rattle.aes_modes.proofs.ocb.ocb_decrypt.Goals.{then-not-is_own, else-not-is_own}
+use Rattle.aes_modes.proofs.ocb.ocb_decrypt.Goals as goal
 
 pub returns : goal.returns
 unfolding ocb_decrypted

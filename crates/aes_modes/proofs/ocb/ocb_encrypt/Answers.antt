@@ -1,7 +1,6 @@
 use Rattle.std.proofs.Common.{ap, ap₂, ◌∙◌}
 use Rattle.aes_block.specs.Aes.{encrypted}
-use Rattle.aes_modes.specs.Ocb.{masked, first_offset, ocb_encrypted}
-use Rattle.aes_modes.proofs.OcbSteps.{tag_from}
+use Rattle.aes_modes.{specs.Ocb.{masked, first_offset, ocb_encrypted}, proofs.OcbSteps.tag_from}
 use Rattle.aes_modes.proofs.ocb.ocb_encrypt.Goals as goal
 
 pub returns : goal.returns

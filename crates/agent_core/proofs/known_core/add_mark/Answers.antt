@@ -1,9 +1,6 @@
-use Rattle.std.specs.Prelude.{◌≤◌, List, vec_capacity}
-use Rattle.std.proofs.Common.{ap, subst, arith}
-use Rattle.cache_policy.specs.declared.bounds.TheConstants.{MAX_MARKS}
-use Rattle.cache_policy.specs.declared.mark.Mark.{Mark}
-use Rattle.agent_core.specs.Recording.{LastHasRoom}
-use Rattle.agent_core.proofs.Adding.{room_push, room_last, room_place, run_place}
+use Rattle.std.{specs.Prelude.{◌≤◌, List, vec_capacity}, proofs.Common.{ap, subst, arith}}
+use Rattle.cache_policy.specs.declared.{bounds.TheConstants.MAX_MARKS, mark.Mark.Mark}
+use Rattle.agent_core.{specs.Recording.LastHasRoom, proofs.Adding.{room_push, room_last, room_place, run_place}}
 use Rattle.agent_core.proofs.known_core.add_mark.Goals as goal
 
 pub push_reserved-requires : goal.push_reserved-requires

@@ -1,5 +1,4 @@
-use Rattle.std.specs.Prelude.{◌≤◌, vec_capacity}
-use Rattle.std.proofs.Common.{rules}
+use Rattle.std.{specs.Prelude.{◌≤◌, vec_capacity}, proofs.Common.rules}
 use Rattle.cache_policy.specs.declared.bounds.TheConstants.{MAX_MARKS}
 use Rattle.agent_core.proofs.Adding.{room_push}
 use Rattle.agent_core.proofs.known_core.begin_history.Goals as goal

@@ -1,10 +1,6 @@
-use Rattle.std.specs.Prelude.{◌≡◌, ◌+◌, ◌<◌, Bool, false, true, not}
-use Rattle.std.proofs.Common.{◌∙◌, ap, rules}
-use Rattle.std.specs.Option.{is_some}
-use Rattle.cache_policy.specs.declared.bounds.TheConstants.{MAX_MARKS}
-use Rattle.cache_policy.specs.Turns.{mark_step, closes}
-use Rattle.agent_core.specs.Adding.{leaves_ticket}
-use Rattle.agent_core.proofs.Coming.{needs_close, needs_full, needs_none, needs_last}
+use Rattle.std.{specs.{Prelude.{◌≡◌, ◌+◌, ◌<◌, Bool, false, true, not}, Option.is_some}, proofs.Common.{◌∙◌, ap, rules}}
+use Rattle.cache_policy.specs.{declared.bounds.TheConstants.MAX_MARKS, Turns.{mark_step, closes}}
+use Rattle.agent_core.{specs.Adding.leaves_ticket, proofs.Coming.{needs_close, needs_full, needs_none, needs_last}}
 use Rattle.agent_core.proofs.known_core.needs_room.Goals as goal
 
 pub returns-then-is_close : goal.returns-then-is_close

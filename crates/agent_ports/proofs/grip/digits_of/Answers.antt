@@ -1,7 +1,5 @@
-use Rattle.std.proofs.Common.{map, ap, ◌∙◌}
-use Rattle.std.specs.Char.{to_ascii_uppercase}
-use Rattle.hex.specs.Hex.{decode_of}
-use Rattle.hex.proofs.HexLemmas.{decode_of-encode_upper}
+use Rattle.std.{proofs.Common.{map, ap, ◌∙◌}, specs.Char.to_ascii_uppercase}
+use Rattle.hex.{specs.Hex.decode_of, proofs.HexLemmas.decode_of-encode_upper}
 use Rattle.agent_ports.proofs.Digits.{map_encode_lower}
 use Rattle.agent_ports.proofs.grip.digits_of.Goals as goal
 

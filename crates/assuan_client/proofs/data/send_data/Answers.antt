@@ -1,6 +1,4 @@
-use Rattle.std.proofs.Common.{◌≡◌, ◌∙◌, length, sym, refl}
-use Rattle.std.proofs.lemmas.Bool.{eqb-true}
-use Rattle.std.proofs.lemmas.List.{nil_from_length}
+use Rattle.std.proofs.{Common.{◌≡◌, ◌∙◌, length, sym, refl}, lemmas.{Bool.eqb-true, List.nil_from_length}}
 use Rattle.assuan_client.proofs.Sending.{put_failed, putting_none, putting_more, whole_once_none_is_left, put_cut}
 use Rattle.assuan_client.proofs.data.send_data.Goals as goal
 

@@ -1,7 +1,5 @@
 use Rattle.std.proofs.Common.{ap, append-nil}
-use Rattle.agent_ports.proofs.Writing.{writes_as}
-use Rattle.assuan_line.proofs.Sending.{sent_whole}
-use Rattle.assuan_text.specs.LineEnds.{line_of}
+use Rattle.{agent_ports.proofs.Writing.writes_as, assuan_line.proofs.Sending.sent_whole, assuan_text.specs.LineEnds.line_of}
 use Rattle.assuan_client.proofs.data.send_line.Goals as goal
 
 pub returns-clause-put : goal.returns-clause-put

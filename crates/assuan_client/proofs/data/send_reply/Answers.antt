@@ -1,7 +1,5 @@
 use Rattle.std.specs.Prelude.{codes}
-use Rattle.agent_ports.proofs.Writing.{writes_then, writes_first}
-use Rattle.assuan_escape.specs.DataLines.{data_text}
-use Rattle.assuan_text.specs.LineEnds.{line_of}
+use Rattle.{agent_ports.proofs.Writing.{writes_then, writes_first}, assuan_escape.specs.DataLines.data_text, assuan_text.specs.LineEnds.line_of}
 use Rattle.assuan_client.proofs.Sending.{put_failed}
 use Rattle.assuan_client.proofs.data.send_reply.Goals as goal
 

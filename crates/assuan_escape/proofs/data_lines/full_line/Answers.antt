@@ -1,7 +1,5 @@
 use Rattle.std.proofs.Common.{◌≡◌, ◌+◌, ◌<◌, ◌≤◌, length, take, get_or, ap, codes, List, ℕ, arith, rules}
-use Rattle.assuan_escape.specs.Escapes.{escape_of}
-use Rattle.assuan_escape.specs.DataLines.{data_line}
-use Rattle.assuan_escape.proofs.OnlyData.{with_piece, pieces_of}
+use Rattle.assuan_escape.{specs.{Escapes.escape_of, DataLines.data_line}, proofs.OnlyData.{with_piece, pieces_of}}
 use Rattle.assuan_escape.proofs.data_lines.full_line.Goals as goal
 
 pub returns-clause-first : goal.returns-clause-first

@@ -1,7 +1,5 @@
-use Rattle.std.proofs.Common.{◌+◌, ◌<◌, length, take, get_or, ◌∙◌, ⊎_elim}
-use Rattle.std.proofs.lemmas.Bool.{cases_lt, false≢true}
-use Rattle.assuan_escape.specs.Escapes.{escape_of}
-use Rattle.assuan_escape.proofs.EscapeLemmas.{stays_one_line, no_more_fit}
+use Rattle.std.proofs.{Common.{◌+◌, ◌<◌, length, take, get_or, ◌∙◌, ⊎_elim}, lemmas.Bool.{cases_lt, false≢true}}
+use Rattle.assuan_escape.{specs.Escapes.escape_of, proofs.EscapeLemmas.{stays_one_line, no_more_fit}}
 use Rattle.assuan_escape.proofs.escaping.escape_into.Goals as goal
 
 pub returns-then-not-push_escape-clause-greatest : goal.returns-then-not-push_escape-clause-greatest

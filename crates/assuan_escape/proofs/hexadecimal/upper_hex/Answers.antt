@@ -1,8 +1,6 @@
-use Rattle.std.proofs.Common.{length, take, ap, ◌∙◌, arith}
-use Rattle.std.proofs.lemmas.List.{length-take-le}
-use Rattle.assuan_text.specs.LineEnds.{has_lf}
+use Rattle.std.proofs.{Common.{length, take, ap, ◌∙◌, arith}, lemmas.List.length-take-le}
+use Rattle.{assuan_text.specs.LineEnds.has_lf, percent_encoding.specs.Percent.percent_encode_byte}
 use Rattle.assuan_escape.proofs.EscapeLemmas.{length_hex_text, has_lf_hex_text}
-use Rattle.percent_encoding.specs.Percent.{percent_encode_byte}
 use Rattle.assuan_escape.proofs.hexadecimal.upper_hex.Goals as goal
 
 pub unwrap-requires : goal.unwrap-requires

@@ -1,7 +1,5 @@
 use Rattle.std.proofs.Common.{◌≡◌, ◌+◌, ◌≤◌, ℕ, List, ◌++◌, length, ap, arith, length-append}
-use Rattle.percent_encoding.specs.Percent.{percent_decode}
-use Rattle.percent_encoding.specs.Iter.{decoded_bytes}
-use Rattle.percent_encoding.proofs.PercentLemmas.{length-percent_decode}
+use Rattle.percent_encoding.{specs.{Percent.percent_decode, Iter.decoded_bytes}, proofs.PercentLemmas.length-percent_decode}
 use Rattle.assuan_escape.proofs.unescaping.decoded.Goals as goal
 
 -- what was decoded so far is no longer than what was read

@@ -1,6 +1,5 @@
 use Rattle.std.proofs.Common.{◌≡◌, ◌++◌}
-use Rattle.percent_encoding.specs.Percent.{percent_decode}
-use Rattle.percent_encoding.specs.Iter.{decoded_bytes}
+use Rattle.percent_encoding.specs.{Percent.percent_decode, Iter.decoded_bytes}
 use Rattle.assuan_escape.proofs.unescaping.decoded.Given as goal
 
 abbrev pub invariant-loop-byte : goal.invariant-loop-byte

@@ -1,8 +1,5 @@
 use Rattle.std.proofs.Common.{◌∙◌, refl, subst, sym}
-use Rattle.assuan_line.specs.Reading.{HasRead}
-use Rattle.assuan_line.specs.Skipping.{IsUndecided, ReadsOn}
-use Rattle.assuan_line.specs.declared.reader.Took.{Took}
-use Rattle.assuan_line.proofs.ReadingOn.{has_read, stops_no_line, skipping_none, skipping_more, read_on}
+use Rattle.assuan_line.{specs.{Reading.HasRead, Skipping.{IsUndecided, ReadsOn}, declared.reader.Took.Took}, proofs.ReadingOn.{has_read, stops_no_line, skipping_none, skipping_more, read_on}}
 use Rattle.assuan_line.proofs.filter.next_after_skipped.Goals as goal
 
 pub loop-line-init : goal.loop-line-init

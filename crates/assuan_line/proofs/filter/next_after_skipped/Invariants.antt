@@ -1,6 +1,5 @@
 use Rattle.std.proofs.Common.{◌≡◌, List, ℕ, None}
-use Rattle.assuan_line.specs.Next.{held}
-use Rattle.assuan_line.proofs.ReadingOn.{IsSkipping}
+use Rattle.assuan_line.{specs.Next.held, proofs.ReadingOn.IsSkipping}
 use Rattle.assuan_line.proofs.filter.next_after_skipped.Given as goal
 
 abbrev pub invariant-loop-line : goal.invariant-loop-line

@@ -1,6 +1,5 @@
 use Rattle.std.proofs.Common.{◌∷◌, ap, ◌∙◌}
-use Rattle.assuan_line.proofs.Parts.{lines_none, rest_none, lines_some, rest_some, line_tells, end_tells}
-use Rattle.assuan_line.specs.Lines.{after_line, lines_of}
+use Rattle.assuan_line.{proofs.Parts.{lines_none, rest_none, lines_some, rest_some, line_tells, end_tells}, specs.Lines.{after_line, lines_of}}
 use Rattle.assuan_line.proofs.reader.lines_come_in_order.Goals as goal
 
 pub returns-clause-line : goal.returns-clause-line

@@ -1,8 +1,5 @@
 use Rattle.std.proofs.Common.{arith}
-use Rattle.assuan_line.specs.Ahead.{bytes_ahead}
-use Rattle.assuan_line.specs.Stops.{reader_at}
-use Rattle.assuan_line.proofs.Decided.{few_undecided}
-use Rattle.assuan_line.proofs.Reading.{one_read}
+use Rattle.assuan_line.{specs.{Ahead.bytes_ahead, Stops.reader_at}, proofs.{Decided.few_undecided, Reading.one_read}}
 use Rattle.assuan_line.proofs.reader.read_ahead.Goals as goal
 
 pub read-requires-clause-room : goal.read-requires-clause-room

@@ -1,8 +1,5 @@
 use Rattle.std.proofs.Common.{◌≡◌, ◌≢◌}
-use Rattle.assuan_line.specs.Ahead.{bytes_ahead, IsWithin}
-use Rattle.assuan_line.specs.Next.{next_of}
-use Rattle.assuan_line.specs.Stops.{reader_at, ReadAhead}
-use Rattle.assuan_line.specs.declared.reader.Took.TheVariants.{End}
+use Rattle.assuan_line.specs.{Ahead.{bytes_ahead, IsWithin}, Next.next_of, Stops.{reader_at, ReadAhead}, declared.reader.Took.TheVariants.End}
 use Rattle.assuan_line.proofs.reader.take_line.Given as goal
 
 -- the bytes taken so far are ahead, and the source is as it was unless they were needed

@@ -1,7 +1,4 @@
-use Rattle.std.proofs.Common.{[], List, ℕ, length, ap, arith, ◌∙◌}
-use Rattle.std.specs.List.{flat_map}
-use Rattle.std.proofs.lemmas.List.{take_all, length_push}
-use Rattle.std.proofs.lemmas.List.Folds.{length-flat_map-take}
+use Rattle.std.{proofs.{Common.{[], List, ℕ, length, ap, arith, ◌∙◌}, lemmas.List.{take_all, length_push, Folds.length-flat_map-take}}, specs.List.flat_map}
 use Rattle.assuan_line.proofs.Sending.{has_sent}
 use Rattle.assuan_line.proofs.text.write_text.Goals as goal
 

@@ -1,5 +1,4 @@
-use Rattle.std.proofs.Common.{◌≡◌, ◌^◌, ◌<◌, drop, fold, ◌+◌, ◌-◌, ◌*◌}
-use Rattle.std.specs.Str.{all_ascii_digits}
+use Rattle.std.{proofs.Common.{◌≡◌, ◌^◌, ◌<◌, drop, fold, ◌+◌, ◌-◌, ◌*◌}, specs.Str.all_ascii_digits}
 use Rattle.assuan_text.specs.Numbers.{decimal}
 use Rattle.assuan_text.proofs.numbers.number_of.Given as goal
 

@@ -1,6 +1,5 @@
 use Rattle.std.proofs.Common.{sym, ◌∙◌, arith}
-use Rattle.assuan_text.specs.Words.{words}
-use Rattle.assuan_text.proofs.OptionLemmas.{after_step}
+use Rattle.assuan_text.{specs.Words.words, proofs.OptionLemmas.after_step}
 use Rattle.assuan_text.proofs.options.after_options.Goals as goal
 
 pub loop-after-preserved : goal.loop-after-preserved

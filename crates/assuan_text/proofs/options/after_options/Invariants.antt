@@ -1,7 +1,5 @@
-use Rattle.std.proofs.Common.{◌≡◌, ◌≤◌, length, drop}
-use Rattle.std.specs.List.{prefix_len}
-use Rattle.assuan_text.specs.Words.{words}
-use Rattle.assuan_text.specs.Options.{is_option}
+use Rattle.std.{proofs.Common.{◌≡◌, ◌≤◌, length, drop}, specs.List.prefix_len}
+use Rattle.assuan_text.specs.{Words.words, Options.is_option}
 use Rattle.assuan_text.proofs.options.after_options.Given as goal
 
 -- what comes after the options stays the same

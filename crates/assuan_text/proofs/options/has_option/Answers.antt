@@ -1,7 +1,5 @@
 use Rattle.std.proofs.Common.{◌||◌, sym, ap, ◌∙◌}
-use Rattle.assuan_text.specs.Words.{words}
-use Rattle.assuan_text.specs.Options.{has_option, options_of}
-use Rattle.assuan_text.proofs.OptionLemmas.{options_step}
+use Rattle.assuan_text.{specs.{Words.words, Options.{has_option, options_of}}, proofs.OptionLemmas.options_step}
 use Rattle.assuan_text.proofs.options.has_option.Goals as goal
 
 pub loop-option-preserved : goal.loop-option-preserved

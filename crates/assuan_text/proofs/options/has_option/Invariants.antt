@@ -1,6 +1,5 @@
 use Rattle.std.proofs.Common.{◌≡◌, length}
-use Rattle.assuan_text.specs.Words.{words}
-use Rattle.assuan_text.specs.Options.{has_option, options_of}
+use Rattle.assuan_text.specs.{Words.words, Options.{has_option, options_of}}
 use Rattle.assuan_text.proofs.options.has_option.Given as goal
 
 -- the options that are left decide

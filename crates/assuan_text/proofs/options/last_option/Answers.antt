@@ -1,8 +1,5 @@
-use Rattle.std.proofs.Common.{◌≡◌, ◌∷◌, Bool, true, false, cond, find, reverse, Option, Some, None, List, ℕ, refl, sym, ap, ◌∙◌}
-use Rattle.std.specs.Option.{option_map, option_or}
-use Rattle.assuan_text.specs.Words.{words}
-use Rattle.assuan_text.specs.Options.{names_option, options_of}
-use Rattle.assuan_text.proofs.OptionLemmas.{options_step, find_reverse_cons}
+use Rattle.std.{proofs.Common.{◌≡◌, ◌∷◌, Bool, true, false, cond, find, reverse, Option, Some, None, List, ℕ, refl, sym, ap, ◌∙◌}, specs.Option.{option_map, option_or}}
+use Rattle.assuan_text.{specs.{Words.words, Options.{names_option, options_of}}, proofs.OptionLemmas.{options_step, find_reverse_cons}}
 use Rattle.assuan_text.proofs.options.last_option.Goals as goal
 
 -- the last option of this name among these, or else the one before them

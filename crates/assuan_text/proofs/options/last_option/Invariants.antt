@@ -1,7 +1,5 @@
-use Rattle.std.proofs.Common.{◌≡◌, length, find, reverse}
-use Rattle.std.specs.Option.{option_map, option_or}
-use Rattle.assuan_text.specs.Words.{words}
-use Rattle.assuan_text.specs.Options.{names_option, last_option, options_of}
+use Rattle.std.{proofs.Common.{◌≡◌, length, find, reverse}, specs.Option.{option_map, option_or}}
+use Rattle.assuan_text.specs.{Words.words, Options.{names_option, last_option, options_of}}
 use Rattle.assuan_text.proofs.options.last_option.Given as goal
 
 -- the last among the options that are left, or else the one before them

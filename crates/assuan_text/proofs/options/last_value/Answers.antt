@@ -1,8 +1,5 @@
-use Rattle.std.proofs.Common.{◌≡◌, ◌+◌, ◌∷◌, Bool, true, false, cond, length, drop, find, reverse, Option, Some, None, List, ℕ, refl, sym, ap, ◌∙◌}
-use Rattle.std.specs.Option.{option_map, option_or}
-use Rattle.assuan_text.specs.Words.{words}
-use Rattle.assuan_text.specs.Options.{gives_value, last_value, options_of}
-use Rattle.assuan_text.proofs.OptionLemmas.{options_step, find_reverse_cons}
+use Rattle.std.{proofs.Common.{◌≡◌, ◌+◌, ◌∷◌, Bool, true, false, cond, length, drop, find, reverse, Option, Some, None, List, ℕ, refl, sym, ap, ◌∙◌}, specs.Option.{option_map, option_or}}
+use Rattle.assuan_text.{specs.{Words.words, Options.{gives_value, last_value, options_of}}, proofs.OptionLemmas.{options_step, find_reverse_cons}}
 use Rattle.assuan_text.proofs.options.last_value.Goals as goal
 
 -- what the last option of this name says, or else what one before them did

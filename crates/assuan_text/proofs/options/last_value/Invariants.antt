@@ -1,7 +1,5 @@
-use Rattle.std.proofs.Common.{◌≡◌, length}
-use Rattle.std.specs.Option.{option_map, option_or}
-use Rattle.assuan_text.specs.Words.{words}
-use Rattle.assuan_text.specs.Options.{last_value, options_of}
+use Rattle.std.{proofs.Common.{◌≡◌, length}, specs.Option.{option_map, option_or}}
+use Rattle.assuan_text.specs.{Words.words, Options.{last_value, options_of}}
 use Rattle.assuan_text.proofs.options.last_value.Given as goal
 
 -- the last among the options that are left, or else the one before them

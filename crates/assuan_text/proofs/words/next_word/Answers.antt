@@ -1,9 +1,5 @@
-use Rattle.std.proofs.Common.{◌≡◌, ◌<◌, ℕ, List, [], ◌∷◌, length, take, drop, refl, arith, ap, ◌∙◌, sym}
-use Rattle.std.specs.List.{before_first, position_or_len}
-use Rattle.std.proofs.lemmas.Bool.Decides.{nat_tests}
-use Rattle.assuan_text.specs.Blanks.{is_blank, without_blanks}
-use Rattle.assuan_text.specs.Words.{words}
-use Rattle.assuan_text.proofs.WordLemmas.{no_words, next_is}
+use Rattle.std.{proofs.{Common.{◌≡◌, ◌<◌, ℕ, List, [], ◌∷◌, length, take, drop, refl, arith, ap, ◌∙◌, sym}, lemmas.Bool.Decides.nat_tests}, specs.List.{before_first, position_or_len}}
+use Rattle.assuan_text.{specs.{Blanks.{is_blank, without_blanks}, Words.words}, proofs.WordLemmas.{no_words, next_is}}
 use Rattle.assuan_text.proofs.words.next_word.Goals as goal
 
 no_bytes : (bytes : List ℕ) → length bytes ≡ 0 → bytes ≡ []

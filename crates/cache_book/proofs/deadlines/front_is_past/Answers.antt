@@ -1,7 +1,4 @@
-use Rattle.std.specs.Prelude.{◌≡◌, ℕ, ◌≤◌, nat_lt, false}
-use Rattle.std.proofs.Common.{arith}
-use Rattle.std.proofs.lemmas.Bool.Decides.{nat_tests}
-use Rattle.std.specs.BinaryHeap.{heap_items}
+use Rattle.std.{specs.{Prelude.{◌≡◌, ℕ, ◌≤◌, nat_lt, false}, BinaryHeap.heap_items}, proofs.{Common.arith, lemmas.Bool.Decides.nat_tests}}
 use Rattle.cache_book.proofs.Holding.{all_later}
 use Rattle.cache_book.proofs.deadlines.front_is_past.Goals as goal
 

@@ -1,9 +1,5 @@
-use Rattle.std.specs.Prelude.{◌<◌}
-use Rattle.std.proofs.Common.{sym, subst}
-use Rattle.std.specs.declared.cmp.Reverse.{Reverse}
-use Rattle.std.specs.BinaryHeap.{heap_items}
-use Rattle.cache_book.specs.declared.deadlines.Place.{Place}
-use Rattle.cache_book.proofs.Holding.{among_later, among_others}
+use Rattle.std.{specs.{Prelude.◌<◌, declared.cmp.Reverse.Reverse, BinaryHeap.heap_items}, proofs.Common.{sym, subst}}
+use Rattle.cache_book.{specs.declared.deadlines.Place.Place, proofs.Holding.{among_later, among_others}}
 use Rattle.cache_book.proofs.deadlines.pop_past_in.Goals as goal
 
 pub returns-clause-later : goal.returns-clause-later

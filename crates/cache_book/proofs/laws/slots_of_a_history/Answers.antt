@@ -1,15 +1,6 @@
-use Rattle.std.specs.Prelude.{◌≡◌, ℕ, [], ◌∷◌, false, refl}
-use Rattle.std.proofs.Common.{ap}
-use Rattle.cache_policy.specs.declared.mark.MarkStep.{MarkStep}
-use Rattle.cache_policy.specs.declared.mark.MarkStep.TheVariants.{Ask, Seat, Close, Put, Clear, Flush, Peek, Stop}
-use Rattle.cache_policy.specs.declared.life.Limits.{Limits}
-use Rattle.cache_policy.specs.declared.entry.Entry.{Entry}
-use Rattle.cache_policy.specs.Histories.{History}
-use Rattle.cache_policy.specs.Entries.{stored}
-use Rattle.cache_policy.specs.Live.{takes_away, gives}
-use Rattle.cache_book.proofs.Marking.{slots_later, slots_same, slots_flushed, slots_cleared}
-use Rattle.cache_book.proofs.Storing.{slots_given, slots_stored}
-use Rattle.cache_book.proofs.Live.{grant_is_live, none_live, live_is_live}
+use Rattle.std.{specs.Prelude.{◌≡◌, ℕ, [], ◌∷◌, false, refl}, proofs.Common.ap}
+use Rattle.cache_policy.specs.{declared.{mark.MarkStep.{MarkStep, TheVariants.{Ask, Seat, Close, Put, Clear, Flush, Peek, Stop}}, life.Limits.Limits, entry.Entry.Entry}, Histories.History, Entries.stored, Live.{takes_away, gives}}
+use Rattle.cache_book.proofs.{Marking.{slots_later, slots_same, slots_flushed, slots_cleared}, Storing.{slots_given, slots_stored}, Live.{grant_is_live, none_live, live_is_live}}
 use Rattle.cache_book.proofs.laws.slots_of_a_history.Goals as goal
 
 pub returns-clause-later : goal.returns-clause-later

@@ -1,6 +1,5 @@
 use Rattle.std.proofs.Common.{rules}
-use Rattle.cache_book.specs.Shelves.{serves_at}
-use Rattle.cache_book.proofs.Finding.{IsFound, IsGrantOf, found_slot, granted_from, is_granted, none_found, some_is_not_none, none_where}
+use Rattle.cache_book.{specs.Shelves.serves_at, proofs.Finding.{IsFound, IsGrantOf, found_slot, granted_from, is_granted, none_found, some_is_not_none, none_where}}
 use Rattle.cache_book.proofs.list_shelf.grant_from.Goals as goal
 
 made : (c : goal.After-of) → IsGrantOf c.args.id.now c.copy.result c.args.mode c.args.now c.in_ok-slot.slot.now c.copy-2.result c.of.result

@@ -1,8 +1,5 @@
-use Rattle.std.specs.Prelude.{◌≡◌, ◌-◌, true, nat_lt}
-use Rattle.std.proofs.Common.{arith, sym, subst}
-use Rattle.cache_book.specs.declared.slot.Slot.{Slot}
-use Rattle.cache_book.specs.SlotOrders.{has_lower_hash}
-use Rattle.cache_book.proofs.Searching.{lower_before}
+use Rattle.std.{specs.Prelude.{◌≡◌, ◌-◌, true, nat_lt}, proofs.Common.{arith, sym, subst}}
+use Rattle.cache_book.{specs.{declared.slot.Slot.Slot, SlotOrders.has_lower_hash}, proofs.Searching.lower_before}
 use Rattle.cache_book.proofs.search.are_lower_before.Goals as goal
 
 pub returns-else-end-eq0 : goal.returns-else-end-eq0

@@ -1,8 +1,5 @@
-use Rattle.std.proofs.Common.{rules}
-use Rattle.std.proofs.lemmas.List.Sorted.{IsPartitionPoint-from_clause}
-use Rattle.cache_book.specs.SlotOrders.{has_hash_upto}
-use Rattle.cache_book.proofs.Arranging.{pairs_parted}
-use Rattle.cache_book.proofs.Ordered.{hash_upto_back}
+use Rattle.std.proofs.{Common.rules, lemmas.List.Sorted.IsPartitionPoint-from_clause}
+use Rattle.cache_book.{specs.SlotOrders.has_hash_upto, proofs.{Arranging.pairs_parted, Ordered.hash_upto_back}}
 use Rattle.cache_book.proofs.search.before_higher_hashes.Goals as goal
 
 pub returns-clause-parts : goal.returns-clause-parts

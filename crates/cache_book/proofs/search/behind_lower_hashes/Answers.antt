@@ -1,8 +1,5 @@
-use Rattle.std.proofs.Common.{rules}
-use Rattle.std.proofs.lemmas.List.Sorted.{IsPartitionPoint-from_clause}
-use Rattle.cache_book.specs.SlotOrders.{has_lower_hash}
-use Rattle.cache_book.proofs.Arranging.{pairs_parted}
-use Rattle.cache_book.proofs.Ordered.{lower_back}
+use Rattle.std.proofs.{Common.rules, lemmas.List.Sorted.IsPartitionPoint-from_clause}
+use Rattle.cache_book.{specs.SlotOrders.has_lower_hash, proofs.{Arranging.pairs_parted, Ordered.lower_back}}
 use Rattle.cache_book.proofs.search.behind_lower_hashes.Goals as goal
 
 pub returns-clause-parts : goal.returns-clause-parts

@@ -1,8 +1,5 @@
-use Rattle.std.proofs.Common.{rules}
-use Rattle.std.proofs.lemmas.List.Sorted.{IsPartitionPoint-from_clause}
-use Rattle.cache_book.specs.SlotOrders.{is_upto}
-use Rattle.cache_book.proofs.Arranging.{pairs_parted}
-use Rattle.cache_book.proofs.Ordered.{upto_back}
+use Rattle.std.proofs.{Common.rules, lemmas.List.Sorted.IsPartitionPoint-from_clause}
+use Rattle.cache_book.{specs.SlotOrders.is_upto, proofs.{Arranging.pairs_parted, Ordered.upto_back}}
 use Rattle.cache_book.proofs.search.end_of.Goals as goal
 
 pub returns-clause-parts : goal.returns-clause-parts

@@ -1,11 +1,6 @@
-use Rattle.std.specs.Prelude.{◌≡◌, ℕ, true, ◌&&◌, ◌↔◌, IsSome, IfSome}
-use Rattle.std.proofs.Common.{sym, ◌∙◌, subst}
-use Rattle.cache_policy.specs.declared.grant.Grant.{Grant}
-use Rattle.cache_policy.specs.Entry.{serves, within}
-use Rattle.cache_book.specs.declared.slot.Slot.{Slot}
-use Rattle.cache_book.specs.Shelves.{serves_at}
-use Rattle.cache_book.proofs.Finding.{IsFound, IsGrantOf, granted_from, is_granted, some_is_not_none}
-use Rattle.cache_book.proofs.Searching.{one_at}
+use Rattle.std.{specs.Prelude.{◌≡◌, ℕ, true, ◌&&◌, ◌↔◌, IsSome, IfSome}, proofs.Common.{sym, ◌∙◌, subst}}
+use Rattle.cache_policy.specs.{declared.grant.Grant.Grant, Entry.{serves, within}}
+use Rattle.cache_book.{specs.{declared.slot.Slot.Slot, Shelves.serves_at}, proofs.{Finding.{IsFound, IsGrantOf, granted_from, is_granted, some_is_not_none}, Searching.one_at}}
 use Rattle.cache_book.proofs.search.grant_from.Goals as goal
 
 found : (c : goal.After-of) → IsFound (serves_at c.args.id.now c.args.mode c.args.now) c.args.slots.now c.get-slot.result.now

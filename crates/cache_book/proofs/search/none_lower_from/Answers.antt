@@ -1,9 +1,5 @@
-use Rattle.std.specs.Prelude.{◌≡◌, ℕ, false, true, nat_lt, nat_le}
-use Rattle.std.proofs.Common.{arith, sym, subst}
-use Rattle.std.proofs.lemmas.Bool.Decides.{nat_tests}
-use Rattle.cache_book.specs.declared.slot.Slot.{Slot}
-use Rattle.cache_book.specs.SlotOrders.{has_lower_hash}
-use Rattle.cache_book.proofs.Searching.{none_behind}
+use Rattle.std.{specs.Prelude.{◌≡◌, ℕ, false, true, nat_lt, nat_le}, proofs.{Common.{arith, sym, subst}, lemmas.Bool.Decides.nat_tests}}
+use Rattle.cache_book.{specs.{declared.slot.Slot.Slot, SlotOrders.has_lower_hash}, proofs.Searching.none_behind}
 use Rattle.cache_book.proofs.search.none_lower_from.Goals as goal
 
 not_lower : (m n : ℕ) → nat_le n m ≡ true → nat_lt m n ≡ false

@@ -1,11 +1,5 @@
-use Rattle.std.specs.Prelude.{◌≡◌, ℕ, true, false, nat_lt, nat_le}
-use Rattle.std.proofs.Common.{arith, rules}
-use Rattle.std.proofs.lemmas.Bool.Decides.{nat_tests}
-use Rattle.std.proofs.lemmas.List.Elements.{AllWithin-more, at_read}
-use Rattle.cache_book.specs.Shelves.{serves_at}
-use Rattle.cache_book.specs.Hashes.{id_hash}
-use Rattle.cache_book.specs.declared.slot.Slot.{Slot}
-use Rattle.cache_book.proofs.Searching.{none_serving, none_past}
+use Rattle.std.{specs.Prelude.{◌≡◌, ℕ, true, false, nat_lt, nat_le}, proofs.{Common.{arith, rules}, lemmas.{Bool.Decides.nat_tests, List.Elements.{AllWithin-more, at_read}}}}
+use Rattle.cache_book.{specs.{Shelves.serves_at, Hashes.id_hash, declared.slot.Slot.Slot}, proofs.Searching.{none_serving, none_past}}
 use Rattle.cache_book.proofs.search.serving.Goals as goal
 
 higher : (m n : ℕ) → nat_lt m n ≡ true → nat_le n m ≡ false

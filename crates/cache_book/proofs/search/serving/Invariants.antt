@@ -1,5 +1,4 @@
-use Rattle.std.specs.Prelude.{◌≡◌, false}
-use Rattle.std.specs.List.{AllWithin}
+use Rattle.std.specs.{Prelude.{◌≡◌, false}, List.AllWithin}
 use Rattle.cache_book.specs.Shelves.{serves_at}
 use Rattle.cache_book.proofs.search.serving.Given as goal
 

@@ -1,10 +1,6 @@
-use Rattle.std.specs.Prelude.{◌≡◌, ◌-◌, true, refl}
-use Rattle.std.proofs.Common.{sym, subst, rules}
+use Rattle.std.{specs.Prelude.{◌≡◌, ◌-◌, true, refl}, proofs.Common.{sym, subst, rules}}
 use Rattle.cache_policy.specs.Entry.{serves}
-use Rattle.cache_book.specs.Shelves.{cleared}
-use Rattle.cache_book.proofs.Slotwise.{filter_slotwise}
-use Rattle.cache_book.proofs.Stretch.{IsDoneFrom, done_none, done_all, done_removed, from_before, cleared_one}
-use Rattle.cache_book.proofs.Searching.{behind_hash, before_hash, other_ids, cleared_apart}
+use Rattle.cache_book.{specs.Shelves.cleared, proofs.{Slotwise.filter_slotwise, Stretch.{IsDoneFrom, done_none, done_all, done_removed, from_before, cleared_one}, Searching.{behind_hash, before_hash, other_ids, cleared_apart}}}
 use Rattle.cache_book.proofs.slot_shelf.clear_in.Goals as goal
 
 pub loop-i-init : goal.loop-i-init

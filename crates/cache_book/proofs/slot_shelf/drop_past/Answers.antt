@@ -1,5 +1,4 @@
-use Rattle.std.proofs.Common.{rules}
-use Rattle.std.proofs.lemmas.Fn.{filter_same}
+use Rattle.std.proofs.{Common.rules, lemmas.Fn.filter_same}
 use Rattle.cache_policy.specs.Entry.{within}
 use Rattle.cache_book.specs.declared.slot.Slot.{Slot}
 use Rattle.cache_book.proofs.slot_shelf.drop_past.Goals as goal

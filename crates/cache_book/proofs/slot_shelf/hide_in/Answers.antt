@@ -1,10 +1,5 @@
-use Rattle.std.specs.Prelude.{◌-◌, [], ◌∷◌, false, true, refl}
-use Rattle.std.proofs.Common.{ap, sym, ◌∙◌, subst, rules}
-use Rattle.cache_book.specs.declared.slot.Slot.{Slot}
-use Rattle.cache_book.specs.Modes.{has_some}
-use Rattle.cache_book.specs.Shelves.{hidden}
-use Rattle.cache_book.proofs.Slotwise.{hidden_slotwise}
-use Rattle.cache_book.proofs.Stretch.{IsDoneFrom, done_none, done_all, done_removed, done_set, hidden_one, remove_set, from_before}
+use Rattle.std.{specs.Prelude.{◌-◌, [], ◌∷◌, false, true, refl}, proofs.Common.{ap, sym, ◌∙◌, subst, rules}}
+use Rattle.cache_book.{specs.{declared.slot.Slot.Slot, Modes.has_some, Shelves.hidden}, proofs.{Slotwise.hidden_slotwise, Stretch.{IsDoneFrom, done_none, done_all, done_removed, done_set, hidden_one, remove_set, from_before}}}
 use Rattle.cache_book.proofs.Searching.{behind_hash, before_hash, other_ids, hidden_after, hidden_before}
 use Rattle.cache_book.proofs.slot_shelf.hide_in.Goals as goal
 

@@ -1,14 +1,7 @@
-use Rattle.std.specs.Prelude.{◌≡◌, ℕ, ◌||◌, List, [], ◌∷◌, ◌++◌, true, false, take, drop}
-use Rattle.std.proofs.Common.{ap, sym, ◌∙◌, subst}
-use Rattle.std.specs.List.{AllByRecursion, insert}
+use Rattle.std.{specs.{Prelude.{◌≡◌, ℕ, ◌||◌, List, [], ◌∷◌, ◌++◌, true, false, take, drop}, List.{AllByRecursion, insert}}, proofs.Common.{ap, sym, ◌∙◌, subst}}
 use Rattle.cache_policy.specs.declared.entry.Entry.{Entry}
-use Rattle.cache_book.specs.declared.slot.Slot.{Slot}
-use Rattle.cache_book.specs.Shelves.{hidden, new_slot}
-use Rattle.cache_book.specs.SlotOrders.{is_upto, by_number, AreById, AreKept}
-use Rattle.cache_book.specs.Deadlines.{place_of, is_place, is_among}
-use Rattle.cache_book.proofs.Arranging.{all_insert, all_take_within, all_drop_within}
-use Rattle.cache_book.proofs.Ordered.{kept_hidden, kept_stored, by_number_stored, by_number_hidden, below_hidden}
-use Rattle.cache_book.proofs.Holding.{held_or, held_new, held_hidden}
+use Rattle.cache_book.specs.{declared.slot.Slot.Slot, Shelves.{hidden, new_slot}, SlotOrders.{is_upto, by_number, AreById, AreKept}, Deadlines.{place_of, is_place, is_among}}
+use Rattle.cache_book.proofs.{Arranging.{all_insert, all_take_within, all_drop_within}, Ordered.{kept_hidden, kept_stored, by_number_stored, by_number_hidden, below_hidden}, Holding.{held_or, held_new, held_hidden}}
 use Rattle.cache_book.proofs.slot_shelf.store_in.Goals as goal
 
 pub end_of-end-requires : goal.end_of-end-requires

@@ -1,7 +1,5 @@
 use Rattle.std.proofs.Common.{ap, sym, ◌∙◌, subst}
-use Rattle.cache_book.specs.Shelves.{swept}
-use Rattle.cache_book.specs.SlotOrders.{AreWipedPast}
-use Rattle.cache_book.proofs.Wiping.{wiped_past, swept_wiped}
+use Rattle.cache_book.{specs.{Shelves.swept, SlotOrders.AreWipedPast}, proofs.Wiping.{wiped_past, swept_wiped}}
 use Rattle.cache_book.proofs.slot_shelf.sweep_all.Goals as goal
 
 pub drop_past-requires : goal.drop_past-requires

@@ -1,9 +1,5 @@
-use Rattle.std.specs.Prelude.{refl}
-use Rattle.std.proofs.Common.{rules}
-use Rattle.cache_book.specs.SlotOrders.{swept_hash}
-use Rattle.cache_book.proofs.Slotwise.{filter_slotwise}
-use Rattle.cache_book.proofs.Stretch.{done_none, done_all}
-use Rattle.cache_book.proofs.Searching.{behind_hash, before_hash, swept_hash_apart}
+use Rattle.std.{specs.Prelude.refl, proofs.Common.rules}
+use Rattle.cache_book.{specs.SlotOrders.swept_hash, proofs.{Slotwise.filter_slotwise, Stretch.{done_none, done_all}, Searching.{behind_hash, before_hash, swept_hash_apart}}}
 use Rattle.cache_book.proofs.slot_shelf.sweep_hash.Goals as goal
 
 pub loop-i-init : goal.loop-i-init

@@ -1,6 +1,5 @@
 use Rattle.std.specs.Prelude.{◌≡◌, ◌≤◌, ◌-◌, vec_len, vec_capacity}
-use Rattle.cache_book.specs.SlotOrders.{swept_hash}
-use Rattle.cache_book.proofs.Stretch.{IsDoneFrom}
+use Rattle.cache_book.{specs.SlotOrders.swept_hash, proofs.Stretch.IsDoneFrom}
 use Rattle.cache_book.proofs.slot_shelf.sweep_hash.Given as goal
 
 abbrev pub invariant-loop-i : goal.invariant-loop-i

@@ -1,12 +1,5 @@
-use Rattle.std.specs.Prelude.{◌<◌, ◌^◌, List}
-use Rattle.std.proofs.Common.{ap, sym, ◌∙◌, subst, rules}
-use Rattle.std.specs.declared.cmp.Reverse.{Reverse}
-use Rattle.cache_book.specs.declared.deadlines.Place.{Place}
-use Rattle.cache_book.specs.Shelves.{swept}
-use Rattle.cache_book.specs.SlotOrders.{AreKept}
-use Rattle.cache_book.specs.Deadlines.{HavePlaces}
-use Rattle.cache_book.proofs.Ordered.{kept_filter}
-use Rattle.cache_book.proofs.Holding.{swept_none, swept_of_hash, held_swept, held_swept_hash}
+use Rattle.std.{specs.{Prelude.{◌<◌, ◌^◌, List}, declared.cmp.Reverse.Reverse}, proofs.Common.{ap, sym, ◌∙◌, subst, rules}}
+use Rattle.cache_book.{specs.{declared.deadlines.Place.Place, Shelves.swept, SlotOrders.AreKept, Deadlines.HavePlaces}, proofs.{Ordered.kept_filter, Holding.{swept_none, swept_of_hash, held_swept, held_swept_hash}}}
 use Rattle.cache_book.proofs.slot_shelf.sweep_in.Goals as goal
 
 pub returns-in_default-clause-items : goal.returns-in_default-clause-items

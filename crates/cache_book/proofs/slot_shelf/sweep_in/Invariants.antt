@@ -1,7 +1,5 @@
 use Rattle.std.specs.Prelude.{◌≡◌, ◌≤◌, vec_len, vec_capacity}
-use Rattle.cache_book.specs.Shelves.{swept}
-use Rattle.cache_book.specs.SlotOrders.{AreKept}
-use Rattle.cache_book.specs.Deadlines.{HavePlaces}
+use Rattle.cache_book.specs.{Shelves.swept, SlotOrders.AreKept, Deadlines.HavePlaces}
 use Rattle.cache_book.proofs.slot_shelf.sweep_in.Given as goal
 
 abbrev pub invariant-loop : goal.invariant-loop

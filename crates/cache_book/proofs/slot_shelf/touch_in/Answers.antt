@@ -1,9 +1,5 @@
-use Rattle.std.specs.Prelude.{◌≡◌, ◌==◌, ◌||◌, true, false}
-use Rattle.std.proofs.Common.{sym, subst}
-use Rattle.std.specs.List.{AllByRecursion}
-use Rattle.cache_book.specs.Deadlines.{place_of, is_place, is_among}
-use Rattle.cache_book.proofs.Holding.{held_set}
-use Rattle.cache_book.proofs.Searching.{touched_none, touched_at}
+use Rattle.std.{specs.{Prelude.{◌≡◌, ◌==◌, ◌||◌, true, false}, List.AllByRecursion}, proofs.Common.{sym, subst}}
+use Rattle.cache_book.{specs.Deadlines.{place_of, is_place, is_among}, proofs.{Holding.held_set, Searching.{touched_none, touched_at}}}
 use Rattle.cache_book.proofs.slot_shelf.touch_in.Goals as goal
 
 pub returns-in_default-clause-items : goal.returns-in_default-clause-items

@@ -1,8 +1,5 @@
-use Rattle.std.proofs.Common.{sym, ap, ◌∙◌}
-use Rattle.std.proofs.Math.ListN.{set}
-use Rattle.std.proofs.lemmas.List.Edits.{map_over_more}
-use Rattle.cache_book.specs.declared.slot.Slot.{Slot}
-use Rattle.cache_book.specs.SlotOrders.{wipe_past}
+use Rattle.std.proofs.{Common.{sym, ap, ◌∙◌}, Math.ListN.set, lemmas.List.Edits.map_over_more}
+use Rattle.cache_book.specs.{declared.slot.Slot.Slot, SlotOrders.wipe_past}
 use Rattle.cache_book.proofs.slot_shelf.wipe_past_each.Goals as goal
 
 pub loop-slot-preserved : goal.loop-slot-preserved

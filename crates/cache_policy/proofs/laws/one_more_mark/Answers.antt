@@ -1,5 +1,4 @@
-use Rattle.cache_policy.proofs.EntriesLemmas.{entries_with_mark}
-use Rattle.cache_policy.proofs.OneMore.{seat_with_mark, stopped_with_mark, newest_with_mark, gone_with_mark, last_use_with_mark, is_live_with_mark}
+use Rattle.cache_policy.proofs.{EntriesLemmas.entries_with_mark, OneMore.{seat_with_mark, stopped_with_mark, newest_with_mark, gone_with_mark, last_use_with_mark, is_live_with_mark}}
 use Rattle.cache_policy.proofs.Growing.{entries_numbered, is_live_stored, legal_with_mark}
 use Rattle.cache_policy.proofs.laws.one_more_mark.Goals as goal
 

@@ -1,14 +1,6 @@
 -- A grant is made of the newest entry exactly where that is within both lifetimes.
-use Rattle.std.specs.Prelude.{◌≡◌, ℕ, List, Bool, true, false, ◌&&◌, ◌↔◌, Option, Some, None, IsSome, IfSome, refl, reverse, if◌then◌else◌}
-use Rattle.std.proofs.Common.{ap, sym, ◌∙◌, subst, rules}
-use Rattle.std.specs.Option.{option_map, option_and_then}
-use Rattle.cache_policy.specs.declared.mode.Mode.{Mode}
-use Rattle.cache_policy.specs.declared.grant.Grant.{Grant}
-use Rattle.cache_policy.specs.declared.entry.Entry.{Entry}
-use Rattle.cache_policy.specs.Entry.{serves, within}
-use Rattle.cache_policy.specs.Live.{newest_of}
-use Rattle.cache_policy.specs.Book.{found}
-use Rattle.cache_policy.proofs.Lists.{find_passes}
+use Rattle.std.{specs.{Prelude.{◌≡◌, ℕ, List, Bool, true, false, ◌&&◌, ◌↔◌, Option, Some, None, IsSome, IfSome, refl, reverse, if◌then◌else◌}, Option.{option_map, option_and_then}}, proofs.Common.{ap, sym, ◌∙◌, subst, rules}}
+use Rattle.cache_policy.{specs.{declared.{mode.Mode.Mode, grant.Grant.Grant, entry.Entry.Entry}, Entry.{serves, within}, Live.newest_of, Book.found}, proofs.Lists.find_passes}
 use Rattle.cache_policy.proofs.list_book.grant_of.Goals as goal
 
 -- what is granted on a condition is there where the condition holds

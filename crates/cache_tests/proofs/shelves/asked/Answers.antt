@@ -1,6 +1,5 @@
 use Rattle.std.proofs.Common.{sym, subst}
-use Rattle.cache_book.specs.Shelves.{AreBelow}
-use Rattle.cache_book.proofs.Below.{below_touched}
+use Rattle.cache_book.{specs.Shelves.AreBelow, proofs.Below.below_touched}
 use Rattle.cache_tests.proofs.shelves.asked.Goals as goal
 
 pub returns-in-Ok-Some : goal.returns-in-Ok-Some

@@ -1,6 +1,5 @@
 use Rattle.std.proofs.Common.{sym, subst, arith, ◌+◌}
-use Rattle.cache_book.specs.Shelves.{AreBelow}
-use Rattle.cache_book.proofs.Below.{below_more}
+use Rattle.cache_book.{specs.Shelves.AreBelow, proofs.Below.below_more}
 use Rattle.cache_tests.proofs.shelves.made.Goals as goal
 
 pub returns-then-is_err : goal.returns-then-is_err

@@ -1,7 +1,5 @@
-use Rattle.std.specs.Prelude.{◌+◌}
-use Rattle.std.proofs.Common.{sym, subst}
-use Rattle.cache_book.specs.Shelves.{AreBelow}
-use Rattle.cache_book.proofs.Below.{below_stored}
+use Rattle.std.{specs.Prelude.◌+◌, proofs.Common.{sym, subst}}
+use Rattle.cache_book.{specs.Shelves.AreBelow, proofs.Below.below_stored}
 use Rattle.cache_tests.proofs.shelves.stored.Goals as goal
 
 pub returns : goal.returns

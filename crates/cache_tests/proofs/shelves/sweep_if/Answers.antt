@@ -1,6 +1,5 @@
 use Rattle.std.proofs.Common.{sym, subst}
-use Rattle.cache_book.specs.Shelves.{AreBelow}
-use Rattle.cache_book.proofs.Below.{below_filter}
+use Rattle.cache_book.{specs.Shelves.AreBelow, proofs.Below.below_filter}
 use Rattle.cache_tests.proofs.shelves.sweep_if.Goals as goal
 
 pub returns-then-sweeps : goal.returns-then-sweeps

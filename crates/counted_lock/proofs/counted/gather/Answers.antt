@@ -1,10 +1,5 @@
-use Rattle.std.proofs.Common.{rules, arith, ◌≡◌, List, [], ◌∷◌, ◌++◌, length, length-append, ap, sym, subst, ◌∙◌}
-use Rattle.std.proofs.lemmas.Grind.{common_steps}
-use Rattle.counted_lock.specs.Claims.{Sat}
-use Rattle.counted_lock.specs.Passes.{AtPass, AreOf, numbered}
-use Rattle.counted_lock.specs.Keeping.{PassesFit}
-use Rattle.counted_lock.proofs.Keeps.{joins}
-use Rattle.counted_lock.proofs.Passing.{of_last, gathers, gathers_one_more, gathers_first, numbers_first, numbers_more}
+use Rattle.std.proofs.{Common.{rules, arith, ◌≡◌, List, [], ◌∷◌, ◌++◌, length, length-append, ap, sym, subst, ◌∙◌}, lemmas.Grind.common_steps}
+use Rattle.counted_lock.{specs.{Claims.Sat, Passes.{AtPass, AreOf, numbered}, Keeping.PassesFit}, proofs.{Keeps.joins, Passing.{of_last, gathers, gathers_one_more, gathers_first, numbers_first, numbers_more}}}
 use Rattle.counted_lock.proofs.counted.gather.Goals as goal
 
 pub loop-pass-init : goal.loop-pass-init

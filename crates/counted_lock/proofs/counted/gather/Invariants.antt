@@ -1,10 +1,6 @@
 use Rattle.std.specs.Prelude.{◌≡◌, ◌+◌, ℕ, List, [], vec_len, length}
 use Rattle.cache_policy.specs.declared.mark.Mark.{Mark}
-use Rattle.counted_lock.specs.declared.board.About.{About}
-use Rattle.counted_lock.specs.declared.board.Stage.TheVariants.{Idle}
-use Rattle.counted_lock.specs.Rule.{AllFit, times}
-use Rattle.counted_lock.specs.Passes.{AreOf, numbered}
-use Rattle.counted_lock.specs.Keeping.{PassesFit}
+use Rattle.counted_lock.specs.{declared.board.{About.About, Stage.TheVariants.Idle}, Rule.{AllFit, times}, Passes.{AreOf, numbered}, Keeping.PassesFit}
 use Rattle.counted_lock.proofs.counted.gather.Given as goal
 
 abbrev pub invariant-loop-pass : goal.invariant-loop-pass

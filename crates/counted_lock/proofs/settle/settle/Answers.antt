@@ -1,16 +1,7 @@
 use Rattle.std.proofs.Common.{rules, ◌≡◌, ℕ, [], ◌∷◌, ◌++◌, None, Some, Result, Ok, ap, sym, ◌∙◌, subst}
-use Rattle.cache_policy.specs.declared.step.Reply.{Reply}
-use Rattle.cache_policy.specs.declared.step.Refused.{Refused}
-use Rattle.cache_policy.specs.declared.tally.Tally.{Tally}
-use Rattle.cache_policy.specs.Turns.{Turn, Stand, Refused as RefusedTurn, mark_step, turn_of}
-use Rattle.agent_core.specs.Cores.{mark_of}
-use Rattle.agent_core.specs.Recording.{reply_of}
+use Rattle.{cache_policy.specs.{declared.{step.{Reply.Reply, Refused.Refused}, tally.Tally.Tally}, Turns.{Turn, Stand, Refused as RefusedTurn, mark_step, turn_of}}, agent_core.specs.{Cores.mark_of, Recording.reply_of}}
 use Rattle.agent_core.proofs.Knowing.{not_stand, not_refused}
-use Rattle.counted_lock.specs.Logs.{IsLegalLog}
-use Rattle.counted_lock.specs.Plays.{Counts}
-use Rattle.counted_lock.specs.Claims.{own}
-use Rattle.counted_lock.specs.Settling.{Stepped, Settles}
-use Rattle.counted_lock.proofs.Settling.{settles_none, settles_made, adds_refused, adds_stood, adds_spent, adds_made, tally_fits, legal_made}
+use Rattle.counted_lock.{specs.{Logs.IsLegalLog, Plays.Counts, Claims.own, Settling.{Stepped, Settles}}, proofs.Settling.{settles_none, settles_made, adds_refused, adds_stood, adds_spent, adds_made, tally_fits, legal_made}}
 use Rattle.counted_lock.proofs.settle.settle.Goals as goal
 
 pub returns-then-trial : goal.returns-then-trial

@@ -1,7 +1,5 @@
 use Rattle.std.specs.Prelude.{Ok}
-use Rattle.cache_policy.specs.Turns.{mark_step, turn_of}
-use Rattle.agent_core.specs.Cores.{mark_of}
-use Rattle.agent_core.specs.Recording.{reply_of}
+use Rattle.{cache_policy.specs.Turns.{mark_step, turn_of}, agent_core.specs.{Cores.mark_of, Recording.reply_of}}
 use Rattle.counted_lock.proofs.settle.settle.Given as goal
 
 abbrev pub ghosts-count : goal.ghosts-count

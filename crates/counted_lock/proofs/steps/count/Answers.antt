@@ -1,8 +1,6 @@
 use Rattle.std.proofs.Common.{rules, ◌++◌, ◌∷◌, [], sym, ap, ◌∙◌, subst}
 use Rattle.cache_policy.specs.declared.mark.Mark.{Mark}
-use Rattle.counted_lock.specs.Logs.{IsLegalLog}
-use Rattle.counted_lock.specs.Claims.{own}
-use Rattle.counted_lock.proofs.Keeps.{marks}
+use Rattle.counted_lock.{specs.{Logs.IsLegalLog, Claims.own}, proofs.Keeps.marks}
 use Rattle.counted_lock.proofs.steps.count.Goals as goal
 
 pub fetch_add-requires : goal.fetch_add-requires

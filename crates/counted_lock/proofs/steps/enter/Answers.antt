@@ -1,6 +1,5 @@
 use Rattle.std.proofs.Common.{rules, ◌∙◌, sym}
-use Rattle.counted_lock.proofs.Keeps.{draws, looks}
-use Rattle.counted_lock.proofs.Turning.{in_hand}
+use Rattle.counted_lock.proofs.{Keeps.{draws, looks}, Turning.in_hand}
 use Rattle.counted_lock.proofs.steps.enter.Goals as goal
 
 pub fetch_add-number-requires : goal.fetch_add-number-requires

@@ -1,13 +1,6 @@
 use Rattle.std.proofs.Common.{ℕ, ap, sym, ◌∙◌, subst}
-use Rattle.agent_ports.specs.declared.session.SessionId.{SessionId}
-use Rattle.cache_policy.specs.declared.step.Step.{Step}
-use Rattle.cache_policy.specs.declared.tally.Tally.{Tally}
-use Rattle.cache_policy.specs.Turns.{mark_step, turn_of}
-use Rattle.counted_lock.specs.declared.turn.Tried.{Tried}
-use Rattle.counted_lock.specs.Claims.{own}
-use Rattle.counted_lock.specs.Settling.{Stepped, Settles}
-use Rattle.counted_lock.specs.Taking.{TakesTurn}
-use Rattle.counted_lock.proofs.Taking.{stepped, takes_turn}
+use Rattle.{agent_ports.specs.declared.session.SessionId.SessionId, cache_policy.specs.{declared.{step.Step.Step, tally.Tally.Tally}, Turns.{mark_step, turn_of}}}
+use Rattle.counted_lock.{specs.{declared.turn.Tried.Tried, Claims.own, Settling.{Stepped, Settles}, Taking.TakesTurn}, proofs.Taking.{stepped, takes_turn}}
 use Rattle.counted_lock.proofs.turn.take_turn.Goals as goal
 
 pub settle-made-requires-clause-step : goal.settle-made-requires-clause-step

@@ -1,9 +1,5 @@
-use Rattle.std.proofs.Common.{◌≡◌, ◌+◌, ◌≤◌, List, length, map}
-use Rattle.std.specs.List.{list_any}
-use Rattle.key_lines.specs.Lines.{lines_of}
-use Rattle.key_lines.specs.Items.{line_form, is_key}
-use Rattle.key_lines.specs.Faults.{first_line_fault, is_in_item, line_fault}
-use Rattle.key_lines.specs.declared.forms.LineForm.{LineForm}
+use Rattle.std.{proofs.Common.{◌≡◌, ◌+◌, ◌≤◌, List, length, map}, specs.List.list_any}
+use Rattle.key_lines.specs.{Lines.lines_of, Items.{line_form, is_key}, Faults.{first_line_fault, is_in_item, line_fault}, declared.forms.LineForm.LineForm}
 use Rattle.key_lines.proofs.checking.check_lines.Given as goal
 
 -- the lines that are left decide, by those before them, the nearest first

@@ -1,9 +1,5 @@
-use Rattle.std.proofs.Common.{◌≡◌, true, false, Bool, ℕ, List, length, take, arith, ap, sym, ◌∙◌}
-use Rattle.std.specs.Prelude.{nat_lt, ◌&&◌}
-use Rattle.std.specs.List.{position_or_len}
-use Rattle.std.proofs.lemmas.Bool.Decides.{nat_tests}
-use Rattle.key_lines.specs.Items.{is_colon, is_name, begins_item, name_in}
-use Rattle.key_lines.proofs.LineLemmas.{any_before_end}
+use Rattle.std.{proofs.{Common.{◌≡◌, true, false, Bool, ℕ, List, length, take, arith, ap, sym, ◌∙◌}, lemmas.Bool.Decides.nat_tests}, specs.{Prelude.{nat_lt, ◌&&◌}, List.position_or_len}}
+use Rattle.key_lines.{specs.Items.{is_colon, is_name, begins_item, name_in}, proofs.LineLemmas.any_before_end}
 use Rattle.key_lines.proofs.forms.name_in.Goals as goal
 
 -- whether there is a colon, and whether what stands before it is a name

@@ -1,11 +1,6 @@
-use Rattle.std.proofs.Common.{◌≡◌, ◌-◌, true, false, ◌++◌, [], ◌∷◌, ℕ, List, length, take, drop, ap, sym, ◌∙◌, append_assoc, append-nil}
-use Rattle.std.specs.Prelude.{◌||◌}
+use Rattle.std.{proofs.{Common.{◌≡◌, ◌-◌, true, false, ◌++◌, [], ◌∷◌, ℕ, List, length, take, drop, ap, sym, ◌∙◌, append_assoc, append-nil}, lemmas.List.Folds.{concat-append, list_any-append}}, specs.Prelude.◌||◌}
 use Rattle.std.specs.List.{concat, list_any, position_or_len}
-use Rattle.std.proofs.lemmas.List.Folds.{concat-append, list_any-append}
-use Rattle.key_lines.specs.Lines.{lines_of}
-use Rattle.key_lines.specs.Items.{is_key}
-use Rattle.key_lines.specs.KeyItem.{is_key_line, has_key, before_key, from_key}
-use Rattle.key_lines.proofs.KeyLemmas.{place_behind, take_front, drop_front, take_bytes}
+use Rattle.key_lines.{specs.{Lines.lines_of, Items.is_key, KeyItem.{is_key_line, has_key, before_key, from_key}}, proofs.KeyLemmas.{place_behind, take_front, drop_front, take_bytes}}
 use Rattle.key_lines.proofs.item.cut_at_key.Goals as goal
 
 -- what stands before the Key item, and what begins with it, where none of the lines before begins one

@@ -1,7 +1,5 @@
-use Rattle.std.proofs.Common.{◌≡◌, false, List, ℕ, ◌++◌, length}
-use Rattle.std.specs.List.{concat, list_any}
-use Rattle.key_lines.specs.Lines.{lines_of}
-use Rattle.key_lines.specs.KeyItem.{is_key_line}
+use Rattle.std.{proofs.Common.{◌≡◌, false, List, ℕ, ◌++◌, length}, specs.List.{concat, list_any}}
+use Rattle.key_lines.specs.{Lines.lines_of, KeyItem.is_key_line}
 use Rattle.key_lines.proofs.item.cut_at_key.Given as goal
 
 -- none of the lines so far begins a Key item

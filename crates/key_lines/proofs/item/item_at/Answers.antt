@@ -1,10 +1,5 @@
-use Rattle.std.proofs.Common.{◌≡◌, true, false, ◌++◌, [], ◌∷◌, ℕ, List, drop, ap, sym, ◌∙◌}
-use Rattle.std.specs.List.{concat, prefix_len, take_while}
-use Rattle.key_lines.specs.Lines.{lines_of, line_text}
-use Rattle.key_lines.specs.Items.{goes_on, value_in}
-use Rattle.key_lines.specs.KeyItem.{is_more, value_of, after_item}
-use Rattle.key_lines.proofs.LineLemmas.{concat_lines}
-use Rattle.key_lines.proofs.KeyLemmas.{joined, join_is, more_step, rest_step, more_stops, add_line}
+use Rattle.std.{proofs.Common.{◌≡◌, true, false, ◌++◌, [], ◌∷◌, ℕ, List, drop, ap, sym, ◌∙◌}, specs.List.{concat, prefix_len, take_while}}
+use Rattle.key_lines.{specs.{Lines.{lines_of, line_text}, Items.{goes_on, value_in}, KeyItem.{is_more, value_of, after_item}}, proofs.{LineLemmas.concat_lines, KeyLemmas.{joined, join_is, more_step, rest_step, more_stops, add_line}}}
 use Rattle.key_lines.proofs.item.item_at.Goals as goal
 
 pub loop-line-init : goal.loop-line-init

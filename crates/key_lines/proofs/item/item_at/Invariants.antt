@@ -1,8 +1,5 @@
-use Rattle.std.proofs.Common.{◌≡◌, drop, ◌++◌, length}
-use Rattle.std.specs.List.{concat, prefix_len, take_while}
-use Rattle.key_lines.specs.Lines.{lines_of}
-use Rattle.key_lines.specs.KeyItem.{is_more, value_of, after_item}
-use Rattle.key_lines.proofs.KeyLemmas.{joined}
+use Rattle.std.{proofs.Common.{◌≡◌, drop, ◌++◌, length}, specs.List.{concat, prefix_len, take_while}}
+use Rattle.key_lines.{specs.{Lines.lines_of, KeyItem.{is_more, value_of, after_item}}, proofs.KeyLemmas.joined}
 use Rattle.key_lines.proofs.item.item_at.Given as goal
 
 -- the lines that are left and go on complete the value

@@ -1,10 +1,6 @@
-use Rattle.std.proofs.Common.{◌≡◌, ◌⊎◌, inl, inr, ℕ, List, Result, Ok, Err, ap}
-use Rattle.std.specs.Prelude.{IfOk, IfErr}
+use Rattle.std.{proofs.Common.{◌≡◌, ◌⊎◌, inl, inr, ℕ, List, Result, Ok, Err, ap}, specs.Prelude.{IfOk, IfErr}}
+use Rattle.key_lines.{specs.{KeyFile.{KeyFile, IsKeyFile, IsFault, Answers}, declared.fault.LinesFault.{LinesFault, TheVariants.NoMemory}}, proofs.OneAnswer.one_answer}
 use Rattle.sexp_advanced.proofs.OneAnswer as advanced
-use Rattle.key_lines.specs.KeyFile.{KeyFile, IsKeyFile, IsFault, Answers}
-use Rattle.key_lines.specs.declared.fault.LinesFault.{LinesFault}
-use Rattle.key_lines.specs.declared.fault.LinesFault.TheVariants.{NoMemory}
-use Rattle.key_lines.proofs.OneAnswer.{one_answer}
 use Rattle.key_lines.proofs.key_file.read_lines.Goals as goal
 
 answered : (file : List ℕ) (result answer : Result KeyFile LinesFault) → IfOk result (IsKeyFile file) → IfErr result (λ fault. (fault ≡ NoMemory) ⊎ IsFault file fault)

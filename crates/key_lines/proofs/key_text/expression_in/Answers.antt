@@ -1,10 +1,5 @@
-use Rattle.std.proofs.Common.{◌≡◌, inr, ◌+◌, ◌-◌, ◌<◌, ◌≤◌, true, false, ℕ, List, length, take, drop, arith, ap, sym, ◌∙◌}
-use Rattle.std.specs.Prelude.{nat_le}
-use Rattle.std.specs.List.{list_all, prefix_len}
-use Rattle.std.proofs.lemmas.Bool.Decides.{nat_tests}
-use Rattle.std.proofs.lemmas.List.{take_rest}
-use Rattle.assuan_text.specs.Blanks.{is_blank}
-use Rattle.sexp_advanced.specs.declared.fault.AdvFault.TheVariants.{BadByte}
+use Rattle.std.{proofs.{Common.{◌≡◌, inr, ◌+◌, ◌-◌, ◌<◌, ◌≤◌, true, false, ℕ, List, length, take, drop, arith, ap, sym, ◌∙◌}, lemmas.{Bool.Decides.nat_tests, List.take_rest}}, specs.{Prelude.nat_le, List.{list_all, prefix_len}}}
+use Rattle.{assuan_text.specs.Blanks.is_blank, sexp_advanced.specs.declared.fault.AdvFault.TheVariants.BadByte}
 use Rattle.key_lines.proofs.LineLemmas.{all_within}
 use Rattle.key_lines.proofs.key_text.expression_in.Goals as goal
 

@@ -1,5 +1,4 @@
-use Rattle.key_lines.specs.KeyItem.{key_value}
-use Rattle.key_lines.proofs.NoMemory.{no_memory}
+use Rattle.key_lines.{specs.KeyItem.key_value, proofs.NoMemory.no_memory}
 use Rattle.key_lines.proofs.OneAnswer as answers
 use Rattle.key_lines.proofs.laws.one_answer.Goals as goal
 

@@ -1,7 +1,5 @@
 use Rattle.std.proofs.Common.{◌++◌, [], ℕ, List, length, Ok, subst, append-nil, refl}
-use Rattle.sexp_canonical.specs.declared.tree.Sexp.{Sexp}
-use Rattle.sexp_advanced.specs.Reading.{ReadsAdvanced}
-use Rattle.sexp_advanced.specs.Writing.{advanced_of}
+use Rattle.{sexp_canonical.specs.declared.tree.Sexp.Sexp, sexp_advanced.specs.{Reading.ReadsAdvanced, Writing.advanced_of}}
 use Rattle.key_lines.proofs.Replaced.{IsReadAgain, replaced, replaced_canon}
 use Rattle.key_lines.proofs.laws.other_key_is_read.Goals as goal
 

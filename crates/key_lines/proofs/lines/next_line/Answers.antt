@@ -1,7 +1,5 @@
-use Rattle.std.proofs.Common.{◌≡◌, ◌∷◌, [], ℕ, List, length, ◌<◌, take, drop, arith, ap, sym, ◌∙◌}
-use Rattle.std.proofs.lemmas.Bool.Decides.{nat_tests}
-use Rattle.key_lines.specs.Lines.{lines_of}
-use Rattle.key_lines.proofs.LineLemmas.{lines_step, line_len}
+use Rattle.std.proofs.{Common.{◌≡◌, ◌∷◌, [], ℕ, List, length, ◌<◌, take, drop, arith, ap, sym, ◌∙◌}, lemmas.Bool.Decides.nat_tests}
+use Rattle.key_lines.{specs.Lines.lines_of, proofs.LineLemmas.{lines_step, line_len}}
 use Rattle.key_lines.proofs.lines.next_line.Goals as goal
 
 step : (bytes : List ℕ) → 0 < length bytes → lines_of bytes ≡ take (line_len bytes) bytes ∷ lines_of (drop (line_len bytes) bytes)

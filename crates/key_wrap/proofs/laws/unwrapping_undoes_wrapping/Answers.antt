@@ -1,7 +1,5 @@
-use Rattle.std.proofs.Common.{ap, ◌∙◌}
-use Rattle.std.specs.List.{concat}
-use Rattle.key_wrap.specs.KeyWrap.{Registers}
-use Rattle.key_wrap.proofs.Undone.{IsPlain, unwrapped_of_wrapped_of, concat_start, is_wrapped_length_wrapped_of}
+use Rattle.std.{proofs.Common.{ap, ◌∙◌}, specs.List.concat}
+use Rattle.key_wrap.{specs.KeyWrap.Registers, proofs.Undone.{IsPlain, unwrapped_of_wrapped_of, concat_start, is_wrapped_length_wrapped_of}}
 use Rattle.key_wrap.proofs.laws.unwrapping_undoes_wrapping.Goals as goal
 
 pub returns : goal.returns

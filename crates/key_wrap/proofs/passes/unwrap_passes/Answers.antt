@@ -1,6 +1,5 @@
 use Rattle.std.proofs.Common.{◌≡◌, ◌+◌, ◌-◌, ◌*◌, length, ap, ◌∙◌, arith}
-use Rattle.key_wrap.specs.KeyWrap.{Registers, unwrap_pass}
-use Rattle.key_wrap.proofs.Steps.{passes_less, passes_none}
+use Rattle.key_wrap.{specs.KeyWrap.{Registers, unwrap_pass}, proofs.Steps.{passes_less, passes_none}}
 use Rattle.key_wrap.proofs.passes.unwrap_passes.Goals as goal
 
 pub loop-pass-preserved : goal.loop-pass-preserved

@@ -1,6 +1,5 @@
 use Rattle.std.proofs.Common.{◌≡◌, ◌+◌, take, drop}
-use Rattle.key_wrap.specs.KeyWrap.{wrap_pass}
-use Rattle.key_wrap.proofs.Steps.{wrapping}
+use Rattle.key_wrap.{specs.KeyWrap.wrap_pass, proofs.Steps.wrapping}
 use Rattle.key_wrap.proofs.passes.wrap_pass.Given as goal
 
 abbrev pub invariant-loop-i : goal.invariant-loop-i

@@ -1,6 +1,5 @@
 use Rattle.std.proofs.Common.{◌+◌, ◌*◌, length, refl, ap, ◌∙◌}
-use Rattle.key_wrap.specs.KeyWrap.{Registers, initial_value, wrap_pass, wrap_passes}
-use Rattle.key_wrap.proofs.Steps.{passes_more}
+use Rattle.key_wrap.{specs.KeyWrap.{Registers, initial_value, wrap_pass, wrap_passes}, proofs.Steps.passes_more}
 use Rattle.key_wrap.proofs.passes.wrap_passes.Goals as goal
 
 pub loop-pass-init : goal.loop-pass-init

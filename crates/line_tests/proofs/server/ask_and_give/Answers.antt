@@ -1,6 +1,5 @@
 use Rattle.std.proofs.Common.{refl}
-use Rattle.assuan_server.specs.Inquiries.{Data}
-use Rattle.assuan_server.proofs.StillOpen.{ended_is_closed}
+use Rattle.assuan_server.{specs.Inquiries.Data, proofs.StillOpen.ended_is_closed}
 use Rattle.line_tests.proofs.server.ask_and_give.Goals as goal
 
 pub give-requires : goal.give-requires

@@ -1,6 +1,5 @@
 use Rattle.std.proofs.Common.{refl, []}
-use Rattle.assuan_server.specs.Inquiries.{Data, Cancelled, TooMuch, Unexpected}
-use Rattle.assuan_server.proofs.StillOpen.{ended_is_closed}
+use Rattle.assuan_server.{specs.Inquiries.{Data, Cancelled, TooMuch, Unexpected}, proofs.StillOpen.ended_is_closed}
 use Rattle.line_tests.proofs.server.inquire_drop.Goals as goal
 
 pub with_next-requires : goal.with_next-requires

@@ -1,7 +1,5 @@
 use Rattle.agent_ask.proofs.Counting.{failures}
-use Rattle.pinentry_client.proofs.Calling.{is_call}
-use Rattle.pinentry_client.specs.Dialogues.{PinentryDoes}
-use Rattle.pinentry_client.specs.States.{at_prompter}
+use Rattle.pinentry_client.{proofs.Calling.is_call, specs.{Dialogues.PinentryDoes, States.at_prompter}}
 use Rattle.pinentry_client.proofs.laws.failures_of_a_pinentry_are_counted.Goals as goal
 
 pub returns : goal.returns

@@ -1,7 +1,5 @@
 use Rattle.std.proofs.Common.{codes, sym}
-use Rattle.pinentry_client.specs.Talking.{ConsentTalk, Commands}
-use Rattle.pinentry_client.proofs.Talks.{said_as}
-use Rattle.pinentry_client.proofs.Readiness.{consent_ready}
+use Rattle.pinentry_client.{specs.Talking.{ConsentTalk, Commands}, proofs.{Talks.said_as, Readiness.consent_ready}}
 use Rattle.pinentry_client.proofs.talk.consent_talk.Goals as goal
 
 pub returns-clause-talk : goal.returns-clause-talk

@@ -1,8 +1,5 @@
 use Rattle.std.proofs.Common.{codes, sym}
-use Rattle.pinentry_client.specs.Talking.{PinTalk, Commands}
-use Rattle.pinentry_client.specs.declared.answers.Trouble.TheVariants.{Failed, Broken}
-use Rattle.pinentry_client.proofs.Talks.{said_as}
-use Rattle.pinentry_client.proofs.Readiness.{pin_ready}
+use Rattle.pinentry_client.{specs.{Talking.{PinTalk, Commands}, declared.answers.Trouble.TheVariants.{Failed, Broken}}, proofs.{Talks.said_as, Readiness.pin_ready}}
 use Rattle.pinentry_client.proofs.talk.pin_talk.Goals as goal
 
 pub returns-in-Ok-clause-talk : goal.returns-in-Ok-clause-talk

@@ -1,5 +1,4 @@
-use Rattle.pinentry_client.specs.Talking.{is_asked, answered, inquired}
-use Rattle.pinentry_client.proofs.Talks.{not_asked, fewer_left}
+use Rattle.pinentry_client.{specs.Talking.{is_asked, answered, inquired}, proofs.Talks.{not_asked, fewer_left}}
 use Rattle.pinentry_client.proofs.talk.settled.Goals as goal
 
 pub loop-answer-smaller : goal.loop-answer-smaller

@@ -1,9 +1,6 @@
 -- Whatever the last answer is from here on, it is that of all. Each inquiry uses up a line.
 use Rattle.std.proofs.Common.{◌≡◌, ◌+◌, cond}
-use Rattle.assuan_client.specs.Answers.{state_after}
-use Rattle.assuan_client.specs.Connections.{Connection}
-use Rattle.assuan_client.specs.declared.answer.Answer.{Answer}
-use Rattle.assuan_line.specs.Next.{held}
+use Rattle.{assuan_client.specs.{Answers.state_after, Connections.Connection, declared.answer.Answer.Answer}, assuan_line.specs.Next.held}
 use Rattle.pinentry_client.specs.Talking.{Settles, is_asked}
 use Rattle.pinentry_client.proofs.talk.settled.Given as goal
 

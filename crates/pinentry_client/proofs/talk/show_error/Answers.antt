@@ -1,6 +1,5 @@
 use Rattle.std.proofs.Common.{rules, ◌≡◌, ◌≢◌, [], length}
-use Rattle.pinentry_client.specs.Talking.{none, shown}
-use Rattle.pinentry_client.proofs.Talks.{no_bytes}
+use Rattle.pinentry_client.{specs.Talking.{none, shown}, proofs.Talks.no_bytes}
 use Rattle.pinentry_client.proofs.talk.show_error.Goals as goal
 
 pub returns-then-is_empty-clause-talk : goal.returns-then-is_empty-clause-talk

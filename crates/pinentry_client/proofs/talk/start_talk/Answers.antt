@@ -1,5 +1,4 @@
-use Rattle.std.proofs.Common.{Err, sym}
-use Rattle.std.proofs.lemmas.Result.{err_from_is_err_and}
+use Rattle.std.proofs.{Common.{Err, sym}, lemmas.Result.err_from_is_err_and}
 use Rattle.pinentry_client.specs.Talking.{StartTalk, greets}
 use Rattle.pinentry_client.proofs.talk.start_talk.Goals as goal
 

@@ -1,7 +1,5 @@
-use Rattle.std.proofs.Common.{Err}
-use Rattle.std.proofs.lemmas.Result.{err_from_is_err_and}
-use Rattle.pinentry_client.specs.Talking.{Sets, done, next}
-use Rattle.pinentry_client.proofs.Talks.{settings_from, none_behind}
+use Rattle.std.proofs.{Common.Err, lemmas.Result.err_from_is_err_and}
+use Rattle.pinentry_client.{specs.Talking.{Sets, done, next}, proofs.Talks.{settings_from, none_behind}}
 use Rattle.pinentry_client.proofs.talk.tell_settings.Goals as goal
 
 pub returns-in_err-pid-clause-sets : goal.returns-in_err-pid-clause-sets

@@ -1,10 +1,7 @@
 -- Whatever the further settings come to, all of them come to.
 use Rattle.std.proofs.Common.{◌≡◌, ℕ, drop, Result}
-use Rattle.assuan_client.specs.Connections.{Connection}
-use Rattle.assuan_client.specs.declared.answer.State.TheVariants.{Ready}
-use Rattle.pinentry_client.specs.Settings.{all_settings}
-use Rattle.pinentry_client.specs.Talking.{Sets}
-use Rattle.pinentry_client.specs.declared.answers.Trouble.{Trouble}
+use Rattle.assuan_client.specs.{Connections.Connection, declared.answer.State.TheVariants.Ready}
+use Rattle.pinentry_client.specs.{Settings.all_settings, Talking.Sets, declared.answers.Trouble.Trouble}
 use Rattle.pinentry_client.proofs.talk.tell_settings.Given as goal
 
 abbrev pub invariant-loop-setting : goal.invariant-loop-setting

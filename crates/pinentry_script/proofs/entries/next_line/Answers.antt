@@ -1,5 +1,4 @@
-use Rattle.std.proofs.Common.{◌+◌, ◌-◌, length, drop, sym, ◌∙◌, arith}
-use Rattle.std.proofs.lemmas.List.{take_all, length-drop}
+use Rattle.std.proofs.{Common.{◌+◌, ◌-◌, length, drop, sym, ◌∙◌, arith}, lemmas.List.{take_all, length-drop}}
 use Rattle.pinentry_script.proofs.Files.{split_there}
 use Rattle.pinentry_script.proofs.entries.next_line.Goals as goal
 

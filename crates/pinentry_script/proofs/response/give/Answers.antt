@@ -1,5 +1,4 @@
-use Rattle.std.proofs.Common.{length, sym}
-use Rattle.std.proofs.lemmas.Bool.{eqb-true}
+use Rattle.std.proofs.{Common.{length, sym}, lemmas.Bool.eqb-true}
 use Rattle.agent_ports.proofs.Writing.{writes_as}
 use Rattle.pinentry_script.proofs.Saying.{gives_nothing, gave_then, gave_part}
 use Rattle.pinentry_script.proofs.response.give.Goals as goal

@@ -1,9 +1,6 @@
-use Rattle.std.proofs.Common.{◌++◌, ap, sym, ◌∙◌, append-nil}
-use Rattle.std.specs.Prelude.{codes}
-use Rattle.agent_ports.proofs.Writing.{writes_as}
-use Rattle.assuan_text.specs.LineEnds.{line_of}
-use Rattle.pinentry_script.specs.Responses.{quality_inquiry}
-use Rattle.pinentry_script.proofs.Saying.{one_line}
+use Rattle.std.{proofs.Common.{◌++◌, ap, sym, ◌∙◌, append-nil}, specs.Prelude.codes}
+use Rattle.{agent_ports.proofs.Writing.writes_as, assuan_text.specs.LineEnds.line_of}
+use Rattle.pinentry_script.{specs.Responses.quality_inquiry, proofs.Saying.one_line}
 use Rattle.pinentry_script.proofs.response.write_response.Goals as goal
 
 pub returns-in-Inquire-clause-said : goal.returns-in-Inquire-clause-said

@@ -1,8 +1,5 @@
-use Rattle.std.proofs.Common.{[], ◌∷◌}
-use Rattle.std.specs.Prelude.{codes}
-use Rattle.sexp_canonical.specs.Tree.{leaf}
-use Rattle.sexp_canonical.proofs.WrittenLists.{written_one}
-use Rattle.sexp_keys.proofs.WrittenLists.{key_written}
+use Rattle.std.{proofs.Common.{[], ◌∷◌}, specs.Prelude.codes}
+use Rattle.{sexp_canonical.{specs.Tree.leaf, proofs.WrittenLists.written_one}, sexp_keys.proofs.WrittenLists.key_written}
 use Rattle.secret_file.specs.Protection.{hash_name}
 use Rattle.secret_file.proofs.protecting.append_hash.Goals as goal
 

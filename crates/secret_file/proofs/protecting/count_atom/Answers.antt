@@ -1,6 +1,5 @@
 use Rattle.std.proofs.Common.{ap, ◌∙◌, arith}
-use Rattle.sexp_canonical.specs.declared.tree.Sexp.TheVariants.{Atom}
-use Rattle.sexp_canonical.proofs.Written.{decimal_is_numeral}
+use Rattle.sexp_canonical.{specs.declared.tree.Sexp.TheVariants.Atom, proofs.Written.decimal_is_numeral}
 use Rattle.secret_file.proofs.protecting.count_atom.Goals as goal
 
 pub returns : goal.returns

@@ -1,9 +1,6 @@
-use Rattle.std.proofs.Common.{◌≡◌, sym, ap, length, subst, ◌∙◌, List, ℕ, arith}
-use Rattle.std.specs.Option.{option_copied}
+use Rattle.std.{proofs.Common.{◌≡◌, sym, ap, length, subst, ◌∙◌, List, ℕ, arith}, specs.Option.option_copied}
 use Rattle.s2k_derive.specs.S2k.{derived_key}
-use Rattle.secret_file.specs.Opens.{AreSealed, Opens}
-use Rattle.secret_file.specs.Protects.{protected_file}
-use Rattle.secret_file.proofs.Locking.{associated_within, sealed_short, sealed, ok_more, file_opens, ocb_made}
+use Rattle.secret_file.{specs.{Opens.{AreSealed, Opens}, Protects.protected_file}, proofs.Locking.{associated_within, sealed_short, sealed, ok_more, file_opens, ocb_made}}
 use Rattle.secret_file.proofs.protecting.protect.Goals as goal
 
 pub sealed_by-requires-clause-assoc : goal.sealed_by-requires-clause-assoc

@@ -1,10 +1,6 @@
-use Rattle.std.proofs.Common.{◌≡◌, ap, length, ◌∙◌}
-use Rattle.std.specs.Option.{option_copied}
-use Rattle.s2k_derive.specs.S2k.{derived_key}
-use Rattle.aes_modes.specs.Cbc.{cbc_decrypted}
-use Rattle.secret_file.specs.Opens.{Opens}
-use Rattle.secret_file.specs.Protects.{protected_file}
-use Rattle.secret_file.proofs.Locking.{chained, ok_more, file_opens, cbc_made}
+use Rattle.std.{proofs.Common.{◌≡◌, ap, length, ◌∙◌}, specs.Option.option_copied}
+use Rattle.{s2k_derive.specs.S2k.derived_key, aes_modes.specs.Cbc.cbc_decrypted}
+use Rattle.secret_file.{specs.{Opens.Opens, Protects.protected_file}, proofs.Locking.{chained, ok_more, file_opens, cbc_made}}
 use Rattle.secret_file.proofs.protecting.protect_cbc.Goals as goal
 
 pub returns-clause-opens : goal.returns-clause-opens

@@ -1,8 +1,6 @@
 use Rattle.std.proofs.Common.{◌∷◌, [], ap, ◌∙◌, rules}
-use Rattle.sexp_canonical.specs.Tree.{leaf, items}
-use Rattle.sexp_canonical.specs.View.{tree_of, trees}
-use Rattle.secret_file.specs.Protection.{protection_name, iv_of, derivation_tree}
-use Rattle.secret_file.proofs.Shapes.{has_parts, protection_is, no_derivation, no_cipher, no_hashing, no_octets}
+use Rattle.sexp_canonical.specs.{Tree.{leaf, items}, View.{tree_of, trees}}
+use Rattle.secret_file.{specs.Protection.{protection_name, iv_of, derivation_tree}, proofs.Shapes.{has_parts, protection_is, no_derivation, no_cipher, no_hashing, no_octets}}
 use Rattle.secret_file.proofs.protection.shaped.Goals as goal
 
 pub returns-in_err-behind-clause-none : goal.returns-in_err-behind-clause-none

@@ -1,11 +1,6 @@
 use Rattle.std.proofs.Common.{◌≡◌, ◌≤◌, List, [], ◌∷◌, length, ap, arith}
-use Rattle.sexp_canonical.specs.Tree.{Tree, list_of}
-use Rattle.sexp_canonical.specs.View.{tree_of}
-use Rattle.sexp_canonical.specs.Spelling.{depth, most_depth, spelling}
-use Rattle.sexp_canonical.specs.declared.tree.Sexp.TheVariants.{List as Listed}
-use Rattle.secret_file.specs.Opens.{sealed_tree}
-use Rattle.secret_file.proofs.Decrypted.{none_more}
-use Rattle.secret_file.proofs.Unsealing.{sealed_read, whole_read}
+use Rattle.sexp_canonical.specs.{Tree.{Tree, list_of}, View.tree_of, Spelling.{depth, most_depth, spelling}, declared.tree.Sexp.TheVariants.List as Listed}
+use Rattle.secret_file.{specs.Opens.sealed_tree, proofs.{Decrypted.none_more, Unsealing.{sealed_read, whole_read}}}
 use Rattle.secret_file.proofs.sealed.sealed_list.Goals as goal
 
 pub returns-in_default-clause-none : goal.returns-in_default-clause-none

@@ -1,5 +1,4 @@
-use Rattle.std.proofs.Common.{◌≡◌, ◌-◌, length, sym, ◌∙◌, arith}
-use Rattle.std.proofs.lemmas.Grind.{common_steps}
+use Rattle.std.proofs.{Common.{◌≡◌, ◌-◌, length, sym, ◌∙◌, arith}, lemmas.Grind.common_steps}
 use Rattle.secret_file.proofs.Unsealing.{joined, sealed_same}
 use Rattle.secret_file.proofs.sealed.unsealed.Goals as goal
 

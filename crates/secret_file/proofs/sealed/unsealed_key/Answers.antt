@@ -1,8 +1,6 @@
 use Rattle.std.proofs.Common.{ap, length, arith, sym, ◌∙◌}
 use Rattle.sexp_keys.specs.Lists.{associated_list_of}
-use Rattle.secret_file.specs.Opens.{time_of}
-use Rattle.secret_file.proofs.Within.{associated_short}
-use Rattle.secret_file.proofs.Unsealing.{not_listed, unsealed_opening}
+use Rattle.secret_file.{specs.Opens.time_of, proofs.{Within.associated_short, Unsealing.{not_listed, unsealed_opening}}}
 use Rattle.secret_file.proofs.sealed.unsealed_key.Goals as goal
 
 pub unsealed-requires-clause-assoc : goal.unsealed-requires-clause-assoc

@@ -1,9 +1,6 @@
 use Rattle.std.proofs.Common.{◌≡◌, true, false, ap, ◌∙◌}
-use Rattle.sha1.specs.Sha1.{sha1}
-use Rattle.sexp_canonical.specs.View.{tree_of}
-use Rattle.sexp_keys.specs.Lists.{hashed_list_of}
-use Rattle.secret_file.specs.Opens.{time_of}
-use Rattle.secret_file.proofs.Decrypted.{not_spelled, other_names, other_digest}
+use Rattle.{sha1.specs.Sha1.sha1, sexp_canonical.specs.View.tree_of, sexp_keys.specs.Lists.hashed_list_of}
+use Rattle.secret_file.{specs.Opens.time_of, proofs.Decrypted.{not_spelled, other_names, other_digest}}
 use Rattle.secret_file.proofs.secrets.clear_key.Goals as goal
 
 never : false ≡ true → ⊥

@@ -1,10 +1,6 @@
 use Rattle.std.proofs.Common.{◌≡◌, ◌≤◌, ◌<◌, ◌-◌, List, [], ◌∷◌, length, arith}
-use Rattle.sexp_canonical.specs.Tree.{Tree, list_of}
-use Rattle.sexp_canonical.specs.View.{tree_of}
-use Rattle.sexp_canonical.specs.Spelling.{depth, most_depth, spelling}
-use Rattle.sexp_canonical.specs.declared.tree.Sexp.TheVariants.{List as Listed}
-use Rattle.secret_file.specs.Opens.{secret_tree, AreSpelled}
-use Rattle.secret_file.proofs.Decrypted.{secret_read, not_padded, not_two, padded_is, some_more, none_more}
+use Rattle.sexp_canonical.specs.{Tree.{Tree, list_of}, View.tree_of, Spelling.{depth, most_depth, spelling}, declared.tree.Sexp.TheVariants.List as Listed}
+use Rattle.secret_file.{specs.Opens.{secret_tree, AreSpelled}, proofs.Decrypted.{secret_read, not_padded, not_two, padded_is, some_more, none_more}}
 use Rattle.secret_file.proofs.secrets.secrets_of.Goals as goal
 
 pub returns-in_default-clause-none : goal.returns-in_default-clause-none

@@ -1,5 +1,4 @@
-use Rattle.std.proofs.Common.{◌||◌, [], ◌∷◌, ◌++◌, refl, sym, ap, append-nil}
-use Rattle.std.specs.Prelude.{◌==◌}
+use Rattle.std.{proofs.Common.{◌||◌, [], ◌∷◌, ◌++◌, refl, sym, ap, append-nil}, specs.Prelude.◌==◌}
 use Rattle.session_options.proofs.Spelling.{applied_parts, marked, marked_ends, unmarked, without_dashes_plain, first_byte}
 use Rattle.session_options.proofs.options.spelling_is_plain.Goals as goal
 

@@ -1,5 +1,4 @@
-use Rattle.std.proofs.Common.{arith, ◌-◌}
-use Rattle.std.specs.Vec.{vec_len}
+use Rattle.std.{proofs.Common.{arith, ◌-◌}, specs.Vec.vec_len}
 use Rattle.sexp_canonical.proofs.AddsLast.{adds_last}
 use Rattle.sexp_advanced.proofs.reading.add.Goals as goal
 

@@ -1,12 +1,7 @@
-use Rattle.std.proofs.Common.{List, ℕ, ◌++◌, length, take, drop, Result, Ok, Err, subst, sym}
-use Rattle.std.specs.Prelude.{IfOk}
+use Rattle.std.{proofs.Common.{List, ℕ, ◌++◌, length, take, drop, Result, Ok, Err, subst, sym}, specs.Prelude.IfOk}
 use Rattle.sexp_canonical.specs.declared.tree.Sexp.{Sexp}
-use Rattle.sexp_advanced.specs.declared.fault.AdvFault.{AdvFault}
-use Rattle.sexp_advanced.proofs.Following.{following_read}
-use Rattle.sexp_advanced.specs.Reading.{ReadsAdvanced, IsExpression}
-use Rattle.sexp_advanced.specs.Writing.{advanced_of, EndsToken}
+use Rattle.sexp_advanced.{specs.{declared.fault.AdvFault.AdvFault, Reading.{ReadsAdvanced, IsExpression}, Writing.{advanced_of, EndsToken}}, proofs.{Following.following_read, Again.written_again}}
 use Rattle.sexp_advanced.proofs.OneAnswer as answers
-use Rattle.sexp_advanced.proofs.Again.{written_again}
 use Rattle.sexp_advanced.proofs.reading.read_advanced.Goals as goal
 
 pub returns-clause-only : goal.returns-clause-only

@@ -1,6 +1,5 @@
 use Rattle.std.proofs.Common.{sym}
-use Rattle.sexp_advanced.proofs.Behind.{behind_shorter, byte_behind}
-use Rattle.sexp_advanced.proofs.Delimited.{spells_more}
+use Rattle.sexp_advanced.proofs.{Behind.{behind_shorter, byte_behind}, Delimited.spells_more}
 use Rattle.sexp_advanced.proofs.signs.delimited_at.Goals as goal
 
 pub loop-byte-smaller : goal.loop-byte-smaller

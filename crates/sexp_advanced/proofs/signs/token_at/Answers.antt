@@ -1,7 +1,5 @@
 use Rattle.std.proofs.Common.{length, ap, ◌∙◌, arith}
-use Rattle.sexp_advanced.specs.Bytes.{is_token_byte}
-use Rattle.sexp_advanced.specs.declared.signs.Sign.TheVariants.{Atom}
-use Rattle.sexp_advanced.proofs.Behind.{without_front_le, front_is_taken}
+use Rattle.sexp_advanced.{specs.{Bytes.is_token_byte, declared.signs.Sign.TheVariants.Atom}, proofs.Behind.{without_front_le, front_is_taken}}
 use Rattle.sexp_advanced.proofs.signs.token_at.Goals as goal
 
 pub slice_bounds-token-count : goal.slice_bounds-token-count

@@ -1,6 +1,5 @@
 use Rattle.std.proofs.Common.{◌++◌, ◌∙◌, arith}
-use Rattle.sexp_advanced.specs.Writing.{advanced_of}
-use Rattle.sexp_advanced.proofs.Written.{popped_written, popped_steps, popped_octets}
+use Rattle.sexp_advanced.{specs.Writing.advanced_of, proofs.Written.{popped_written, popped_steps, popped_octets}}
 use Rattle.sexp_advanced.proofs.writing.append_tree.Goals as goal
 
 pub loop-next-smaller : goal.loop-next-smaller

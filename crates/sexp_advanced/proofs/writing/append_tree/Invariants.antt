@@ -1,9 +1,6 @@
 use Rattle.std.proofs.Common.{◌≡◌, ◌++◌}
-use Rattle.sexp_canonical.specs.View.{tree_of}
-use Rattle.sexp_canonical.specs.Writing.{begun_lists}
-use Rattle.sexp_advanced.specs.Writing.{advanced_of}
-use Rattle.sexp_advanced.specs.Octets.{IsOfOctets}
-use Rattle.sexp_advanced.specs.Left.{next_tree, text_left, steps_left, AreLeftOfOctets}
+use Rattle.sexp_canonical.specs.{View.tree_of, Writing.begun_lists}
+use Rattle.sexp_advanced.specs.{Writing.advanced_of, Octets.IsOfOctets, Left.{next_tree, text_left, steps_left, AreLeftOfOctets}}
 use Rattle.sexp_advanced.proofs.writing.append_tree.Given as goal
 
 abbrev pub invariant-loop-next : goal.invariant-loop-next

@@ -1,6 +1,5 @@
 use Rattle.std.proofs.Common.{ℕ, List, ◌++◌, ap, ◌∙◌}
-use Rattle.sexp_advanced.specs.Writing.{advanced_of}
-use Rattle.sexp_advanced.proofs.Again.{whole_again}
+use Rattle.sexp_advanced.{specs.Writing.advanced_of, proofs.Again.whole_again}
 use Rattle.sexp_advanced.proofs.writing.write_advanced.Goals as goal
 
 pub returns-clause-again : goal.returns-clause-again

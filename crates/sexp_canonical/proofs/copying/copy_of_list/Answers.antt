@@ -1,7 +1,5 @@
-use Rattle.std.proofs.Common.{refl, arith, ap, sym, ◌∙◌}
-use Rattle.std.proofs.lemmas.List.{nil_from_length}
-use Rattle.sexp_canonical.specs.declared.tree.Sexp.TheVariants.{Atom, List as Listed}
-use Rattle.sexp_canonical.proofs.Copied.{nothing_left, list_ended, list_ended_steps, atom_copied, atom_copied_steps, list_begun, list_begun_steps}
+use Rattle.std.proofs.{Common.{refl, arith, ap, sym, ◌∙◌}, lemmas.List.nil_from_length}
+use Rattle.sexp_canonical.{specs.declared.tree.Sexp.TheVariants.{Atom, List as Listed}, proofs.Copied.{nothing_left, list_ended, list_ended_steps, atom_copied, atom_copied_steps, list_begun, list_begun_steps}}
 use Rattle.sexp_canonical.proofs.copying.copy_of_list.Goals as goal
 
 pub loop-item-init : goal.loop-item-init

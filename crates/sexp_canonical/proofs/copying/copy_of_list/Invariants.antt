@@ -1,7 +1,5 @@
 use Rattle.std.proofs.Common.{◌+◌, ◌*◌}
-use Rattle.sexp_canonical.specs.Tree.{node_count}
-use Rattle.sexp_canonical.specs.View.{trees}
-use Rattle.sexp_canonical.proofs.Copied.{IsCopiedSoFar, steps_left}
+use Rattle.sexp_canonical.{specs.{Tree.node_count, View.trees}, proofs.Copied.{IsCopiedSoFar, steps_left}}
 use Rattle.sexp_canonical.proofs.copying.copy_of_list.Given as goal
 
 abbrev pub invariant-loop-item : goal.invariant-loop-item

@@ -1,6 +1,5 @@
 use Rattle.std.proofs.Common.{ap, arith}
-use Rattle.sexp_canonical.specs.Tree.{branch}
-use Rattle.sexp_canonical.proofs.Trees.{spelled_list, row_items_of, items_of_row, depths_le, All_depths}
+use Rattle.sexp_canonical.{specs.Tree.branch, proofs.Trees.{spelled_list, row_items_of, items_of_row, depths_le, All_depths}}
 use Rattle.sexp_canonical.proofs.laws.lists_are_their_items.Goals as goal
 
 pub returns : goal.returns

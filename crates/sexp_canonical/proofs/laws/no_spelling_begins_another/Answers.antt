@@ -1,5 +1,4 @@
-use Rattle.sexp_canonical.specs.View.{tree_of}
-use Rattle.sexp_canonical.proofs.Trees.{one_spelling, tree_of_injective}
+use Rattle.sexp_canonical.{specs.View.tree_of, proofs.Trees.{one_spelling, tree_of_injective}}
 use Rattle.sexp_canonical.proofs.laws.no_spelling_begins_another.Goals as goal
 
 pub returns : goal.returns

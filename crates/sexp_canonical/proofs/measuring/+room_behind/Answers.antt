@@ -1,5 +1,4 @@
-use Rattle.sexp_canonical.specs.View.{trees}
-use Rattle.sexp_canonical.proofs.Measured.{begins_with_list, list_taken, list_unfit}
+use Rattle.sexp_canonical.{specs.View.trees, proofs.Measured.{begins_with_list, list_taken, list_unfit}}
 use Rattle.sexp_canonical.proofs.measuring.+room_behind.Goals as goal
 
 pub returns-in_err-left-in-List : goal.returns-in_err-left-in-List

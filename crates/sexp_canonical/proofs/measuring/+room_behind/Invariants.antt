@@ -1,6 +1,5 @@
 use Rattle.std.proofs.Common.{length}
-use Rattle.sexp_canonical.specs.View.{trees}
-use Rattle.sexp_canonical.proofs.Measured.{IsMeasuredTo}
+use Rattle.sexp_canonical.{specs.View.trees, proofs.Measured.IsMeasuredTo}
 use Rattle.sexp_canonical.proofs.measuring.+room_behind.Given as goal
 
 abbrev pub decreases-room_behind : goal.decreases-room_behind

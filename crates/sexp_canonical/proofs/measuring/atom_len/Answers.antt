@@ -1,6 +1,5 @@
 use Rattle.std.proofs.Common.{◌∷◌, length, ap, ◌∙◌, arith, length-append}
-use Rattle.sexp_canonical.specs.Spelling.{numeral}
-use Rattle.sexp_canonical.proofs.Written.{decimal_is_numeral}
+use Rattle.sexp_canonical.{specs.Spelling.numeral, proofs.Written.decimal_is_numeral}
 use Rattle.sexp_canonical.proofs.measuring.atom_len.Goals as goal
 
 pub returns : goal.returns

@@ -1,9 +1,8 @@
 use Rattle.std.proofs.Common.{◌+◌, inr, arith, sym, subst, get_or}
-use Rattle.sexp_canonical.specs.Adding.{lists_of}
-use Rattle.sexp_canonical.proofs.Steps.{not_digit_low, not_digit_high}
+use Rattle.sexp_canonical.{specs.Adding.lists_of, proofs.Steps.{not_digit_low, not_digit_high}}
 use Rattle.sexp_canonical.proofs.Open.{IsOpenAt, room_left, list_opened, new_list, list_closed, atom_finished, item_added, whole_read, deep_at, bad_end_at, bad_byte_at, short_at, lists_len, none_open}
-use Rattle.sexp_canonical.proofs.reading.read_front.Goals as goal
 use Rattle.sexp_canonical.proofs.reading.read_front.Goals.{in_default-via-then-this-lt48, in_default-via-else-this-lt48+else-this-lt58}
+use Rattle.sexp_canonical.proofs.reading.read_front.Goals as goal
 
 pub returns-then-len-eq-MAX_DEPTH-clause-fault : goal.returns-then-len-eq-MAX_DEPTH-clause-fault
 returns-then-len-eq-MAX_DEPTH-clause-fault c =

@@ -1,6 +1,5 @@
 use Rattle.std.proofs.Common.{length, ◌-◌}
-use Rattle.sexp_canonical.specs.Adding.{lists_of}
-use Rattle.sexp_canonical.proofs.Open.{IsOpenAt}
+use Rattle.sexp_canonical.{specs.Adding.lists_of, proofs.Open.IsOpenAt}
 use Rattle.sexp_canonical.proofs.reading.read_front.Given as goal
 
 abbrev pub invariant-loop-place : goal.invariant-loop-place

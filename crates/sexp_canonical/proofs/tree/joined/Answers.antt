@@ -1,6 +1,4 @@
-use Rattle.std.proofs.Common.{ap, sym, ◌∙◌, arith, length, vec_len}
-use Rattle.std.proofs.lemmas.Bool.{eqb-false}
-use Rattle.std.proofs.lemmas.List.{nil_from_length}
+use Rattle.std.proofs.{Common.{ap, sym, ◌∙◌, arith, length, vec_len}, lemmas.{Bool.eqb-false, List.nil_from_length}}
 use Rattle.sexp_canonical.proofs.Dropped.{none_inside, turned_lists}
 use Rattle.sexp_canonical.proofs.tree.joined.Goals as goal
 

@@ -1,6 +1,5 @@
 use Rattle.std.proofs.Common.{◌++◌}
-use Rattle.sexp_canonical.specs.Spelling.{spelling_of}
-use Rattle.sexp_canonical.proofs.Written.{loop_step, loop_falls}
+use Rattle.sexp_canonical.{specs.Spelling.spelling_of, proofs.Written.{loop_step, loop_falls}}
 use Rattle.sexp_canonical.proofs.writing.append.Goals as goal
 
 pub loop-items-smaller : goal.loop-items-smaller

@@ -1,6 +1,5 @@
 use Rattle.std.proofs.Common.{◌≡◌, ◌++◌}
-use Rattle.sexp_canonical.specs.Spelling.{spelling_of}
-use Rattle.sexp_canonical.specs.Writing.{rest_of, steps_of, begun_lists}
+use Rattle.sexp_canonical.specs.{Spelling.spelling_of, Writing.{rest_of, steps_of, begun_lists}}
 use Rattle.sexp_canonical.proofs.writing.append.Given as goal
 
 abbrev pub invariant-loop-items : goal.invariant-loop-items

@@ -1,7 +1,5 @@
-use Rattle.std.proofs.Common.{◌≡◌, ◌++◌, take}
-use Rattle.std.specs.List.{flat_map}
-use Rattle.sexp_canonical.specs.View.{trees}
-use Rattle.sexp_canonical.specs.Spelling.{spelling}
+use Rattle.std.{proofs.Common.{◌≡◌, ◌++◌, take}, specs.List.flat_map}
+use Rattle.sexp_canonical.specs.{View.trees, Spelling.spelling}
 use Rattle.sexp_canonical.proofs.writing.append_all.Given as goal
 
 abbrev pub invariant-loop-tree : goal.invariant-loop-tree

@@ -1,5 +1,4 @@
-use Rattle.sexp_canonical.specs.View.{trees}
-use Rattle.sexp_canonical.proofs.WrittenLists.{list_written}
+use Rattle.sexp_canonical.{specs.View.trees, proofs.WrittenLists.list_written}
 use Rattle.sexp_canonical.proofs.writing.append_list.Goals as goal
 
 pub returns : goal.returns

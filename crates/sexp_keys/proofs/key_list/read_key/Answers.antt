@@ -1,8 +1,6 @@
 use Rattle.std.proofs.Common.{sym, ◌∙◌, inr}
 use Rattle.sexp_canonical.specs.View.{tree_of, trees}
-use Rattle.sexp_keys.specs.Parameters.{is_list}
-use Rattle.sexp_keys.proofs.ListTests.{list_all_trees}
-use Rattle.sexp_keys.proofs.Keys.{key_read, bad_parameters, bad_further}
+use Rattle.sexp_keys.{specs.Parameters.is_list, proofs.{ListTests.list_all_trees, Keys.{key_read, bad_parameters, bad_further}}}
 use Rattle.sexp_keys.proofs.key_list.read_key.Goals as goal
 
 pub returns-in_default-clause-fault : goal.returns-in_default-clause-fault

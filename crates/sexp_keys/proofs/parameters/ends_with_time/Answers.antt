@@ -1,8 +1,6 @@
-use Rattle.std.proofs.Common.{[], ◌∷◌, sym, ap, ◌∙◌}
-use Rattle.std.proofs.lemmas.List.{map-append}
+use Rattle.std.proofs.{Common.{[], ◌∷◌, sym, ap, ◌∙◌}, lemmas.List.map-append}
 use Rattle.sexp_canonical.specs.View.{tree_of, trees}
-use Rattle.sexp_keys.specs.Named.{ends_with_time}
-use Rattle.sexp_keys.proofs.Parts.{ends_append}
+use Rattle.sexp_keys.{specs.Named.ends_with_time, proofs.Parts.ends_append}
 use Rattle.sexp_keys.proofs.parameters.ends_with_time.Goals as goal
 
 pub returns-in-Some : goal.returns-in-Some

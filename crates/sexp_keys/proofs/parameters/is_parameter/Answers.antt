@@ -1,8 +1,6 @@
-use Rattle.std.proofs.Common.{refl, sym, ◌∙◌, true, false}
-use Rattle.std.specs.List.{list_all}
+use Rattle.std.{proofs.Common.{refl, sym, ◌∙◌, true, false}, specs.List.list_all}
 use Rattle.sexp_canonical.specs.View.{tree_of}
-use Rattle.sexp_keys.specs.Parameters.{is_atom}
-use Rattle.sexp_keys.proofs.ListTests.{parameter_is}
+use Rattle.sexp_keys.{specs.Parameters.is_atom, proofs.ListTests.parameter_is}
 use Rattle.sexp_keys.proofs.parameters.is_parameter.Goals as goal
 
 pub returns-then-is_parameter_len : goal.returns-then-is_parameter_len

@@ -1,9 +1,6 @@
-use Rattle.std.proofs.Common.{◌≡◌, true, refl, sym, ap, ◌∙◌, arith}
-use Rattle.std.proofs.lemmas.List.{length-map}
+use Rattle.std.proofs.{Common.{◌≡◌, true, refl, sym, ap, ◌∙◌, arith}, lemmas.List.length-map}
 use Rattle.sexp_canonical.specs.View.{tree_of, trees}
-use Rattle.sexp_keys.specs.Parameters.{are_public, are_private}
-use Rattle.sexp_keys.specs.Named.{private_count}
-use Rattle.sexp_keys.proofs.Parts.{counted_parts, trees_cut}
+use Rattle.sexp_keys.{specs.{Parameters.{are_public, are_private}, Named.private_count}, proofs.Parts.{counted_parts, trees_cut}}
 use Rattle.sexp_keys.proofs.parameters.parts_of.Goals as goal
 
 pub returns-then-parameters-count-clause-none : goal.returns-then-parameters-count-clause-none

@@ -1,12 +1,6 @@
-use Rattle.std.proofs.Common.{ap, ◌∙◌, ◌++◌, ℕ, List}
-use Rattle.std.specs.List.{flat_map}
-use Rattle.std.specs.Option.{option_copied}
-use Rattle.sexp_canonical.specs.Tree.{Tree, leaf}
-use Rattle.sexp_canonical.specs.View.{trees}
-use Rattle.sexp_canonical.specs.Spelling.{spelling}
-use Rattle.sexp_keys.specs.Names.{algorithm_name}
-use Rattle.sexp_keys.specs.Lists.{time_lists}
-use Rattle.sexp_keys.proofs.WrittenLists.{algorithm_written}
+use Rattle.std.{proofs.Common.{ap, ◌∙◌, ◌++◌, ℕ, List}, specs.{List.flat_map, Option.option_copied}}
+use Rattle.sexp_canonical.specs.{Tree.{Tree, leaf}, View.trees, Spelling.spelling}
+use Rattle.sexp_keys.{specs.{Names.algorithm_name, Lists.time_lists}, proofs.WrittenLists.algorithm_written}
 use Rattle.sexp_keys.proofs.spelled.append_algorithm.Goals as goal
 
 pub returns : goal.returns

@@ -1,10 +1,6 @@
-use Rattle.std.proofs.Common.{ap, ◌∙◌, ◌++◌, List}
-use Rattle.std.proofs.lemmas.List.{append-nil}
-use Rattle.sexp_canonical.specs.Tree.{Tree}
-use Rattle.sexp_canonical.specs.View.{trees}
-use Rattle.sexp_canonical.specs.Spelling.{spelling}
-use Rattle.sexp_keys.specs.Key.{algorithm_list}
-use Rattle.sexp_keys.proofs.WrittenLists.{key_written}
+use Rattle.std.proofs.{Common.{ap, ◌∙◌, ◌++◌, List}, lemmas.List.append-nil}
+use Rattle.sexp_canonical.specs.{Tree.Tree, View.trees, Spelling.spelling}
+use Rattle.sexp_keys.{specs.Key.algorithm_list, proofs.WrittenLists.key_written}
 use Rattle.sexp_keys.proofs.spelled.append_key.Goals as goal
 
 pub returns : goal.returns

@@ -1,9 +1,6 @@
-use Rattle.std.proofs.Common.{◌++◌, sym, ap, ◌∙◌}
-use Rattle.std.specs.List.{flat_map}
-use Rattle.std.specs.Option.{option_copied}
+use Rattle.std.{proofs.Common.{◌++◌, sym, ap, ◌∙◌}, specs.{List.flat_map, Option.option_copied}}
 use Rattle.sexp_canonical.specs.Spelling.{spelling}
-use Rattle.sexp_keys.specs.Lists.{time_lists}
-use Rattle.sexp_keys.proofs.WrittenLists.{time_written}
+use Rattle.sexp_keys.{specs.Lists.time_lists, proofs.WrittenLists.time_written}
 use Rattle.sexp_keys.proofs.spelled.append_time.Goals as goal
 
 pub returns : goal.returns

@@ -1,8 +1,6 @@
-use Rattle.std.proofs.Common.{◌≡◌, ℕ, ◌+◌, ◌-◌, ◌≤◌, length, take, drop, ap, sym, ◌∙◌, arith, subst}
-use Rattle.std.specs.Io.KnownBytes.{Appends}
-use Rattle.std_link.proofs.KnownBytes.{appends_on, appends_then_keeps, first_more, length_first}
+use Rattle.std.{proofs.Common.{◌≡◌, ℕ, ◌+◌, ◌-◌, ◌≤◌, length, take, drop, ap, sym, ◌∙◌, arith, subst}, specs.Io.KnownBytes.Appends}
+use Rattle.std_link.proofs.{KnownBytes.{appends_on, appends_then_keeps, first_more, length_first}, link_state.write_some.Goals.{in-Ok, in-Err}}
 use Rattle.std_link.proofs.link_state.write_some.Goals as goal
-use Rattle.std_link.proofs.link_state.write_some.Goals.{in-Ok, in-Err}
 
 pub loop-preserved : goal.loop-preserved
 loop-preserved g c =

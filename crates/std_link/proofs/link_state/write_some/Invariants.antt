@@ -1,5 +1,4 @@
-use Rattle.std.proofs.Common.{◌≤◌, length, take}
-use Rattle.std.specs.Io.KnownBytes.{Appends}
+use Rattle.std.{proofs.Common.{◌≤◌, length, take}, specs.Io.KnownBytes.Appends}
 use Rattle.std_link.proofs.link_state.write_some.Given as goal
 
 -- what was sent is what the writer took

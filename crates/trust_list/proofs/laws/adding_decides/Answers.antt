@@ -1,9 +1,5 @@
-use Rattle.std.proofs.Common.{◌≡◌, Bool, true, List, [], ◌∷◌, ◌++◌, Some, None, cond, refl, ap, ◌∙◌}
-use Rattle.std.specs.Prelude.{slice_get}
-use Rattle.std.specs.List.{cons_option}
-use Rattle.std.proofs.lemmas.List.{append-nil}
-use Rattle.trust_list.specs.Trust.{judgements}
-use Rattle.trust_list.proofs.NewEntries.{judgements_with_entry, other_digits, same_digits, new_judgements}
+use Rattle.std.{proofs.{Common.{◌≡◌, Bool, true, List, [], ◌∷◌, ◌++◌, Some, None, cond, refl, ap, ◌∙◌}, lemmas.List.append-nil}, specs.{Prelude.slice_get, List.cons_option}}
+use Rattle.trust_list.{specs.Trust.judgements, proofs.NewEntries.{judgements_with_entry, other_digits, same_digits, new_judgements}}
 use Rattle.trust_list.proofs.laws.adding_decides.Goals as goal
 
 no_first : (judgements : List Bool) → slice_get judgements 0 ≡ None → judgements ≡ []

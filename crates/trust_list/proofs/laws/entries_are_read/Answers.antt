@@ -1,6 +1,5 @@
 use Rattle.hex.specs.Hex.{encode_upper}
-use Rattle.trust_list.proofs.EntryLaw.{IsEntry_from_judgement, judgement_written}
-use Rattle.trust_list.proofs.NewEntries.{AreDigits_encode_upper}
+use Rattle.trust_list.proofs.{EntryLaw.{IsEntry_from_judgement, judgement_written}, NewEntries.AreDigits_encode_upper}
 use Rattle.trust_list.proofs.laws.entries_are_read.Goals as goal
 
 pub returns : goal.returns

@@ -1,8 +1,6 @@
 use Rattle.std.specs.List.{slice_split}
-use Rattle.hex.specs.Hex.{encode_upper}
-use Rattle.assuan_text.specs.LineEnds.{is_lf}
-use Rattle.trust_list.proofs.FirstEntries.{FirstEntry_from_trust, first_of_FirstEntry, first_of_silent, silent_from_trust}
-use Rattle.trust_list.proofs.NewEntries.{AreDigits_encode_upper}
+use Rattle.{hex.specs.Hex.encode_upper, assuan_text.specs.LineEnds.is_lf}
+use Rattle.trust_list.proofs.{FirstEntries.{FirstEntry_from_trust, first_of_FirstEntry, first_of_silent, silent_from_trust}, NewEntries.AreDigits_encode_upper}
 use Rattle.trust_list.proofs.laws.first_entry_decides.Goals as goal
 
 pub returns-clause-decides : goal.returns-clause-decides

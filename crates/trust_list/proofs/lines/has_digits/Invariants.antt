@@ -1,5 +1,4 @@
-use Rattle.std.proofs.Common.{◌≡◌, drop}
-use Rattle.std.specs.Str.{bytes_eq}
+use Rattle.std.{proofs.Common.{◌≡◌, drop}, specs.Str.bytes_eq}
 use Rattle.trust_list.specs.Entries.{capital_digits}
 use Rattle.trust_list.proofs.lines.has_digits.Given as goal
 

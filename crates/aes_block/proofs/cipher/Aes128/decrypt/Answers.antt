@@ -1,8 +1,5 @@
 use Rattle.std.proofs.Common.{◌≡◌, ◌+◌, ◌-◌, ℕ, List, length, ap, ap₂, arith, subst, ◌∙◌, lit<}
-use Rattle.aes_block.specs.Columns.{bytes_of}
-use Rattle.aes_block.specs.Aes.{IsBytes, xor_of, decrypted}
-use Rattle.aes_block.proofs.Rounds.{key_at, unmixed_key_at, inv_rounds_less, decrypted_first, decrypted_last}
-use Rattle.aes_block.proofs.Undone.{decrypted_encrypted}
+use Rattle.aes_block.{specs.{Columns.bytes_of, Aes.{IsBytes, xor_of, decrypted}}, proofs.{Rounds.{key_at, unmixed_key_at, inv_rounds_less, decrypted_first, decrypted_last}, Undone.decrypted_encrypted}}
 use Rattle.aes_block.proofs.cipher.Aes128.decrypt.Goals as goal
 
 pub loop-round-init : goal.loop-round-init

@@ -1,7 +1,5 @@
 use Rattle.std.proofs.Common.{◌≡◌, ◌-◌}
-use Rattle.aes_block.specs.Columns.{bytes_of}
-use Rattle.aes_block.specs.Aes.{inv_rounds, decrypted}
-use Rattle.aes_block.proofs.Rounds.{restored_of}
+use Rattle.aes_block.{specs.{Columns.bytes_of, Aes.{inv_rounds, decrypted}}, proofs.Rounds.restored_of}
 use Rattle.aes_block.proofs.cipher.Aes128.decrypt.Given as goal
 
 abbrev pub invariant-loop-round : goal.invariant-loop-round

@@ -1,6 +1,5 @@
 use Rattle.std.proofs.Common.{◌≡◌, ◌-◌, ap₂, ◌∙◌, arith, lit<}
-use Rattle.aes_block.specs.Aes.{xor_of, rounds, encrypted}
-use Rattle.aes_block.proofs.Rounds.{key_at, rounds_more}
+use Rattle.aes_block.{specs.Aes.{xor_of, rounds, encrypted}, proofs.Rounds.{key_at, rounds_more}}
 use Rattle.aes_block.proofs.cipher.Aes128.encrypt.Goals as goal
 
 pub loop-round-init : goal.loop-round-init

@@ -1,6 +1,5 @@
 use Rattle.std.proofs.Common.{◌+◌, ap, ◌∙◌, lit<, arith}
-use Rattle.aes_block.specs.Aes.{inv_mix_columns}
-use Rattle.aes_block.proofs.Words.{round_key_zero}
+use Rattle.aes_block.{specs.Aes.inv_mix_columns, proofs.Words.round_key_zero}
 use Rattle.aes_block.proofs.cipher.Aes128.new.Goals as goal
 
 pub returns : goal.returns

@@ -1,5 +1,4 @@
-use Rattle.std.proofs.Common.{ap, ◌∙◌, sym, add-one, arith, ◌≡◌}
-use Rattle.std.specs.Int.{w64, trailing_zeros}
+use Rattle.std.{proofs.Common.{ap, ◌∙◌, sym, add-one, arith, ◌≡◌}, specs.Int.{w64, trailing_zeros}}
 use Rattle.aes_modes.specs.Ocb.{double, l_mask}
 use Rattle.aes_modes.proofs.masks.Masks.of_block.Goals as goal
 

@@ -1,6 +1,5 @@
 use Rattle.std.proofs.Common.{◌≡◌, ℕ, List}
-use Rattle.aes_modes.specs.Ocb.{l_mask}
-use Rattle.aes_modes.specs.Masks.{masks_of}
+use Rattle.aes_modes.specs.{Ocb.l_mask, Masks.masks_of}
 use Rattle.aes_modes.proofs.masks.Masks.of_block.Given as goal
 
 abbrev pub invariant-loop : goal.invariant-loop

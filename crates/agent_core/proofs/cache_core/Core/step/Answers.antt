@@ -1,7 +1,5 @@
-use Rattle.std.specs.Prelude.{◌≡◌, ◌≢◌, ◌+◌}
-use Rattle.std.proofs.Common.{rules}
-use Rattle.cache_policy.specs.Turns.{mark_step, turn_of}
-use Rattle.cache_policy.specs.Runs.{last_base}
+use Rattle.std.{specs.Prelude.{◌≡◌, ◌≢◌, ◌+◌}, proofs.Common.rules}
+use Rattle.cache_policy.specs.{Turns.{mark_step, turn_of}, Runs.last_base}
 use Rattle.agent_core.proofs.Whole.{spent_step, whole_step}
 use Rattle.agent_core.proofs.cache_core.Core.step.Goals as goal
 

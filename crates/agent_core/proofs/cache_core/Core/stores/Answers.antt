@@ -1,7 +1,5 @@
 use Rattle.std.proofs.Common.{length, ap, sym, ◌∙◌}
-use Rattle.cache_policy.specs.declared.mark.MarkStep.{MarkStep}
-use Rattle.cache_policy.specs.Entries.{stored}
-use Rattle.cache_policy.specs.Turns.{mark_step}
+use Rattle.cache_policy.specs.{declared.mark.MarkStep.MarkStep, Entries.stored, Turns.mark_step}
 use Rattle.agent_core.proofs.Counting.{stored_bare}
 use Rattle.agent_core.proofs.cache_core.Core.stores.Goals as goal
 

@@ -1,25 +1,10 @@
-use Rattle.std.specs.Prelude.{◌≡◌, ◌≢◌, ℕ, ◌+◌, List, length, true, IsSome, IfSome, Ok}
-use Rattle.std.proofs.Common.{ap, sym, ◌∙◌, subst, refl, rules, arith}
-use Rattle.cache_policy.specs.declared.mark.Mark.{Mark}
-use Rattle.cache_policy.specs.declared.mark.MarkStep.{MarkStep}
-use Rattle.cache_policy.specs.declared.history.History.{History as HistoryInMemory}
-use Rattle.cache_policy.specs.Histories.{run_of}
-use Rattle.cache_policy.specs.declared.step.Reply.{Reply as Told}
-use Rattle.cache_policy.specs.Legal.{IsLegalRun}
-use Rattle.cache_policy.specs.Runs.{last_base, moment_of, next_history, run_with_mark}
-use Rattle.cache_policy.specs.Turns.{Stand, Refused, mark_step, closes, turn_of}
-use Rattle.agent_core.specs.Cores.{AtCore, IsStep, mark_of}
-use Rattle.agent_core.specs.Known.{AtKnown, IsOut, TakesStep, spent}
-use Rattle.agent_core.specs.Recording.{KeepsRun, LastHasRoom, reply_of}
-use Rattle.cache_policy.specs.declared.tally.Tally.{Tally}
-use Rattle.cache_policy.specs.Entries.{stored}
-use Rattle.cache_policy.specs.Tallies.{one_if}
-use Rattle.agent_core.specs.Tallies.{Tallied}
-use Rattle.agent_core.proofs.Coming.{needs_fits}
+use Rattle.std.{specs.Prelude.{◌≡◌, ◌≢◌, ℕ, ◌+◌, List, length, true, IsSome, IfSome, Ok}, proofs.Common.{ap, sym, ◌∙◌, subst, refl, rules, arith}}
+use Rattle.cache_policy.specs.{declared.{mark.{Mark.Mark, MarkStep.MarkStep}, history.History.History as HistoryInMemory, step.Reply.Reply as Told, tally.Tally.Tally}, Histories.run_of, Legal.IsLegalRun}
+use Rattle.cache_policy.specs.{Runs.{last_base, moment_of, next_history, run_with_mark}, Turns.{Stand, Refused, mark_step, closes, turn_of}, Entries.stored, Tallies.one_if}
+use Rattle.agent_core.{specs.{Cores.{AtCore, IsStep, mark_of}, Known.{AtKnown, IsOut, TakesStep, spent}, Recording.{KeepsRun, LastHasRoom, reply_of}, Tallies.Tallied}, proofs.Coming.needs_fits}
 use Rattle.agent_core.proofs.Counting.{can_count, tally_stays, tally_counted}
-use Rattle.agent_core.proofs.Knowing.{seat_next, legal_last, spent_run, going, no_room, has_next, can_add, keeps_same, like_same, records_stay, is_marked}
-use Rattle.agent_core.proofs.Knowing.{Marks, made, HasRoomFor, records_marked, not_refused, not_stand, took_refused, Stands, took_stood, moment_is, added_later}
-use Rattle.agent_core.proofs.Taken.{fits_taken}
+use Rattle.agent_core.proofs.Knowing.{seat_next, legal_last, spent_run, going, no_room, has_next, can_add, keeps_same, like_same, records_stay, is_marked, Marks, made, HasRoomFor, records_marked, not_refused, not_stand, took_refused}
+use Rattle.agent_core.proofs.{Knowing.{Stands, took_stood, moment_is, added_later}, Taken.fits_taken}
 use Rattle.agent_core.proofs.known_core.KnownCore.step.Goals as goal
 
 pub returns-then-spent-clause-takes : goal.returns-then-spent-clause-takes

@@ -1,11 +1,6 @@
-use Rattle.std.specs.Prelude.{◌≡◌, Some, IfSome, Option, ℕ}
-use Rattle.std.proofs.Common.{sym, subst}
-use Rattle.agent_core.proofs.Taken.{closes_taken}
+use Rattle.std.{specs.Prelude.{◌≡◌, Some, IfSome, Option, ℕ}, proofs.Common.{sym, subst}}
 use Rattle.cache_policy.specs.Turns.{asked_step, mark_step, closes}
-use Rattle.agent_core.specs.Seating.{Seated}
-use Rattle.agent_core.specs.Solos.{SoloState}
-use Rattle.agent_core.specs.Stepped.{turn_of_stepped}
-use Rattle.agent_core.proofs.Seating.{moves, own_outs, own_seated}
+use Rattle.agent_core.{proofs.{Taken.closes_taken, Seating.{moves, own_outs, own_seated}}, specs.{Seating.Seated, Solos.SoloState, Stepped.turn_of_stepped}}
 use Rattle.agent_core.proofs.solo.Solo.attempt.Given as given
 use Rattle.agent_core.proofs.solo.Solo.attempt.Goals as goal
 

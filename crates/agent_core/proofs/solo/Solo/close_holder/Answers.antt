@@ -1,5 +1,4 @@
-use Rattle.std.specs.Prelude.{◌≡◌, Some}
-use Rattle.std.proofs.Common.{subst}
+use Rattle.std.{specs.Prelude.{◌≡◌, Some}, proofs.Common.subst}
 use Rattle.agent_core.specs.Solos.{SoloState}
 use Rattle.agent_core.proofs.solo.Solo.close_holder.Goals as goal
 

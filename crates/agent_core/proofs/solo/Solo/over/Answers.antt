@@ -1,9 +1,5 @@
 use Rattle.std.proofs.Common.{sym, subst, ap, ◌∙◌}
-use Rattle.agent_core.specs.Foreigners.{AllForeign}
-use Rattle.agent_core.specs.Known.{run_seat}
-use Rattle.agent_core.specs.Seating.{free}
-use Rattle.agent_core.specs.SoloInside.{lists_of}
-use Rattle.agent_core.proofs.Scripts.{lists_reversed}
+use Rattle.agent_core.{specs.{Foreigners.AllForeign, Known.run_seat, Seating.free, SoloInside.lists_of}, proofs.Scripts.lists_reversed}
 use Rattle.agent_core.proofs.solo.Solo.over.Goals as goal
 
 pub invariant_of-result : goal.invariant_of-result

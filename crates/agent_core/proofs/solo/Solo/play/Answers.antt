@@ -1,13 +1,6 @@
-use Rattle.std.specs.Prelude.{List}
-use Rattle.std.specs.List.{AllByRecursion}
-use Rattle.std.proofs.Common.{sym, ◌∙◌, subst}
-use Rattle.agent_ports.specs.Leads.{Leads, none, one}
-use Rattle.agent_ports.specs.declared.session.SessionId.{SessionId}
-use Rattle.agent_core.specs.declared.foreign.Foreign.{Foreign}
-use Rattle.agent_core.specs.Foreigners.{IsForeign}
-use Rattle.agent_core.specs.Solos.{seen, PlaysStep}
-use Rattle.agent_core.proofs.Playing.{plays_session}
-use Rattle.agent_core.proofs.Scripts.{none_left}
+use Rattle.std.{specs.{Prelude.List, List.AllByRecursion}, proofs.Common.{sym, ◌∙◌, subst}}
+use Rattle.agent_ports.specs.{Leads.{Leads, none, one}, declared.session.SessionId.SessionId}
+use Rattle.agent_core.{specs.{declared.foreign.Foreign.Foreign, Foreigners.IsForeign, Solos.{seen, PlaysStep}}, proofs.{Playing.plays_session, Scripts.none_left}}
 use Rattle.agent_core.proofs.solo.Solo.play.Goals as goal
 
 pub play_step-requires : goal.play_step-requires

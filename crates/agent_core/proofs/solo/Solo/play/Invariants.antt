@@ -1,8 +1,6 @@
-use Rattle.std.specs.Prelude.{◌≡◌}
-use Rattle.std.specs.List.{AllByRecursion}
+use Rattle.std.specs.{Prelude.◌≡◌, List.AllByRecursion}
 use Rattle.agent_ports.specs.Leads.{Leads}
-use Rattle.agent_core.specs.Foreigners.{IsForeign}
-use Rattle.agent_core.specs.Solos.{AtSolo, seen, PlaysStep}
+use Rattle.agent_core.specs.{Foreigners.IsForeign, Solos.{AtSolo, seen, PlaysStep}}
 use Rattle.agent_core.proofs.solo.Solo.play.Given as goal
 
 -- what is left of the list completes the steps that were taken

@@ -1,9 +1,5 @@
-use Rattle.std.specs.Prelude.{List}
-use Rattle.std.proofs.Common.{ap, sym, ◌∙◌, append-nil}
-use Rattle.agent_core.specs.declared.foreign.Foreign.{Foreign}
-use Rattle.agent_core.specs.SoloInside.{lists_of}
-use Rattle.agent_core.specs.Solos.{next_list, at_end}
-use Rattle.agent_core.proofs.Scripts.{lists_popped, lists_ended}
+use Rattle.std.{specs.Prelude.List, proofs.Common.{ap, sym, ◌∙◌, append-nil}}
+use Rattle.agent_core.{specs.{declared.foreign.Foreign.Foreign, SoloInside.lists_of, Solos.{next_list, at_end}}, proofs.Scripts.{lists_popped, lists_ended}}
 use Rattle.agent_core.proofs.solo.Solo.play_next.Goals as goal
 
 pub returns-in-Some-clause-next : goal.returns-in-Some-clause-next

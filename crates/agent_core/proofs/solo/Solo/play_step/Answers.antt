@@ -1,21 +1,9 @@
-use Rattle.std.specs.Prelude.{◌≡◌, false, Option, IfSome}
-use Rattle.std.proofs.Common.{sym, ◌∙◌, subst}
-use Rattle.cache_policy.specs.declared.life.Limits.{Limits}
-use Rattle.cache_policy.specs.declared.mark.MarkStep.{MarkStep}
-use Rattle.cache_policy.specs.Legal.{IsLegalRun}
-use Rattle.cache_policy.specs.Turns.{mark_step, closes}
-use Rattle.agent_core.specs.declared.holder.Holder.{Holder}
-use Rattle.cache_policy.specs.Waits.{is_session}
-use Rattle.agent_core.specs.Foreigners.{holder_after}
-use Rattle.agent_core.specs.Seating.{Seated}
-use Rattle.agent_core.specs.SoloInside.{lists_of, IsSolo}
-use Rattle.agent_core.specs.Solos.{AtSolo, SoloState, PlaysStep}
-use Rattle.agent_core.specs.Stepped.{turn_of_stepped}
-use Rattle.agent_core.proofs.Seating.{moves, their_seated}
-use Rattle.agent_core.proofs.Playing.{told_closes, their_outs, holder_opened, holder_shut, holder_foreign, plays_step, opened_nobody, none_held}
+use Rattle.std.{specs.Prelude.{◌≡◌, false, Option, IfSome}, proofs.Common.{sym, ◌∙◌, subst}}
+use Rattle.cache_policy.specs.{declared.{life.Limits.Limits, mark.MarkStep.MarkStep}, Legal.IsLegalRun, Turns.{mark_step, closes}, Waits.is_session}
+use Rattle.agent_core.{specs.{declared.holder.Holder.Holder, Foreigners.holder_after, Seating.Seated, SoloInside.{lists_of, IsSolo}, Solos.{AtSolo, SoloState, PlaysStep}, Stepped.turn_of_stepped}, proofs.Seating.{moves, their_seated}}
+use Rattle.agent_core.proofs.{Playing.{told_closes, their_outs, holder_opened, holder_shut, holder_foreign, plays_step, opened_nobody, none_held}, solo.Solo.play_step.Goals.After-into_ticket}
 use Rattle.agent_core.proofs.solo.Solo.play_step.Given as given
 use Rattle.agent_core.proofs.solo.Solo.play_step.Goals as goal
-use Rattle.agent_core.proofs.solo.Solo.play_step.Goals.{After-into_ticket}
 
 pub step-outcome-requires : goal.step-outcome-requires
 step-outcome-requires g c = record {

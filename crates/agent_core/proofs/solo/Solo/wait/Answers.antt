@@ -1,13 +1,7 @@
-use Rattle.std.specs.Prelude.{◌≡◌, List, length, IfErr}
-use Rattle.std.proofs.Common.{ap, sym, ◌∙◌, subst, arith}
-use Rattle.cache_policy.specs.declared.step.Step.{Step}
-use Rattle.cache_policy.specs.Turns.{Stand}
-use Rattle.agent_core.specs.declared.foreign.Foreign.{Foreign}
-use Rattle.agent_core.specs.Openings.{without_wait}
-use Rattle.agent_core.specs.Solos.{AtSolo, seen, ClosesHolder, again, goes, gives_back}
-use Rattle.agent_core.specs.Stepped.{IsSettled}
-use Rattle.agent_core.proofs.Promise.{goes_next, stands_held, own_script, next_script, end_script, closed_none, closed_out, closed_session, never_stands, not_stood, own_tried, stood_again, own_turn}
-use Rattle.agent_core.proofs.Taken.{opening_again}
+use Rattle.std.{specs.Prelude.{◌≡◌, List, length, IfErr}, proofs.Common.{ap, sym, ◌∙◌, subst, arith}}
+use Rattle.cache_policy.specs.{declared.step.Step.Step, Turns.Stand}
+use Rattle.agent_core.specs.{declared.foreign.Foreign.Foreign, Openings.without_wait, Solos.{AtSolo, seen, ClosesHolder, again, goes, gives_back}, Stepped.IsSettled}
+use Rattle.agent_core.proofs.{Promise.{goes_next, stands_held, own_script, next_script, end_script, closed_none, closed_out, closed_session, never_stands, not_stood, own_tried, stood_again, own_turn}, Taken.opening_again}
 use Rattle.agent_core.proofs.solo.Solo.wait.Goals as goal
 
 pub attempt-requires-clause-free : goal.attempt-requires-clause-free

@@ -1,7 +1,6 @@
 use Rattle.std.specs.Prelude.{◌≡◌, length, Some, None, IsSome}
 use Rattle.cache_policy.specs.Turns.{Turn, asked_step, with_since}
-use Rattle.agent_core.specs.Openings.{opening_step}
-use Rattle.agent_core.specs.Solos.{AtSolo, seen, Waits}
+use Rattle.agent_core.specs.{Openings.opening_step, Solos.{AtSolo, seen, Waits}}
 use Rattle.agent_core.proofs.solo.Solo.wait.Given as goal
 
 -- what comes of the step from here on completes its waiting so far, and it has waited since the same moment

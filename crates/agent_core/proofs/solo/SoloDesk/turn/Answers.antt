@@ -1,11 +1,6 @@
-use Rattle.std.specs.Prelude.{◌≡◌, ℕ, Option, Some, None, IfSome, IfErr}
-use Rattle.std.proofs.Common.{sym, ◌∙◌, subst}
-use Rattle.cache_policy.specs.declared.step.Step.{Step}
-use Rattle.cache_policy.specs.Turns.{Stand, asked_step, closes, with_since, turn_of}
-use Rattle.agent_core.specs.Openings.{opening_step}
-use Rattle.agent_core.specs.Solos.{seen, Waits, at_once, waiting}
-use Rattle.agent_core.specs.Stepped.{IsSettled}
-use Rattle.agent_core.proofs.Promise.{goes_next, goes_wait, stands_held, stood_opens, stood_own, own_first, own_turn, turns_by_own_step, not_stood}
+use Rattle.std.{specs.Prelude.{◌≡◌, ℕ, Option, Some, None, IfSome, IfErr}, proofs.Common.{sym, ◌∙◌, subst}}
+use Rattle.cache_policy.specs.{declared.step.Step.Step, Turns.{Stand, asked_step, closes, with_since, turn_of}}
+use Rattle.agent_core.{specs.{Openings.opening_step, Solos.{seen, Waits, at_once, waiting}, Stepped.IsSettled}, proofs.Promise.{goes_next, goes_wait, stands_held, stood_opens, stood_own, own_first, own_turn, turns_by_own_step, not_stood}}
 use Rattle.agent_core.proofs.Taken.{asked_first, first_asked}
 use Rattle.agent_core.proofs.solo.SoloDesk.turn.Goals as goal
 

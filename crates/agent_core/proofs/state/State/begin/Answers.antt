@@ -1,11 +1,6 @@
-use Rattle.std.specs.Prelude.{◌+◌}
-use Rattle.std.proofs.Common.{sym, subst, arith}
-use Rattle.cache_book.specs.declared.slot.Slot.{Slot}
-use Rattle.cache_policy.specs.Entry.{within}
-use Rattle.cache_book.specs.Shelves.{AreBelow}
-use Rattle.agent_core.specs.Taking.{held_at}
-use Rattle.cache_book.proofs.Below.{below_filter, below_more}
-use Rattle.agent_core.proofs.Kept.{room_more}
+use Rattle.std.{specs.Prelude.◌+◌, proofs.Common.{sym, subst, arith}}
+use Rattle.{cache_book.{specs.{declared.slot.Slot.Slot, Shelves.AreBelow}, proofs.Below.{below_filter, below_more}}, cache_policy.specs.Entry.within}
+use Rattle.agent_core.{specs.Taking.held_at, proofs.Kept.room_more}
 use Rattle.agent_core.proofs.state.State.begin.Goals as goal
 
 below : (c : goal.After-self-2-1) → AreBelow (c.turn_over.new.self.base + c.turn_over.new.self.count) c.sweep.new.self.slots

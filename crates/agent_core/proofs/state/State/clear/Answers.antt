@@ -1,9 +1,6 @@
-use Rattle.std.specs.Prelude.{◌+◌}
-use Rattle.std.proofs.Common.{sym, subst}
-use Rattle.cache_book.specs.Shelves.{AreBelow}
-use Rattle.agent_core.specs.Taking.{held_at}
-use Rattle.cache_book.proofs.Below.{below_filter}
-use Rattle.agent_core.proofs.Kept.{room_more, state_with_shelf}
+use Rattle.std.{specs.Prelude.◌+◌, proofs.Common.{sym, subst}}
+use Rattle.cache_book.{specs.Shelves.AreBelow, proofs.Below.below_filter}
+use Rattle.agent_core.{specs.Taking.held_at, proofs.Kept.{room_more, state_with_shelf}}
 use Rattle.agent_core.proofs.state.State.clear.Goals as goal
 
 pub returns-clause-state : goal.returns-clause-state

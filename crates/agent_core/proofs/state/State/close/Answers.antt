@@ -1,5 +1,4 @@
-use Rattle.std.specs.Prelude.{◌≡◌, None}
-use Rattle.std.proofs.Common.{rules}
+use Rattle.std.{specs.Prelude.{◌≡◌, None}, proofs.Common.rules}
 use Rattle.cache_policy.specs.declared.life.Life.TheVariants.{Default}
 use Rattle.agent_core.proofs.Kept.{below_with_entry, entry_number, room_free}
 use Rattle.agent_core.proofs.state.State.close.Goals as goal

@@ -1,8 +1,5 @@
-use Rattle.std.specs.Prelude.{◌≤◌}
-use Rattle.std.proofs.Common.{arith, rules}
-use Rattle.agent_core.specs.Taking.{held_at}
-use Rattle.agent_core.proofs.Kept.{below_with_entry, entry_number, room_some, state_with_shelf}
-use Rattle.agent_core.proofs.state.State.put.Goals.{in-Some, in_default}
+use Rattle.std.{specs.Prelude.◌≤◌, proofs.Common.{arith, rules}}
+use Rattle.agent_core.{specs.Taking.held_at, proofs.{Kept.{below_with_entry, entry_number, room_some, state_with_shelf}, state.State.put.Goals.{in-Some, in_default}}}
 use Rattle.agent_core.proofs.state.State.put.Goals as goal
 
 pub returns-clause-state : goal.returns-clause-state

@@ -1,7 +1,5 @@
-use Rattle.std.proofs.Common.{rules, arith, ◌≡◌, ◌≢◌, ◌+◌, sym, ◌∙◌, refl}
-use Rattle.std.proofs.lemmas.Grind.{common_steps}
-use Rattle.cache_policy.specs.Runs.{last_base}
-use Rattle.cache_policy.specs.Turns.{mark_step}
+use Rattle.std.proofs.{Common.{rules, arith, ◌≡◌, ◌≢◌, ◌+◌, sym, ◌∙◌, refl}, lemmas.Grind.common_steps}
+use Rattle.cache_policy.specs.{Runs.last_base, Turns.mark_step}
 use Rattle.agent_lock.proofs.Stepping.{marked_step, unmade, given_up, marks_few, totals_given_up, given_at}
 use Rattle.agent_lock.proofs.state.State.step.Goals as goal
 

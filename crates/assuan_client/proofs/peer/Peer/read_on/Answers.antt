@@ -1,7 +1,5 @@
 use Rattle.std.proofs.Common.{◌≡◌, ◌∙◌, ◌∷◌, [], rules}
-use Rattle.assuan_client.specs.Skipping.{coded}
-use Rattle.assuan_client.proofs.Answering.{goes_on, answered}
-use Rattle.assuan_client.proofs.Skipping.{behind_itself}
+use Rattle.assuan_client.{specs.Skipping.coded, proofs.{Answering.{goes_on, answered}, Skipping.behind_itself}}
 use Rattle.assuan_client.proofs.peer.Peer.read_on.Goals as goal
 
 pub invariant_of-self : goal.invariant_of-self

@@ -1,7 +1,5 @@
 use Rattle.std.proofs.Common.{rules, ◌≡◌, sym}
-use Rattle.assuan_client.specs.Answers.{err, foreign}
-use Rattle.assuan_client.specs.Forms.{answer_form, Data, Note, Ok, Err, Inquiry, Foreign}
-use Rattle.assuan_client.proofs.Skipping.{says_too_much, says_many, says_success, says_inquiry}
+use Rattle.assuan_client.{specs.{Answers.{err, foreign}, Forms.{answer_form, Data, Note, Ok, Err, Inquiry, Foreign}}, proofs.Skipping.{says_too_much, says_many, says_success, says_inquiry}}
 use Rattle.assuan_client.proofs.tally.Tally.answer_by.Goals as goal
 
 pub returns-in-Data-clause-says : goal.returns-in-Data-clause-says

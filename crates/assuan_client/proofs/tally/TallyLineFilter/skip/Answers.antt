@@ -1,7 +1,5 @@
-use Rattle.std.proofs.Common.{◌≡◌, sym}
-use Rattle.std.proofs.lemmas.Bool.{OnTrue_at}
-use Rattle.assuan_client.specs.Forms.{answer_form, Data, Note}
-use Rattle.assuan_client.proofs.Skipping.{note_behind, data_behind}
+use Rattle.std.proofs.{Common.{◌≡◌, sym}, lemmas.Bool.OnTrue_at}
+use Rattle.assuan_client.{specs.Forms.{answer_form, Data, Note}, proofs.Skipping.{note_behind, data_behind}}
 use Rattle.assuan_client.proofs.tally.TallyLineFilter.skip.Goals as goal
 
 pub returns-in-Note-clause-skipped : goal.returns-in-Note-clause-skipped

@@ -1,8 +1,6 @@
 use Rattle.std.proofs.Common.{◌∙◌, ap, sym, arith, List, ℕ}
-use Rattle.assuan_text.specs.LineEnds.{has_lf}
-use Rattle.assuan_text.specs.LineEnds.{without_cr}
-use Rattle.assuan_line.specs.Stops.{line_or_too_long}
-use Rattle.assuan_line.proofs.Slices.{take_across}
+use Rattle.assuan_text.specs.LineEnds.{has_lf, without_cr}
+use Rattle.assuan_line.{specs.Stops.line_or_too_long, proofs.Slices.take_across}
 use Rattle.assuan_line.proofs.buffer.Ahead.line_before.Goals as goal
 
 pub line_across-requires : goal.line_across-requires

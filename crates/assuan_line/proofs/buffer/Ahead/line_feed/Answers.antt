@@ -1,5 +1,4 @@
-use Rattle.std.proofs.Common.{ap, sym, ◌∙◌}
-use Rattle.std.specs.List.{position}
+use Rattle.std.{proofs.Common.{ap, sym, ◌∙◌}, specs.List.position}
 use Rattle.assuan_text.specs.LineEnds.{is_lf}
 use Rattle.assuan_line.proofs.Places.{position_in_front, position_behind, position_nowhere}
 use Rattle.assuan_line.proofs.buffer.Ahead.line_feed.Goals as goal

@@ -1,9 +1,5 @@
-use Rattle.std.proofs.Common.{◌∙◌, ap, sym, cond, Bool, le-leb, refl, arith}
-use Rattle.std.proofs.lemmas.Bool.{lt-leb}
-use Rattle.assuan_line.specs.Ahead.{bytes_ahead}
-use Rattle.assuan_line.specs.declared.buffer.TheConstants.{MAX_UNDECIDED}
-use Rattle.assuan_line.specs.declared.reader.Took.TheVariants.{TooLong, End}
-use Rattle.assuan_line.proofs.Decided.{whole_before, next_of_some, next_of_none, on_no_line}
+use Rattle.std.proofs.{Common.{◌∙◌, ap, sym, cond, Bool, le-leb, refl, arith}, lemmas.Bool.lt-leb}
+use Rattle.assuan_line.{specs.{Ahead.bytes_ahead, declared.{buffer.TheConstants.MAX_UNDECIDED, reader.Took.TheVariants.{TooLong, End}}}, proofs.Decided.{whole_before, next_of_some, next_of_none, on_no_line}}
 use Rattle.assuan_line.proofs.buffer.Ahead.take_line.Goals as goal
 
 pub line_before-took-requires-clause-whole : goal.line_before-took-requires-clause-whole

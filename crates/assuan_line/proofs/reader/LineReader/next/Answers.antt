@@ -1,8 +1,5 @@
 use Rattle.std.specs.Option.{option_map}
-use Rattle.assuan_line.specs.Ahead.{bytes_ahead}
-use Rattle.assuan_line.specs.Next.{Reader}
-use Rattle.assuan_line.specs.Stops.{took_of}
-use Rattle.assuan_line.proofs.Reading.{known, progress}
+use Rattle.assuan_line.{specs.{Ahead.bytes_ahead, Next.Reader, Stops.took_of}, proofs.Reading.{known, progress}}
 use Rattle.assuan_line.proofs.reader.LineReader.next.Goals as goal
 
 pub returns-clause-known : goal.returns-clause-known

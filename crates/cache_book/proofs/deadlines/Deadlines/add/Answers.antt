@@ -1,8 +1,5 @@
-use Rattle.std.specs.Prelude.{◌≡◌, ◌||◌}
-use Rattle.std.proofs.Common.{subst, rules}
-use Rattle.cache_book.specs.declared.deadlines.Place.{Place}
-use Rattle.cache_book.specs.Deadlines.{AtDeadlines, is_place, is_among}
-use Rattle.cache_book.proofs.Holding.{among_more}
+use Rattle.std.{specs.Prelude.{◌≡◌, ◌||◌}, proofs.Common.{subst, rules}}
+use Rattle.cache_book.{specs.{declared.deadlines.Place.Place, Deadlines.{AtDeadlines, is_place, is_among}}, proofs.Holding.among_more}
 use Rattle.cache_book.proofs.deadlines.Deadlines.add.Goals as goal
 
 pub returns-clause-places : goal.returns-clause-places

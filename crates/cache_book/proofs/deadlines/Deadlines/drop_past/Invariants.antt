@@ -1,6 +1,5 @@
 use Rattle.std.specs.Prelude.{◌≡◌, ◌≤◌, false}
-use Rattle.cache_book.specs.declared.deadlines.Place.{Place}
-use Rattle.cache_book.specs.Deadlines.{is_among}
+use Rattle.cache_book.specs.{declared.deadlines.Place.Place, Deadlines.is_among}
 use Rattle.cache_book.proofs.deadlines.Deadlines.drop_past.Given as goal
 
 abbrev pub invariant-loop-some : goal.invariant-loop-some

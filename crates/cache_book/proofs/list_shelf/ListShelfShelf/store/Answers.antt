@@ -1,10 +1,5 @@
-use Rattle.std.specs.Prelude.{◌≡◌, List, [], ◌∷◌, ◌++◌, filter}
-use Rattle.std.proofs.Common.{ap, sym, ◌∙◌, subst, rules}
-use Rattle.std.proofs.lemmas.Fn.{filter_same}
-use Rattle.cache_book.specs.declared.slot.Slot.{Slot}
-use Rattle.cache_book.specs.Modes.{has_some}
-use Rattle.cache_book.specs.Shelves.{AtShelf, hidden, with_entry, AreWithinMode}
-use Rattle.cache_book.proofs.Kept.{within_with_entry}
+use Rattle.std.{specs.Prelude.{◌≡◌, List, [], ◌∷◌, ◌++◌, filter}, proofs.{Common.{ap, sym, ◌∙◌, subst, rules}, lemmas.Fn.filter_same}}
+use Rattle.cache_book.{specs.{declared.slot.Slot.Slot, Modes.has_some, Shelves.{AtShelf, hidden, with_entry, AreWithinMode}}, proofs.Kept.within_with_entry}
 use Rattle.cache_book.proofs.list_shelf.ListShelfShelf.store.Goals as goal
 
 stored : (c : goal.After-push_reserved) → c.push_reserved.new.self.items ≡ with_entry c.args.entry c.self.inside.slots.items

@@ -1,8 +1,5 @@
-use Rattle.std.specs.Prelude.{◌≡◌}
-use Rattle.std.proofs.Common.{ap, sym, ◌∙◌, subst, rules}
-use Rattle.std.proofs.lemmas.Fn.{filter_same}
-use Rattle.cache_book.specs.Shelves.{AtShelf, swept, AreWithinMode}
-use Rattle.cache_book.proofs.Kept.{within_filter}
+use Rattle.std.{specs.Prelude.◌≡◌, proofs.{Common.{ap, sym, ◌∙◌, subst, rules}, lemmas.Fn.filter_same}}
+use Rattle.cache_book.{specs.Shelves.{AtShelf, swept, AreWithinMode}, proofs.Kept.within_filter}
 use Rattle.cache_book.proofs.list_shelf.ListShelfShelf.sweep.Goals as goal
 
 kept : (c : goal.After-retain) → c.retain.new.self.items ≡ swept c.args.now c.self.inside.slots.items

@@ -1,6 +1,5 @@
 use Rattle.std.proofs.Common.{sym, subst}
-use Rattle.cache_book.specs.Shelves.{AreWithinMode}
-use Rattle.cache_book.proofs.Kept.{within_touched}
+use Rattle.cache_book.{specs.Shelves.AreWithinMode, proofs.Kept.within_touched}
 use Rattle.cache_book.proofs.list_shelf.ListShelfShelf.touch.Goals as goal
 
 pub invariant_of-self : goal.invariant_of-self

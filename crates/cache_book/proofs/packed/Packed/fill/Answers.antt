@@ -1,7 +1,4 @@
-use Rattle.std.specs.Prelude.{◌≡◌, ℕ, ◌-◌, List, ◌++◌, length, drop, replicate}
-use Rattle.std.proofs.Common.{arith, rules, ap, ◌∙◌}
-use Rattle.std.proofs.lemmas.List.{drop-replicate}
-use Rattle.std.proofs.lemmas.Slice.{drop-append-drop}
+use Rattle.std.{specs.Prelude.{◌≡◌, ℕ, ◌-◌, List, ◌++◌, length, drop, replicate}, proofs.{Common.{arith, rules, ap, ◌∙◌}, lemmas.{List.drop-replicate, Slice.drop-append-drop}}}
 use Rattle.cache_book.proofs.packed.Packed.fill.Goals as goal
 
 -- behind bytes that were written over zeros there are zeros

@@ -1,10 +1,5 @@
-use Rattle.std.specs.Prelude.{◌≡◌, true}
-use Rattle.std.proofs.Common.{ap, sym, ◌∙◌, subst, rules}
-use Rattle.cache_book.specs.Shelves.{AtShelf, cleared}
-use Rattle.cache_book.specs.SlotOrders.{by_number, AreKept}
-use Rattle.cache_book.specs.Deadlines.{place_of, is_among, HavePlaces}
-use Rattle.cache_book.proofs.Kept.{all_filter}
-use Rattle.cache_book.proofs.Ordered.{kept_filter, by_number_filter}
+use Rattle.std.{specs.Prelude.{◌≡◌, true}, proofs.Common.{ap, sym, ◌∙◌, subst, rules}}
+use Rattle.cache_book.{specs.{Shelves.{AtShelf, cleared}, SlotOrders.{by_number, AreKept}, Deadlines.{place_of, is_among, HavePlaces}}, proofs.{Kept.all_filter, Ordered.{kept_filter, by_number_filter}}}
 use Rattle.cache_book.proofs.slot_shelf.SlotShelfShelf.clear.Goals as goal
 
 pub invariant_of-self : goal.invariant_of-self

@@ -1,11 +1,5 @@
-use Rattle.std.specs.Prelude.{List, IfSome, IfNone}
-use Rattle.std.proofs.Common.{subst}
-use Rattle.cache_book.specs.declared.slot.Slot.{Slot}
-use Rattle.cache_book.specs.Shelves.{AtShelf, IsGrantFrom, ServesNone}
-use Rattle.cache_book.specs.SlotOrders.{is_older, by_number}
-use Rattle.cache_book.proofs.Arranging.{all_arranged}
-use Rattle.cache_book.proofs.Ordered.{one_by_number}
-use Rattle.cache_book.proofs.Finding.{granted_again, none_again}
+use Rattle.std.{specs.Prelude.{List, IfSome, IfNone}, proofs.Common.subst}
+use Rattle.cache_book.{specs.{declared.slot.Slot.Slot, Shelves.{AtShelf, IsGrantFrom, ServesNone}, SlotOrders.{is_older, by_number}}, proofs.{Arranging.all_arranged, Ordered.one_by_number, Finding.{granted_again, none_again}}}
 use Rattle.cache_book.proofs.slot_shelf.SlotShelfShelf.find.Goals as goal
 
 pub returns-clause-found : goal.returns-clause-found

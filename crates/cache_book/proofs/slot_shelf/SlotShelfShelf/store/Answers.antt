@@ -1,7 +1,5 @@
 use Rattle.std.proofs.Common.{ap, sym, ◌∙◌, subst}
-use Rattle.cache_book.specs.Shelves.{AtShelf, AreBelow, with_entry}
-use Rattle.cache_book.specs.SlotOrders.{is_older}
-use Rattle.cache_book.proofs.Arranging.{all_unarranged}
+use Rattle.cache_book.{specs.{Shelves.{AtShelf, AreBelow, with_entry}, SlotOrders.is_older}, proofs.Arranging.all_unarranged}
 use Rattle.cache_book.proofs.slot_shelf.SlotShelfShelf.store.Goals as goal
 
 pub store_in-requires-clause-newest : goal.store_in-requires-clause-newest

@@ -1,7 +1,5 @@
 use Rattle.std.proofs.Common.{ap, sym, ◌∙◌, subst, rules}
-use Rattle.cache_book.specs.Shelves.{AtShelf, swept}
-use Rattle.cache_book.specs.SlotOrders.{by_number, AreKept}
-use Rattle.cache_book.proofs.Ordered.{kept_filter, by_number_filter}
+use Rattle.cache_book.{specs.{Shelves.{AtShelf, swept}, SlotOrders.{by_number, AreKept}}, proofs.Ordered.{kept_filter, by_number_filter}}
 use Rattle.cache_book.proofs.slot_shelf.SlotShelfShelf.sweep.Goals as goal
 
 pub invariant_of-self : goal.invariant_of-self

@@ -1,7 +1,5 @@
 use Rattle.std.proofs.Common.{ap, sym, ◌∙◌, subst, rules}
-use Rattle.cache_book.specs.Shelves.{AtShelf, touched}
-use Rattle.cache_book.specs.SlotOrders.{by_number, AreKept}
-use Rattle.cache_book.proofs.Ordered.{kept_touched, by_number_touched}
+use Rattle.cache_book.{specs.{Shelves.{AtShelf, touched}, SlotOrders.{by_number, AreKept}}, proofs.Ordered.{kept_touched, by_number_touched}}
 use Rattle.cache_book.proofs.slot_shelf.SlotShelfShelf.touch.Goals as goal
 
 pub invariant_of-self : goal.invariant_of-self

@@ -1,11 +1,6 @@
 -- What is found is what is live, over the histories that the book was given.
-use Rattle.std.proofs.Common.{◌≡◌, ap, ◌∙◌, sym, rules}
-use Rattle.std.specs.Option.{option_map}
-use Rattle.cache_policy.specs.declared.grant.Grant.{Grant}
-use Rattle.cache_policy.specs.declared.entry.Entry.{Entry}
-use Rattle.cache_policy.specs.Book.{found}
-use Rattle.cache_policy.proofs.Lists.{option_map_map}
-use Rattle.cache_policy.proofs.BookLemmas.{found_puts_alone, found_endless, endless_book_of_ask}
+use Rattle.std.{proofs.Common.{◌≡◌, ap, ◌∙◌, sym, rules}, specs.Option.option_map}
+use Rattle.cache_policy.{specs.{declared.{grant.Grant.Grant, entry.Entry.Entry}, Book.found}, proofs.{Lists.option_map_map, BookLemmas.{found_puts_alone, found_endless, endless_book_of_ask}}}
 use Rattle.cache_policy.proofs.list_book.ListBook.find.Goals as goal
 
 pub returns-clause-puts_alone : goal.returns-clause-puts_alone

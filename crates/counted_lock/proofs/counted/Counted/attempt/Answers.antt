@@ -1,10 +1,6 @@
-use Rattle.std.proofs.Common.{rules, arith, ◌≡◌, ◌<◌, ap, sym, subst}
-use Rattle.std.proofs.lemmas.Grind.{common_steps}
-use Rattle.atomic_table.specs.Seated.{TableId}
-use Rattle.cache_policy.specs.Turns.{mark_step, turn_of}
-use Rattle.counted_lock.specs.Passes.{AtPass}
-use Rattle.counted_lock.specs.Trying.{Tries}
-use Rattle.counted_lock.proofs.Passing.{calls_few, passes_on, at_pass, tries}
+use Rattle.std.proofs.{Common.{rules, arith, ◌≡◌, ◌<◌, ap, sym, subst}, lemmas.Grind.common_steps}
+use Rattle.{atomic_table.specs.Seated.TableId, cache_policy.specs.Turns.{mark_step, turn_of}}
+use Rattle.counted_lock.{specs.{Passes.AtPass, Trying.Tries}, proofs.Passing.{calls_few, passes_on, at_pass, tries}}
 use Rattle.counted_lock.proofs.counted.Counted.attempt.Goals as goal
 
 pub raised-pass-inside-requires : goal.raised-pass-inside-requires

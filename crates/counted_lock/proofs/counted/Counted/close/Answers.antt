@@ -1,10 +1,5 @@
-use Rattle.std.proofs.Common.{rules, arith, ◌≡◌, length, ap, sym, ◌∙◌}
-use Rattle.std.proofs.lemmas.Grind.{common_steps}
-use Rattle.std.specs.Slots.{slots_items}
-use Rattle.counted_lock.specs.declared.board.Cored.{Cored}
-use Rattle.counted_lock.specs.Rule.{Closes}
-use Rattle.counted_lock.proofs.Keeps.{closes}
-use Rattle.counted_lock.proofs.Passing.{closed, mark_word, core_out}
+use Rattle.std.{proofs.{Common.{rules, arith, ◌≡◌, length, ap, sym, ◌∙◌}, lemmas.Grind.common_steps}, specs.Slots.slots_items}
+use Rattle.counted_lock.{specs.{declared.board.Cored.Cored, Rule.Closes}, proofs.{Keeps.closes, Passing.{closed, mark_word, core_out}}}
 use Rattle.counted_lock.proofs.counted.Counted.close.Goals as goal
 
 pub unreachable-requires : goal.unreachable-requires

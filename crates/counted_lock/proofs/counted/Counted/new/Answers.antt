@@ -1,13 +1,6 @@
-use Rattle.std.proofs.Common.{rules, arith, ◌≡◌, ◌+◌, List, [], ◌∷◌, length, Option, Some, ap, sym, subst, ◌∙◌}
-use Rattle.std.proofs.lemmas.Grind.{common_steps}
+use Rattle.std.proofs.{Common.{rules, arith, ◌≡◌, ◌+◌, List, [], ◌∷◌, length, Option, Some, ap, sym, subst, ◌∙◌}, lemmas.Grind.common_steps}
 use Rattle.atomic_table.specs.Table.{opening}
-use Rattle.counted_lock.specs.declared.board.About.{About}
-use Rattle.counted_lock.specs.declared.board.Cored.{Cored}
-use Rattle.counted_lock.specs.Rule.{Kept, first_doing}
-use Rattle.counted_lock.specs.Claims.{Sat}
-use Rattle.counted_lock.specs.Passes.{AtCounted, AreNewPasses}
-use Rattle.counted_lock.proofs.LogLemmas.{legal_first}
-use Rattle.counted_lock.proofs.Keeps.{opens, splits}
+use Rattle.counted_lock.{specs.{declared.board.{About.About, Cored.Cored}, Rule.{Kept, first_doing}, Claims.Sat, Passes.{AtCounted, AreNewPasses}}, proofs.{LogLemmas.legal_first, Keeps.{opens, splits}}}
 use Rattle.counted_lock.proofs.Passing.{are_of, new_pass, new_rest, new_more}
 use Rattle.counted_lock.proofs.counted.Counted.new.Goals as goal
 

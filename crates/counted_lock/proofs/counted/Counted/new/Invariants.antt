@@ -1,7 +1,5 @@
 use Rattle.std.specs.Prelude.{◌≡◌, ◌≤◌, ◌-◌, [], vec_len, vec_capacity}
-use Rattle.counted_lock.specs.declared.board.Stage.TheVariants.{Idle}
-use Rattle.counted_lock.specs.Rule.{doing, blank_claims}
-use Rattle.counted_lock.specs.Passes.{AreNewPasses}
+use Rattle.counted_lock.specs.{declared.board.Stage.TheVariants.Idle, Rule.{doing, blank_claims}, Passes.AreNewPasses}
 use Rattle.counted_lock.proofs.counted.Counted.new.Given as goal
 
 abbrev pub invariant-loop-number : goal.invariant-loop-number

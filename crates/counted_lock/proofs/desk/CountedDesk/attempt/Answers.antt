@@ -1,8 +1,6 @@
 use Rattle.std.proofs.Common.{subst}
 use Rattle.cache_policy.specs.Turns.{asked_step, mark_step, turn_of}
-use Rattle.counted_lock.specs.Trying.{TriesAt}
-use Rattle.counted_lock.specs.Turns.{AtCountedDesk}
-use Rattle.counted_lock.proofs.Desks.{tried_at}
+use Rattle.counted_lock.{specs.{Trying.TriesAt, Turns.AtCountedDesk}, proofs.Desks.tried_at}
 use Rattle.counted_lock.proofs.desk.CountedDesk.attempt.Goals as goal
 
 pub returns-clause-tries : goal.returns-clause-tries

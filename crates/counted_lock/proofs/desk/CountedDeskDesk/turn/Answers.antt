@@ -1,12 +1,6 @@
 use Rattle.std.proofs.Common.{◌≡◌, None, Ok, ap, sym, subst, ◌∙◌}
-use Rattle.cache_policy.specs.declared.step.Reply.{Reply}
-use Rattle.cache_policy.specs.Turns.{turn_of}
-use Rattle.agent_core.specs.Openings.{opening_step}
-use Rattle.agent_core.specs.Stepped.{IsSettled}
-use Rattle.agent_core.proofs.Knowing.{not_stand}
-use Rattle.agent_core.proofs.Taken.{first_asked}
-use Rattle.counted_lock.specs.Turns.{AtCountedDesk}
-use Rattle.counted_lock.proofs.Desks.{refused_is, first_turn, first_wait, later_turn, later_wait}
+use Rattle.{cache_policy.specs.{declared.step.Reply.Reply, Turns.turn_of}, agent_core.{specs.{Openings.opening_step, Stepped.IsSettled}, proofs.{Knowing.not_stand, Taken.first_asked}}}
+use Rattle.counted_lock.{specs.Turns.AtCountedDesk, proofs.Desks.{refused_is, first_turn, first_wait, later_turn, later_wait}}
 use Rattle.counted_lock.proofs.desk.CountedDeskDesk.turn.Goals as goal
 
 pub returns-in_err-reply-clause-turned : goal.returns-in_err-reply-clause-turned

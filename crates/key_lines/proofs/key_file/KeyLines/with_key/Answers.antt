@@ -1,13 +1,6 @@
-use Rattle.std.proofs.Common.{◌≡◌, ◌≤◌, ◌∷◌, ◌++◌, false, ℕ, List, length, Some, Result, Ok, Err, sym, ap, subst, ◌∙◌}
-use Rattle.std.specs.Prelude.{codes, IfOk}
-use Rattle.sexp_canonical.specs.View.{tree_of}
-use Rattle.sexp_canonical.specs.Spelling.{most_bytes, most_depth, spelling_of, depth}
-use Rattle.sexp_canonical.specs.declared.tree.Sexp.{Sexp}
-use Rattle.sexp_advanced.specs.Reading.{ReadsAdvanced}
-use Rattle.sexp_advanced.specs.Writing.{advanced_of}
-use Rattle.key_lines.specs.KeyFile.{KeyFile, IsKeyFile}
-use Rattle.key_lines.specs.Canon.{is_canonical, Canon}
-use Rattle.key_lines.proofs.Replaced.{IsReadAgain, replaced, replaced_canon}
+use Rattle.std.{proofs.Common.{◌≡◌, ◌≤◌, ◌∷◌, ◌++◌, false, ℕ, List, length, Some, Result, Ok, Err, sym, ap, subst, ◌∙◌}, specs.Prelude.{codes, IfOk}}
+use Rattle.{sexp_canonical.specs.{View.tree_of, Spelling.{most_bytes, most_depth, spelling_of, depth}, declared.tree.Sexp.Sexp}, sexp_advanced.specs.{Reading.ReadsAdvanced, Writing.advanced_of}}
+use Rattle.key_lines.{specs.{KeyFile.{KeyFile, IsKeyFile}, Canon.{is_canonical, Canon}}, proofs.Replaced.{IsReadAgain, replaced, replaced_canon}}
 use Rattle.key_lines.proofs.key_file.KeyLines.with_key.Goals as goal
 
 -- the file with a text as the value of its key

@@ -1,5 +1,4 @@
-use Rattle.std.proofs.Common.{rules}
-use Rattle.std.specs.List.Sorted.{IsStrictlySortedBy}
+use Rattle.std.{proofs.Common.rules, specs.List.Sorted.IsStrictlySortedBy}
 use Rattle.key_store.proofs.folder.FolderKeysKeys.list.Goals as goal
 
 pub returns-in-Err-Absent : goal.returns-in-Err-Absent

@@ -1,6 +1,5 @@
 use Rattle.std.proofs.Common.{◌≡◌, length}
-use Rattle.pinentry_script.specs.Entries.{answers_in}
-use Rattle.pinentry_script.specs.Turns.{without_qualities}
+use Rattle.pinentry_script.specs.{Entries.answers_in, Turns.without_qualities}
 use Rattle.pinentry_script.proofs.session.Session.skip_qualities.Given as goal
 
 abbrev pub invariant-loop-file : goal.invariant-loop-file

@@ -1,6 +1,5 @@
 use Rattle.std.proofs.Common.{ap}
-use Rattle.secret_file.specs.Opens.{LockedKey}
-use Rattle.secret_file.proofs.Openings.{opening_answers, opening_fits, opening_at}
+use Rattle.secret_file.{specs.Opens.LockedKey, proofs.Openings.{opening_answers, opening_fits, opening_at}}
 use Rattle.secret_file.proofs.locked.Locked.open.Goals as goal
 
 pub returns-clause-answer : goal.returns-clause-answer

@@ -1,5 +1,4 @@
-use Rattle.sexp_canonical.specs.Dropping.{drop_steps}
-use Rattle.sexp_canonical.specs.View.{trees}
+use Rattle.sexp_canonical.specs.{Dropping.drop_steps, View.trees}
 use Rattle.sexp_canonical.proofs.tree.Items.drop.Given as goal
 
 abbrev pub decreases-loop-tree : goal.decreases-loop-tree

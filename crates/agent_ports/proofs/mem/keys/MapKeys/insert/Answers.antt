@@ -1,7 +1,5 @@
-use Rattle.std.proofs.Common.{List, ℕ, Some, None, ap, ◌∙◌}
-use Rattle.std.specs.FinMap.{insert}
-use Rattle.agent_ports.specs.Mem.Keys.{files_of}
-use Rattle.agent_ports.proofs.KeyMaps.{file_inserted}
+use Rattle.std.{proofs.Common.{List, ℕ, Some, None, ap, ◌∙◌}, specs.FinMap.insert}
+use Rattle.agent_ports.{specs.Mem.Keys.files_of, proofs.KeyMaps.file_inserted}
 use Rattle.agent_ports.proofs.mem.keys.MapKeys.insert.Goals as goal
 
 pub returns-clause-ok : goal.returns-clause-ok

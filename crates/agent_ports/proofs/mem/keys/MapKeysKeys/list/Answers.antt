@@ -1,5 +1,4 @@
-use Rattle.std.proofs.Common.{rules, ◌≡◌, ◌∙◌}
-use Rattle.std.specs.Map.{keys_of}
+use Rattle.std.{proofs.Common.{rules, ◌≡◌, ◌∙◌}, specs.Map.keys_of}
 use Rattle.agent_ports.proofs.KeyMaps.{keys_listed}
 use Rattle.agent_ports.proofs.mem.keys.MapKeysKeys.list.Goals as goal
 

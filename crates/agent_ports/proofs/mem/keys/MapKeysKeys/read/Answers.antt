@@ -1,8 +1,5 @@
-use Rattle.std.proofs.Common.{rules, ◌≡◌, ◌≤◌, length, Some, None}
-use Rattle.std.specs.FinMap.{get}
-use Rattle.agent_ports.specs.declared.keys.TheConstants.{MAX_KEY_FILE_LEN}
-use Rattle.agent_ports.specs.Mem.Keys.{files_of}
-use Rattle.agent_ports.proofs.KeyMaps.{get_file}
+use Rattle.std.{proofs.Common.{rules, ◌≡◌, ◌≤◌, length, Some, None}, specs.FinMap.get}
+use Rattle.agent_ports.{specs.{declared.keys.TheConstants.MAX_KEY_FILE_LEN, Mem.Keys.files_of}, proofs.KeyMaps.get_file}
 use Rattle.agent_ports.proofs.mem.keys.MapKeysKeys.read.Goals as goal
 
 pub returns-in-None : goal.returns-in-None

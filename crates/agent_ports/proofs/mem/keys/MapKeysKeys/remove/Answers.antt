@@ -1,11 +1,6 @@
-use Rattle.std.proofs.Common.{rules, ◌≡◌, None, IsSome, ap, ◌∙◌, sym, subst}
-use Rattle.std.specs.FinMap.{get}
-use Rattle.agent_ports.specs.KeyFiles.{RemovesKey}
-use Rattle.agent_ports.specs.Mem.Keys.{files_of}
-use Rattle.agent_ports.specs.declared.keys.KeyDone.{KeyDone}
-use Rattle.agent_ports.proofs.KeyMaps.{get_file, file_removed, known_keys, removes_key, lacks_key}
+use Rattle.std.{proofs.Common.{rules, ◌≡◌, None, IsSome, ap, ◌∙◌, sym, subst}, specs.FinMap.get}
+use Rattle.agent_ports.{specs.{KeyFiles.RemovesKey, Mem.Keys.files_of, declared.keys.KeyDone.KeyDone}, proofs.{KeyMaps.{get_file, file_removed, known_keys, removes_key, lacks_key}, mem.keys.MapKeysKeys.remove.Goals.{in-Some, in-None}}}
 use Rattle.agent_ports.proofs.mem.keys.MapKeysKeys.remove.Goals as goal
-use Rattle.agent_ports.proofs.mem.keys.MapKeysKeys.remove.Goals.{in-Some, in-None}
 
 pub returns-clause-removes : goal.returns-clause-removes
 returns-clause-removes c =

@@ -1,9 +1,5 @@
-use Rattle.std.proofs.Common.{◌-◌, ap, sym, ◌∙◌}
-use Rattle.std.specs.Prelude.{slice_get}
-use Rattle.std.specs.Option.{option_map}
-use Rattle.agent_ports.specs.Launches.{Finished}
-use Rattle.agent_ports.specs.Mem.Launches.{latest_of}
-use Rattle.agent_ports.proofs.Places.{one_back}
+use Rattle.std.{proofs.Common.{◌-◌, ap, sym, ◌∙◌}, specs.{Prelude.slice_get, Option.option_map}}
+use Rattle.agent_ports.{specs.{Launches.Finished, Mem.Launches.latest_of}, proofs.Places.one_back}
 use Rattle.agent_ports.proofs.mem.launcher.Place.+written.Goals as goal
 
 pub returns-in-Some : goal.returns-in-Some
