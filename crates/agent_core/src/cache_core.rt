@@ -14,7 +14,7 @@ ghost use Rattle.agent_core.specs.{Cores.{StandsFor, IsStep, IsAsBefore}, Adding
 
 use crate::state::{CacheShelf, State};
 use agent_ports::SessionId;
-use cache_policy::{Held, Limits, Refused, Reply, Step, TraceStep, Under};
+use cache_policy::{Held, Life, Limits, Refused, Reply, Step, Under};
 use prompt_seat::Seat;
 use std::alloc::Global;
 use std::marker::Model;
@@ -101,7 +101,18 @@ impl Core {
             → length (stored self.now.limits before (mark_step session step.now) moment)
             ≡ one_if result }
     {
-        TraceStep::of(session, step).stores(&self.limits(), &self.held())
+        let limits = &self.state.limits;
+        match step {
+            Step::Put { mode, life, .. } => limits.ttl_of(*mode, *life) != Some(0),
+            Step::Close {
+                ticket,
+                keep: Some(_),
+            } if self.state.seat.holder() == Some(ticket.number()) => match &self.state.under {
+                Some(under) => limits.ttl_of(under.mode, Life::Default) != Some(0),
+                None => false,
+            },
+            _ => false,
+        }
     }
 
     /// Whether there is no number left for a mark. Each step is then replied `Stopping`, and

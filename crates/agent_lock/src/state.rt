@@ -95,7 +95,7 @@ impl State {
     {
         let spent = self.core.spent();
         let asked = TraceStep::of(session, &step);
-        let stores = asked.stores(&self.core.limits(), &self.core.held());
+        let stores = self.core.stores(session, &step);
         let next = self.next_start();
         let outcome = self.core.step(reading, session, step);
         if spent {

@@ -9,7 +9,7 @@ ghost use Rattle.cache_policy.specs.Seat.{seat, stopped};
 ghost use Rattle.cache_policy.specs.Tallies.{with_history, with_one, one_if, nothing_yet, IsSound};
 ghost use Rattle.cache_policy.specs.Traces.{trace_step, trace_mark};
 
-use crate::{Held, Life, Limits, MarkReply, Trace, TraceStep, Under};
+use crate::{Limits, MarkReply, Trace, TraceStep};
 
 /// What was done so far: how many marks there are, how many of them were replied Given, Empty and
 /// Open, how many entries were stored, and how many steps cleared an id and forgot everything.
@@ -65,28 +65,6 @@ impl Tally {
         self.cleared += u64::from(matches!(&trace.step, TraceStep::Clear { .. }));
         self.flushed += u64::from(matches!(&trace.step, TraceStep::Flush));
         self.stopped |= matches!(&trace.step, TraceStep::Stop);
-    }
-}
-
-impl TraceStep {
-    /// Whether the step stores an entry, where this is the ticket that is out.
-    pub fn stores(&self, limits: &Limits, held: &Option<Held>) -> bool
-        ensures { (before : History) (moment : ℕ) → seat before ≡ held.now
-            → length (stored limits.now before (trace_step self.now) moment) ≡ one_if result }
-    {
-        match self {
-            TraceStep::Put { mode, life, .. } => limits.ttl_of(*mode, *life) != Some(0),
-            TraceStep::Close { ticket, keep: true } => match held {
-                Some(
-                    Held {
-                        ticket: own,
-                        under: Some(Under { mode, .. }),
-                    },
-                ) if own == ticket => limits.ttl_of(*mode, Life::Default) != Some(0),
-                _ => false,
-            },
-            _ => false,
-        }
     }
 }
 
