@@ -1,12 +1,7 @@
 -- What is done at a desk and at some further ends, at another desk that holds it, and with other ends beside.
 use Rattle.std.proofs.Common.{List}
-use Rattle.agent_ports.specs.Leads.{Leads, none, one}
-use Rattle.cache_policy.specs.declared.mark.MarkStep.{MarkStep}
-use Rattle.cache_policy.specs.Turns.{Turn}
-use Rattle.session_client.specs.Lines.{Lines, Views}
-use Rattle.agent_ask.specs.Further.{FurtherEvent, EventOf, world_with}
-use Rattle.agent_ask.specs.States.{AnyState, AnyLead}
-use Rattle.agent_ask.specs.Worlds.{Outside, Does, received, sent, cut, asked, not_asked, turned as turned_so, further}
+use Rattle.{agent_ports.specs.Leads.{Leads, none, one}, cache_policy.specs.{declared.mark.MarkStep.MarkStep, Turns.Turn}, session_client.specs.Lines.{Lines, Views}}
+use Rattle.agent_ask.specs.{Further.{FurtherEvent, EventOf, world_with}, States.{AnyState, AnyLead}, Worlds.{Outside, Does, received, sent, cut, asked, not_asked, turned as turned_so, further}}
 
 -- Each turn of a desk is one of another desk that holds it, and each event at some further ends is one at others that hold them.
 module _ {lines : Lines} {C D E Whole : Type 0} (part_turned : C → MarkStep → Turn → C → Type 0) (turned : D → MarkStep → Turn → D → Type 0)

@@ -1,27 +1,13 @@
 -- A prompt's events at a client that is lent are those at the client, and how they leave it.
 use Rattle.std.proofs.Common.{◌≡◌, ◌≢◌, ℕ, Bool, false, List, [], ◌∷◌, Some, Result, Ok, Err, refl, sym, ◌∙◌, subst}
-use Rattle.agent_ports.specs.Leads.{Leads, none, one}
-use Rattle.session_client.specs.Asking.{LeftBy, TellsClient}
-use Rattle.session_client.specs.Lines.{Lines, Views, IsOpen}
-use Rattle.session_client.specs.declared.unheard.Unheard.{Unheard}
+use Rattle.{agent_ports.specs.Leads.{Leads, none, one}, session_client.specs.{Asking.{LeftBy, TellsClient}, Lines.{Lines, Views, IsOpen}, declared.unheard.Unheard.Unheard}}
+use Rattle.agent_ask.specs.{Callers.{is_gone, unheard_of, IsUnheardBy, SaysNote, SaysWish, FitsQuestion}, Clients.{Lent, Hears, note, wish, LentHears, LeftByHeard, LeftByPin, LeftByConsent}, Consents.AsksConsent}
+use Rattle.agent_ask.specs.{Doing.{PromptEnds, ends, DoesPrompt, called, calls, notified, HasEvents}, Events.{Call, Start, Shut, Launched, Wanted, PromptEvent, Called, Notified}, Listening.{ListensAfterPin, ListensAfterConsent}}
+use Rattle.agent_ask.specs.{Prompts.AsksPin, declared.{ask.Asked.Asked, caller.Heard.{Heard, TheVariants.{Fine, Secret, Cancelled, TooMuch, Unexpected, Gone}}, consent.Agreed.Agreed, prompter.Opened.Opened, spec.AskPlan.AskPlan}}
+use Rattle.agent_ask.{specs.declared.spec.PromptSpec.PromptSpec, proofs.Unheard.{EndsByNote, pin_unheard, consent_unheard}}
 use Rattle.session_client.specs.declared.unheard.Unheard.TheVariants as unheard
-use Rattle.agent_ask.specs.Callers.{is_gone, unheard_of, IsUnheardBy, SaysNote, SaysWish, FitsQuestion}
-use Rattle.agent_ask.specs.Clients.{Lent, Hears, note, wish, LentHears, LeftByHeard, LeftByPin, LeftByConsent}
-use Rattle.agent_ask.specs.Consents.{AsksConsent}
-use Rattle.agent_ask.specs.Doing.{PromptEnds, ends, DoesPrompt, called, calls, notified, HasEvents}
-use Rattle.agent_ask.specs.Events.{Call, Start, Shut, Launched, Wanted, PromptEvent, Called, Notified}
-use Rattle.agent_ask.specs.Listening.{ListensAfterPin, ListensAfterConsent}
-use Rattle.agent_ask.specs.Prompts.{AsksPin}
-use Rattle.agent_ask.specs.declared.ask.Asked.{Asked}
 use Rattle.agent_ask.specs.declared.ask.Asked.TheVariants as asked
-use Rattle.agent_ask.specs.declared.caller.Heard.{Heard}
-use Rattle.agent_ask.specs.declared.caller.Heard.TheVariants.{Fine, Secret, Cancelled, TooMuch, Unexpected, Gone}
-use Rattle.agent_ask.specs.declared.consent.Agreed.{Agreed}
 use Rattle.agent_ask.specs.declared.consent.Agreed.TheVariants as agreed
-use Rattle.agent_ask.specs.declared.prompter.Opened.{Opened}
-use Rattle.agent_ask.specs.declared.spec.AskPlan.{AskPlan}
-use Rattle.agent_ask.specs.declared.spec.PromptSpec.{PromptSpec}
-use Rattle.agent_ask.proofs.Unheard.{EndsByNote, pin_unheard, consent_unheard}
 
 some_same : {A : Type 0} {first second : A} → Some first ≡ Some second → first ≡ second
 some_same is = cc is

@@ -1,27 +1,13 @@
 -- Consent as a part of a request: its prompt, and how it leaves the client.
-use Rattle.std.proofs.Common.{◌≡◌, ℕ, List, Some, Result, Ok, Err, refl, subst}
-use Rattle.std.specs.Option.{option_map}
-use Rattle.session_client.specs.Asking.{LeftBy}
-use Rattle.session_client.specs.Lines.{Lines, Views}
-use Rattle.session_client.specs.declared.code.Code.TheVariants as code
-use Rattle.session_client.specs.declared.refusal.Refusal.{Refusal}
-use Rattle.session_client.specs.declared.refusal.Refusal.TheVariants.{Agent, Pinentry, Client}
-use Rattle.session_client.specs.declared.unheard.Unheard.{Unheard}
-use Rattle.session_client.specs.declared.unheard.Unheard.TheVariants as unheard
-use Rattle.session_options.specs.OptionValues.{OptionValues}
+use Rattle.std.{proofs.Common.{◌≡◌, ℕ, List, Some, Result, Ok, Err, refl, subst}, specs.Option.option_map}
+use Rattle.{session_client.specs.{Asking.LeftBy, Lines.{Lines, Views}, declared.{refusal.Refusal.{Refusal, TheVariants.{Agent, Pinentry, Client}}, unheard.Unheard.Unheard}}, session_options.specs.OptionValues.OptionValues}
 use Rattle.session_options.specs.declared.rules.Rules.{Rules}
-use Rattle.agent_ask.specs.Callers.{unheard_of, IsUnheardBy}
-use Rattle.agent_ask.specs.Clients.{LeftByHeard, LeftByConsent, LeftByPart}
-use Rattle.agent_ask.specs.ConsentParts.{IsAgreed, IsConsented, AsksQuestion, IsQuestion, AgreesTo, consents, refused}
-use Rattle.agent_ask.specs.Consents.{AsksConsent}
-use Rattle.agent_ask.specs.Events.{PromptEvent}
-use Rattle.agent_ask.specs.Further.{EventOf}
-use Rattle.agent_ask.specs.SessionPrompts.{AnyInSession}
-use Rattle.agent_ask.specs.declared.caller.Heard.{Heard}
-use Rattle.agent_ask.specs.declared.caller.Heard.TheVariants.{Fine, Secret, Cancelled, TooMuch, Unexpected, Gone}
-use Rattle.agent_ask.specs.declared.consent.Agreed.{Agreed}
-use Rattle.agent_ask.specs.declared.consent.Agreed.TheVariants as agreed
+use Rattle.agent_ask.specs.{Callers.{unheard_of, IsUnheardBy}, Clients.{LeftByHeard, LeftByConsent, LeftByPart}, ConsentParts.{IsAgreed, IsConsented, AsksQuestion, IsQuestion, AgreesTo, consents, refused}, Consents.AsksConsent}
+use Rattle.agent_ask.specs.{Events.PromptEvent, Further.EventOf, SessionPrompts.AnyInSession, declared.{caller.Heard.{Heard, TheVariants.{Fine, Secret, Cancelled, TooMuch, Unexpected, Gone}}, consent.Agreed.Agreed}}
 use Rattle.agent_ask.specs.declared.spec.PromptSpec.{PromptSpec}
+use Rattle.session_client.specs.declared.code.Code.TheVariants as code
+use Rattle.session_client.specs.declared.unheard.Unheard.TheVariants as unheard
+use Rattle.agent_ask.specs.declared.consent.Agreed.TheVariants as agreed
 
 module _ {lines : Lines} {C : Type 0} (views : Views lines C) (start now : C) where
   module _ (A : Type 0) where

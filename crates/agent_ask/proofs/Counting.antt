@@ -1,13 +1,7 @@
 -- Failures among events are counted, those among calls of a prompter too.
-use Rattle.std.proofs.Common.{◌≡◌, ◌≤◌, ◌+◌, ℕ, Bool, cond, true, false, List, [], ◌∷◌, ◌++◌, length, refl, sym, arith}
-use Rattle.std.specs.List.{count_by, filter}
-use Rattle.std.proofs.lemmas.List.{length-append}
-use Rattle.std.proofs.lemmas.List.Elements.{filter-append}
-use Rattle.std.proofs.lemmas.List.Sums.{length-filter}
-use Rattle.agent_ports.specs.Counts.{RoseBy, Rose}
-use Rattle.agent_ports.specs.Leads.{Leads, none, one}
-use Rattle.agent_ask.specs.Events.{Call}
-use Rattle.agent_ask.specs.Prompters.{AtPrompter, IsCall, is_failed}
+use Rattle.std.{proofs.{Common.{◌≡◌, ◌≤◌, ◌+◌, ℕ, Bool, cond, true, false, List, [], ◌∷◌, ◌++◌, length, refl, sym, arith}, lemmas.List.{length-append, Elements.filter-append, Sums.length-filter}}, specs.List.{count_by, filter}}
+use Rattle.agent_ports.specs.{Counts.{RoseBy, Rose}, Leads.{Leads, none, one}}
+use Rattle.agent_ask.specs.{Events.Call, Prompters.{AtPrompter, IsCall, is_failed}}
 
 -- one more event, which failed, or didn't
 counted : {E : Type 0} (failed : Bool) (event : E) (more : List E) (before mid after : ℕ) → (failed ≡ true → Rose before mid) → before ≤ mid → RoseBy (length more) mid after

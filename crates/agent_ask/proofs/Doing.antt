@@ -1,20 +1,9 @@
 -- Events one after another: each does to the outside what its kind does.
 use Rattle.std.proofs.Common.{ℕ, List, [], ◌∷◌, ◌++◌, Ok, Err, refl, ap, ◌∙◌, arith}
-use Rattle.agent_ports.specs.Leads.{none, one}
-use Rattle.agent_ports.proofs.Leading.{leads_then}
-use Rattle.cache_policy.specs.declared.mark.MarkStep.{MarkStep}
-use Rattle.cache_policy.specs.Turns.{Turn}
-use Rattle.agent_ports.specs.Sides.{Side}
-use Rattle.agent_ports.specs.Writing.{StopsWriting}
-use Rattle.agent_ports.specs.declared.link.WriteFault.{WriteFault}
-use Rattle.session_client.specs.Asking.{AnyInquired, Asked, NotAsked, HasSaid, HasInquired}
-use Rattle.session_client.proofs.Received.{HasReceived}
-use Rattle.session_client.specs.Lines.{Lines, Views}
-use Rattle.agent_ask.specs.LinkFaults.{fails_at_input, fails_at_output}
-use Rattle.agent_ask.specs.SessionEvents.{AnyEvent, Received, Sent, Cut, Inquiry, Further, cache_turn}
-use Rattle.agent_ask.specs.States.{AnyState, AnyLead}
-use Rattle.agent_ask.proofs.Counting.{one_is_counted, both_are_counted}
-use Rattle.agent_ask.specs.Worlds.{AnyWorld, received, sent, cut, asked as asked_so, not_asked, turned, further}
+use Rattle.{agent_ports.{specs.{Leads.{none, one}, Sides.Side, Writing.StopsWriting, declared.link.WriteFault.WriteFault}, proofs.Leading.leads_then}, cache_policy.specs.{declared.mark.MarkStep.MarkStep, Turns.Turn}}
+use Rattle.session_client.{specs.{Asking.{AnyInquired, Asked, NotAsked, HasSaid, HasInquired}, Lines.{Lines, Views}}, proofs.Received.HasReceived}
+use Rattle.agent_ask.specs.{LinkFaults.{fails_at_input, fails_at_output}, SessionEvents.{AnyEvent, Received, Sent, Cut, Inquiry, Further, cache_turn}, States.{AnyState, AnyLead}}
+use Rattle.agent_ask.{specs.Worlds.{AnyWorld, received, sent, cut, asked as asked_so, not_asked, turned, further}, proofs.Counting.{one_is_counted, both_are_counted}}
 
 -- the bytes of a text that went before its write stopped
 abbrev pub stopped_at : {lines : Lines} {C : Type 0} {views : Views lines C} {text : List ℕ} {start now : C} {why : WriteFault} → HasSaid views text start (Err why) now → List ℕ

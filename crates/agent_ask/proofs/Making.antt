@@ -1,18 +1,9 @@
 -- Events of a prompt, one after another.
-use Rattle.std.proofs.Common.{◌≡◌, ℕ, ◌+◌, Bool, List, [], ◌∷◌, ◌++◌, Ok, refl}
-use Rattle.std.proofs.lemmas.List.{replicate-append-replicate}
-use Rattle.agent_ports.specs.Leads.{Leads, none, one}
-use Rattle.agent_ports.proofs.Leading.{leads_then}
-use Rattle.agent_ask.specs.Doing.{ends, DoesCall, called, DoesPrompt, calls, HasEvents}
-use Rattle.agent_ask.specs.Events.{Call, Start, Question, PromptEvent, Called}
-use Rattle.agent_ask.specs.Prompts.{Opens, failed, broken, pin_or_stop, typed, repeat_text, repeated}
-use Rattle.agent_ask.specs.declared.caller.Heard.{Heard}
-use Rattle.agent_ask.specs.declared.opening.Opening.TheVariants.{NoPinentry}
-use Rattle.agent_ask.specs.declared.prompter.Opened.{Opened}
-use Rattle.agent_ask.specs.declared.prompter.Opened.TheVariants.{Pid, Failed, Broken}
-use Rattle.agent_ask.specs.declared.prompter.Outcome.{Outcome}
+use Rattle.std.proofs.{Common.{◌≡◌, ℕ, ◌+◌, Bool, List, [], ◌∷◌, ◌++◌, Ok, refl}, lemmas.List.replicate-append-replicate}
+use Rattle.agent_ports.{specs.Leads.{Leads, none, one}, proofs.Leading.leads_then}
+use Rattle.agent_ask.specs.{Doing.{ends, DoesCall, called, DoesPrompt, calls, HasEvents}, Events.{Call, Start, Question, PromptEvent, Called}, Prompts.{Opens, failed, broken, pin_or_stop, typed, repeat_text, repeated}}
+use Rattle.agent_ask.specs.declared.{caller.Heard.Heard, opening.Opening.TheVariants.NoPinentry, prompter.{Opened.{Opened, TheVariants.{Pid, Failed, Broken}}, Outcome.Outcome}, spec.PromptSpec.PromptSpec}
 use Rattle.agent_ask.specs.declared.prompter.Outcome.TheVariants as outcome
-use Rattle.agent_ask.specs.declared.spec.PromptSpec.{PromptSpec}
 
 -- the start gave no process
 pub unopened : (spec : PromptSpec) (notify : Bool) (opened : Opened) → ((pid : ℕ) → opened ≡ Pid pid → ⊥) → Opens spec notify (Called (Start spec opened) ∷ []) NoPinentry

@@ -1,40 +1,16 @@
 -- Parts at the client: a text that is written, an inquiry, a prompt that it is told of.
 use Rattle.std.proofs.Common.{◌≡◌, ◌≢◌, ◌≤◌, ℕ, List, [], ◌∷◌, Option, Some, Result, Ok, Err, IsSome, refl, arith, sym, ◌∙◌, subst}
-use Rattle.agent_ports.specs.Leads.{Leads}
-use Rattle.agent_ports.specs.Writing.{StopsWriting}
-use Rattle.agent_ports.specs.declared.link.WriteFault.{WriteFault}
-use Rattle.session_client.specs.Asking.{HasSaid, LeftBy, AsksClient as AskedClient}
-use Rattle.session_client.specs.Lines.{Lines, Views, IsOpen}
-use Rattle.session_client.specs.Refusals.{gone_by}
+use Rattle.{agent_ports.specs.{Leads.Leads, Writing.StopsWriting, declared.link.WriteFault.WriteFault}, session_client.specs.{Asking.{HasSaid, LeftBy, AsksClient as AskedClient}, Lines.{Lines, Views, IsOpen}, Refusals.gone_by}}
+use Rattle.session_client.specs.declared.{refusal.Refusal.{Refusal, TheVariants.{Agent, Pinentry, Client}}, unheard.Unheard.Unheard}
+use Rattle.agent_ask.specs.{Answering.{ReaderLeft, FaultsCounted}, Callers.IsUnheardBy, ClientParts.{Writes, written, cut, Inquires, given, not_given}, Clients.{Hears, LeftByPin, LeftByPart}}
+use Rattle.agent_ask.specs.{Doing.{PromptEnds, DoesCall, DoesPrompt, HasEvents}, Events.{Call, PromptEvent}, Further.{FurtherEvent, Prompt, EventOf, world_with}, Parts.PartOf}
+use Rattle.agent_ask.specs.{PartStates.{part_state, gone_in, DoesPart, NoTurn, NoEnd, DoesWithClient}, PinParts.{PromptsPin, pin_refusal}, Prompts.AsksPinBy, SessionEvents.{Sent, Cut, Inquiry}, SessionPrompts.AnyInSession}
+use Rattle.agent_ask.specs.declared.{ask.Asked.Asked, caller.Heard.{Heard, TheVariants.{Fine, Secret, Cancelled, TooMuch, Unexpected, Gone}}, spec.{AskPlan.AskPlan, PromptSpec.PromptSpec}, test.Tested.Tested}
+use Rattle.agent_ask.proofs.{ConsentParts.{left_open, left_unheard}, Doing.{done_said, done_cut, done_inquired}, Prompting.shown}
 use Rattle.session_client.specs.declared.code.Code.TheVariants as code
-use Rattle.session_client.specs.declared.refusal.Refusal.{Refusal}
-use Rattle.session_client.specs.declared.refusal.Refusal.TheVariants.{Agent, Pinentry, Client}
 use Rattle.session_client.specs.declared.unheard.Gone.TheVariants as gone
-use Rattle.session_client.specs.declared.unheard.Unheard.{Unheard}
 use Rattle.session_client.specs.declared.unheard.Unheard.TheVariants as unheard
-use Rattle.agent_ask.specs.Answering.{ReaderLeft, FaultsCounted}
-use Rattle.agent_ask.specs.Callers.{IsUnheardBy}
-use Rattle.agent_ask.specs.ClientParts.{Writes, written, cut, Inquires, given, not_given}
-use Rattle.agent_ask.specs.Clients.{Hears, LeftByPin, LeftByPart}
-use Rattle.agent_ask.specs.Doing.{PromptEnds, DoesCall, DoesPrompt, HasEvents}
-use Rattle.agent_ask.specs.Events.{Call, PromptEvent}
-use Rattle.agent_ask.specs.Further.{FurtherEvent, Prompt, EventOf, world_with}
-use Rattle.agent_ask.specs.Parts.{PartOf}
-use Rattle.agent_ask.specs.PartStates.{part_state, gone_in, DoesPart, NoTurn, NoEnd, DoesWithClient}
-use Rattle.agent_ask.specs.PinParts.{PromptsPin, pin_refusal}
-use Rattle.agent_ask.specs.Prompts.{AsksPinBy}
-use Rattle.agent_ask.specs.SessionEvents.{Sent, Cut, Inquiry}
-use Rattle.agent_ask.specs.SessionPrompts.{AnyInSession}
-use Rattle.agent_ask.specs.declared.ask.Asked.{Asked}
 use Rattle.agent_ask.specs.declared.ask.Asked.TheVariants as asked
-use Rattle.agent_ask.specs.declared.caller.Heard.{Heard}
-use Rattle.agent_ask.specs.declared.caller.Heard.TheVariants.{Fine, Secret, Cancelled, TooMuch, Unexpected, Gone}
-use Rattle.agent_ask.specs.declared.spec.AskPlan.{AskPlan}
-use Rattle.agent_ask.specs.declared.spec.PromptSpec.{PromptSpec}
-use Rattle.agent_ask.specs.declared.test.Tested.{Tested}
-use Rattle.agent_ask.proofs.ConsentParts.{left_open, left_unheard}
-use Rattle.agent_ask.proofs.Doing.{done_said, done_cut, done_inquired}
-use Rattle.agent_ask.proofs.Prompting.{shown}
 
 module _ {lines : Lines} {C : Type 0} (views : Views lines C) (start now : C) where
   -- how the session goes on whose client gave nothing, by how its connection is left

@@ -1,25 +1,12 @@
 -- Parts of a request that were done, one after another, and those that stand beside a desk and further ends that they have nothing to do with.
 use Rattle.std.proofs.Common.{◌≡◌, ◌≤◌, ℕ, true, List, [], ◌∷◌, ◌++◌, Option, Some, None, Result, Ok, Err, is_some, refl, arith}
-use Rattle.cache_policy.specs.declared.mark.MarkStep.{MarkStep}
-use Rattle.cache_policy.specs.declared.mark.MarkStep.TheVariants.{Ask, Close}
-use Rattle.cache_policy.specs.declared.mark.Way.{Way}
-use Rattle.cache_policy.specs.declared.mark.Way.TheVariants.{Quiet, Prompt}
-use Rattle.cache_policy.specs.declared.mode.Mode.{Mode}
-use Rattle.cache_policy.specs.Turns.{Turn, Given, Empty, Open, Done, FitsStep, opens}
-use Rattle.session_client.specs.Lines.{Lines, Views, IsOpen}
-use Rattle.session_client.specs.declared.refusal.Refusal.{Refusal}
-use Rattle.session_client.specs.declared.unheard.Gone.{Gone}
-use Rattle.agent_ask.specs.Answering.{ReaderLeft, FaultsCounted}
-use Rattle.agent_ask.specs.Further.{FurtherEvent, EventOf, world_with}
-use Rattle.agent_ask.specs.Parts.{PartOf, ◌>>=◌, goes_on, stops}
+use Rattle.cache_policy.specs.{declared.{mark.{MarkStep.{MarkStep, TheVariants.{Ask, Close}}, Way.{Way, TheVariants.{Quiet, Prompt}}}, mode.Mode.Mode}, Turns.{Turn, Given, Empty, Open, Done, FitsStep, opens}}
+use Rattle.session_client.specs.{Lines.{Lines, Views, IsOpen}, declared.{refusal.Refusal.Refusal, unheard.Gone.Gone}}
+use Rattle.agent_ask.specs.{Answering.{ReaderLeft, FaultsCounted}, Further.{FurtherEvent, EventOf, world_with}, Parts.{PartOf, ◌>>=◌, goes_on, stops}}
 use Rattle.agent_ask.specs.PartStates.{PartState, part_state, gone_in, DoesPart, NoTurn, NoEnd, DoesWithClient, DoesTurn, DoesTurns, still, one}
-use Rattle.agent_ask.specs.Seats.{Gives, TakesTicket, GivesTicket, Changed, ChangesCache, Answered, AsksCache, opened as ticket_opened, interrupted as ticket_refused, taken, refused, unheld, given, changed, unchanged}
-use Rattle.agent_ask.specs.Seats.{found, none_found, prompt_opened, not_answered}
-use Rattle.agent_ask.specs.SessionEvents.{AnyEvent, cache_turn}
-use Rattle.agent_ask.specs.TurnParts.{Asks, Seats, Changes, Closes, closed}
+use Rattle.agent_ask.specs.Seats.{Gives, TakesTicket, GivesTicket, Changed, ChangesCache, Answered, AsksCache, opened as ticket_opened, interrupted as ticket_refused, taken, refused, unheld, given, changed, unchanged, found, none_found}
+use Rattle.agent_ask.{specs.{Seats.{prompt_opened, not_answered}, SessionEvents.{AnyEvent, cache_turn}, TurnParts.{Asks, Seats, Changes, Closes, closed}}, proofs.{Beside.done_in, Doing.{done_none, done_then, done_turned}}}
 use Rattle.agent_ask.specs.TurnParts as turns
-use Rattle.agent_ask.proofs.Beside.{done_in}
-use Rattle.agent_ask.proofs.Doing.{done_none, done_then, done_turned}
 
 module _ {lines : Lines} {C : Type 0} (views : Views lines C) where
   -- a reader that holds no more than another did

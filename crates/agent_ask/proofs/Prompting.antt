@@ -1,19 +1,9 @@
 -- A prompt's events as those of its session.
 use Rattle.std.proofs.Common.{◌≤◌, ℕ, List, [], ◌∷◌, Result, arith, subst}
-use Rattle.agent_ports.specs.Leads.{Leads, none, one}
-use Rattle.cache_policy.specs.declared.mark.MarkStep.{MarkStep}
-use Rattle.cache_policy.specs.Turns.{Turn}
-use Rattle.session_client.specs.Lines.{Lines, Views, IsOpen}
-use Rattle.session_client.specs.declared.unheard.Unheard.{Unheard}
-use Rattle.agent_ask.specs.Callers.{SaysNote}
-use Rattle.agent_ask.specs.Clients.{Hears, note as told}
-use Rattle.agent_ask.specs.Doing.{PromptEnds, DoesCall, called, out_of_memory, DoesPrompt, calls, notified}
-use Rattle.agent_ask.specs.Events.{Call, PromptEvent, Called, OutOfMemory}
-use Rattle.agent_ask.specs.Further.{FurtherEvent, Prompt, EventOf, world_with}
-use Rattle.agent_ask.specs.SessionEvents.{Further}
-use Rattle.agent_ask.specs.States.{AnyState, AnyLead}
-use Rattle.agent_ask.specs.SessionPrompts.{AnyInSession, none as no_events, called as shows_call, noted as shows_note, out_of_memory as shows_memory, note}
-use Rattle.agent_ask.proofs.Doing.{done_none, done_then, done_further, done_inquired}
+use Rattle.{agent_ports.specs.Leads.{Leads, none, one}, cache_policy.specs.{declared.mark.MarkStep.MarkStep, Turns.Turn}, session_client.specs.{Lines.{Lines, Views, IsOpen}, declared.unheard.Unheard.Unheard}}
+use Rattle.agent_ask.specs.{Callers.SaysNote, Clients.{Hears, note as told}, Doing.{PromptEnds, DoesCall, called, out_of_memory, DoesPrompt, calls, notified}, Events.{Call, PromptEvent, Called, OutOfMemory}}
+use Rattle.agent_ask.specs.{Further.{FurtherEvent, Prompt, EventOf, world_with}, SessionEvents.Further, States.{AnyState, AnyLead}}
+use Rattle.agent_ask.{specs.SessionPrompts.{AnyInSession, none as no_events, called as shows_call, noted as shows_note, out_of_memory as shows_memory, note}, proofs.Doing.{done_none, done_then, done_further, done_inquired}}
 
 -- The further ends hold the prompter: with each state of it they are these, and what a prompt does to it is done to them.
 module _ {lines : Lines} {C D P E : Type 0} (views : Views lines C) (turned : D → MarkStep → Turn → D → Type 0)

@@ -1,28 +1,10 @@
 -- Requests that were carried out: the ticket is given back, and then the reply is written, or the refusal.
 use Rattle.std.proofs.Common.{◌≡◌, ℕ, List, [], ◌∷◌, ◌++◌, Option, Some, None, Result, Ok, Err, refl, ap, sym, ◌∙◌, subst, arith, append_assoc}
-use Rattle.agent_ports.specs.Sides.{Side}
-use Rattle.agent_ports.specs.Writing.{StopsWriting}
-use Rattle.agent_ports.specs.declared.link.WriteFault.{WriteFault as Fault}
-use Rattle.cache_policy.specs.declared.mark.MarkStep.{MarkStep}
-use Rattle.cache_policy.specs.Turns.{Turn}
-use Rattle.session_client.specs.Asking.{HasSaid, SaysLine}
-use Rattle.session_client.specs.Lines.{Lines, Views}
-use Rattle.session_client.specs.Refusals.{gone_by}
-use Rattle.session_client.specs.declared.refusal.Refusal.{Refusal}
-use Rattle.session_client.specs.declared.unheard.Gone.{Gone}
-use Rattle.session_client.specs.declared.unheard.Gone.TheVariants.{ReadFault, WriteFault}
-use Rattle.agent_ask.specs.Answering.{unless_cut, whole, cut, ReaderLeft, FaultsCounted, AnswersBy}
-use Rattle.agent_ask.specs.Further.{FurtherEvent, EventOf, world_with}
-use Rattle.agent_ask.specs.PartExchanges.{AnyReply, AnyExchange, answered, refused as is_refused}
-use Rattle.agent_ask.specs.PartReplies.{RespondsBy, replied, refused, reply_by, CarriesBy, comes_to, stops_at}
-use Rattle.agent_ask.specs.Parts.{PartOf}
-use Rattle.agent_ask.specs.PartStates.{PartState, part_state, DoesPart, DoesTurns, still, one}
-use Rattle.agent_ask.specs.Seats.{GivesTicket}
-use Rattle.agent_ask.specs.SessionEvents.{AnyEvent, Sent, Cut, cache_turn, said_last}
-use Rattle.agent_ask.specs.States.{AnyState, AnyLead}
-use Rattle.agent_ask.specs.TurnParts.{Closes}
-use Rattle.agent_ask.specs.Worlds.{AnyWorld}
-use Rattle.agent_ask.proofs.Doing.{done_none, done_then, done_turned, done_said, done_cut}
+use Rattle.{agent_ports.specs.{Sides.Side, Writing.StopsWriting, declared.link.WriteFault.WriteFault as Fault}, cache_policy.specs.{declared.mark.MarkStep.MarkStep, Turns.Turn}, session_client.specs.Asking.{HasSaid, SaysLine}}
+use Rattle.session_client.specs.{Lines.{Lines, Views}, Refusals.gone_by, declared.{refusal.Refusal.Refusal, unheard.Gone.{Gone, TheVariants.{ReadFault, WriteFault}}}}
+use Rattle.agent_ask.specs.{Answering.{unless_cut, whole, cut, ReaderLeft, FaultsCounted, AnswersBy}, Further.{FurtherEvent, EventOf, world_with}, PartExchanges.{AnyReply, AnyExchange, answered, refused as is_refused}}
+use Rattle.agent_ask.specs.{PartReplies.{RespondsBy, replied, refused, reply_by, CarriesBy, comes_to, stops_at}, Parts.PartOf, PartStates.{PartState, part_state, DoesPart, DoesTurns, still, one}, Seats.GivesTicket}
+use Rattle.agent_ask.{specs.{SessionEvents.{AnyEvent, Sent, Cut, cache_turn, said_last}, States.{AnyState, AnyLead}, TurnParts.Closes, Worlds.AnyWorld}, proofs.Doing.{done_none, done_then, done_turned, done_said, done_cut}}
 use Rattle.agent_ask.proofs.PartsDone.{no_fault, state_of, part_in, ticket_given}
 
 module _ {lines : Lines} {C : Type 0} (views : Views lines C) where

@@ -1,11 +1,7 @@
 -- What no question comes to.
-use Rattle.std.proofs.Common.{◌≡◌, ℕ, List, Err, sym, subst}
-use Rattle.std.specs.Prelude.{⊤}
-use Rattle.agent_ask.specs.Events.{PromptEvent}
-use Rattle.agent_ask.specs.Prompts.{Repeats, ended, pin_or_stop}
-use Rattle.agent_ask.specs.declared.ask.Asked.{Asked}
+use Rattle.std.{proofs.Common.{◌≡◌, ℕ, List, Err, sym, subst}, specs.Prelude.⊤}
+use Rattle.agent_ask.specs.{Events.PromptEvent, Prompts.{Repeats, ended, pin_or_stop}, declared.{ask.Asked.Asked, prompter.Outcome.Outcome}}
 use Rattle.agent_ask.specs.declared.ask.Asked.TheVariants as asked
-use Rattle.agent_ask.specs.declared.prompter.Outcome.{Outcome}
 use Rattle.agent_ask.specs.declared.prompter.Outcome.TheVariants as outcome
 use Rattle.agent_ask.specs.declared.tries.Stop.TheVariants as stop
 

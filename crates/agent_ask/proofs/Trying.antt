@@ -1,21 +1,11 @@
 -- Tests one after another, the last of them, and tries by rules that are the same.
 use Rattle.std.proofs.Common.{◌≡◌, ℕ, List, [], ◌∷◌, ◌++◌, Option, Result, Ok, Err, refl, ap, sym, ◌∙◌, append_assoc}
-use Rattle.agent_ports.specs.Leads.{none, one}
-use Rattle.agent_ports.proofs.Leading.{leads_then}
-use Rattle.agent_ask.specs.Doing.{HasEvents}
-use Rattle.agent_ask.specs.Events.{PromptEvent}
-use Rattle.agent_ask.specs.Prompts.{IsTry, ended, weak, bad, untested, accepted, Repeats, same, Tries, good, over, again, AsksBefore, tried}
-use Rattle.agent_ask.specs.Tests.{SameRule, IsTest, PinTest, test_of, Tests, WithTests, EndsBy}
+use Rattle.agent_ports.{specs.Leads.{none, one}, proofs.Leading.leads_then}
+use Rattle.agent_ask.specs.{Doing.HasEvents, Events.PromptEvent, Prompts.{IsTry, ended, weak, bad, untested, accepted, Repeats, same, Tries, good, over, again, AsksBefore, tried}}
+use Rattle.agent_ask.specs.{Tests.{SameRule, IsTest, PinTest, test_of, Tests, WithTests, EndsBy}, declared.{spec.{AskPlan.AskPlan, PromptSpec.PromptSpec}, test.Tested.{Tested, TheVariants.{Yes, NoMemory}}, tries.Failure.Failure}}
+use Rattle.agent_ask.{specs.declared.tries.Stop.Stop, proofs.{Making.made_then, Stopping.{never_stops, never_repeats}}}
 use Rattle.agent_ask.specs.declared.ask.Asked.TheVariants as asked
-use Rattle.agent_ask.specs.declared.spec.AskPlan.{AskPlan}
-use Rattle.agent_ask.specs.declared.spec.PromptSpec.{PromptSpec}
-use Rattle.agent_ask.specs.declared.test.Tested.{Tested}
-use Rattle.agent_ask.specs.declared.test.Tested.TheVariants.{Yes, NoMemory}
-use Rattle.agent_ask.specs.declared.tries.Failure.{Failure}
-use Rattle.agent_ask.specs.declared.tries.Stop.{Stop}
 use Rattle.agent_ask.specs.declared.tries.Stop.TheVariants as stop
-use Rattle.agent_ask.proofs.Making.{made_then}
-use Rattle.agent_ask.proofs.Stopping.{never_stops, never_repeats}
 
 module _ {T : Type 0} {tested : T → List ℕ → Tested → T → Type 0} where
   -- the rule stays the same

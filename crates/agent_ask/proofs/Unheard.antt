@@ -1,22 +1,12 @@
 -- A prompt that ended by the client's note of it.
 use Rattle.std.proofs.Common.{◌≡◌, ◌≢◌, ℕ, Bool, List, [], ◌∷◌, ◌++◌, Option, Err, refl, subst}
-use Rattle.agent_ask.specs.Consents.{AsksConsent, ConsentBefore, unopened as unopened_consent, unheard as unheard_consent, asked as asked_consent, agreed_of}
-use Rattle.agent_ask.specs.Events.{Start, Shut, PromptEvent, Called, Notified}
-use Rattle.agent_ask.specs.Prompts.{AsksPin, AsksBefore, unheard, tried, unheard as untold, Tries, over, again, IsTry, ended, accepted}
-use Rattle.agent_ask.specs.Tests.{PinTest}
+use Rattle.agent_ask.specs.{Consents.{AsksConsent, ConsentBefore, unopened as unopened_consent, unheard as unheard_consent, asked as asked_consent, agreed_of}, Events.{Start, Shut, PromptEvent, Called, Notified}}
+use Rattle.agent_ask.specs.{Prompts.{AsksPin, AsksBefore, unheard, tried, unheard as untold, Tries, over, again, IsTry, ended, accepted}, Tests.PinTest, declared.{caller.Heard.{Heard, TheVariants.Fine}, consent.Agreed.Agreed}}
+use Rattle.agent_ask.{specs.declared.{prompter.{Consent.Consent, Opened.Opened}, spec.{AskPlan.AskPlan, PromptSpec.PromptSpec}, tries.Failure.Failure}, proofs.Stopping.{never_stops, never_repeats}}
 use Rattle.agent_ask.specs.declared.ask.Asked.TheVariants as asked
-use Rattle.agent_ask.specs.declared.caller.Heard.{Heard}
-use Rattle.agent_ask.specs.declared.caller.Heard.TheVariants.{Fine}
-use Rattle.agent_ask.specs.declared.consent.Agreed.{Agreed}
 use Rattle.agent_ask.specs.declared.consent.Agreed.TheVariants as agreed
-use Rattle.agent_ask.specs.declared.prompter.Consent.{Consent}
 use Rattle.agent_ask.specs.declared.prompter.Consent.TheVariants as consent
-use Rattle.agent_ask.specs.declared.prompter.Opened.{Opened}
-use Rattle.agent_ask.specs.declared.spec.AskPlan.{AskPlan}
-use Rattle.agent_ask.specs.declared.spec.PromptSpec.{PromptSpec}
-use Rattle.agent_ask.specs.declared.tries.Failure.{Failure}
 use Rattle.agent_ask.specs.declared.tries.Stop.TheVariants as stop
-use Rattle.agent_ask.proofs.Stopping.{never_stops, never_repeats}
 
 -- a prompt that ended by the client's note of it
 pub record EndsByNote (prompt : List PromptEvent) (heard : Heard) : Type 0 where

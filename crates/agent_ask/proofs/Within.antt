@@ -1,10 +1,7 @@
 -- Parts of a request that lie within a law. A law of a part is such a relation itself: between the ticket that is held before, the events, what they come to, and the ticket that
 -- is held then. So what follows one another is judged once, by the laws that follow one another, and a library of parts is its law, how that joins, and its smallest parts.
-use Rattle.std.specs.Prelude.{⊤}
-use Rattle.std.proofs.Common.{ℕ, Bool, true, false, List, [], ◌++◌, Option, Some, None, Result, Ok, Err}
-use Rattle.session_client.specs.declared.code.Code.{Code}
-use Rattle.session_client.specs.declared.refusal.Refusal.{Refusal}
-use Rattle.session_client.specs.declared.refusal.Refusal.TheVariants.{Agent}
+use Rattle.std.{specs.Prelude.⊤, proofs.Common.{ℕ, Bool, true, false, List, [], ◌++◌, Option, Some, None, Result, Ok, Err}}
+use Rattle.session_client.specs.declared.{code.Code.Code, refusal.Refusal.{Refusal, TheVariants.Agent}}
 use Rattle.agent_ask.specs.Parts.{PartOf, ◌>>=◌, Follows, goes_on, stops, Returns, returns, Refuses, refuses, needed, or_else, unless, wanted}
 
 -- what is so of a part's value, where it comes to one

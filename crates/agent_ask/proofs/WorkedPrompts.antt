@@ -1,20 +1,9 @@
 -- Prompts of which the client isn't told, as worked examples have them: by the calls of the prompter alone.
 use Rattle.std.proofs.Common.{◌≡◌, ◌≤◌, ℕ, false, List, [], ◌∷◌, ◌++◌, None, refl, ap, arith}
 use Rattle.session_client.specs.Lines.{Lines}
-use Rattle.agent_ask.specs.ConsentParts.{PromptsConsent}
-use Rattle.agent_ask.specs.Consents.{agreed_of, ConsentBefore}
-use Rattle.agent_ask.specs.Events.{Call, Start, Confirm, Shut, PromptEvent, Called}
-use Rattle.agent_ask.specs.Further.{EventOf, Prompt}
-use Rattle.agent_ask.specs.PinParts.{PromptsPin}
-use Rattle.agent_ask.specs.Prompts.{Opens, Tries, AsksBefore}
-use Rattle.agent_ask.specs.SessionEvents.{Further}
-use Rattle.agent_ask.specs.SessionPrompts.{AnyInSession}
-use Rattle.agent_ask.specs.Tests.{PinTest}
-use Rattle.agent_ask.specs.declared.ask.Asked.{Asked}
-use Rattle.agent_ask.specs.declared.prompter.Consent.{Consent}
+use Rattle.agent_ask.specs.{ConsentParts.PromptsConsent, Consents.{agreed_of, ConsentBefore}, Events.{Call, Start, Confirm, Shut, PromptEvent, Called}, Further.{EventOf, Prompt}, PinParts.PromptsPin, Prompts.{Opens, Tries, AsksBefore}}
+use Rattle.agent_ask.specs.{SessionEvents.Further, SessionPrompts.AnyInSession, Tests.PinTest, declared.{ask.Asked.Asked, prompter.Consent.Consent, spec.{AskPlan.AskPlan, PromptSpec.PromptSpec}}}
 use Rattle.agent_ask.specs.declared.prompter.Opened.TheVariants as opened
-use Rattle.agent_ask.specs.declared.spec.AskPlan.{AskPlan}
-use Rattle.agent_ask.specs.declared.spec.PromptSpec.{PromptSpec}
 
 -- the three tries of a prompt
 pub first_try : 1 ≤ 3

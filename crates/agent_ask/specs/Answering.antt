@@ -1,15 +1,8 @@
 -- How a request is answered, whole or in part, and how its session stands then. Its connection is of any type of which this is seen, and how a session goes on is
 -- of any type that says whether its client is gone. This is the project's own.
 use Rattle.std.specs.Prelude.{◌≡◌, ◌≤◌, List, Option, Some, None, Result, Ok, Err}
-use Rattle.agent_ports.specs.Counts.{Rose}
-use Rattle.agent_ports.specs.declared.link.WriteFault.{WriteFault as Fault}
-use Rattle.session_client.specs.Asking.{HasEnded}
-use Rattle.session_client.specs.Lines.{Lines, Views}
-use Rattle.session_client.specs.declared.unheard.Gone.{Gone}
-use Rattle.session_client.specs.declared.unheard.Gone.TheVariants.{ReadFault, WriteFault}
-use Rattle.agent_ask.specs.SessionEvents.{AnyEvent, CutAtLast}
-use Rattle.agent_ask.specs.States.{AnyState, AnyLead}
-use Rattle.agent_ask.specs.Worlds.{AnyWorld}
+use Rattle.{agent_ports.specs.{Counts.Rose, declared.link.WriteFault.WriteFault as Fault}, session_client.specs.{Asking.HasEnded, Lines.{Lines, Views}, declared.unheard.Gone.{Gone, TheVariants.{ReadFault, WriteFault}}}}
+use Rattle.agent_ask.specs.{SessionEvents.{AnyEvent, CutAtLast}, States.{AnyState, AnyLead}, Worlds.AnyWorld}
 
 -- how a session goes on whose last write came to this: where it was whole, as it would go on
 abbrev pub unless_cut : {W : Type 0} (whole cut : W) → Result (Unit {0}) Fault → W

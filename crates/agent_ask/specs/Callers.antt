@@ -1,10 +1,8 @@
 -- What the client's answers mean. This is the project's own.
 use Rattle.std.specs.Prelude.{◌≡◌, ℕ, List, Bool, true, false, Option, Some, None, Result, Ok, Err, ⊤}
 use Rattle.session_client.specs.declared.unheard.Unheard.{Unheard}
+use Rattle.agent_ask.specs.{Events.{Question, Launched, Wanted}, declared.caller.Heard.{Heard, TheVariants.{Fine, Secret, Cancelled, TooMuch, Unexpected, Gone}}}
 use Rattle.session_client.specs.declared.unheard.Unheard.TheVariants as unheard
-use Rattle.agent_ask.specs.Events.{Question, Launched, Wanted}
-use Rattle.agent_ask.specs.declared.caller.Heard.{Heard}
-use Rattle.agent_ask.specs.declared.caller.Heard.TheVariants.{Fine, Secret, Cancelled, TooMuch, Unexpected, Gone}
 
 -- the client is gone
 abbrev pub is_gone : Heard → Bool

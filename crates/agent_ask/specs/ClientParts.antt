@@ -1,15 +1,9 @@
 -- The parts of a request that are done with its client. This is the project's own.
 use Rattle.std.specs.Prelude.{◌≡◌, ℕ, ◌++◌, List, [], ◌∷◌, Option, Result, Ok, Err}
-use Rattle.session_client.specs.Asking.{AnyInquired, said_by}
-use Rattle.session_client.specs.Lines.{Lines}
-use Rattle.session_client.specs.declared.refusal.Refusal.{Refusal}
-use Rattle.session_client.specs.declared.refusal.Refusal.TheVariants.{Client}
+use Rattle.session_client.specs.{Asking.{AnyInquired, said_by}, Lines.Lines, declared.{refusal.Refusal.{Refusal, TheVariants.Client}, unheard.Unheard.Unheard}}
+use Rattle.agent_ask.specs.{Further.EventOf, Parts.{PartOf, ◌>>=◌}, SessionEvents.{AnyEvent, Sent, Cut, Inquiry}}
 use Rattle.session_client.specs.declared.unheard.Gone.TheVariants as gone
-use Rattle.session_client.specs.declared.unheard.Unheard.{Unheard}
 use Rattle.session_client.specs.declared.unheard.Unheard.TheVariants as unheard
-use Rattle.agent_ask.specs.Further.{EventOf}
-use Rattle.agent_ask.specs.Parts.{PartOf, ◌>>=◌}
-use Rattle.agent_ask.specs.SessionEvents.{AnyEvent, Sent, Cut, Inquiry}
 
 -- a text is written, or its write fails and the client is gone
 pub data Writes {T O F : Type 0} (text : List ℕ) (held : Option ℕ) : List (AnyEvent T O F) → Result (Unit {0}) Refusal → Option ℕ → Type 0 where

@@ -1,18 +1,9 @@
 -- A session's client as a prompt has to do with it. This is the project's own.
-use Rattle.std.specs.Prelude.{◌≡◌, ℕ, List, Result, Err}
-use Rattle.std.specs.Borrow.{GName}
-use Rattle.session_client.specs.Asking.{TellsClient, IsLost, LeftBy}
-use Rattle.session_client.specs.Lines.{Lines, Views, IsOpen}
-use Rattle.session_client.specs.declared.refusal.Refusal.{Refusal}
+use Rattle.std.specs.{Prelude.{◌≡◌, ℕ, List, Result, Err}, Borrow.GName}
+use Rattle.session_client.specs.{Asking.{TellsClient, IsLost, LeftBy}, Lines.{Lines, Views, IsOpen}, declared.{refusal.Refusal.Refusal, unheard.Unheard.Unheard}}
+use Rattle.agent_ask.specs.{Callers.{IsHearing, SaysNote, SaysWish}, Events.{Question, Launched, Wanted}, declared.{ask.Asked.Asked, caller.Heard.{Heard, TheVariants.Gone}, consent.Agreed.Agreed}}
 use Rattle.session_client.specs.declared.refusal.Refusal.TheVariants as refusal
-use Rattle.session_client.specs.declared.unheard.Unheard.{Unheard}
-use Rattle.agent_ask.specs.Callers.{IsHearing, SaysNote, SaysWish}
-use Rattle.agent_ask.specs.Events.{Question, Launched, Wanted}
-use Rattle.agent_ask.specs.declared.ask.Asked.{Asked}
 use Rattle.agent_ask.specs.declared.ask.Asked.TheVariants as asked
-use Rattle.agent_ask.specs.declared.caller.Heard.{Heard}
-use Rattle.agent_ask.specs.declared.caller.Heard.TheVariants.{Gone}
-use Rattle.agent_ask.specs.declared.consent.Agreed.{Agreed}
 use Rattle.agent_ask.specs.declared.consent.Agreed.TheVariants as agreed
 
 -- a client that is lent, and which one it is

@@ -1,21 +1,9 @@
 -- The user's consent as a part of a request. The codes are this project's own.
-use Rattle.std.specs.Prelude.{◌≡◌, ℕ, Bool, false, List, [], Option, Some, None, Result, Ok, Err, ⊤}
-use Rattle.std.specs.Option.{option_map}
-use Rattle.session_client.specs.Lines.{Lines}
+use Rattle.std.specs.{Prelude.{◌≡◌, ℕ, Bool, false, List, [], Option, Some, None, Result, Ok, Err, ⊤}, Option.option_map}
+use Rattle.{session_client.specs.{Lines.Lines, declared.refusal.Refusal.{Refusal, TheVariants.{Agent, Pinentry, Client}}}, session_options.specs.{OptionValues.OptionValues, declared.rules.Rules.Rules}}
+use Rattle.agent_ask.specs.{Callers.{IsUnheardBy, unheard_of}, Consents.AsksConsent, Events.PromptEvent, Further.EventOf, Plans.{IsSpec, text}, SessionPrompts.AnyInSession, declared.{consent.Agreed.Agreed, spec.PromptSpec.PromptSpec}}
 use Rattle.session_client.specs.declared.code.Code.TheVariants as code
-use Rattle.session_client.specs.declared.refusal.Refusal.{Refusal}
-use Rattle.session_client.specs.declared.refusal.Refusal.TheVariants.{Agent, Pinentry, Client}
-use Rattle.session_options.specs.OptionValues.{OptionValues}
-use Rattle.session_options.specs.declared.rules.Rules.{Rules}
-use Rattle.agent_ask.specs.Callers.{IsUnheardBy, unheard_of}
-use Rattle.agent_ask.specs.Consents.{AsksConsent}
-use Rattle.agent_ask.specs.Events.{PromptEvent}
-use Rattle.agent_ask.specs.Further.{EventOf}
-use Rattle.agent_ask.specs.Plans.{IsSpec, text}
-use Rattle.agent_ask.specs.SessionPrompts.{AnyInSession}
-use Rattle.agent_ask.specs.declared.consent.Agreed.{Agreed}
 use Rattle.agent_ask.specs.declared.consent.Agreed.TheVariants as agreed
-use Rattle.agent_ask.specs.declared.spec.PromptSpec.{PromptSpec}
 
 -- how a request is refused whose prompt gave no consent
 abbrev pub consent_refusal : Agreed → Option Refusal

@@ -1,14 +1,8 @@
 -- One prompt for consent, from its start to its end (GnuPG manual, "Agent GET_CONFIRMATION"; pinentry manual, "protocol").
 use Rattle.std.specs.Prelude.{◌≡◌, Bool, List, [], ◌∷◌, ◌++◌}
-use Rattle.agent_ask.specs.Events.{Confirm, Shut, PromptEvent, Called}
-use Rattle.agent_ask.specs.Prompts.{Opens}
-use Rattle.agent_ask.specs.declared.caller.Heard.{Heard}
-use Rattle.agent_ask.specs.declared.consent.Agreed.{Agreed}
+use Rattle.agent_ask.specs.{Events.{Confirm, Shut, PromptEvent, Called}, Prompts.Opens, declared.{caller.Heard.Heard, consent.Agreed.Agreed, opening.Opening.TheVariants.{Ready, NoPinentry, Unheard}, prompter.Consent.Consent}}
+use Rattle.agent_ask.specs.declared.{prompter.Consent.TheVariants.{Yes, No, Cancelled, TimedOut, Failed, Broken}, spec.PromptSpec.PromptSpec}
 use Rattle.agent_ask.specs.declared.consent.Agreed.TheVariants as agreed
-use Rattle.agent_ask.specs.declared.opening.Opening.TheVariants.{Ready, NoPinentry, Unheard}
-use Rattle.agent_ask.specs.declared.prompter.Consent.{Consent}
-use Rattle.agent_ask.specs.declared.prompter.Consent.TheVariants.{Yes, No, Cancelled, TimedOut, Failed, Broken}
-use Rattle.agent_ask.specs.declared.spec.PromptSpec.{PromptSpec}
 
 -- the answer by the one question
 abbrev pub agreed_of : Consent → Agreed

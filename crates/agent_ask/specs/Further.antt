@@ -1,22 +1,9 @@
 -- What a session does beside its link and its desk: one sum of all kinds of further events, and what each does to the end that it is of. This is
 -- the project's own.
 use Rattle.std.specs.Prelude.{ℕ, List, true, false, replicate}
-use Rattle.agent_ports.specs.Draws.{IsDrawn}
-use Rattle.agent_ports.specs.KeyFiles.{KeyFiles, ReadsKey, ListsKeys, ReplacesKey, RemovesKey}
-use Rattle.agent_ports.specs.Sides.{Side}
-use Rattle.agent_ports.specs.TrustFiles.{TrustState}
-use Rattle.agent_ports.specs.declared.grip.Grip.{Grip}
-use Rattle.agent_ports.specs.declared.keys.KeyRead.{KeyRead}
-use Rattle.agent_ports.specs.declared.keys.KeyNames.{KeyNames}
-use Rattle.agent_ports.specs.declared.keys.KeyDone.{KeyDone}
-use Rattle.agent_ask.specs.Doing.{DoesCall}
-use Rattle.agent_ask.specs.Events.{Call, PromptEvent}
-use Rattle.agent_ask.specs.SessionEvents.{AnyEvent}
-use Rattle.agent_ask.specs.TrustCalls.{TrustCall, DoesTrust}
-use Rattle.agent_ask.specs.Worlds.{AnyWorld}
-use Rattle.cache_policy.specs.declared.mark.MarkStep.{MarkStep}
-use Rattle.cache_policy.specs.Turns.{Turn}
-use Rattle.session_client.specs.Lines.{Lines}
+use Rattle.agent_ports.specs.{Draws.IsDrawn, KeyFiles.{KeyFiles, ReadsKey, ListsKeys, ReplacesKey, RemovesKey}, Sides.Side, TrustFiles.TrustState, declared.{grip.Grip.Grip, keys.{KeyRead.KeyRead, KeyNames.KeyNames, KeyDone.KeyDone}}}
+use Rattle.{cache_policy.specs.{declared.mark.MarkStep.MarkStep, Turns.Turn}, session_client.specs.Lines.Lines}
+use Rattle.agent_ask.specs.{Doing.DoesCall, Events.{Call, PromptEvent}, SessionEvents.AnyEvent, TrustCalls.{TrustCall, DoesTrust}, Worlds.AnyWorld}
 
 -- a call of the keys, with its answer
 pub data KeyCall : Type 0 where

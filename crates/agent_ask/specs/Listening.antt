@@ -1,11 +1,8 @@
 -- The caller after a prompt: it listens, unless it is gone. This is the project's own.
 use Rattle.std.specs.Prelude.{◌≡◌, false}
-use Rattle.agent_ask.specs.Callers.{is_gone}
-use Rattle.agent_ask.specs.declared.ask.Asked.{Asked}
+use Rattle.agent_ask.specs.{Callers.is_gone, declared.{ask.Asked.Asked, consent.Agreed.Agreed, opening.Opening.Opening}}
 use Rattle.agent_ask.specs.declared.ask.Asked.TheVariants as asked
-use Rattle.agent_ask.specs.declared.consent.Agreed.{Agreed}
 use Rattle.agent_ask.specs.declared.consent.Agreed.TheVariants as agreed
-use Rattle.agent_ask.specs.declared.opening.Opening.{Opening}
 use Rattle.agent_ask.specs.declared.opening.Opening.TheVariants as opening
 
 abbrev pub ListensAfterPin : Asked → Type 0 → Type 0

@@ -1,20 +1,9 @@
 -- Private: what is written for a request, once all else is done for it. What it is answered in the code is of any type that is written as some text, and after which the
 -- session goes on so.
 use Rattle.std.specs.Prelude.{ℕ, List, Option, Some, None, Result, Ok, Err}
-use Rattle.agent_ports.specs.declared.link.WriteFault.{WriteFault as Fault}
-use Rattle.cache_policy.specs.declared.mark.MarkStep.{MarkStep}
-use Rattle.cache_policy.specs.Turns.{Turn}
-use Rattle.session_client.specs.Asking.{HasSaid, SaysLine}
-use Rattle.session_client.specs.Lines.{Lines, Views}
-use Rattle.session_client.specs.Refusals.{gone_by}
-use Rattle.session_client.specs.declared.refusal.Refusal.{Refusal}
-use Rattle.session_client.specs.declared.unheard.Gone.{Gone}
-use Rattle.session_client.specs.declared.unheard.Gone.TheVariants.{WriteFault}
-use Rattle.agent_ask.specs.Answering.{unless_cut}
-use Rattle.agent_ask.specs.Further.{FurtherEvent, EventOf}
-use Rattle.agent_ask.specs.PartExchanges.{AnyReply}
-use Rattle.agent_ask.specs.Parts.{PartOf}
-use Rattle.agent_ask.specs.PartStates.{PartState, DoesPart}
+use Rattle.{agent_ports.specs.declared.link.WriteFault.WriteFault as Fault, cache_policy.specs.{declared.mark.MarkStep.MarkStep, Turns.Turn}, session_client.specs.{Asking.{HasSaid, SaysLine}, Lines.{Lines, Views}, Refusals.gone_by}}
+use Rattle.session_client.specs.declared.{refusal.Refusal.Refusal, unheard.Gone.{Gone, TheVariants.WriteFault}}
+use Rattle.agent_ask.specs.{Answering.unless_cut, Further.{FurtherEvent, EventOf}, PartExchanges.AnyReply, Parts.PartOf, PartStates.{PartState, DoesPart}}
 
 -- the reply that an answer is by some text of its own, and after which this is kept
 abbrev pub reply_by : {R S W : Type 0} (went_of : R → W) → R → S → List ℕ → AnyReply S W

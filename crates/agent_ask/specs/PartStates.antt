@@ -1,17 +1,8 @@
 -- Private: how a session stands at some state of its code before and after a part of a request, and how events lead from one to the other. Its connection is of any
 -- type of which this is seen. This is the project's own.
 use Rattle.std.specs.Prelude.{◌≡◌, ℕ, List, [], ◌∷◌, Option, None, Result, Ok, Err}
-use Rattle.cache_policy.specs.declared.mark.MarkStep.{MarkStep}
-use Rattle.cache_policy.specs.Turns.{Turn}
-use Rattle.session_client.specs.Lines.{Lines, Views}
-use Rattle.session_client.specs.Refusals.{gone_by}
-use Rattle.session_client.specs.declared.refusal.Refusal.{Refusal}
-use Rattle.session_client.specs.declared.unheard.Gone.{Gone}
-use Rattle.agent_ask.specs.Answering.{ReaderLeft, FaultsCounted}
-use Rattle.agent_ask.specs.Further.{FurtherEvent, EventOf, world_with}
-use Rattle.agent_ask.specs.Parts.{PartOf}
-use Rattle.agent_ask.specs.SessionEvents.{AnyEvent, cache_turn}
-use Rattle.agent_ask.specs.States.{AnyState, AnyLead}
+use Rattle.{cache_policy.specs.{declared.mark.MarkStep.MarkStep, Turns.Turn}, session_client.specs.{Lines.{Lines, Views}, Refusals.gone_by, declared.{refusal.Refusal.Refusal, unheard.Gone.Gone}}}
+use Rattle.agent_ask.specs.{Answering.{ReaderLeft, FaultsCounted}, Further.{FurtherEvent, EventOf, world_with}, Parts.PartOf, SessionEvents.{AnyEvent, cache_turn}, States.{AnyState, AnyLead}}
 
 -- how the client is gone after a part that came to this, where it is
 abbrev pub gone_in : {A : Type 0} → Result A Refusal → Option Gone

@@ -1,9 +1,7 @@
 -- The parts of a request, one after another. A part is a relation between the ticket that the request holds before it, its events, what it
 -- comes to, which is a value or a refusal, and the ticket that the request holds then. This is the project's own.
 use Rattle.std.specs.Prelude.{ℕ, ◌++◌, List, [], Option, Some, None, Result, Ok, Err, Bool, true, false}
-use Rattle.session_client.specs.declared.code.Code.{Code}
-use Rattle.session_client.specs.declared.refusal.Refusal.{Refusal}
-use Rattle.session_client.specs.declared.refusal.Refusal.TheVariants.{Agent}
+use Rattle.session_client.specs.declared.{code.Code.Code, refusal.Refusal.{Refusal, TheVariants.Agent}}
 
 -- with events of this kind, and a value of this
 abbrev pub PartOf : Type 0 → Type 0 → Type 1

@@ -1,19 +1,9 @@
 -- Prompts for a passphrase as parts of a request. The codes are this project's own.
-use Rattle.std.specs.Prelude.{List, ℕ, Option, Some, None}
-use Rattle.std.specs.Option.{option_map}
-use Rattle.session_client.specs.Lines.{Lines}
+use Rattle.std.specs.{Prelude.{List, ℕ, Option, Some, None}, Option.option_map}
+use Rattle.session_client.specs.{Lines.Lines, declared.refusal.Refusal.{Refusal, TheVariants.{Agent, Pinentry, Client}}}
+use Rattle.agent_ask.specs.{Callers.unheard_of, Events.PromptEvent, Further.EventOf, Prompts.AsksPin, SessionPrompts.AnyInSession, declared.{ask.Asked.Asked, spec.{AskPlan.AskPlan, PromptSpec.PromptSpec}}}
 use Rattle.session_client.specs.declared.code.Code.TheVariants as code
-use Rattle.session_client.specs.declared.refusal.Refusal.{Refusal}
-use Rattle.session_client.specs.declared.refusal.Refusal.TheVariants.{Agent, Pinentry, Client}
-use Rattle.agent_ask.specs.Callers.{unheard_of}
-use Rattle.agent_ask.specs.Events.{PromptEvent}
-use Rattle.agent_ask.specs.Further.{EventOf}
-use Rattle.agent_ask.specs.Prompts.{AsksPin}
-use Rattle.agent_ask.specs.SessionPrompts.{AnyInSession}
-use Rattle.agent_ask.specs.declared.ask.Asked.{Asked}
 use Rattle.agent_ask.specs.declared.ask.Asked.TheVariants as asked
-use Rattle.agent_ask.specs.declared.spec.AskPlan.{AskPlan}
-use Rattle.agent_ask.specs.declared.spec.PromptSpec.{PromptSpec}
 
 -- one prompt for a passphrase that is right by this rule, in the session: its events, and its answer
 pub record PromptsPin (lines : Lines) (spec : PromptSpec) (plan : AskPlan) (Rule : List ℕ → Type 0) (shown : List (EventOf lines)) (answer : Asked) : Type 0 where

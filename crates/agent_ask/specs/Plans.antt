@@ -1,11 +1,8 @@
 -- What the agent's prompts say, and how a passphrase is asked for (GnuPG manual, "Agent GET_PASSPHRASE", "Agent GET_CONFIRMATION"). What is
 -- shown where is this project's own.
 use Rattle.std.specs.Prelude.{◌≡◌, ℕ, Bool, List, [], Some, None, if◌then◌else◌}
-use Rattle.arrayvec.specs.ArrayVec.{ArrayVec}
-use Rattle.agent_ask.specs.declared.spec.AskPlan.{AskPlan}
-use Rattle.agent_ask.specs.declared.spec.PromptSpec.{PromptSpec}
-use Rattle.session_options.specs.OptionValues.{OptionValues, words_of}
-use Rattle.session_options.specs.declared.rules.Rules.{Rules}
+use Rattle.{arrayvec.specs.ArrayVec.ArrayVec, session_options.specs.{OptionValues.{OptionValues, words_of}, declared.rules.Rules.Rules}}
+use Rattle.agent_ask.specs.declared.spec.{AskPlan.AskPlan, PromptSpec.PromptSpec}
 
 -- the bytes as a text
 abbrev pub text : List ℕ → ArrayVec ℕ

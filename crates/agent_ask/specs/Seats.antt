@@ -1,15 +1,8 @@
 -- How a request comes by the ticket of a prompt, and how it asks the cache and changes it. This is the project's own.
 use Rattle.std.specs.Prelude.{◌≡◌, ℕ, List, Option, Some, None, Result, Ok, Err}
-use Rattle.cache_policy.specs.Desks.{AtDesk}
-use Rattle.cache_policy.specs.declared.mark.MarkStep.{MarkStep}
-use Rattle.cache_policy.specs.declared.mark.MarkStep.TheVariants.{Close, Put, Clear, Flush, Stop}
-use Rattle.cache_policy.specs.declared.grant.Grant.{Grant}
-use Rattle.cache_policy.specs.Turns.{Turn, Given, Empty, Open, Done, FitsStep}
-use Rattle.session_client.specs.declared.code.Code.{Code}
-use Rattle.session_client.specs.declared.refusal.Refusal.{Refusal}
-use Rattle.session_client.specs.declared.refusal.Refusal.TheVariants.{Agent}
-use Rattle.agent_ask.specs.Interrupts.{Interrupts}
-use Rattle.agent_ask.specs.Prompters.{AtPrompter, IsShut}
+use Rattle.cache_policy.specs.{Desks.AtDesk, declared.{mark.MarkStep.{MarkStep, TheVariants.{Close, Put, Clear, Flush, Stop}}, grant.Grant.Grant}, Turns.{Turn, Given, Empty, Open, Done, FitsStep}}
+use Rattle.session_client.specs.declared.{code.Code.Code, refusal.Refusal.{Refusal, TheVariants.Agent}}
+use Rattle.agent_ask.specs.{Interrupts.Interrupts, Prompters.{AtPrompter, IsShut}}
 
 -- what a turn that wants the seat gives: a ticket, or why the request is refused
 pub data Gives : Turn → Result ℕ Refusal → Type 0 where

@@ -2,10 +2,7 @@
 -- What a read gives and what an inquiry may come to are parameters, since they are said of the lines that a server reads. This is the
 -- project's own.
 use Rattle.std.specs.Prelude.{◌≡◌, ℕ, List, [], ◌∷◌, ◌++◌, Option, Some, None}
-use Rattle.cache_policy.specs.declared.mark.MarkStep.{MarkStep}
-use Rattle.cache_policy.specs.Extending.{Taken}
-use Rattle.cache_policy.specs.Turns.{Turn}
-use Rattle.session_client.specs.Asking.{AnyInquired}
+use Rattle.{cache_policy.specs.{declared.mark.MarkStep.MarkStep, Extending.Taken, Turns.Turn}, session_client.specs.Asking.AnyInquired}
 
 pub data AnyEvent (T O F : Type 0) : Type 0 where
   -- the next request was read, or this came in its place

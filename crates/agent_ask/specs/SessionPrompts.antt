@@ -1,14 +1,8 @@
 -- Prompts in a session: their events among the session's (GnuPG manual, "Agent GET_PASSPHRASE", "Agent GET_CONFIRMATION"). The form of the
 -- client's note is this project's own.
 use Rattle.std.specs.Prelude.{ℕ, List, [], ◌∷◌, codes, decimal}
-use Rattle.agent_ask.specs.Events.{PromptEvent, Called, Notified, OutOfMemory, Call}
-use Rattle.session_client.specs.Asking.{AnyInquired, said_by, without_data}
-use Rattle.session_client.specs.Lines.{Lines}
-use Rattle.session_client.specs.declared.client.TheConstants.{MAX_NOTE_LEN}
-use Rattle.agent_ask.specs.Callers.{SaysNote}
-use Rattle.agent_ask.specs.Further.{EventOf, Prompt}
-use Rattle.agent_ask.specs.SessionEvents.{AnyEvent, Inquiry, Further}
-use Rattle.agent_ask.specs.declared.caller.Heard.{Heard}
+use Rattle.session_client.specs.{Asking.{AnyInquired, said_by, without_data}, Lines.Lines, declared.client.TheConstants.MAX_NOTE_LEN}
+use Rattle.agent_ask.specs.{Events.{PromptEvent, Called, Notified, OutOfMemory, Call}, Callers.SaysNote, Further.{EventOf, Prompt}, SessionEvents.{AnyEvent, Inquiry, Further}, declared.caller.Heard.Heard}
 
 -- the client is told of a prompt in the process of this number; what it may send back is dropped
 abbrev pub note : {T O F : Type 0} → ℕ → AnyInquired O → AnyEvent T O F

@@ -1,11 +1,8 @@
 -- How a session stands at some state of its code, and how events lead from one state to another. Its connection is of any type of which
 -- this is seen. This is the project's own.
 use Rattle.std.specs.Prelude.{◌≡◌, ◌≤◌, List}
-use Rattle.agent_ports.specs.Leads.{Leads}
-use Rattle.agent_ask.specs.LinkFaults.{fails_at_input, fails_at_output, CountsFailed}
-use Rattle.agent_ask.specs.SessionEvents.{AnyEvent}
-use Rattle.agent_ask.specs.Worlds.{AnyWorld, Outside, Does}
-use Rattle.session_client.specs.Lines.{Lines, Views, unread_at}
+use Rattle.{agent_ports.specs.Leads.Leads, session_client.specs.Lines.{Lines, Views, unread_at}}
+use Rattle.agent_ask.specs.{LinkFaults.{fails_at_input, fails_at_output, CountsFailed}, SessionEvents.AnyEvent, Worlds.{AnyWorld, Outside, Does}}
 
 -- a state in the code: the connection, the desk, and the further ends
 pub record AnyState {lines : Lines} (w : AnyWorld lines) (C : Type 0) : Type 0 where

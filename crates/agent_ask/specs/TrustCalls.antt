@@ -1,8 +1,6 @@
 -- The calls of the trust file, and what each does to it. This is the project's own.
 use Rattle.std.specs.Prelude.{ℕ, List}
-use Rattle.agent_ports.specs.TrustFiles.{TrustState, ReadsTrust, ReplacesTrust}
-use Rattle.agent_ports.specs.declared.trust.TrustDone.{TrustDone}
-use Rattle.agent_ports.specs.declared.trust.TrustRead.{TrustRead}
+use Rattle.agent_ports.specs.{TrustFiles.{TrustState, ReadsTrust, ReplacesTrust}, declared.trust.{TrustDone.TrustDone, TrustRead.TrustRead}}
 
 -- a call of the trust file, with its answer
 pub data TrustCall : Type 0 where

@@ -1,15 +1,8 @@
 -- Parts of a request that are turns at the desk, each of which comes out as its step can. This is the project's own.
 use Rattle.std.specs.Prelude.{ℕ, List, [], ◌∷◌, Option, Some, None, Result, Ok, Err, Bool}
-use Rattle.cache_policy.specs.declared.grant.Grant.{Grant}
-use Rattle.cache_policy.specs.declared.mark.MarkStep.{MarkStep}
-use Rattle.cache_policy.specs.declared.mark.MarkStep.TheVariants.{Close, Peek}
-use Rattle.cache_policy.specs.declared.mode.Mode.{Mode}
-use Rattle.cache_policy.specs.Turns.{Turn, Given, Empty, Open, Done, Held, FitsStep}
-use Rattle.session_client.specs.declared.code.Code.{Code}
-use Rattle.session_client.specs.declared.refusal.Refusal.{Refusal}
-use Rattle.session_client.specs.declared.refusal.Refusal.TheVariants.{Agent}
-use Rattle.agent_ask.specs.Interrupts.{Interrupts}
-use Rattle.agent_ask.specs.SessionEvents.{AnyEvent, cache_turn}
+use Rattle.{cache_policy.specs.{declared.{grant.Grant.Grant, mark.MarkStep.{MarkStep, TheVariants.{Close, Peek}}, mode.Mode.Mode}, Turns.{Turn, Given, Empty, Open, Done, Held, FitsStep}}, session_client.specs.declared.code.Code.Code}
+use Rattle.session_client.specs.declared.refusal.Refusal.{Refusal, TheVariants.Agent}
+use Rattle.agent_ask.specs.{Interrupts.Interrupts, SessionEvents.{AnyEvent, cache_turn}}
 
 module _ {T O F : Type 0} where
   -- a turn that asks the cache: its entry's passphrase, or none; and the ticket of a prompt, where it opens one

@@ -1,12 +1,7 @@
 -- The ends of a session to the outside, and what each event does to them: it leaves the other ends as they are. This is the project's
 -- own.
 use Rattle.std.specs.Prelude.{◌≡◌, ℕ, List, ◌++◌, Option}
-use Rattle.agent_ports.specs.Sides.{with_bytes, WhereKnown}
-use Rattle.cache_policy.specs.declared.mark.MarkStep.{MarkStep}
-use Rattle.cache_policy.specs.Extending.{Taken}
-use Rattle.cache_policy.specs.Turns.{Turn}
-use Rattle.session_client.specs.Asking.{Asked, NotAsked}
-use Rattle.session_client.specs.Lines.{Lines, TakesNeeded}
+use Rattle.{agent_ports.specs.Sides.{with_bytes, WhereKnown}, cache_policy.specs.{declared.mark.MarkStep.MarkStep, Extending.Taken, Turns.Turn}, session_client.specs.{Asking.{Asked, NotAsked}, Lines.{Lines, TakesNeeded}}}
 use Rattle.agent_ask.specs.SessionEvents.{AnyEvent, Received, Sent, Cut, Inquiry, CacheTurn, Further}
 
 -- what a session stands on beside its link: a desk that shows its turns so, and the further ends, with what their events do to them

@@ -3,11 +3,10 @@
 //! `specs/ConsentParts` says what it does, and which answer is which error (`IsConsented`).
 
 ghost use Rattle.std.specs.Prelude.{◌≡◌};
+ghost use Rattle.session_client.specs.Lines.{IsOpen};
 ghost use Rattle.agent_ask.specs.Clients.{Hears, LeftByPart};
 ghost use Rattle.agent_ask.specs.ConsentParts.{AsksQuestion, IsAgreed, IsConsented};
-ghost use Rattle.agent_ask.specs.Doing.{HasEvents, DoesPrompt, ends};
-ghost use Rattle.agent_ask.specs.Prompters.{IsShut};
-ghost use Rattle.session_client.specs.Lines.{IsOpen};
+ghost use Rattle.agent_ask.specs.{Doing.{HasEvents, DoesPrompt, ends}, Prompters.IsShut};
 
 use crate::{Agreed, Prompter, ask_leave, prompt_spec};
 use assuan_text::Text;

@@ -4,10 +4,8 @@
 //! (`specs/Prompts`).
 
 ghost use Rattle.std.specs.Prelude.{◌≡◌, ℕ, List};
-ghost use Rattle.agent_ask.specs.Listening.{ListensAfterPin};
-ghost use Rattle.agent_ask.specs.Doing.{HasEvents, DoesPrompt, ends};
-ghost use Rattle.agent_ask.specs.Prompters.{IsShut};
-ghost use Rattle.agent_ask.specs.Prompts.{AsksPinBy, AsksBefore};
+ghost use Rattle.agent_ask.specs.{Listening.ListensAfterPin, Doing.{HasEvents, DoesPrompt, ends}};
+ghost use Rattle.agent_ask.specs.{Prompters.IsShut, Prompts.{AsksPinBy, AsksBefore}};
 ghost use Rattle.agent_ask.specs.Tests.{WithTests, EndsAccepted, EndsOutOfMemory};
 
 use crate::opening::{Opening, open_prompt};

@@ -5,8 +5,7 @@
 ghost use Rattle.std.specs.Prelude.{◌≡◌};
 ghost use Rattle.agent_ask.specs.Listening.{ListensAfterConsent};
 ghost use Rattle.agent_ask.specs.Consents.{AsksConsent, ConsentBefore, agreed_of};
-ghost use Rattle.agent_ask.specs.Doing.{HasEvents, DoesPrompt, ends};
-ghost use Rattle.agent_ask.specs.Prompters.{IsShut};
+ghost use Rattle.agent_ask.specs.{Doing.{HasEvents, DoesPrompt, ends}, Prompters.IsShut};
 
 use crate::opening::{Opening, open_prompt};
 use crate::{Caller, Consent, Heard, PromptSpec, Prompter};

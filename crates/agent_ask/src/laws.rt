@@ -2,14 +2,10 @@
 //! `a_prompt_has_one_answer`; the definitions are those of `specs/Prompts`, `specs/Consents` and
 //! `specs/Prompters`.
 
-ghost use Rattle.std.specs.Prelude.{◌≡◌, ℕ, Bool, List};
-ghost use Rattle.std.specs.List.{count_by};
-ghost use Rattle.agent_ports.specs.Counts.{RoseBy};
-ghost use Rattle.agent_ports.specs.Leads.{Leads};
-ghost use Rattle.agent_ask.specs.Consents.{AsksConsent};
-ghost use Rattle.agent_ask.specs.Events.{Call, PromptEvent};
-ghost use Rattle.agent_ask.specs.Prompters.{is_failed};
-ghost use Rattle.agent_ask.specs.Prompts.{AsksPin};
+ghost use Rattle.std.specs.{Prelude.{◌≡◌, ℕ, Bool, List}, List.count_by};
+ghost use Rattle.agent_ports.specs.{Counts.RoseBy, Leads.Leads};
+ghost use Rattle.agent_ask.specs.{Consents.AsksConsent, Events.{Call, PromptEvent}};
+ghost use Rattle.agent_ask.specs.{Prompters.is_failed, Prompts.AsksPin};
 
 use crate::{Agreed, AskPlan, Asked, PromptSpec, Prompter, Test};
 

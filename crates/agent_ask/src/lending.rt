@@ -3,15 +3,12 @@
 //! `Client`; `specs/Clients` says what becomes of that (`LeftByPin`, `LeftByConsent`).
 
 ghost use Rattle.std.specs.Prelude.{◌≡◌, ℕ, List, ⊤};
-ghost use Rattle.agent_ask.specs.Callers.{IsUnheardBy};
-ghost use Rattle.agent_ask.specs.Clients.{Hears, LeftByPin, LeftByConsent};
-ghost use Rattle.agent_ask.specs.Consents.{AsksConsent};
-ghost use Rattle.agent_ask.specs.Doing.{HasEvents, DoesPrompt, ends};
-ghost use Rattle.agent_ask.specs.Prompters.{IsShut};
-ghost use Rattle.agent_ask.specs.Prompts.{AsksPinBy};
+ghost use Rattle.session_client.specs.Lines.{IsOpen};
+ghost use Rattle.agent_ask.specs.{Callers.IsUnheardBy, Clients.{Hears, LeftByPin, LeftByConsent}};
+ghost use Rattle.agent_ask.specs.{Consents.AsksConsent, Doing.{HasEvents, DoesPrompt, ends}};
+ghost use Rattle.agent_ask.specs.{Prompters.IsShut, Prompts.AsksPinBy};
 ghost use Rattle.agent_ask.specs.Tests.{EndsAccepted, EndsOutOfMemory};
 ghost use Rattle.agent_ask.specs.declared.caller.Heard.{Heard as Says};
-ghost use Rattle.session_client.specs.Lines.{IsOpen};
 
 use crate::client::LentClient;
 use crate::{Agreed, AskPlan, Asked, PromptSpec, Prompter, Test, Tested, ask_consent, ask_pin};

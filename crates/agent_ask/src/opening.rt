@@ -4,9 +4,7 @@
 
 ghost use Rattle.std.specs.Prelude.{◌≡◌, true};
 ghost use Rattle.agent_ask.specs.Doing.{HasEvents, DoesPrompt, ends};
-ghost use Rattle.agent_ask.specs.Listening.{ListensAfterOpening};
-ghost use Rattle.agent_ask.specs.Prompters.{IsShut};
-ghost use Rattle.agent_ask.specs.Prompts.{Opens};
+ghost use Rattle.agent_ask.specs.{Listening.ListensAfterOpening, Prompters.IsShut, Prompts.Opens};
 
 use crate::{Caller, Heard, Opened, PromptSpec, Prompter};
 use prompt_seat::Ticket;

@@ -5,9 +5,7 @@
 ghost use Rattle.std.specs.Prelude.{◌≡◌, ◌≤◌, ◌↔◌, true, None, IsTrue, length};
 ghost use Rattle.agent_ask.specs.Doing.{HasEvents, DoesCall};
 ghost use Rattle.agent_ask.specs.Prompts.{MeetsCheck, IsTry, Repeats, Tries, failure_words};
-ghost use Rattle.agent_ask.specs.Prompts.{try_text, pin_or_stop};
-ghost use Rattle.agent_ask.specs.Tests.{WithTests};
-ghost use Rattle.agent_ask.specs.Trying.{GoesOn};
+ghost use Rattle.agent_ask.specs.{Prompts.{try_text, pin_or_stop}, Tests.WithTests, Trying.GoesOn};
 
 use crate::{AskPlan, Asked, Outcome, Prompter, Test, Tested};
 use assuan_text::Text;

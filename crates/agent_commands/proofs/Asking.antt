@@ -1,11 +1,8 @@
 -- Commands that ask nobody.
 use Rattle.std.proofs.Common.{◌≡◌, ℕ, Bool, List, Option, refl}
-use Rattle.arrayvec.specs.ArrayVec.{ArrayVec}
-use Rattle.cache_policy.specs.declared.life.Life.{Life}
-use Rattle.agent_commands.specs.Steps.{AsksNobody}
-use Rattle.agent_commands.specs.declared.request.CacheCommand.{CacheCommand}
-use Rattle.agent_commands.specs.declared.request.CacheCommand.TheVariants.{Nop, Reset, Bye, Help, SetOption, GetInfo, GetPassphrase, PresetPassphrase, ClearPassphrase, GetConfirmation, ReloadAgent, KillAgent, SetKeyDesc}
-use Rattle.agent_commands.specs.declared.request.Texts.{Texts}
+use Rattle.{arrayvec.specs.ArrayVec.ArrayVec, cache_policy.specs.declared.life.Life.Life}
+use Rattle.agent_commands.specs.{Steps.AsksNobody, declared.request.CacheCommand.CacheCommand}
+use Rattle.agent_commands.specs.declared.request.{CacheCommand.TheVariants.{Nop, Reset, Bye, Help, SetOption, GetInfo, GetPassphrase, PresetPassphrase, ClearPassphrase, GetConfirmation, ReloadAgent, KillAgent, SetKeyDesc}, Texts.Texts}
 
 -- a command that is none of those that ask somebody
 pub asks_nobody : (command : CacheCommand)

@@ -1,37 +1,15 @@
 -- Parts of a request on the cache, one after another, and requests whose parts are done.
 use Rattle.std.proofs.Common.{◌≡◌, ◌≢◌, ℕ, Bool, true, false, List, [], Option, Some, None, Result, Ok, Err, refl}
-use Rattle.agent_ask.specs.Doing.{DoesCall}
-use Rattle.agent_ask.specs.Events.{Call, PromptEvent}
-use Rattle.agent_ask.specs.Further.{FurtherEvent, Prompt}
-use Rattle.agent_ask.specs.PartReplies.{reply_by, comes_to, stops_at}
-use Rattle.agent_ask.specs.Parts.{◌>>=◌, Returns, returns, refuses, goes_on}
-use Rattle.agent_ask.specs.PartStates.{PartState, part_state, gone_in, DoesPart, NoTurn, NoEnd, DoesTurn, DoesTurns}
-use Rattle.agent_ask.specs.Seats.{TakesTicket, ChangesCache}
-use Rattle.agent_ask.specs.TurnParts.{Seats}
-use Rattle.agent_ask.proofs.PartsDone.{part_then, part_stops, part_turned, part_still, part_turns, part_in, ticket_taken, cache_changed}
-use Rattle.agent_ask.proofs.Replying.{carries_in}
-use Rattle.assuan_server.specs.Clients.{connection_views}
-use Rattle.assuan_server.specs.Connections.{Connection, IsOpen}
-use Rattle.cache_policy.specs.declared.mark.MarkStep.{MarkStep}
-use Rattle.cache_policy.specs.Turns.{Turn}
-use Rattle.session_client.specs.declared.refusal.Refusal.{Refusal}
-use Rattle.session_options.specs.OptionValues.{OptionValues}
-use Rattle.session_options.specs.declared.options.OptionAnswer.{OptionAnswer}
-use Rattle.session_options.specs.declared.options.OptionAnswer.TheVariants.{Set, Unknown, Parameter, NotSupported}
-use Rattle.session_options.specs.declared.options.PinMode.{PinMode}
-use Rattle.session_options.specs.declared.options.PinMode.TheVariants.{Ask, Cancel, Error, Loopback}
+use Rattle.agent_ask.specs.{Doing.DoesCall, Events.{Call, PromptEvent}, Further.{FurtherEvent, Prompt}, PartReplies.{reply_by, comes_to, stops_at}, Parts.{◌>>=◌, Returns, returns, refuses, goes_on}}
+use Rattle.agent_ask.specs.{PartStates.{PartState, part_state, gone_in, DoesPart, NoTurn, NoEnd, DoesTurn, DoesTurns}, Seats.{TakesTicket, ChangesCache}, TurnParts.Seats}
+use Rattle.{agent_ask.proofs.{PartsDone.{part_then, part_stops, part_turned, part_still, part_turns, part_in, ticket_taken, cache_changed}, Replying.carries_in}, assuan_server.specs.Clients.connection_views}
+use Rattle.{assuan_server.specs.{Connections.{Connection, IsOpen}, Written.ok}, cache_policy.specs.{declared.mark.MarkStep.MarkStep, Turns.Turn}, session_client.specs.declared.refusal.Refusal.Refusal}
+use Rattle.session_options.specs.{OptionValues.OptionValues, declared.options.{OptionAnswer.{OptionAnswer, TheVariants.{Set, Unknown, Parameter, NotSupported}}, PinMode.{PinMode, TheVariants.{Ask, Cancel, Error, Loopback}}}}
 use Rattle.session_options.specs.declared.rules.Rules.{Rules}
-use Rattle.agent_commands.specs.Exchanges.{CacheReply, reply, tells, option_replies, InfoReplies, ChangeReplies, GetReplies, is_quiet}
-use Rattle.assuan_server.specs.Written.{ok}
-use Rattle.agent_commands.specs.Outside.{DoesPrompts, prompts}
-use Rattle.agent_commands.specs.Parts.{CachePart}
-use Rattle.agent_commands.specs.Passphrases.{ByCache, WithoutPrompt, as_wanted, passphrase_by}
-use Rattle.agent_commands.specs.Requests.{GetFields}
-use Rattle.agent_commands.specs.Steps.{IsText, went_of, CarriesOut, DoesAtDesk, DoesAtPrompter, option_reply, info_response, TellsCached, cached, refused}
-use Rattle.agent_commands.specs.declared.request.Info.{Info}
+use Rattle.agent_commands.specs.{Exchanges.{CacheReply, reply, tells, option_replies, InfoReplies, ChangeReplies, GetReplies, is_quiet}, Outside.{DoesPrompts, prompts}, Parts.CachePart}
+use Rattle.agent_commands.specs.{Passphrases.{ByCache, WithoutPrompt, as_wanted, passphrase_by}, Requests.GetFields, Steps.{IsText, went_of, CarriesOut, DoesAtDesk, DoesAtPrompter, option_reply, info_response, TellsCached, cached, refused}}
+use Rattle.agent_commands.specs.declared.{request.{Info.Info, Texts.Texts}, response.Response.Response}
 use Rattle.agent_commands.specs.declared.request.Info.TheVariants as info
-use Rattle.agent_commands.specs.declared.request.Texts.{Texts}
-use Rattle.agent_commands.specs.declared.response.Response.{Response}
 use Rattle.agent_commands.specs.declared.response.Response.TheVariants as response
 
 -- ---- with a prompter beside

@@ -1,15 +1,8 @@
 -- The comments of HELP, one command after another.
-use Rattle.std.proofs.Common.{◌≡◌, ◌<◌, ◌+◌, ℕ, List, [], ◌∷◌, ◌++◌, length, map, take, drop, get_or, Ok, Err, ap, sym, ◌∙◌, subst, append-nil}
+use Rattle.std.proofs.{Common.{◌≡◌, ◌<◌, ◌+◌, ℕ, List, [], ◌∷◌, ◌++◌, length, map, take, drop, get_or, Ok, Err, ap, sym, ◌∙◌, subst, append-nil}, lemmas.{Grind.flat_map-append, List.{map-append, take_more, take-append-drop}}}
 use Rattle.std.specs.Borrow.{Bor}
-use Rattle.std.proofs.lemmas.Grind.{flat_map-append}
-use Rattle.std.proofs.lemmas.List.{map-append, take_more, take-append-drop}
-use Rattle.assuan_server.specs.Connections.{Connection}
-use Rattle.assuan_text.specs.LineEnds.{line_of}
-use Rattle.assuan_server.specs.Written.{comment_text}
+use Rattle.{assuan_server.{specs.{Connections.Connection, Written.{comment_text, WritesText}}, proofs.Saying.{said_then, said_first}}, assuan_text.specs.LineEnds.line_of, agent_ports.specs.declared.link.WriteFault.WriteFault}
 use Rattle.agent_commands.specs.Answers.{comments}
-use Rattle.assuan_server.specs.Written.{WritesText}
-use Rattle.agent_ports.specs.declared.link.WriteFault.{WriteFault}
-use Rattle.assuan_server.proofs.Saying.{said_then, said_first}
 
 module _ {A : Type 0} where
   -- the comments of these rows

@@ -1,25 +1,12 @@
 -- Requests that ask the cache alone, by what is read of their lines.
-use Rattle.std.proofs.Common.{◌≡◌, ℕ, Bool, true, false, List, [], ◌∷◌, Option, None, Some, Result, Ok, Err, refl, sym, ap, ◌∙◌, subst}
-use Rattle.std.specs.Option.{option_and_then, option_map}
-use Rattle.std.specs.Prelude.{codes, if◌then◌else◌}
-use Rattle.session_client.specs.declared.code.Code.{Code}
-use Rattle.session_client.specs.declared.code.Code.TheVariants.{UnknownCommand}
-use Rattle.assuan_text.specs.Options.{options_of, arguments_of, last_value}
-use Rattle.assuan_text.specs.Words.{command_of, rest_of, words}
-use Rattle.agent_commands.specs.Exchanges.{quiet_of, quiet_fields, is_quiet}
-use Rattle.agent_commands.specs.Fields.{cache_id, life, cleared_mode, given_passphrase}
+use Rattle.std.{proofs.Common.{◌≡◌, ℕ, Bool, true, false, List, [], ◌∷◌, Option, None, Some, Result, Ok, Err, refl, sym, ap, ◌∙◌, subst}, specs.{Option.{option_and_then, option_map}, Prelude.{codes, if◌then◌else◌}}}
+use Rattle.{session_client.specs.{declared.code.Code.{Code, TheVariants.UnknownCommand}, Fields.{◌>>=◌, in_form}}, assuan_text.specs.{Options.{options_of, arguments_of, last_value}, Words.{command_of, rest_of, words}}}
 use Rattle.agent_ask.specs.Plans.{text}
-use Rattle.agent_commands.specs.Names.{command_named, is_key_command}
-use Rattle.agent_commands.specs.Requests.{GetFields, get_passphrase, ReadsGet, BeginsRequest, preset_of, clear_of, confirmation_of, description_of, info_of, either, request_by, request_of}
-use Rattle.session_client.specs.Fields.{◌>>=◌, in_form}
-use Rattle.agent_commands.specs.declared.names.CommandName.{CommandName}
+use Rattle.agent_commands.specs.{Exchanges.{quiet_of, quiet_fields, is_quiet}, Fields.{cache_id, life, cleared_mode, given_passphrase}, Names.{command_named, is_key_command}}
+use Rattle.agent_commands.specs.{Requests.{GetFields, get_passphrase, ReadsGet, BeginsRequest, preset_of, clear_of, confirmation_of, description_of, info_of, either, request_by, request_of}, declared.names.CommandName.CommandName}
+use Rattle.agent_commands.specs.declared.request.CacheCommand.{CacheCommand, TheVariants.{Nop, Reset, Bye, Help, SetOption, GetInfo, GetPassphrase, PresetPassphrase, ClearPassphrase, GetConfirmation, ReloadAgent, KillAgent, SetKeyDesc}}
+use Rattle.agent_commands.specs.declared.request.{QuietRequest.QuietRequest, Request.{Request, TheVariants.{Cache, Key, Bad}}, Texts.Texts}
 use Rattle.agent_commands.specs.declared.names.CommandName.TheVariants as name
-use Rattle.agent_commands.specs.declared.request.CacheCommand.{CacheCommand}
-use Rattle.agent_commands.specs.declared.request.CacheCommand.TheVariants.{Nop, Reset, Bye, Help, SetOption, GetInfo, GetPassphrase, PresetPassphrase, ClearPassphrase, GetConfirmation, ReloadAgent, KillAgent, SetKeyDesc}
-use Rattle.agent_commands.specs.declared.request.QuietRequest.{QuietRequest}
-use Rattle.agent_commands.specs.declared.request.Request.{Request}
-use Rattle.agent_commands.specs.declared.request.Request.TheVariants.{Cache, Key, Bad}
-use Rattle.agent_commands.specs.declared.request.Texts.{Texts}
 
 -- no other command is quiet, whatever is read of it
 never : {A : Type 0} (first : Result A Code) (next : A → Result CacheCommand Code) → ((value : A) → quiet_of (either (next value)) ≡ None) → quiet_of (either (first >>= next)) ≡ None

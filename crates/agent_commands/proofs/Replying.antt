@@ -1,27 +1,12 @@
 -- Requests that were carried out, and whose replies were written, as a session on the cache shows them.
 use Rattle.std.proofs.Common.{◌≡◌, ℕ, Option, Some, None, Result, refl}
-use Rattle.agent_ask.specs.Further.{FurtherEvent, world_with}
-use Rattle.agent_ask.specs.PartExchanges.{AnyExchange}
-use Rattle.agent_ask.specs.PartStates.{part_state}
-use Rattle.agent_ask.specs.Seats.{GivesTicket}
-use Rattle.agent_ask.proofs.Replying as replying
-use Rattle.assuan_server.specs.Clients.{connection_views}
-use Rattle.assuan_server.specs.Connections.{Connection}
-use Rattle.assuan_server.specs.Written.{refusal_line}
-use Rattle.cache_policy.specs.declared.mark.MarkStep.{MarkStep}
-use Rattle.cache_policy.specs.Turns.{Turn}
-use Rattle.session_client.specs.declared.refusal.Refusal.{Refusal}
-use Rattle.session_client.specs.declared.unheard.Gone.{Gone}
-use Rattle.session_client.specs.declared.unheard.Gone.TheVariants as gone
-use Rattle.session_options.specs.OptionValues.{OptionValues}
-use Rattle.agent_commands.specs.Endings.{went_after, gone_after}
-use Rattle.agent_commands.specs.Exchanges.{CacheReply}
-use Rattle.agent_commands.specs.Parts.{CachePart}
-use Rattle.agent_commands.specs.States.{SessionState, AnswersRequest}
-use Rattle.agent_commands.specs.Steps.{IsText, went_of, CarriesOut, RespondsTo}
-use Rattle.agent_commands.specs.declared.response.Response.{Response}
-use Rattle.agent_commands.specs.declared.response.Response.TheVariants as response
+use Rattle.{agent_ask.specs.{Further.{FurtherEvent, world_with}, PartExchanges.AnyExchange, PartStates.part_state, Seats.GivesTicket}, assuan_server.specs.{Clients.connection_views, Connections.Connection, Written.refusal_line}}
+use Rattle.{cache_policy.specs.{declared.mark.MarkStep.MarkStep, Turns.Turn}, session_client.specs.declared.{refusal.Refusal.Refusal, unheard.Gone.Gone}, session_options.specs.OptionValues.OptionValues}
+use Rattle.agent_commands.specs.{Endings.{went_after, gone_after}, Exchanges.CacheReply, Parts.CachePart, States.{SessionState, AnswersRequest}, Steps.{IsText, went_of, CarriesOut, RespondsTo}, declared.response.Response.Response}
 use Rattle.agent_commands.specs.declared.went.Went.{Went}
+use Rattle.agent_ask.proofs.Replying as replying
+use Rattle.session_client.specs.declared.unheard.Gone.TheVariants as gone
+use Rattle.agent_commands.specs.declared.response.Response.TheVariants as response
 
 pub gone_as_it_went : (how : Option Gone) → gone_after (went_after how) ≡ how
 gone_as_it_went None = refl

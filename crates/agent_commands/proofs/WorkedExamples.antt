@@ -1,17 +1,9 @@
 -- The definition on worked examples, each by computation.
 use Rattle.std.specs.Prelude.{◌≡◌, ℕ, List, [], ◌∷◌, ◌++◌, replicate, codes, true, false, Some, None, Ok, refl}
-use Rattle.percent_encoding.proofs.OnLiterals.{percent_encoding_on_literals}
-use Rattle.hex.proofs.OnLiterals.{hex_on_literals}
-use Rattle.cache_policy.specs.declared.life.Life.TheVariants.{Default, Endless, Seconds}
-use Rattle.cache_policy.specs.declared.mode.Mode.TheVariants.{User, Normal, Ssh}
-use Rattle.agent_commands.specs.Names.{command_named, is_key_command, info_named, is_listed}
-use Rattle.agent_commands.specs.Fields.{passphrase}
-use Rattle.agent_ask.specs.Plans.{text}
-use Rattle.agent_commands.specs.Requests.{GetFields, request_of, get_passphrase}
-use Rattle.session_client.specs.declared.code.Code.TheVariants.{NotSupported, UnknownCommand, Parameter}
-use Rattle.agent_commands.specs.declared.request.Info.TheVariants.{Version, Listed}
-use Rattle.agent_commands.specs.declared.request.CacheCommand.TheVariants.{Nop, Bye, SetOption, GetInfo, PresetPassphrase, ClearPassphrase, GetConfirmation, KillAgent}
-use Rattle.agent_commands.specs.declared.request.Request.TheVariants.{Cache, Key, Bad}
+use Rattle.{percent_encoding.proofs.OnLiterals.percent_encoding_on_literals, hex.proofs.OnLiterals.hex_on_literals, cache_policy.specs.declared.{life.Life.TheVariants.{Default, Endless, Seconds}, mode.Mode.TheVariants.{User, Normal, Ssh}}}
+use Rattle.{agent_ask.specs.Plans.text, session_client.specs.declared.code.Code.TheVariants.{NotSupported, UnknownCommand, Parameter}}
+use Rattle.agent_commands.specs.{Names.{command_named, is_key_command, info_named, is_listed}, Fields.passphrase, Requests.{GetFields, request_of, get_passphrase}, declared.request.Info.TheVariants.{Version, Listed}}
+use Rattle.agent_commands.specs.declared.request.{CacheCommand.TheVariants.{Nop, Bye, SetOption, GetInfo, PresetPassphrase, ClearPassphrase, GetConfirmation, KillAgent}, Request.TheVariants.{Cache, Key, Bad}}
 
 -- GET_PASSPHRASE with no option and no texts
 abbrev of_id : List ℕ → GetFields

@@ -1,45 +1,19 @@
 -- A row of each request on the cache or on the session that prompts nobody: what is done and written for it, and how the session goes on.
-use Rattle.std.specs.Prelude.{◌≡◌, ◌++◌, ℕ, List, [], ◌∷◌, codes, true, false, Some, None, refl}
-use Rattle.std.proofs.Common.{arith}
-use Rattle.std.specs.Fmt.{digits}
-use Rattle.std.proofs.lemmas.List.Elements.{All-cons, All-nil}
-use Rattle.agent_ask.specs.ClientParts.{written, given, not_given}
-use Rattle.agent_ask.specs.Interrupts.{stopping}
-use Rattle.agent_ask.specs.PartExchanges.{answered, refused}
-use Rattle.agent_ask.specs.Parts.{returns, refuses, goes_on, stops}
-use Rattle.agent_ask.specs.Plans.{text}
-use Rattle.agent_ask.specs.SessionEvents.{Sent, Inquiry, cache_turn}
-use Rattle.agent_ask.specs.TurnParts.{empty, done, interrupted, unheld}
+use Rattle.std.{specs.{Prelude.{◌≡◌, ◌++◌, ℕ, List, [], ◌∷◌, codes, true, false, Some, None, refl}, Fmt.digits}, proofs.{Common.arith, lemmas.List.Elements.{All-cons, All-nil}}}
+use Rattle.agent_ask.specs.{ClientParts.{written, given, not_given}, Interrupts.stopping, PartExchanges.{answered, refused}, Parts.{returns, refuses, goes_on, stops}, Plans.text, SessionEvents.{Sent, Inquiry, cache_turn}}
+use Rattle.{agent_ask.specs.TurnParts.{empty, done, interrupted, unheld}, assuan_escape.specs.DataLines.IsPiece, assuan_server.specs.{Inquiries.{Outcome, Data, Cancelled, Unexpected, Ended}, Written.{failed, limit_line, ok, IsDataAnswer}}}
+use Rattle.cache_policy.specs.declared.{grant.Grant.Grant, life.Life.TheVariants.{Default, Endless}, mark.MarkStep.TheVariants.{Put, Clear, Flush, Stop}, mode.Mode.TheVariants.{Any, User}, secret.TheConstants.MAX_SECRET_LEN}
+use Rattle.{cache_policy.specs.Turns.{Given, Empty, Done, Stopping}, session_client.specs.{Asking.Asked, declared.refusal.Refusal.TheVariants.{Agent, Client}}}
+use Rattle.session_options.specs.{OptionValues.{OptionValues, applied, at_start, with_description}, Table.{named, mode_of}, declared.rules.Rules.Rules}
+use Rattle.agent_commands.specs.{Answers.{closing, help}, Exchanges.{last_reply, reply, tells, TellsInfo, CacheExchange}, Parts.CacheEvent, Passphrases.ask, Requests.{GetFields, get_passphrase}}
+use Rattle.agent_commands.specs.declared.request.{CacheCommand.TheVariants.{Nop, Reset, Bye, Help, SetOption, SetKeyDesc, GetInfo, PresetPassphrase, ClearPassphrase, ReloadAgent, KillAgent}, Info.TheVariants.Version}
+use Rattle.agent_commands.specs.declared.{request.{Request.TheVariants.{Cache, Bad}, Texts.Texts}, went.Went.TheVariants.{On, End}}
 use Rattle.agent_ask.specs.TurnParts as turn
-use Rattle.assuan_escape.specs.DataLines.{IsPiece}
-use Rattle.assuan_server.specs.Inquiries.{Outcome, Data, Cancelled, Unexpected, Ended}
-use Rattle.assuan_server.specs.Written.{failed, limit_line, ok, IsDataAnswer}
-use Rattle.cache_policy.specs.declared.grant.Grant.{Grant}
-use Rattle.cache_policy.specs.declared.life.Life.TheVariants.{Default, Endless}
-use Rattle.cache_policy.specs.declared.mark.MarkStep.TheVariants.{Put, Clear, Flush, Stop}
-use Rattle.cache_policy.specs.declared.mode.Mode.TheVariants.{Any, User}
-use Rattle.cache_policy.specs.declared.secret.TheConstants.{MAX_SECRET_LEN}
-use Rattle.cache_policy.specs.Turns.{Given, Empty, Done, Stopping}
-use Rattle.session_client.specs.Asking.{Asked}
 use Rattle.session_client.specs.declared.code.Code.TheVariants as code
-use Rattle.session_client.specs.declared.refusal.Refusal.TheVariants.{Agent, Client}
 use Rattle.session_client.specs.declared.unheard.Gone.TheVariants as gone
 use Rattle.session_client.specs.declared.unheard.Unheard.TheVariants as unheard
-use Rattle.session_options.specs.OptionValues.{OptionValues, applied, at_start, with_description}
-use Rattle.session_options.specs.Table.{named, mode_of}
 use Rattle.session_options.specs.declared.options.PinMode.TheVariants as mode
-use Rattle.session_options.specs.declared.rules.Rules.{Rules}
-use Rattle.agent_commands.specs.Answers.{closing, help}
-use Rattle.agent_commands.specs.Exchanges.{last_reply, reply, tells, TellsInfo, CacheExchange}
-use Rattle.agent_commands.specs.Parts.{CacheEvent}
-use Rattle.agent_commands.specs.Passphrases.{ask}
-use Rattle.agent_commands.specs.Requests.{GetFields, get_passphrase}
-use Rattle.agent_commands.specs.declared.request.CacheCommand.TheVariants.{Nop, Reset, Bye, Help, SetOption, SetKeyDesc, GetInfo, PresetPassphrase, ClearPassphrase, ReloadAgent, KillAgent}
-use Rattle.agent_commands.specs.declared.request.Info.TheVariants.{Version}
-use Rattle.agent_commands.specs.declared.request.Request.TheVariants.{Cache, Bad}
-use Rattle.agent_commands.specs.declared.request.Texts.{Texts}
 use Rattle.agent_commands.specs.declared.went.SessionEnd.TheVariants as ends
-use Rattle.agent_commands.specs.declared.went.Went.TheVariants.{On, End}
 
 -- some lines, as they are written
 abbrev written_lines : List (List ℕ) → List ℕ

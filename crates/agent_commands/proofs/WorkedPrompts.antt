@@ -1,53 +1,25 @@
 -- A row of each request on the cache that prompts the user: what is done and written for it, in order.
-use Rattle.std.specs.Prelude.{⊤, ◌≡◌, ◌++◌, ℕ, List, [], ◌∷◌, codes, true, false, Some, None, refl}
-use Rattle.std.proofs.Common.{arith, ap, length}
-use Rattle.std.specs.Fmt.{digits}
-use Rattle.std.proofs.lemmas.List.Elements.{All-cons, All-nil}
-use Rattle.arrayvec.specs.ArrayVec.{ArrayVec}
+use Rattle.std.{specs.{Prelude.{⊤, ◌≡◌, ◌++◌, ℕ, List, [], ◌∷◌, codes, true, false, Some, None, refl}, Fmt.digits}, proofs.{Common.{arith, ap, length}, lemmas.List.Elements.{All-cons, All-nil}}}
+use Rattle.{arrayvec.specs.ArrayVec.ArrayVec, agent_ask.specs.{Events.{Call, Start, GetPin, Confirm, Shut, Called, Notified}, Further.Prompt, PartExchanges.{answered, refused}, Parts.{returns, goes_on, stops}}}
+use Rattle.agent_ask.specs.{Plans.{IsSpec, plan_of, text}, Prompts.{MeetsCheck, typed, repeat_text, Opens, Tries, IsTry, Repeats}, SessionEvents.{Sent, Further, cache_turn}, SessionPrompts.{AnyInSession, note}, Tests.test_of}
+use Rattle.agent_ask.{specs.{TurnParts.{opened, unheld, closed}, declared.{spec.{AskPlan.AskPlan, PromptSpec.PromptSpec}, test.Tested.TheVariants.Yes}}, proofs.WorkedPrompts.{called_by, shown_by, prompts, first_try, second_try, third_try}}
+use Rattle.{assuan_escape.specs.DataLines.IsPiece, assuan_server.specs.{Clients.session_lines, Written.{failed, failed_at_pinentry, ok, IsDataAnswer}}, cache_policy.specs.declared.mark.MarkStep.TheVariants.{Seat, Close}}
+use Rattle.{cache_policy.specs.Turns.{Open, Done}, session_client.specs.{Asking.Asked, declared.refusal.Refusal.TheVariants.{Agent, Pinentry, Client}}, session_options.specs.{OptionValues.OptionValues, declared.rules.Rules.Rules}}
+use Rattle.agent_commands.specs.{Exchanges.{reply, tells, CacheExchange}, Parts.CacheEvent, Passphrases.ask_or_open, Requests.{GetFields, get_passphrase}, declared.request.CacheCommand.TheVariants.GetConfirmation}
+use Rattle.agent_commands.specs.declared.{request.{Request.TheVariants.Cache, Texts.Texts}, went.Went.TheVariants.On}
 use Rattle.agent_ask.specs.ConsentParts as consent
 use Rattle.agent_ask.specs.Consents as consents
-use Rattle.agent_ask.specs.Events.{Call, Start, GetPin, Confirm, Shut, Called, Notified}
-use Rattle.agent_ask.specs.Further.{Prompt}
-use Rattle.agent_ask.specs.PartExchanges.{answered, refused}
-use Rattle.agent_ask.specs.Parts.{returns, goes_on, stops}
-use Rattle.agent_ask.specs.Plans.{IsSpec, plan_of, text}
-use Rattle.agent_ask.specs.Prompts.{MeetsCheck, typed, repeat_text, Opens, Tries, IsTry, Repeats}
-use Rattle.agent_ask.specs.SessionEvents.{Sent, Further, cache_turn}
-use Rattle.agent_ask.specs.SessionPrompts.{AnyInSession, note}
-use Rattle.agent_ask.specs.Tests.{test_of}
-use Rattle.agent_ask.specs.TurnParts.{opened, unheld, closed}
 use Rattle.agent_ask.specs.declared.ask.Asked.TheVariants as asked
 use Rattle.agent_ask.specs.declared.caller.Heard.TheVariants as heard
 use Rattle.agent_ask.specs.declared.consent.Agreed.TheVariants as agreed
 use Rattle.agent_ask.specs.declared.prompter.Consent.TheVariants as consented
 use Rattle.agent_ask.specs.declared.prompter.Opened.TheVariants as opening
 use Rattle.agent_ask.specs.declared.prompter.Outcome.TheVariants as outcome
-use Rattle.agent_ask.specs.declared.spec.AskPlan.{AskPlan}
-use Rattle.agent_ask.specs.declared.spec.PromptSpec.{PromptSpec}
-use Rattle.agent_ask.proofs.WorkedPrompts.{called_by, shown_by, prompts, first_try, second_try, third_try}
-use Rattle.agent_ask.specs.declared.test.Tested.TheVariants.{Yes}
-use Rattle.assuan_escape.specs.DataLines.{IsPiece}
-use Rattle.assuan_server.specs.Clients.{session_lines}
 use Rattle.assuan_server.specs.Inquiries as answers
-use Rattle.assuan_server.specs.Written.{failed, failed_at_pinentry, ok, IsDataAnswer}
-use Rattle.cache_policy.specs.declared.mark.MarkStep.TheVariants.{Seat, Close}
-use Rattle.cache_policy.specs.Turns.{Open, Done}
-use Rattle.session_client.specs.Asking.{Asked}
 use Rattle.session_client.specs.declared.code.Code.TheVariants as code
-use Rattle.session_client.specs.declared.refusal.Refusal.TheVariants.{Agent, Pinentry, Client}
 use Rattle.session_client.specs.declared.unheard.Unheard.TheVariants as unheard
-use Rattle.session_options.specs.OptionValues.{OptionValues}
 use Rattle.session_options.specs.declared.options.PinMode.TheVariants as mode
-use Rattle.session_options.specs.declared.rules.Rules.{Rules}
-use Rattle.agent_commands.specs.Exchanges.{reply, tells, CacheExchange}
-use Rattle.agent_commands.specs.Parts.{CacheEvent}
-use Rattle.agent_commands.specs.Passphrases.{ask_or_open}
 use Rattle.agent_commands.specs.Passphrases as passphrases
-use Rattle.agent_commands.specs.Requests.{GetFields, get_passphrase}
-use Rattle.agent_commands.specs.declared.request.CacheCommand.TheVariants.{GetConfirmation}
-use Rattle.agent_commands.specs.declared.request.Request.TheVariants.{Cache}
-use Rattle.agent_commands.specs.declared.request.Texts.{Texts}
-use Rattle.agent_commands.specs.declared.went.Went.TheVariants.{On}
 
 -- some lines, as they are written
 abbrev written_lines : List (List ℕ) → List ℕ

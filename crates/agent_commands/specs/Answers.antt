@@ -1,13 +1,7 @@
 -- What requests are answered, as the GnuPG manual has it ("Agent's Assuan protocol"). The codes are this project's own.
-use Rattle.std.specs.Prelude.{◌≡◌, ℕ, Bool, true, false, List, [], ◌++◌, codes, decimal}
-use Rattle.std.specs.List.{flat_map}
-use Rattle.assuan_escape.specs.Escapes.{hex_text}
-use Rattle.assuan_server.specs.Written.{ok, ok_text, comment_text, IsDataAnswer}
-use Rattle.assuan_text.specs.LineEnds.{line_of}
-use Rattle.session_options.specs.declared.rules.Rules.{Rules}
-use Rattle.agent_commands.specs.Names.{command_names}
-use Rattle.agent_commands.specs.declared.request.Info.{Info}
-use Rattle.agent_commands.specs.declared.request.Info.TheVariants.{Version, Pid, S2kCount, Listed}
+use Rattle.std.specs.{Prelude.{◌≡◌, ℕ, Bool, true, false, List, [], ◌++◌, codes, decimal}, List.flat_map}
+use Rattle.{assuan_escape.specs.Escapes.hex_text, assuan_server.specs.Written.{ok, ok_text, comment_text, IsDataAnswer}, assuan_text.specs.LineEnds.line_of, session_options.specs.declared.rules.Rules.Rules}
+use Rattle.agent_commands.specs.{Names.command_names, declared.request.Info.{Info, TheVariants.{Version, Pid, S2kCount, Listed}}}
 
 abbrev pub closing : List ℕ
 closing = line_of (ok_text (codes "closing connection"))

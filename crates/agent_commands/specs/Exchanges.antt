@@ -1,44 +1,16 @@
 -- Requests and what is done for them, as the GnuPG manual has them ("Agent's Assuan protocol"). The codes, the texts and the order of
 -- what is done are this project's own. A row of each stands in proofs/WorkedExchanges, or where it prompts in proofs/WorkedPrompts.
-use Rattle.std.specs.Prelude.{ℕ, Bool, true, List, [], Option, Some, None, Result, Ok, if◌then◌else◌}
-use Rattle.std.specs.Option.{option_and_then}
-use Rattle.arrayvec.specs.ArrayVec.{ArrayVec}
-use Rattle.agent_ask.specs.ConsentParts.{AgreesTo}
-use Rattle.agent_ask.specs.Parts.{◌>>=◌, Returns, Refuses, wanted, or_else}
-use Rattle.agent_ask.specs.TurnParts.{Seats, Changes}
-use Rattle.agent_ask.specs.PartExchanges.{AnyReply, AnyExchange}
-use Rattle.assuan_server.specs.Clients.{session_lines}
-use Rattle.assuan_server.specs.Written.{refusal_line}
-use Rattle.cache_policy.specs.declared.life.Life.{Life}
-use Rattle.cache_policy.specs.declared.mark.MarkStep.{MarkStep}
-use Rattle.cache_policy.specs.declared.mark.MarkStep.TheVariants.{Seat, Put, Clear, Flush, Stop}
-use Rattle.cache_policy.specs.declared.mode.Mode.TheVariants.{Any}
+use Rattle.std.specs.{Prelude.{ℕ, Bool, true, List, [], Option, Some, None, Result, Ok, if◌then◌else◌}, Option.option_and_then}
+use Rattle.{arrayvec.specs.ArrayVec.ArrayVec, agent_ask.specs.{ConsentParts.AgreesTo, Parts.{◌>>=◌, Returns, Refuses, wanted, or_else}, TurnParts.{Seats, Changes}, PartExchanges.{AnyReply, AnyExchange}}}
+use Rattle.{assuan_server.specs.{Clients.session_lines, Written.{refusal_line, ok}}, cache_policy.specs.declared.{life.Life.Life, mark.MarkStep.{MarkStep, TheVariants.{Seat, Put, Clear, Flush, Stop}}, mode.Mode.TheVariants.Any}}
+use Rattle.{session_client.specs.declared.refusal.Refusal.{Refusal, TheVariants.Agent}, session_options.specs.{OptionValues.{OptionValues, at_start, applied, with_description}, declared.options.OptionAnswer.OptionAnswer}}
+use Rattle.session_options.specs.declared.{options.{OptionAnswer.TheVariants.{Set, Unknown, Parameter, NotSupported}, PinMode.PinMode}, rules.Rules.Rules}
+use Rattle.agent_commands.specs.{Answers.{closing, help, IsInfo, IsPassphrase}, Endings.went_after, Parts.{CacheEvent, AsksPassphrase, CachePart}, Passphrases.Passphrase, Requests.{GetFields, get_fields, request_of}}
+use Rattle.agent_commands.specs.declared.request.CacheCommand.{CacheCommand, TheVariants.{Nop, Reset, Bye, Help, SetOption, GetInfo, GetPassphrase, PresetPassphrase, ClearPassphrase, GetConfirmation, ReloadAgent, KillAgent, SetKeyDesc}}
+use Rattle.agent_commands.specs.declared.{request.{Info.Info, QuietRequest.QuietRequest, Request.{Request, TheVariants.{Cache, Key, Bad}}, Texts.Texts}, went.{SessionEnd.SessionEnd, Went.{Went, TheVariants.{On, End}}}}
 use Rattle.session_client.specs.declared.code.Code.TheVariants as code
-use Rattle.session_client.specs.declared.refusal.Refusal.{Refusal}
-use Rattle.session_client.specs.declared.refusal.Refusal.TheVariants.{Agent}
-use Rattle.session_options.specs.OptionValues.{OptionValues, at_start, applied, with_description}
-use Rattle.session_options.specs.declared.options.OptionAnswer.{OptionAnswer}
-use Rattle.session_options.specs.declared.options.OptionAnswer.TheVariants.{Set, Unknown, Parameter, NotSupported}
-use Rattle.session_options.specs.declared.options.PinMode.{PinMode}
 use Rattle.session_options.specs.declared.options.PinMode.TheVariants as mode
-use Rattle.session_options.specs.declared.rules.Rules.{Rules}
-use Rattle.agent_commands.specs.Answers.{closing, help, IsInfo, IsPassphrase}
-use Rattle.assuan_server.specs.Written.{ok}
-use Rattle.agent_commands.specs.Endings.{went_after}
-use Rattle.agent_commands.specs.Parts.{CacheEvent, AsksPassphrase, CachePart}
-use Rattle.agent_commands.specs.Passphrases.{Passphrase}
-use Rattle.agent_commands.specs.Requests.{GetFields, get_fields, request_of}
-use Rattle.agent_commands.specs.declared.request.CacheCommand.{CacheCommand}
-use Rattle.agent_commands.specs.declared.request.CacheCommand.TheVariants.{Nop, Reset, Bye, Help, SetOption, GetInfo, GetPassphrase, PresetPassphrase, ClearPassphrase, GetConfirmation, ReloadAgent, KillAgent, SetKeyDesc}
-use Rattle.agent_commands.specs.declared.request.Info.{Info}
-use Rattle.agent_commands.specs.declared.request.QuietRequest.{QuietRequest}
-use Rattle.agent_commands.specs.declared.request.Request.{Request}
-use Rattle.agent_commands.specs.declared.request.Request.TheVariants.{Cache, Key, Bad}
-use Rattle.agent_commands.specs.declared.request.Texts.{Texts}
-use Rattle.agent_commands.specs.declared.went.SessionEnd.{SessionEnd}
 use Rattle.agent_commands.specs.declared.went.SessionEnd.TheVariants as ends
-use Rattle.agent_commands.specs.declared.went.Went.{Went}
-use Rattle.agent_commands.specs.declared.went.Went.TheVariants.{On, End}
 
 -- what a request is answered where it isn't refused, the option values after it, and how the session goes on
 abbrev pub CacheReply : Type 0

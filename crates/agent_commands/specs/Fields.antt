@@ -1,23 +1,10 @@
 -- The arguments of requests (GnuPG manual, "Agent GET_PASSPHRASE", "Agent PRESET_PASSPHRASE", "Agent CLEAR_PASSPHRASE"). Their
 -- bounds, the names of modes, and the texts that `X` stands for, are this project's own.
-use Rattle.std.specs.Prelude.{ℕ, ◌==◌, ◌&&◌, nat_le, Bool, true, List, [], ◌∷◌, length, drop, codes, Option, Some, None, Result, Ok, Err, if◌then◌else◌}
-use Rattle.std.specs.Option.{option_and_then}
-use Rattle.std.specs.Str.{bytes_eq}
-use Rattle.arrayvec.specs.ArrayVec.{ArrayVec}
-use Rattle.hex.specs.Hex.{decode_of}
-use Rattle.hex.specs.declared.error.FromHexError.{FromHexError}
-use Rattle.assuan_escape.specs.Escapes.{unescaped}
-use Rattle.cache_policy.specs.declared.id.TheConstants.{MAX_ID_LEN}
-use Rattle.cache_policy.specs.declared.life.TheConstants.{MAX_SECONDS}
-use Rattle.cache_policy.specs.declared.secret.TheConstants.{MAX_SECRET_LEN}
-use Rattle.cache_policy.specs.declared.life.Life.{Life}
-use Rattle.cache_policy.specs.declared.life.Life.TheVariants.{Default, Endless, Seconds}
-use Rattle.cache_policy.specs.declared.mode.Mode.{Mode}
-use Rattle.cache_policy.specs.declared.mode.Mode.TheVariants.{Normal, User, Ssh}
-use Rattle.agent_ask.specs.Plans.{text}
-use Rattle.assuan_text.specs.Numbers.{number_of}
-use Rattle.agent_commands.specs.declared.fields.TheConstants.{MAX_REPEAT}
-use Rattle.agent_commands.specs.declared.request.Texts.{Texts}
+use Rattle.std.specs.{Prelude.{ℕ, ◌==◌, ◌&&◌, nat_le, Bool, true, List, [], ◌∷◌, length, drop, codes, Option, Some, None, Result, Ok, Err, if◌then◌else◌}, Option.option_and_then, Str.bytes_eq}
+use Rattle.{arrayvec.specs.ArrayVec.ArrayVec, hex.specs.{Hex.decode_of, declared.error.FromHexError.FromHexError}, assuan_escape.specs.Escapes.unescaped, cache_policy.specs.declared.id.TheConstants.MAX_ID_LEN}
+use Rattle.cache_policy.specs.declared.{life.{TheConstants.MAX_SECONDS, Life.{Life, TheVariants.{Default, Endless, Seconds}}}, secret.TheConstants.MAX_SECRET_LEN, mode.Mode.{Mode, TheVariants.{Normal, User, Ssh}}}
+use Rattle.{agent_ask.specs.Plans.text, assuan_text.specs.Numbers.number_of}
+use Rattle.agent_commands.specs.declared.{fields.TheConstants.MAX_REPEAT, request.Texts.Texts}
 
 -- the word that stands for none
 abbrev pub is_placeholder : List ℕ → Bool

@@ -1,12 +1,9 @@
 -- The names that requests have (GnuPG manual, "Agent's Assuan protocol"; the commands of any Assuan server are those of the
 -- Assuan manual, "client requests").
-use Rattle.std.specs.Prelude.{ℕ, Bool, List, [], ◌∷◌, ◌++◌, codes, map, Option}
-use Rattle.std.specs.Option.{is_some, option_or}
+use Rattle.std.specs.{Prelude.{ℕ, Bool, List, [], ◌∷◌, ◌++◌, codes, map, Option}, Option.{is_some, option_or}}
 use Rattle.assuan_text.specs.Rows.{found, found_in_any_case, has_pair}
-use Rattle.agent_commands.specs.declared.names.CommandName.{CommandName}
-use Rattle.agent_commands.specs.declared.names.CommandName.TheVariants.{Nop, Reset, Bye, Help, SetOption, GetInfo, GetPassphrase, PresetPassphrase, ClearPassphrase, GetConfirmation, ReloadAgent, KillAgent, SetKeyDesc}
-use Rattle.agent_commands.specs.declared.request.Info.{Info}
-use Rattle.agent_commands.specs.declared.request.Info.TheVariants.{Version, Pid, S2kCount}
+use Rattle.agent_commands.specs.declared.names.CommandName.{CommandName, TheVariants.{Nop, Reset, Bye, Help, SetOption, GetInfo, GetPassphrase, PresetPassphrase, ClearPassphrase, GetConfirmation, ReloadAgent, KillAgent, SetKeyDesc}}
+use Rattle.agent_commands.specs.declared.request.Info.{Info, TheVariants.{Version, Pid, S2kCount}}
 
 abbrev pub commands : List (List ℕ × CommandName)
 commands =

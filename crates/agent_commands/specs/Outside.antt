@@ -1,10 +1,5 @@
 -- What a session of this project stands on: the lines that its server reads, a desk, and further ends.
-use Rattle.agent_ask.specs.Doing.{DoesCall}
-use Rattle.agent_ask.specs.Events.{Call, PromptEvent}
-use Rattle.agent_ask.specs.Further.{FurtherEvent, Prompt, world_with}
-use Rattle.agent_ask.specs.Worlds.{AnyWorld}
-use Rattle.assuan_server.specs.Clients.{session_lines}
-use Rattle.cache_policy.specs.declared.mark.MarkStep.{MarkStep}
+use Rattle.{agent_ask.specs.{Doing.DoesCall, Events.{Call, PromptEvent}, Further.{FurtherEvent, Prompt, world_with}, Worlds.AnyWorld}, assuan_server.specs.Clients.session_lines, cache_policy.specs.declared.mark.MarkStep.MarkStep}
 use Rattle.cache_policy.specs.Turns.{Turn}
 
 abbrev pub World : Type 1

@@ -1,11 +1,6 @@
 -- The parts of a request on the cache, over the lines that this project's server reads.
 use Rattle.std.specs.Prelude.{ℕ, List, codes}
-use Rattle.agent_ask.specs.ClientParts.{AsksClient, Writes}
-use Rattle.agent_ask.specs.Further.{EventOf}
-use Rattle.agent_ask.specs.Parts.{PartOf}
-use Rattle.assuan_server.specs.Clients.{session_lines}
-use Rattle.assuan_server.specs.Written.{limit_line}
-use Rattle.cache_policy.specs.declared.secret.TheConstants.{MAX_SECRET_LEN}
+use Rattle.{agent_ask.specs.{ClientParts.{AsksClient, Writes}, Further.EventOf, Parts.PartOf}, assuan_server.specs.{Clients.session_lines, Written.limit_line}, cache_policy.specs.declared.secret.TheConstants.MAX_SECRET_LEN}
 
 abbrev pub CacheEvent : Type 0
 CacheEvent = EventOf session_lines

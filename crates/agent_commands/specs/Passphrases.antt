@@ -1,28 +1,12 @@
 -- How GET_PASSPHRASE comes by a passphrase (GnuPG manual, "Agent GET_PASSPHRASE"). The codes, the texts and the order of what is done are this project's own.
 use Rattle.std.specs.Prelude.{◌≡◌, ◌≢◌, ℕ, Bool, true, false, List, Option, Some, None, Result, Ok, Err, ⊤}
-use Rattle.agent_ask.specs.Parts.{◌>>=◌, Returns, Refuses, needed, or_else}
-use Rattle.agent_ask.specs.Plans.{IsSpec, plan_of}
-use Rattle.agent_ask.specs.TurnParts.{Asks, Seats, Changes, Closes}
-use Rattle.agent_ask.specs.declared.ask.Asked.{Asked}
+use Rattle.agent_ask.specs.{Parts.{◌>>=◌, Returns, Refuses, needed, or_else}, Plans.{IsSpec, plan_of}, TurnParts.{Asks, Seats, Changes, Closes}, declared.{ask.Asked.Asked, spec.PromptSpec.PromptSpec}, PinParts.{PromptsPin, pin_refusal}}
+use Rattle.{assuan_server.specs.Clients.session_lines, cache_policy.specs.declared.{life.Life.TheVariants.Default, mark.{MarkStep.{MarkStep, TheVariants.{Ask, Seat, Put}}, Way.TheVariants.{Quiet, Prompt}}, mode.Mode.TheVariants.User}}
+use Rattle.{session_client.specs.declared.refusal.Refusal.{Refusal, TheVariants.Agent}, session_options.specs.{OptionValues.OptionValues, declared.{options.PinMode.PinMode, rules.Rules.Rules}}}
+use Rattle.agent_commands.specs.{Parts.{CacheEvent, AsksPassphrase, CachePart}, Requests.GetFields, declared.request.Texts.Texts}
 use Rattle.agent_ask.specs.declared.ask.Asked.TheVariants as asked
-use Rattle.agent_ask.specs.declared.spec.PromptSpec.{PromptSpec}
-use Rattle.agent_ask.specs.PinParts.{PromptsPin, pin_refusal}
-use Rattle.assuan_server.specs.Clients.{session_lines}
-use Rattle.agent_commands.specs.Parts.{CacheEvent, AsksPassphrase, CachePart}
-use Rattle.cache_policy.specs.declared.life.Life.TheVariants.{Default}
-use Rattle.cache_policy.specs.declared.mark.MarkStep.{MarkStep}
-use Rattle.cache_policy.specs.declared.mark.MarkStep.TheVariants.{Ask, Seat, Put}
-use Rattle.cache_policy.specs.declared.mark.Way.TheVariants.{Quiet, Prompt}
-use Rattle.cache_policy.specs.declared.mode.Mode.TheVariants.{User}
 use Rattle.session_client.specs.declared.code.Code.TheVariants as code
-use Rattle.session_client.specs.declared.refusal.Refusal.{Refusal}
-use Rattle.session_client.specs.declared.refusal.Refusal.TheVariants.{Agent}
-use Rattle.session_options.specs.OptionValues.{OptionValues}
-use Rattle.session_options.specs.declared.options.PinMode.{PinMode}
 use Rattle.session_options.specs.declared.options.PinMode.TheVariants as mode
-use Rattle.session_options.specs.declared.rules.Rules.{Rules}
-use Rattle.agent_commands.specs.Requests.{GetFields}
-use Rattle.agent_commands.specs.declared.request.Texts.{Texts}
 
 -- the question of the cache, and one that opens a prompt where nothing is cached
 abbrev pub ask : List ℕ → MarkStep

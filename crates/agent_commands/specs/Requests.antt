@@ -1,27 +1,13 @@
 -- What a line asks for, or the fault for which it is refused (GnuPG manual, "Agent's Assuan protocol"). Which fault a refusal has is
 -- this project's own.
-use Rattle.std.specs.Prelude.{◌≡◌, ◌≤◌, ℕ, Bool, true, List, [], ◌∷◌, length, codes, Option, Some, None, Result, Ok, Err, if◌then◌else◌}
-use Rattle.std.specs.Option.{option_map}
-use Rattle.std.specs.Str.{bytes_eq}
-use Rattle.assuan_text.specs.declared.TheConstants.{MAX_LINE_LEN}
-use Rattle.assuan_text.specs.Options.{options_of, arguments_of, has_option, last_option, last_value}
-use Rattle.assuan_text.specs.Words.{command_of, rest_of, words}
-use Rattle.assuan_escape.specs.Escapes.{unescaped}
-use Rattle.agent_commands.specs.Names.{command_named, is_key_command, info_named, is_listed}
-use Rattle.agent_commands.specs.Fields.{cache_id, unless_placeholder, text_or, texts, repeats, life, cleared_mode, given_passphrase}
-use Rattle.agent_ask.specs.Plans.{text}
-use Rattle.session_client.specs.Fields.{◌>>=◌, in_form}
-use Rattle.session_client.specs.declared.code.Code.{Code}
-use Rattle.session_client.specs.declared.code.Code.TheVariants.{NotSupported, UnknownCommand, Parameter}
-use Rattle.agent_commands.specs.declared.names.CommandName.{CommandName}
-use Rattle.agent_commands.specs.declared.names.CommandName.TheVariants as name
-use Rattle.agent_commands.specs.declared.request.Texts.{Texts}
-use Rattle.agent_commands.specs.declared.request.Info.{Info}
-use Rattle.agent_commands.specs.declared.request.Info.TheVariants.{Listed}
-use Rattle.agent_commands.specs.declared.request.CacheCommand.{CacheCommand}
-use Rattle.agent_commands.specs.declared.request.CacheCommand.TheVariants.{Nop, Reset, Bye, Help, SetOption, GetInfo, GetPassphrase, PresetPassphrase, ClearPassphrase, GetConfirmation, ReloadAgent, KillAgent, SetKeyDesc}
-use Rattle.agent_commands.specs.declared.request.Request.{Request}
+use Rattle.std.specs.{Prelude.{◌≡◌, ◌≤◌, ℕ, Bool, true, List, [], ◌∷◌, length, codes, Option, Some, None, Result, Ok, Err, if◌then◌else◌}, Option.option_map, Str.bytes_eq}
+use Rattle.{assuan_text.specs.{declared.TheConstants.MAX_LINE_LEN, Options.{options_of, arguments_of, has_option, last_option, last_value}, Words.{command_of, rest_of, words}}, assuan_escape.specs.Escapes.unescaped}
+use Rattle.{agent_ask.specs.Plans.text, session_client.specs.{Fields.{◌>>=◌, in_form}, declared.code.Code.{Code, TheVariants.{NotSupported, UnknownCommand, Parameter}}}}
+use Rattle.agent_commands.specs.{Names.{command_named, is_key_command, info_named, is_listed}, Fields.{cache_id, unless_placeholder, text_or, texts, repeats, life, cleared_mode, given_passphrase}, declared.names.CommandName.CommandName}
+use Rattle.agent_commands.specs.declared.request.{Texts.Texts, Info.{Info, TheVariants.Listed}, CacheCommand.CacheCommand}
+use Rattle.agent_commands.specs.declared.request.{CacheCommand.TheVariants.{Nop, Reset, Bye, Help, SetOption, GetInfo, GetPassphrase, PresetPassphrase, ClearPassphrase, GetConfirmation, ReloadAgent, KillAgent, SetKeyDesc}, Request.Request}
 use Rattle.agent_commands.specs.declared.request.Request.TheVariants.{Cache, Key, Bad}
+use Rattle.agent_commands.specs.declared.names.CommandName.TheVariants as name
 
 -- cmd_has_option COMMAND OPTION; further words are passed over
 abbrev pub listed_info : List (List ℕ) → Result Info Code

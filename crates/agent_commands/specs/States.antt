@@ -1,16 +1,7 @@
 -- How a session stands at some state of its code, and how events lead from one state to another.
 use Rattle.std.specs.Prelude.{List}
-use Rattle.agent_ask.specs.Answering.{AnswersBy}
-use Rattle.agent_ask.specs.Events.{Call}
-use Rattle.agent_ask.specs.States.{AnyState, AnyLead}
-use Rattle.assuan_server.specs.Connections.{Connection}
-use Rattle.assuan_server.specs.Clients.{connection_views}
-use Rattle.cache_policy.specs.declared.mark.MarkStep.{MarkStep}
-use Rattle.cache_policy.specs.Turns.{Turn}
-use Rattle.agent_commands.specs.Endings.{went_after, gone_after}
-use Rattle.agent_commands.specs.Events.{EventWith}
-use Rattle.agent_commands.specs.Outside.{World, world, prompt_world}
-use Rattle.agent_commands.specs.declared.went.Went.{Went}
+use Rattle.{agent_ask.specs.{Answering.AnswersBy, Events.Call, States.{AnyState, AnyLead}}, assuan_server.specs.{Connections.Connection, Clients.connection_views}, cache_policy.specs.{declared.mark.MarkStep.MarkStep, Turns.Turn}}
+use Rattle.agent_commands.specs.{Endings.{went_after, gone_after}, Events.EventWith, Outside.{World, world, prompt_world}, declared.went.Went.Went}
 
 -- a state in the code: its connection, its desk, and the further ends
 abbrev pub SessionState : World → Type 0

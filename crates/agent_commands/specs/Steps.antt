@@ -1,38 +1,15 @@
 -- Private: what the steps of a request know, and what is written for it, once all else is done.
 use Rattle.std.specs.Prelude.{◌≡◌, ℕ, Bool, List, decimal, Option, None, Result, Ok as Whole, Err as Part}
-use Rattle.agent_ask.specs.Events.{Call}
-use Rattle.agent_ask.specs.Further.{FurtherEvent}
-use Rattle.agent_ask.specs.Parts.{Refuses}
-use Rattle.agent_ask.specs.PartReplies.{RespondsBy, CarriesBy}
-use Rattle.agent_ask.specs.PartStates.{PartState, part_state, DoesPart, NoTurn, NoEnd, DoesTurns}
-use Rattle.assuan_server.specs.Clients.{connection_views}
-use Rattle.assuan_server.specs.Connections.{Connection}
-use Rattle.assuan_server.specs.Written.{refusal_line}
-use Rattle.cache_policy.specs.declared.mark.MarkStep.{MarkStep}
-use Rattle.cache_policy.specs.Turns.{Turn}
-use Rattle.session_client.specs.declared.code.Code.TheVariants as code
-use Rattle.session_client.specs.declared.refusal.Refusal.{Refusal}
-use Rattle.session_client.specs.declared.refusal.Refusal.TheVariants.{Agent}
-use Rattle.session_options.specs.OptionValues.{OptionValues}
-use Rattle.session_options.specs.declared.options.OptionAnswer.{OptionAnswer}
-use Rattle.session_options.specs.declared.options.OptionAnswer.TheVariants.{Set, Unknown, Parameter, NotSupported}
+use Rattle.{agent_ask.specs.{Events.Call, Further.FurtherEvent, Parts.Refuses, PartReplies.{RespondsBy, CarriesBy}, PartStates.{PartState, part_state, DoesPart, NoTurn, NoEnd, DoesTurns}}, assuan_server.specs.Clients.connection_views}
+use Rattle.{assuan_server.specs.{Connections.Connection, Written.{refusal_line, ok, IsDataAnswer}}, cache_policy.specs.{declared.mark.MarkStep.MarkStep, Turns.Turn}, session_client.specs.declared.refusal.Refusal.Refusal}
+use Rattle.{session_client.specs.declared.refusal.Refusal.TheVariants.Agent, session_options.specs.{OptionValues.OptionValues, declared.options.OptionAnswer.{OptionAnswer, TheVariants.{Set, Unknown, Parameter, NotSupported}}}}
 use Rattle.session_options.specs.declared.rules.Rules.{Rules}
-use Rattle.agent_commands.specs.Answers.{closing, help, version_text, IsPassphrase}
-use Rattle.assuan_server.specs.Written.{ok, IsDataAnswer}
-use Rattle.agent_commands.specs.Endings.{went_after}
-use Rattle.agent_commands.specs.Exchanges.{CacheReply}
-use Rattle.agent_commands.specs.Outside.{DoesPrompts}
-use Rattle.agent_commands.specs.Parts.{CachePart}
-use Rattle.agent_commands.specs.Passphrases.{Passphrase as ThePassphrase, ByCache}
-use Rattle.agent_commands.specs.declared.request.Info.{Info}
+use Rattle.agent_commands.specs.{Answers.{closing, help, version_text, IsPassphrase}, Endings.went_after, Exchanges.CacheReply, Outside.DoesPrompts, Parts.CachePart, Passphrases.{Passphrase as ThePassphrase, ByCache}}
+use Rattle.agent_commands.specs.declared.{request.{Info.Info, CacheCommand.{CacheCommand, TheVariants.{GetPassphrase, PresetPassphrase, GetConfirmation}}}, response.Response.Response}
+use Rattle.agent_commands.specs.declared.{response.Response.TheVariants.{Ok, Bye, Killed, Help, Version, Number, Passphrase}, went.Went.{Went, TheVariants.{On, End}}}
+use Rattle.session_client.specs.declared.code.Code.TheVariants as code
 use Rattle.agent_commands.specs.declared.request.Info.TheVariants as info
-use Rattle.agent_commands.specs.declared.request.CacheCommand.{CacheCommand}
-use Rattle.agent_commands.specs.declared.request.CacheCommand.TheVariants.{GetPassphrase, PresetPassphrase, GetConfirmation}
-use Rattle.agent_commands.specs.declared.response.Response.{Response}
-use Rattle.agent_commands.specs.declared.response.Response.TheVariants.{Ok, Bye, Killed, Help, Version, Number, Passphrase}
 use Rattle.agent_commands.specs.declared.went.SessionEnd.TheVariants as ends
-use Rattle.agent_commands.specs.declared.went.Went.{Went}
-use Rattle.agent_commands.specs.declared.went.Went.TheVariants.{On, End}
 
 -- the lines of a response, and how the session goes on after it
 abbrev pub IsText : Response → List ℕ → Type 0

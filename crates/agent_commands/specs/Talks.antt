@@ -1,19 +1,10 @@
 -- A session's talk over any kind of events, any relation of exchanges, and any state between them: the Assuan manual's ("client
 -- requests", "server responses"). How it ends is this project's own.
 use Rattle.std.specs.Prelude.{ℕ, List, [], ◌∷◌, ◌++◌}
-use Rattle.assuan_line.specs.declared.reader.Took.TheVariants as took
-use Rattle.assuan_server.specs.Written.{greeting}
-use Rattle.session_client.specs.declared.code.Code.TheVariants.{LineTooLong}
-use Rattle.assuan_text.specs.LineEnds.{line_of}
-use Rattle.assuan_server.specs.Written.{failed}
-use Rattle.agent_ask.specs.Answering.{WholeOrCut}
+use Rattle.{assuan_server.specs.Written.{greeting, failed}, session_client.specs.declared.code.Code.TheVariants.LineTooLong, assuan_text.specs.LineEnds.line_of, agent_ask.specs.Answering.WholeOrCut}
 use Rattle.agent_ask.specs.SessionEvents.{Received, Sent, CutAtLast}
-use Rattle.agent_commands.specs.Endings.{went_after}
-use Rattle.agent_commands.specs.Events.{EventWith}
-use Rattle.agent_commands.specs.declared.went.SessionEnd.{SessionEnd}
-use Rattle.agent_commands.specs.declared.went.SessionEnd.TheVariants.{Ended, TooLong, Spent, ReadFault, WriteFault}
-use Rattle.agent_commands.specs.declared.went.Went.{Went}
-use Rattle.agent_commands.specs.declared.went.Went.TheVariants.{On, End}
+use Rattle.agent_commands.specs.{Endings.went_after, Events.EventWith, declared.went.{SessionEnd.{SessionEnd, TheVariants.{Ended, TooLong, Spent, ReadFault, WriteFault}}, Went.{Went, TheVariants.{On, End}}}}
+use Rattle.assuan_line.specs.declared.reader.Took.TheVariants as took
 
 module _ {S F : Type 0} (exchange : S → List ℕ → List (EventWith F) → S → Went → Type 0) where
   -- from some request on: what was kept before it, what the session does, and how it ends

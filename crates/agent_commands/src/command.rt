@@ -4,22 +4,19 @@
 //! `CacheExchange` (`specs/Exchanges`).
 
 ghost use Rattle.std.specs.Prelude.{◌≡◌, ℕ, List, None, Some};
-ghost use Rattle.agent_ask.specs.Prompters.{IsShut};
-ghost use Rattle.agent_ask.specs.PartStates.{DoesWithClient, NoEnd, part_state};
-ghost use Rattle.agent_ask.specs.Seats.{ChangesCache};
-ghost use Rattle.assuan_server.specs.Clients.{connection_views};
+ghost use Rattle.agent_ask.specs.{Prompters.IsShut, PartStates.{DoesWithClient, NoEnd, part_state}};
+ghost use Rattle.{agent_ask.specs.Seats.ChangesCache, assuan_server.specs.Clients.connection_views};
 ghost use Rattle.assuan_server.specs.Connections.{Connection, IsOpen};
 ghost use Rattle.cache_policy.specs.declared.mark.MarkStep.TheVariants.{Clear};
 ghost use Rattle.session_options.specs.OptionValues.{OptionValues};
 ghost use Rattle.session_options.specs.declared.rules.Rules.{Rules as TheRules};
-ghost use Rattle.agent_commands.specs.Exchanges.{LineExchange, quiet_of};
-ghost use Rattle.agent_commands.specs.Exchanges.{CacheExchange, CacheReplies};
-ghost use Rattle.agent_commands.specs.Exchanges.{GivenOrAsked, Presets};
+ghost use Rattle.agent_commands.specs.Exchanges.{LineExchange, quiet_of, CacheExchange};
+ghost use Rattle.agent_commands.specs.Exchanges.{CacheReplies, GivenOrAsked, Presets};
 ghost use Rattle.agent_commands.specs.Outside.{DoesPrompts, prompt_world, world};
 ghost use Rattle.agent_commands.specs.Requests.{request_of};
 ghost use Rattle.agent_commands.specs.States.{session_state, prompt_state, AnswersRequest};
-ghost use Rattle.agent_commands.specs.Steps.{AsksNobody, CarriesOut, DoesAtDesk};
-ghost use Rattle.agent_commands.specs.Steps.{TellsCached, info_response, option_reply};
+ghost use Rattle.agent_commands.specs.Steps.{AsksNobody, CarriesOut, DoesAtDesk, TellsCached};
+ghost use Rattle.agent_commands.specs.Steps.{info_response, option_reply};
 ghost use Rattle.agent_commands.specs.declared.request.Request.TheVariants as request;
 
 use crate::confirmation::confirm;

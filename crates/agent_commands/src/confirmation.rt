@@ -3,15 +3,11 @@
 //! client. Begin with `confirm`; its events are `confirms_by` (`specs/Exchanges`).
 
 ghost use Rattle.std.specs.Prelude.{◌≡◌, None, Some};
-ghost use Rattle.agent_ask.specs.ConsentParts.{AgreesTo};
-ghost use Rattle.agent_ask.specs.Prompters.{IsShut};
-ghost use Rattle.agent_ask.specs.PartStates.{DoesPart};
+ghost use Rattle.agent_ask.specs.{ConsentParts.AgreesTo, Prompters.IsShut, PartStates.DoesPart};
 ghost use Rattle.assuan_server.specs.Clients.{connection_views, session_lines};
 ghost use Rattle.assuan_server.specs.Connections.{IsOpen};
-ghost use Rattle.agent_commands.specs.Exchanges.{confirms_by};
-ghost use Rattle.agent_commands.specs.Outside.{DoesPrompts};
-ghost use Rattle.agent_commands.specs.States.{prompt_state};
-ghost use Rattle.agent_commands.specs.Steps.{DoesAtPrompter};
+ghost use Rattle.agent_commands.specs.{Exchanges.confirms_by, Outside.DoesPrompts};
+ghost use Rattle.agent_commands.specs.{States.prompt_state, Steps.DoesAtPrompter};
 
 use agent_ask::{Held, Prompter, agree, hold_seat};
 use agent_ports::Link;

@@ -5,8 +5,7 @@
 
 ghost use Rattle.std.specs.Prelude.{◌≡◌, ◌≤◌, ◌++◌, length, codes, [], true, MatchOption, Some};
 ghost use Rattle.std.specs.Option.{option_and_then, option_map};
-ghost use Rattle.hex.specs.Hex.{decode_of};
-ghost use Rattle.assuan_text.specs.Words.{words};
+ghost use Rattle.{hex.specs.Hex.decode_of, assuan_text.specs.Words.words};
 ghost use Rattle.assuan_text.specs.Options.{options_of, last_option, last_value};
 ghost use Rattle.assuan_text.specs.declared.TheConstants.{MAX_LINE_LEN};
 ghost use Rattle.agent_commands.specs.Fields.{cache_id, is_cache_id, unless_placeholder, text_or};
@@ -72,8 +71,7 @@ pub(crate) struct TextWords<'a> {
 impl<'a> Model for TextWords<'a> {
     ghost use Rattle.std.specs.Prelude.{◌≤◌, length};
     ghost use Rattle.assuan_text.specs.declared.TheConstants.{MAX_LINE_LEN};
-    ghost use Rattle.agent_commands.specs.Fields.{texts_by};
-    ghost use Rattle.agent_commands.specs.declared.request.Texts.{Texts};
+    ghost use Rattle.agent_commands.specs.{Fields.texts_by, declared.request.Texts.Texts};
 
     ghost Value = { Texts };
 

@@ -2,14 +2,11 @@
 //! the texts, which are long. Pure. Begin with `GetLine::of`; `get_of` (`specs/Requests`) says what
 //! is in form, and `quiet` when the cache alone is asked.
 
-ghost use Rattle.std.specs.Prelude.{◌≡◌, ◌≤◌, length};
-ghost use Rattle.std.specs.Option.{option_map};
+ghost use Rattle.std.specs.{Prelude.{◌≡◌, ◌≤◌, length}, Option.option_map};
 ghost use Rattle.assuan_text.specs.declared.TheConstants.{MAX_LINE_LEN};
-ghost use Rattle.assuan_text.specs.Options.{options_of, arguments_of};
-ghost use Rattle.assuan_text.specs.Words.{words};
-ghost use Rattle.agent_commands.specs.Exchanges.{quiet_fields};
-ghost use Rattle.agent_commands.specs.Requests.{get_of, get_passphrase};
+ghost use Rattle.assuan_text.specs.{Options.{options_of, arguments_of}, Words.words};
 ghost use Rattle.session_client.specs.Fields.{in_form};
+ghost use Rattle.agent_commands.specs.{Exchanges.quiet_fields, Requests.{get_of, get_passphrase}};
 
 use crate::fields::{TextWords, is_cache_id, repeats, unless_placeholder};
 use crate::{CacheCommand, QuietRequest};
@@ -29,8 +26,7 @@ pub(crate) struct GetLine<'a> {
 
 impl<'a> Model for GetLine<'a> {
     ghost use Rattle.std.specs.Prelude.{◌≡◌, codes, true};
-    ghost use Rattle.assuan_text.specs.Options.{options_of, has_option};
-    ghost use Rattle.assuan_text.specs.Words.{words};
+    ghost use Rattle.assuan_text.specs.{Options.{options_of, has_option}, Words.words};
     ghost use Rattle.agent_commands.specs.Fields.{is_cache_id, unless_placeholder};
     ghost use Rattle.agent_commands.specs.Requests.{GetFields};
 

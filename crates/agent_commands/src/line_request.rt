@@ -3,8 +3,7 @@
 //! `request_of` the line (`specs/Requests`), and `quiet` finds the request of the cache alone.
 
 ghost use Rattle.std.specs.Prelude.{◌≡◌};
-ghost use Rattle.agent_commands.specs.Exchanges.{quiet_of};
-ghost use Rattle.agent_commands.specs.Requests.{request_of};
+ghost use Rattle.agent_commands.specs.{Exchanges.quiet_of, Requests.request_of};
 
 use crate::get_line::GetLine;
 use crate::names::{CommandName, command_named};

@@ -4,18 +4,14 @@
 //! each of the ways, as `ByUser` and `ByCache`.
 
 ghost use Rattle.std.specs.Prelude.{◌≡◌, ◌≢◌, None, Ok, is_some, true};
-ghost use Rattle.agent_ask.specs.Prompters.{IsShut};
-ghost use Rattle.agent_ask.specs.PartStates.{DoesPart, DoesTurn, DoesTurns};
-ghost use Rattle.assuan_server.specs.Clients.{connection_views};
-ghost use Rattle.assuan_server.specs.Connections.{IsOpen};
-ghost use Rattle.session_options.specs.declared.options.PinMode.TheVariants as pin_mode;
+ghost use Rattle.agent_ask.specs.{Prompters.IsShut, PartStates.{DoesPart, DoesTurn, DoesTurns}};
+ghost use Rattle.assuan_server.specs.{Clients.connection_views, Connections.IsOpen};
 ghost use Rattle.agent_commands.specs.Outside.{DoesPrompts};
 ghost use Rattle.agent_commands.specs.Passphrases.{ByCache, ByClient, ByUser, KeepsUnder, LooksFor};
 ghost use Rattle.agent_commands.specs.Passphrases.{PromptsAny, Uncached, WantsPrompt};
-ghost use Rattle.agent_commands.specs.Passphrases.{WithoutPrompt};
-ghost use Rattle.agent_commands.specs.States.{prompt_state};
-ghost use Rattle.agent_commands.specs.Steps.{DoesAtDesk, DoesAtPrompter, IsGet};
-ghost use Rattle.agent_commands.specs.Steps.{PassphraseOf};
+ghost use Rattle.agent_commands.specs.{Passphrases.WithoutPrompt, States.prompt_state};
+ghost use Rattle.agent_commands.specs.Steps.{DoesAtDesk, DoesAtPrompter, IsGet, PassphraseOf};
+ghost use Rattle.session_options.specs.declared.options.PinMode.TheVariants as pin_mode;
 
 use crate::found::Found;
 use crate::inquiry::ask_client;

@@ -4,8 +4,7 @@
 
 ghost use Rattle.std.specs.Prelude.{◌≡◌, ◌≤◌, length, if◌then◌else◌, Some};
 ghost use Rattle.assuan_text.specs.declared.TheConstants.{MAX_LINE_LEN};
-ghost use Rattle.assuan_text.specs.Options.{options_of, arguments_of};
-ghost use Rattle.assuan_text.specs.Words.{words};
+ghost use Rattle.assuan_text.specs.{Options.{options_of, arguments_of}, Words.words};
 ghost use Rattle.agent_ask.specs.Plans.{text};
 ghost use Rattle.agent_commands.specs.Names.{is_key_command};
 ghost use Rattle.agent_commands.specs.Requests.{request_of, asked_by, ReadsGet, info_of};

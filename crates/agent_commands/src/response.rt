@@ -4,17 +4,13 @@
 //! of each response `IsText`.
 
 ghost use Rattle.std.specs.Prelude.{◌≡◌, ◌++◌, ℕ, List, All, map};
-ghost use Rattle.assuan_line.specs.Lines.{IsLine};
-ghost use Rattle.assuan_text.specs.LineEnds.{line_of};
+ghost use Rattle.{assuan_line.specs.Lines.IsLine, assuan_text.specs.LineEnds.line_of};
 ghost use Rattle.assuan_escape.specs.Escapes.{hex_text};
-ghost use Rattle.assuan_server.specs.Written.{comment_text, ok_text};
-ghost use Rattle.agent_commands.specs.Answers.{IsPassphrase, comments, help_with};
-ghost use Rattle.assuan_server.specs.Written.{IsDataAnswer};
-ghost use Rattle.agent_commands.specs.Endings.{went_after};
-ghost use Rattle.agent_commands.specs.Names.{command_names};
-ghost use Rattle.assuan_server.specs.Written.{WritesText};
-ghost use Rattle.agent_commands.specs.Steps.{IsText, RespondsTo, went_of};
+ghost use Rattle.assuan_server.specs.Written.{comment_text, ok_text, IsDataAnswer, WritesText};
 ghost use Rattle.session_client.specs.Refusals.{gone_by};
+ghost use Rattle.agent_commands.specs.Answers.{IsPassphrase, comments, help_with};
+ghost use Rattle.agent_commands.specs.{Endings.went_after, Names.command_names};
+ghost use Rattle.agent_commands.specs.Steps.{IsText, RespondsTo, went_of};
 
 use crate::found::Found;
 use crate::{COMMANDS, KEY_COMMANDS, SessionEnd, Went};

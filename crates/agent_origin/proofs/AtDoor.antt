@@ -1,27 +1,10 @@
 -- A line at a door, by each way that it is answered.
 use Rattle.std.proofs.Common.{◌≡◌, ℕ, List, true, false, None, Some}
-use Rattle.agent_ask.specs.Events.{Call}
-use Rattle.agent_ask.specs.PartExchanges.{AnyExchange}
-use Rattle.agent_commands.specs.Endings.{went_after}
-use Rattle.agent_commands.specs.States.{AnswersRequest}
-use Rattle.agent_commands.specs.declared.went.Went.{Went}
-use Rattle.assuan_server.specs.Connections.{Connection}
-use Rattle.assuan_server.specs.Written.{failed, ok, refusal_line}
-use Rattle.session_client.specs.declared.code.Code.TheVariants.{Forbidden}
-use Rattle.cache_policy.specs.declared.mark.MarkStep.{MarkStep}
-use Rattle.cache_policy.specs.Turns.{Turn}
+use Rattle.{agent_ask.{specs.{Events.Call, PartExchanges.AnyExchange}, proofs.Answered.answered_as}, agent_commands.specs.{Endings.went_after, States.AnswersRequest, declared.went.Went.Went}, assuan_server.specs.Connections.Connection}
+use Rattle.{assuan_server.specs.Written.{failed, ok, refusal_line}, session_client.specs.declared.code.Code.TheVariants.Forbidden, cache_policy.specs.{declared.mark.MarkStep.MarkStep, Turns.Turn}}
 use Rattle.session_options.specs.declared.rules.Rules.{Rules}
-use Rattle.agent_origin.specs.DoorSessions.{door_command, door_help, helped, unset, trusts, any, DoorExchange, forbidden, is_allowed}
-use Rattle.agent_origin.specs.Doors.{allowed}
-use Rattle.agent_origin.specs.TrustExchanges.{TrustReplies}
-use Rattle.agent_origin.specs.FurtherStates.{FurtherWorld, FurtherState}
-use Rattle.agent_origin.specs.TrustRequests.{trust_request_of}
-use Rattle.agent_origin.specs.SessionExchanges.{SessionExchange}
-use Rattle.agent_origin.specs.Serving.{SaysText}
-use Rattle.agent_origin.specs.declared.door.Door.{Door}
-use Rattle.agent_origin.specs.declared.kept.Kept.{Kept}
-use Rattle.agent_origin.specs.declared.door_session.DoorCommand.TheVariants.{Help, Trust, Terminal}
-use Rattle.agent_ask.proofs.Answered.{answered_as}
+use Rattle.agent_origin.specs.{DoorSessions.{door_command, door_help, helped, unset, trusts, any, DoorExchange, forbidden, is_allowed}, Doors.allowed, TrustExchanges.TrustReplies, FurtherStates.{FurtherWorld, FurtherState}}
+use Rattle.agent_origin.specs.{TrustRequests.trust_request_of, SessionExchanges.SessionExchange, Serving.SaysText, declared.{door.Door.Door, kept.Kept.Kept, door_session.DoorCommand.TheVariants.{Help, Trust, Terminal}}}
 use Rattle.agent_origin.proofs.Serving.{text_answers}
 
 module _ {D P : Type 0} (turned : D → MarkStep → Turn → D → Type 0) (prompted : P → Call → P → Type 0) (door : Door) (rules : Rules) (line : List ℕ) where

@@ -1,41 +1,15 @@
 -- Requests on the cache with the keys and the dice beside, requests on keys with the option values beside, and both with the trust file beside.
 use Rattle.std.proofs.Common.{◌≡◌, ℕ, List, Some, refl}
-use Rattle.arrayvec.specs.ArrayVec.{ArrayVec}
-use Rattle.agent_ask.specs.Answering.{AnswersBy}
-use Rattle.agent_ask.specs.Events.{Call}
-use Rattle.agent_ask.specs.Further.{FurtherEvent, FurtherEnds, DoesFurther}
+use Rattle.{arrayvec.specs.ArrayVec.ArrayVec, agent_ask.{specs.{Answering.AnswersBy, Events.Call, Further.{FurtherEvent, FurtherEnds, DoesFurther}}, proofs.Answered.{answered_onward, answered_as, answers_beside}}}
+use Rattle.{agent_ports.specs.{KeyFiles.KeyFiles, Sides.Side, TrustFiles.TrustState}, assuan_server.specs.{Clients.connection_views, Connections.Connection}, cache_policy.specs.{declared.mark.MarkStep.MarkStep, Turns.Turn}}
+use Rattle.{session_options.specs.{OptionValues.OptionValues, declared.rules.Rules.Rules}, agent_commands.specs.{Endings.{went_after, gone_after}, Events.EventWith, Exchanges.CacheExchange}}
+use Rattle.agent_commands.specs.{Outside.{world, prompt_world, DoesPrompts, prompts}, States.{session_state, prompt_state, AnswersRequest}, declared.{request.Request.{Request, TheVariants.Key}, went.Went.Went}}
+use Rattle.{agent_commands.proofs.Replying.gone_as_it_went, key_commands.specs.{Exchanges.KeyExchange, KeyEnds.{KeyEnds, DoesAtKeys, prompt}, Requests.key_request_of, States.{KeyWorld, KeyState, key_state, AnswersKey}, Parts.key_gone}}
+use Rattle.key_commands.specs.declared.{went.KeyWent.KeyWent, wrap_keys.WrapKeys.WrapKeys}
+use Rattle.agent_origin.specs.{FurtherStates.{further_ends, FurtherWorld}, SessionExchanges.{RequestExchange, cache, keys, went_after_key, described_after}, declared.kept.Kept.Kept}
 use Rattle.agent_ask.specs.Further as further
-use Rattle.agent_ports.specs.KeyFiles.{KeyFiles}
-use Rattle.agent_ports.specs.Sides.{Side}
-use Rattle.agent_ports.specs.TrustFiles.{TrustState}
-use Rattle.assuan_server.specs.Clients.{connection_views}
-use Rattle.assuan_server.specs.Connections.{Connection}
-use Rattle.cache_policy.specs.declared.mark.MarkStep.{MarkStep}
-use Rattle.cache_policy.specs.Turns.{Turn}
-use Rattle.session_options.specs.OptionValues.{OptionValues}
-use Rattle.session_options.specs.declared.rules.Rules.{Rules}
-use Rattle.agent_ask.proofs.Answered.{answered_onward, answered_as, answers_beside}
-use Rattle.agent_commands.specs.Endings.{went_after, gone_after}
-use Rattle.agent_commands.specs.Events.{EventWith}
-use Rattle.agent_commands.specs.Exchanges.{CacheExchange}
-use Rattle.agent_commands.specs.Outside.{world, prompt_world, DoesPrompts, prompts}
-use Rattle.agent_commands.specs.States.{session_state, prompt_state, AnswersRequest}
-use Rattle.agent_commands.specs.declared.request.Request.{Request}
-use Rattle.agent_commands.specs.declared.request.Request.TheVariants.{Key}
-use Rattle.agent_commands.specs.declared.went.Went.{Went}
-use Rattle.agent_commands.proofs.Replying.{gone_as_it_went}
-use Rattle.key_commands.specs.Exchanges.{KeyExchange}
-use Rattle.key_commands.specs.KeyEnds.{KeyEnds, DoesAtKeys, prompt}
 use Rattle.key_commands.specs.KeyEnds as at_keys
-use Rattle.key_commands.specs.Requests.{key_request_of}
-use Rattle.key_commands.specs.States.{KeyWorld, KeyState, key_state, AnswersKey}
-use Rattle.key_commands.specs.Parts.{key_gone}
-use Rattle.key_commands.specs.declared.went.KeyWent.{KeyWent}
 use Rattle.key_commands.specs.declared.went.KeyWent.TheVariants as key
-use Rattle.key_commands.specs.declared.wrap_keys.WrapKeys.{WrapKeys}
-use Rattle.agent_origin.specs.FurtherStates.{further_ends, FurtherWorld}
-use Rattle.agent_origin.specs.SessionExchanges.{RequestExchange, cache, keys, went_after_key, described_after}
-use Rattle.agent_origin.specs.declared.kept.Kept.{Kept}
 
 -- the client is gone as the request on keys says
 gone_as_keys_have_it : (went : KeyWent) → gone_after (went_after_key went) ≡ key_gone went

@@ -1,14 +1,7 @@
 -- What stands between a prompt's start and its end: its questions, and neither a start nor an end.
-use Rattle.std.specs.List.{AllByRecursion}
-use Rattle.std.proofs.Common.{ℕ, List, Result, zero, suc}
-use Rattle.std.specs.Prelude.{⊤}
-use Rattle.agent_ask.specs.Events.{Start, Shut, PromptEvent, Called}
-use Rattle.agent_ask.specs.Prompts.{IsTry, Repeats, Tries, repeated}
+use Rattle.std.{specs.{List.AllByRecursion, Prelude.⊤}, proofs.Common.{ℕ, List, Result, zero, suc}}
+use Rattle.{agent_ask.specs.{Events.{Start, Shut, PromptEvent, Called}, Prompts.{IsTry, Repeats, Tries, repeated}, Tests.PinTest, declared.{ask.Asked.Asked, spec.AskPlan.AskPlan}}, key_commands.proofs.EachEvent.each_append}
 use Rattle.agent_ask.specs.Prompts as prompts
-use Rattle.agent_ask.specs.Tests.{PinTest}
-use Rattle.agent_ask.specs.declared.ask.Asked.{Asked}
-use Rattle.agent_ask.specs.declared.spec.AskPlan.{AskPlan}
-use Rattle.key_commands.proofs.EachEvent.{each_append}
 
 abbrev pub IsBetween : PromptEvent → Type 0
 IsBetween (Called (Start spec opened)) = ⊥

@@ -1,25 +1,13 @@
 -- Parts of a request on the cache by which no prompter is called, and each of whose events is so.
 use Rattle.std.proofs.Common.{codes, ℕ, Bool, List, Option, Some, None, Result}
-use Rattle.agent_commands.specs.Exchanges.{option_replies, Presets, TellsPassphrase, TellsInfo}
-use Rattle.agent_commands.specs.Exchanges as exchange
-use Rattle.agent_commands.specs.Parts.{AsksPassphrase}
-use Rattle.agent_commands.specs.Passphrases.{LooksFor, WantsPrompt, KeepsUnder, ByCache, Uncached, WithoutPrompt}
-use Rattle.agent_commands.specs.declared.request.Info.{Info}
-use Rattle.cache_policy.specs.declared.life.Life.{Life}
-use Rattle.agent_ask.specs.SessionEvents.{cache_turn}
-use Rattle.cache_policy.specs.Turns.{Turn}
-use Rattle.cache_policy.specs.declared.mark.MarkStep.{MarkStep}
-use Rattle.session_client.specs.declared.code.Code.TheVariants as code
-use Rattle.session_client.specs.declared.refusal.Refusal.{Refusal}
-use Rattle.session_client.specs.declared.refusal.Refusal.TheVariants.{Agent}
-use Rattle.session_options.specs.OptionValues.{OptionValues}
-use Rattle.session_options.specs.declared.options.OptionAnswer.{OptionAnswer}
-use Rattle.session_options.specs.declared.options.OptionAnswer.TheVariants as option
-use Rattle.session_options.specs.declared.options.PinMode.{PinMode}
-use Rattle.session_options.specs.declared.options.PinMode.TheVariants as mode
-use Rattle.session_options.specs.declared.rules.Rules.{Rules}
-use Rattle.key_commands.specs.Events.{Event}
+use Rattle.agent_commands.specs.{Exchanges.{option_replies, Presets, TellsPassphrase, TellsInfo}, Parts.AsksPassphrase, Passphrases.{LooksFor, WantsPrompt, KeepsUnder, ByCache, Uncached, WithoutPrompt}, declared.request.Info.Info}
+use Rattle.{cache_policy.specs.{declared.{life.Life.Life, mark.MarkStep.MarkStep}, Turns.Turn}, agent_ask.specs.SessionEvents.cache_turn, session_client.specs.declared.refusal.Refusal.{Refusal, TheVariants.Agent}}
+use Rattle.{session_options.specs.{OptionValues.OptionValues, declared.{options.{OptionAnswer.OptionAnswer, PinMode.PinMode}, rules.Rules.Rules}}, key_commands.specs.Events.Event}
 use Rattle.key_commands.proofs.EachEvent.{IsStill, All, EachSo, asks_secret, each_bind, each_returned, each_refused, each_needed, each_otherwise, each_wanted, each_looks, each_seats, each_changes}
+use Rattle.agent_commands.specs.Exchanges as exchange
+use Rattle.session_client.specs.declared.code.Code.TheVariants as code
+use Rattle.session_options.specs.declared.options.OptionAnswer.TheVariants as option
+use Rattle.session_options.specs.declared.options.PinMode.TheVariants as mode
 
 -- where what is done beside the desk and the prompter is so, and what is done at the desk
 module _ (Is : Event → Type 0) (still : (event : Event) → IsStill event → Is event) (turns : (step : MarkStep) (turn : Turn) → Is (cache_turn step turn)) where

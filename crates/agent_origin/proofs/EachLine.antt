@@ -1,39 +1,17 @@
 -- What is so of all that is done for a line of a session. And so each event is so, where each but a read request and a call of the trust file is: no line of
 -- a session calls the trust file, but by the commands on it.
 use Rattle.std.proofs.Common.{◌≡◌, ◌∙◌, ℕ, Bool, true, false, List, Option, Some, None, Result, refl}
-use Rattle.agent_ask.specs.Events.{PromptEvent}
-use Rattle.agent_ask.specs.Parts.{◌>>=◌, Returns}
-use Rattle.agent_ask.specs.SessionEvents.{Sent}
-use Rattle.agent_ask.specs.TurnParts.{Changes}
-use Rattle.agent_ask.proofs.Within.{Within, Does, or_otherwise}
-use Rattle.agent_ask.specs.SessionPrompts.{AnyInSession}
-use Rattle.agent_commands.specs.Exchanges.{CacheExchange, CacheReply, confirms_by, CacheReplies}
-use Rattle.agent_commands.specs.Passphrases.{PromptsAny, Prompts, as_wanted, passphrase_by}
-use Rattle.agent_commands.specs.Passphrases as passphrase
-use Rattle.agent_commands.specs.Requests.{GetFields}
-use Rattle.agent_commands.specs.declared.request.CacheCommand.{CacheCommand}
-use Rattle.agent_commands.specs.declared.request.CacheCommand.TheVariants as on
-use Rattle.agent_commands.specs.declared.request.Request.{Request}
-use Rattle.agent_commands.specs.declared.request.Request.TheVariants.{Cache, Key, Bad}
-use Rattle.agent_commands.specs.declared.request.Texts.{Texts}
-use Rattle.agent_commands.specs.declared.went.Went.{Went}
-use Rattle.arrayvec.specs.ArrayVec.{ArrayVec}
-use Rattle.assuan_server.specs.Clients.{session_lines}
-use Rattle.cache_policy.specs.declared.mark.MarkStep.{MarkStep}
-use Rattle.session_client.specs.declared.code.Code.TheVariants as code
-use Rattle.session_client.specs.declared.refusal.Refusal.{Refusal}
-use Rattle.session_client.specs.declared.refusal.Refusal.TheVariants.{Agent}
-use Rattle.session_options.specs.OptionValues.{OptionValues, EnvWords}
-use Rattle.session_options.specs.declared.options.PinMode.{PinMode}
-use Rattle.session_options.specs.declared.options.PinMode.TheVariants as mode
-use Rattle.session_options.specs.declared.rules.Rules.{Rules}
-use Rattle.key_commands.specs.Events.{Event}
-use Rattle.key_commands.specs.Parts.{Part}
-use Rattle.key_commands.proofs.EachEvent.{All, each_shown, each_bind, each_returned, each_refused, each_seats, each_changes, each_closes}
+use Rattle.agent_ask.{specs.{Events.PromptEvent, Parts.{◌>>=◌, Returns}, SessionEvents.Sent, TurnParts.Changes, SessionPrompts.AnyInSession}, proofs.Within.{Within, Does, or_otherwise}}
+use Rattle.agent_commands.specs.{Exchanges.{CacheExchange, CacheReply, confirms_by, CacheReplies}, Passphrases.{PromptsAny, Prompts, as_wanted, passphrase_by}, Requests.GetFields, declared.request.CacheCommand.CacheCommand}
+use Rattle.{agent_commands.specs.declared.{request.{Request.{Request, TheVariants.{Cache, Key, Bad}}, Texts.Texts}, went.Went.Went}, arrayvec.specs.ArrayVec.ArrayVec, assuan_server.specs.Clients.session_lines}
+use Rattle.{cache_policy.specs.declared.mark.MarkStep.MarkStep, session_client.specs.declared.refusal.Refusal.{Refusal, TheVariants.Agent}, session_options.specs.{OptionValues.{OptionValues, EnvWords}, declared.options.PinMode.PinMode}}
+use Rattle.{session_options.specs.declared.rules.Rules.Rules, key_commands.{specs.{Events.Event, Parts.Part}, proofs.EachEvent.{All, each_shown, each_bind, each_returned, each_refused, each_seats, each_changes, each_closes}}}
 use Rattle.key_commands.proofs.EachRequest.{IsBesideTrust, works_beside, still_beside, Carries, each_carries, so, then, nothing, agrees, whole, key_whole}
-use Rattle.agent_origin.proofs.EachCache.{wants_prompt, without_prompt, by_cache, presets, tells_passphrase, tells_info, option_so}
-use Rattle.agent_origin.specs.SessionExchanges.{RequestExchange, cache, keys}
-use Rattle.agent_origin.specs.declared.kept.Kept.{Kept}
+use Rattle.agent_origin.{proofs.EachCache.{wants_prompt, without_prompt, by_cache, presets, tells_passphrase, tells_info, option_so}, specs.{SessionExchanges.{RequestExchange, cache, keys}, declared.kept.Kept.Kept}}
+use Rattle.agent_commands.specs.Passphrases as passphrase
+use Rattle.agent_commands.specs.declared.request.CacheCommand.TheVariants as on
+use Rattle.session_client.specs.declared.code.Code.TheVariants as code
+use Rattle.session_options.specs.declared.options.PinMode.TheVariants as mode
 
 module _ {env : EnvWords} {Is : Event → Type 0} {So : List Event → Type 0} (law : Carries env Is So) where
   abbrev Here : {A : Type 0} → Part A → Type 0

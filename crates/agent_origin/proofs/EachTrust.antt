@@ -1,33 +1,15 @@
 -- What is so of requests on the trust list, by what is so of their smallest parts; and those of these each of whose events is so.
 use Rattle.std.proofs.Common.{ℕ, Bool, true, false, List, Option, Some, None, Result, refl}
-use Rattle.agent_ask.proofs.Within.{Within, Joins, OfNothing, Does, does_join, bind, returned, refused}
-use Rattle.agent_ask.specs.ConsentParts.{AgreesTo}
-use Rattle.agent_ask.specs.Parts.{◌>>=◌, Refuses}
-use Rattle.agent_ask.specs.TrustCalls.{TrustCall}
-use Rattle.agent_ask.specs.TurnParts.{Seats}
-use Rattle.agent_ports.specs.declared.grip.Grip.{Grip}
-use Rattle.assuan_server.specs.Clients.{session_lines}
-use Rattle.cache_policy.specs.declared.mark.MarkStep.TheVariants.{Seat}
-use Rattle.session_client.specs.declared.code.Code.{Code}
+use Rattle.agent_ask.{proofs.Within.{Within, Joins, OfNothing, Does, does_join, bind, returned, refused}, specs.{ConsentParts.AgreesTo, Parts.{◌>>=◌, Refuses}, TrustCalls.TrustCall, TurnParts.Seats}}
+use Rattle.{agent_ports.specs.declared.grip.Grip.Grip, assuan_server.specs.Clients.session_lines, cache_policy.specs.declared.mark.MarkStep.TheVariants.Seat, session_client.specs.declared.{code.Code.Code, refusal.Refusal.Refusal}}
+use Rattle.{session_client.specs.declared.refusal.Refusal.TheVariants.Agent, session_options.specs.{OptionValues.OptionValues, declared.{options.PinMode.PinMode, rules.Rules.Rules}}, trust_list.specs.Trust.trust}
+use Rattle.key_commands.{specs.{Events.{Event, out_of_memory}, Parts.Part}, proofs.{EachEvent.{All, EachSo, each_seats}, EachRequest.Carries}}
+use Rattle.agent_origin.specs.{TrustExchanges.{flag_of, trust_question, fingerprint_question, unless_said, TrustedNow, Stores, StoresUnsaid, Consented, asked_in, Marked, Carried}, TrustParts.{trust_called, ReadsFile, AddsEntry, Replaces}}
+use Rattle.agent_origin.specs.declared.trust.request.{TrustPurpose.TrustPurpose, TrustRequest.{TrustRequest, TheVariants.{IsTrusted, MarkTrusted, Bad}}}
 use Rattle.session_client.specs.declared.code.Code.TheVariants as code
-use Rattle.session_client.specs.declared.refusal.Refusal.{Refusal}
-use Rattle.session_client.specs.declared.refusal.Refusal.TheVariants.{Agent}
-use Rattle.session_options.specs.OptionValues.{OptionValues}
-use Rattle.session_options.specs.declared.options.PinMode.{PinMode}
 use Rattle.session_options.specs.declared.options.PinMode.TheVariants as mode
-use Rattle.session_options.specs.declared.rules.Rules.{Rules}
-use Rattle.trust_list.specs.Trust.{trust}
-use Rattle.key_commands.specs.Events.{Event, out_of_memory}
-use Rattle.key_commands.specs.Parts.{Part}
-use Rattle.key_commands.proofs.EachEvent.{All, EachSo, each_seats}
-use Rattle.key_commands.proofs.EachRequest.{Carries}
 use Rattle.key_commands.proofs.EachRequest as all_so
-use Rattle.agent_origin.specs.TrustExchanges.{flag_of, trust_question, fingerprint_question, unless_said, TrustedNow, Stores, StoresUnsaid, Consented, asked_in, Marked, Carried}
-use Rattle.agent_origin.specs.TrustParts.{trust_called, ReadsFile, AddsEntry, Replaces}
 use Rattle.agent_origin.specs.TrustParts as parts
-use Rattle.agent_origin.specs.declared.trust.request.TrustPurpose.{TrustPurpose}
-use Rattle.agent_origin.specs.declared.trust.request.TrustRequest.{TrustRequest}
-use Rattle.agent_origin.specs.declared.trust.request.TrustRequest.TheVariants.{IsTrusted, MarkTrusted, Bad}
 
 -- A law of what is done for a request under these option values, and one of what others follow: where these join, and the smallest parts keep them, so do whole requests.
 pub record TrustLaws (options : OptionValues) (First Law : (A : Type 0) → Part A) : Type 1 where

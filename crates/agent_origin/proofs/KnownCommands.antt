@@ -1,17 +1,9 @@
 -- The commands that are known, in the table of the rules at the doors.
-use Rattle.std.proofs.Common.{◌≡◌, ℕ, Bool, true, false, cond, IsSome, List, [], ◌∷◌, ◌++◌, map, Option, None, Some, refl, sym, subst}
-use Rattle.std.specs.Str.{str_eq_ignore_ascii_case}
-use Rattle.agent_commands.specs.Names.{commands as cache_commands, prompt_commands, command_named as cache_command_named}
-use Rattle.assuan_text.specs.Rows.{found_in_any_case}
+use Rattle.std.{proofs.Common.{◌≡◌, ℕ, Bool, true, false, cond, IsSome, List, [], ◌∷◌, ◌++◌, map, Option, None, Some, refl, sym, subst}, specs.Str.str_eq_ignore_ascii_case}
+use Rattle.{agent_commands.specs.Names.{commands as cache_commands, prompt_commands, command_named as cache_command_named}, assuan_text.specs.Rows.found_in_any_case}
 use Rattle.key_commands.specs.Names.{commands_on_keys as key_commands, key_command_named}
-use Rattle.agent_origin.specs.Doors.{cache_rules, key_rules, trust_rules, rule_named}
-use Rattle.agent_origin.specs.TrustNames.{commands_on_trust, trust_command_named}
-use Rattle.agent_origin.specs.declared.door.Rule.{Rule}
-use Rattle.agent_origin.specs.declared.door.Rule.TheVariants.{Always, Never}
-use Rattle.agent_origin.specs.declared.trust.names.TrustCommandName.{TrustCommandName}
-use Rattle.agent_origin.specs.declared.trust.names.TrustCommandName.TheVariants.{IsTrusted, MarkTrusted}
-use Rattle.agent_origin.proofs.Outer.{cache_rule, found_mapped, found_joined}
-use Rattle.agent_origin.proofs.OuterKeys.{key_rule}
+use Rattle.agent_origin.specs.{Doors.{cache_rules, key_rules, trust_rules, rule_named}, TrustNames.{commands_on_trust, trust_command_named}, declared.door.Rule.{Rule, TheVariants.{Always, Never}}}
+use Rattle.agent_origin.{specs.declared.trust.names.TrustCommandName.{TrustCommandName, TheVariants.{IsTrusted, MarkTrusted}}, proofs.{Outer.{cache_rule, found_mapped, found_joined}, OuterKeys.key_rule}}
 
 -- what is there
 value_of : {X : Type 0} (o : Option X) → IsSome o → (x : X) × (o ≡ Some x)

@@ -1,32 +1,10 @@
 -- A session from its greeting on.
-use Rattle.std.proofs.Common.{◌≡◌, ◌≤◌, ◌+◌, ℕ, List, [], ◌∷◌, length, Option, None, Some, Ok, Err, refl, ap, ◌∙◌, subst, arith}
-use Rattle.std.specs.Option.{option_map}
-use Rattle.std.specs.Prelude.{IfSome, ⊤}
-use Rattle.agent_ports.specs.Leads.{Leads, none, one}
-use Rattle.agent_ports.specs.Sides.{Side, WhereKnown}
-use Rattle.agent_ports.proofs.Known.{known_same, known_then}
-use Rattle.assuan_line.specs.Next.{Reader}
-use Rattle.assuan_server.specs.Connections.{Connection}
-use Rattle.assuan_server.specs.Written.{greeting}
-use Rattle.assuan_text.specs.LineEnds.{line_of}
-use Rattle.agent_commands.specs.Endings.{gone_of}
-use Rattle.agent_commands.specs.Events.{EventWith}
-use Rattle.agent_ask.specs.SessionEvents.{Sent, Cut}
-use Rattle.agent_commands.specs.Outside.{World}
-use Rattle.agent_ask.specs.Worlds.{Outside, Does, received, sent, cut, asked, not_asked, turned, further}
-use Rattle.assuan_server.specs.Reading.{budget, Supply, unread, IsSupply}
-use Rattle.agent_commands.specs.States.{SessionState, EventsLead}
-use Rattle.assuan_server.specs.Clients.{HasSupply}
-use Rattle.assuan_server.specs.Written.{WritesText}
-use Rattle.agent_commands.specs.Talks.{greeted, cut_greeting}
-use Rattle.agent_ports.specs.declared.link.WriteFault.{WriteFault}
-use Rattle.agent_ports.specs.Writing.{StopsWriting}
-use Rattle.agent_commands.specs.declared.went.SessionEnd.{SessionEnd}
-use Rattle.agent_commands.specs.declared.went.SessionEnd.TheVariants.{WriteFault as CutOff}
-use Rattle.agent_ask.proofs.Doing.{done_then, done_said, done_cut}
-use Rattle.assuan_server.proofs.Clients.{said_so}
-use Rattle.agent_origin.specs.Sessions.{LineRelation, Leaves, supply_of, ends_with}
-use Rattle.agent_origin.specs.Serving.{ServesRequests, ServesConn, around}
+use Rattle.std.{proofs.Common.{◌≡◌, ◌≤◌, ◌+◌, ℕ, List, [], ◌∷◌, length, Option, None, Some, Ok, Err, refl, ap, ◌∙◌, subst, arith}, specs.{Option.option_map, Prelude.{IfSome, ⊤}}}
+use Rattle.{agent_ports.{specs.{Leads.{Leads, none, one}, Sides.{Side, WhereKnown}, declared.link.WriteFault.WriteFault, Writing.StopsWriting}, proofs.Known.{known_same, known_then}}, assuan_line.specs.Next.Reader}
+use Rattle.{assuan_server.{specs.{Connections.Connection, Written.{greeting, WritesText}, Reading.{budget, Supply, unread, IsSupply}, Clients.HasSupply}, proofs.Clients.said_so}, assuan_text.specs.LineEnds.line_of}
+use Rattle.agent_commands.specs.{Endings.gone_of, Events.EventWith, Outside.World, States.{SessionState, EventsLead}, Talks.{greeted, cut_greeting}, declared.went.SessionEnd.{SessionEnd, TheVariants.WriteFault as CutOff}}
+use Rattle.agent_ask.{specs.{SessionEvents.{Sent, Cut}, Worlds.{Outside, Does, received, sent, cut, asked, not_asked, turned, further}}, proofs.Doing.{done_then, done_said, done_cut}}
+use Rattle.agent_origin.specs.{Sessions.{LineRelation, Leaves, supply_of, ends_with}, Serving.{ServesRequests, ServesConn, around}}
 
 -- a reader that has read nothing
 abbrev fresh : Reader

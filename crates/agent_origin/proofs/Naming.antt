@@ -1,39 +1,15 @@
 -- Each prompt of a session's request names the terminal and the language that its option values have.
-use Rattle.std.specs.List.{AllByRecursion}
-use Rattle.std.proofs.Common.{◌≡◌, Bool, List, [], ◌∷◌, ◌++◌, Option, refl, sym, subst}
-use Rattle.agent_ask.specs.Consents.{AsksConsent, ConsentBefore}
+use Rattle.std.{specs.List.AllByRecursion, proofs.Common.{◌≡◌, Bool, List, [], ◌∷◌, ◌++◌, Option, refl, sym, subst}}
+use Rattle.agent_ask.specs.{Consents.{AsksConsent, ConsentBefore}, Events.{Start, GetPin, Confirm, Shut, PromptEvent, Called, Notified, OutOfMemory}, Further.{Keys, Dice, NoMemory, Prompt, Trust}, Prompts.{AsksPin, AsksBefore, Opens}}
+use Rattle.agent_ask.specs.{SessionEvents.{Received, Sent, Cut, Inquiry, CacheTurn, Further}, SessionPrompts.AnyInSession, Tests.PinTest, declared.{ask.Asked.Asked, consent.Agreed.Agreed, spec.{AskPlan.AskPlan, PromptSpec.PromptSpec}}}
+use Rattle.{agent_commands.specs.declared.{request.Request.Request, went.Went.Went}, assuan_server.specs.Clients.session_lines, key_commands.{specs.Events.Event, proofs.EachEvent.{IsStill, each_append, each_returned}}}
+use Rattle.{key_commands.proofs.EachRequest.{Carries, so, then, whole}, session_options.specs.{OptionValues.{OptionValues, EnvWords, words_of}, declared.rules.Rules.Rules}}
+use Rattle.agent_origin.specs.{DoorSessions.{AllowedExchange, DoorExchange}, OuterPrompts.{Names, PromptNames, PromptsName}, SessionExchanges.RequestExchange, TrustExchanges.TrustExchange, declared.{door.Door.Door, kept.Kept.Kept}}
+use Rattle.agent_origin.{specs.declared.trust.request.TrustRequest.TrustRequest, proofs.{Between.{IsBetween, Between, tries_between}, EachLine.request_whole, EachTrust.{carried_so, carried_laws}}}
 use Rattle.agent_ask.specs.Consents as consents
-use Rattle.agent_ask.specs.Events.{Start, GetPin, Confirm, Shut, PromptEvent, Called, Notified, OutOfMemory}
-use Rattle.agent_ask.specs.Further.{Keys, Dice, NoMemory, Prompt, Trust}
-use Rattle.agent_ask.specs.Prompts.{AsksPin, AsksBefore, Opens}
 use Rattle.agent_ask.specs.Prompts as prompts
-use Rattle.agent_ask.specs.SessionEvents.{Received, Sent, Cut, Inquiry, CacheTurn, Further}
-use Rattle.agent_ask.specs.SessionPrompts.{AnyInSession}
 use Rattle.agent_ask.specs.SessionPrompts as session
-use Rattle.agent_ask.specs.Tests.{PinTest}
-use Rattle.agent_ask.specs.declared.ask.Asked.{Asked}
-use Rattle.agent_ask.specs.declared.consent.Agreed.{Agreed}
-use Rattle.agent_ask.specs.declared.spec.AskPlan.{AskPlan}
-use Rattle.agent_ask.specs.declared.spec.PromptSpec.{PromptSpec}
-use Rattle.agent_commands.specs.declared.request.Request.{Request}
-use Rattle.agent_commands.specs.declared.went.Went.{Went}
-use Rattle.assuan_server.specs.Clients.{session_lines}
-use Rattle.key_commands.specs.Events.{Event}
-use Rattle.key_commands.proofs.EachEvent.{IsStill, each_append, each_returned}
-use Rattle.key_commands.proofs.EachRequest.{Carries, so, then, whole}
-use Rattle.session_options.specs.OptionValues.{OptionValues, EnvWords, words_of}
-use Rattle.session_options.specs.declared.rules.Rules.{Rules}
-use Rattle.agent_origin.specs.DoorSessions.{AllowedExchange, DoorExchange}
 use Rattle.agent_origin.specs.DoorSessions as door
-use Rattle.agent_origin.specs.OuterPrompts.{Names, PromptNames, PromptsName}
-use Rattle.agent_origin.specs.SessionExchanges.{RequestExchange}
-use Rattle.agent_origin.specs.TrustExchanges.{TrustExchange}
-use Rattle.agent_origin.specs.declared.door.Door.{Door}
-use Rattle.agent_origin.specs.declared.kept.Kept.{Kept}
-use Rattle.agent_origin.specs.declared.trust.request.TrustRequest.{TrustRequest}
-use Rattle.agent_origin.proofs.Between.{IsBetween, Between, tries_between}
-use Rattle.agent_origin.proofs.EachLine.{request_whole}
-use Rattle.agent_origin.proofs.EachTrust.{carried_so, carried_laws}
 
 module _ (env : EnvWords) where
   abbrev EachNames : List PromptEvent → Type 0

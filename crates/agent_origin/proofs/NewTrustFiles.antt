@@ -1,59 +1,22 @@
 -- New trust files: each has its two consents.
-use Rattle.std.proofs.Common.{◌≡◌, ◌≤◌, ℕ, Bool, true, false, List, [], ◌∷◌, ◌++◌, length, Option, None, Some, Result, Ok, Err, refl, ap, sym, ◌∙◌, subst}
-use Rattle.std.specs.List.{AllByRecursion}
-use Rattle.std.proofs.lemmas.List.{append_assoc, append-nil}
-use Rattle.arrayvec.specs.ArrayVec.{ArrayVec}
-use Rattle.agent_ask.specs.Answering.{WholeOrCut, whole, cut}
-use Rattle.agent_ask.specs.ConsentParts.{AgreesTo, consents, refused as dissents}
-use Rattle.agent_ask.specs.PartExchanges.{AnyExchange, answered, refused}
-use Rattle.agent_ask.specs.Parts.{Follows, goes_on, stops, returns, Refuses, refuses}
-use Rattle.agent_ask.specs.SessionEvents.{Received, Sent, Cut, cache_turn, CutAtLast, said_last}
-use Rattle.agent_ask.specs.TrustCalls.{Read}
-use Rattle.agent_ask.specs.TurnParts.{Seats, opened, Closes, closed}
-use Rattle.agent_commands.specs.Endings.{went_after}
-use Rattle.agent_commands.specs.Exchanges.{CacheReply}
-use Rattle.agent_commands.specs.Requests.{request_of}
-use Rattle.agent_commands.specs.Talks.{Talk, over, ended, spent, read_fault, too_long as talk_too_long, cut_too_long, Session as SessionOf, greeted, cut_greeting}
-use Rattle.agent_commands.specs.Talks as talks
-use Rattle.agent_commands.specs.declared.went.SessionEnd.{SessionEnd}
-use Rattle.agent_commands.specs.declared.went.Went.{Went}
-use Rattle.agent_ports.specs.declared.grip.Grip.{Grip}
-use Rattle.agent_ports.specs.declared.trust.TrustRead.{TrustRead}
-use Rattle.assuan_line.specs.declared.reader.Took.TheVariants as took
-use Rattle.assuan_server.specs.Clients.{session_lines}
-use Rattle.assuan_server.specs.Written.{failed, refusal_line}
-use Rattle.cache_policy.specs.Turns.{Turn, Open}
-use Rattle.cache_policy.specs.declared.mark.MarkStep.TheVariants.{Seat, Close}
-use Rattle.key_commands.specs.Events.{Event}
-use Rattle.key_commands.specs.Parts.{Part}
-use Rattle.key_commands.proofs.EachEvent.{each_seats, each_answer}
-use Rattle.key_commands.proofs.EachRequest.{IsBesideTrust}
-use Rattle.session_client.specs.declared.code.Code.TheVariants.{LineTooLong}
-use Rattle.session_client.specs.declared.code.Code.TheVariants as code
-use Rattle.session_client.specs.declared.refusal.Refusal.{Refusal}
-use Rattle.session_client.specs.declared.refusal.Refusal.TheVariants.{Agent}
-use Rattle.session_options.specs.OptionValues.{OptionValues}
-use Rattle.session_options.specs.declared.options.PinMode.{PinMode}
-use Rattle.session_options.specs.declared.options.PinMode.TheVariants as mode
-use Rattle.session_options.specs.declared.rules.Rules.{Rules}
-use Rattle.trust_list.specs.Trust.{trust, with_entry}
-use Rattle.trust_list.specs.declared.TheConstants.{MAX_TRUST_FILE_LEN}
-use Rattle.agent_origin.specs.DoorSessions.{AllowedExchange, helped, unset, trusts as on_trust, any, DoorExchange, forbidden, is_allowed}
-use Rattle.agent_origin.specs.Doors.{allowed}
-use Rattle.agent_origin.specs.NewTrustFiles.{replaced, HasConsents, HasConsentsIn}
+use Rattle.std.{proofs.{Common.{◌≡◌, ◌≤◌, ℕ, Bool, true, false, List, [], ◌∷◌, ◌++◌, length, Option, None, Some, Result, Ok, Err, refl, ap, sym, ◌∙◌, subst}, lemmas.List.{append_assoc, append-nil}}, specs.List.AllByRecursion}
+use Rattle.{arrayvec.specs.ArrayVec.ArrayVec, agent_ask.specs.{Answering.{WholeOrCut, whole, cut}, ConsentParts.{AgreesTo, consents, refused as dissents}, PartExchanges.{AnyExchange, answered, refused}}}
+use Rattle.agent_ask.specs.{Parts.{Follows, goes_on, stops, returns, Refuses, refuses}, SessionEvents.{Received, Sent, Cut, cache_turn, CutAtLast, said_last}, TrustCalls.Read, TurnParts.{Seats, opened, Closes, closed}}
+use Rattle.agent_commands.specs.{Endings.went_after, Exchanges.CacheReply, Requests.request_of, Talks.{Talk, over, ended, spent, read_fault, too_long as talk_too_long, cut_too_long, Session as SessionOf, greeted, cut_greeting}}
+use Rattle.{agent_commands.specs.declared.went.{SessionEnd.SessionEnd, Went.Went}, agent_ports.specs.declared.{grip.Grip.Grip, trust.TrustRead.TrustRead}, assuan_server.specs.{Clients.session_lines, Written.{failed, refusal_line}}}
+use Rattle.{cache_policy.specs.{Turns.{Turn, Open}, declared.mark.MarkStep.TheVariants.{Seat, Close}}, key_commands.{specs.{Events.Event, Parts.Part}, proofs.{EachEvent.{each_seats, each_answer}, EachRequest.IsBesideTrust}}}
+use Rattle.{session_client.specs.declared.{code.Code.TheVariants.LineTooLong, refusal.Refusal.{Refusal, TheVariants.Agent}}, session_options.specs.{OptionValues.OptionValues, declared.{options.PinMode.PinMode, rules.Rules.Rules}}}
+use Rattle.trust_list.specs.{Trust.{trust, with_entry}, declared.TheConstants.MAX_TRUST_FILE_LEN}
+use Rattle.agent_origin.specs.{DoorSessions.{AllowedExchange, helped, unset, trusts as on_trust, any, DoorExchange, forbidden, is_allowed}, Doors.allowed, NewTrustFiles.{replaced, HasConsents, HasConsentsIn}}
 use Rattle.agent_origin.specs.TrustExchanges.{flag_of, trust_question, fingerprint_question, unless_said, TrustedNow, Stores, StoresUnsaid, Consented, asked_in, Marked, Carried, TrustReplies}
-use Rattle.agent_origin.specs.TrustParts.{ReadsFile, AddsEntry, Replaces, file_in, has_read, added, trust_called}
+use Rattle.agent_origin.specs.{TrustParts.{ReadsFile, AddsEntry, Replaces, file_in, has_read, added, trust_called}, TrustRequests.trust_request_of, declared.door.Door.{Door, TheVariants.{Home, Outer}}}
+use Rattle.agent_origin.specs.declared.{door_session.DoorCommand.DoorCommand, kept.Kept.Kept, trust.request.{TrustPurpose.TrustPurpose, TrustRequest.{TrustRequest, TheVariants.{IsTrusted, MarkTrusted, Bad}}}}
+use Rattle.agent_origin.proofs.{EachLine.{shown_so, each_request}, OuterTrust.{IsOuterTrust, trust_outer}}
+use Rattle.agent_commands.specs.Talks as talks
+use Rattle.assuan_line.specs.declared.reader.Took.TheVariants as took
+use Rattle.session_client.specs.declared.code.Code.TheVariants as code
+use Rattle.session_options.specs.declared.options.PinMode.TheVariants as mode
 use Rattle.agent_origin.specs.TrustParts as parts
-use Rattle.agent_origin.specs.TrustRequests.{trust_request_of}
-use Rattle.agent_origin.specs.declared.door.Door.{Door}
-use Rattle.agent_origin.specs.declared.door.Door.TheVariants.{Home, Outer}
-use Rattle.agent_origin.specs.declared.door_session.DoorCommand.{DoorCommand}
-use Rattle.agent_origin.specs.declared.kept.Kept.{Kept}
-use Rattle.agent_origin.specs.declared.trust.request.TrustPurpose.{TrustPurpose}
-use Rattle.agent_origin.specs.declared.trust.request.TrustRequest.{TrustRequest}
-use Rattle.agent_origin.specs.declared.trust.request.TrustRequest.TheVariants.{IsTrusted, MarkTrusted, Bad}
-use Rattle.agent_origin.proofs.EachLine.{shown_so, each_request}
-use Rattle.agent_origin.proofs.OuterTrust.{IsOuterTrust, trust_outer}
 
 -- ---- where a file became another's successor
 

@@ -1,64 +1,27 @@
 -- Lines that are allowed at the outer door, and what is done for them to the cache.
-use Rattle.std.proofs.Common.{◌≡◌, ℕ, Bool, true, false, cond, List, [], ◌∷◌, ◌++◌, map, Option, None, Some, Result, Ok, Err, is_none, refl, ap, sym, ◌∙◌, subst, append_assoc}
-use Rattle.std.specs.Prelude.{⊤}
-use Rattle.std.specs.Option.{option_map, option_or}
+use Rattle.std.{proofs.Common.{◌≡◌, ℕ, Bool, true, false, cond, List, [], ◌∷◌, ◌++◌, map, Option, None, Some, Result, Ok, Err, is_none, refl, ap, sym, ◌∙◌, subst, append_assoc}, specs.{Prelude.⊤, Option.{option_map, option_or}}}
 use Rattle.std.specs.Str.{str_eq_ignore_ascii_case}
-use Rattle.agent_ask.specs.ClientParts.{Writes, written, cut, Inquires, given, not_given}
-use Rattle.agent_ask.specs.ConsentParts.{AgreesTo}
+use Rattle.agent_ask.specs.{ClientParts.{Writes, written, cut, Inquires, given, not_given}, ConsentParts.AgreesTo, Events.PromptEvent, PartExchanges.{AnyReply, AnyExchange, answered, refused}, Parts.{Follows, Returns, Refuses}}
+use Rattle.agent_ask.specs.{SessionEvents.{AnyEvent, Received, Sent, Cut, Inquiry, CacheTurn, Further, turns_in, said_last}, TurnParts.{Seats, opened, interrupted, Closes, unheld, closed}}
+use Rattle.agent_ask.{specs.{SessionPrompts.{AnyInSession, none, called, noted, out_of_memory}, Plans.text}, proofs.Within.{Within, OfNothing, weaker, returned, refused as refused_so, is_needed, or_otherwise}}
+use Rattle.agent_commands.specs.{Exchanges.{CacheExchange, LineExchange, option_replies, confirms_by, CacheReplies, TellsPassphrase, TellsInfo}, Names.{commands, prompt_commands, command_named, is_key_command}}
+use Rattle.agent_commands.specs.{Parts.{CacheEvent, CachePart, AsksPassphrase}, Passphrases.{LooksFor, WantsPrompt, KeepsUnder, ByCache, Uncached as NotCached, WithoutPrompt, PromptsAny, Prompts, as_wanted, passphrase_by}}
+use Rattle.agent_commands.specs.{Requests.{GetFields, get_fields, request_of, request_by, either, info_of, confirmation_of}, declared.{names.CommandName.CommandName, request.CacheCommand.CacheCommand}}
+use Rattle.agent_commands.specs.declared.request.{CacheCommand.TheVariants.{Nop, Reset, Bye, Help, SetOption, GetInfo, GetPassphrase, PresetPassphrase, ClearPassphrase, GetConfirmation, ReloadAgent, KillAgent, SetKeyDesc}, Info.Info}
+use Rattle.{agent_commands.specs.declared.{request.{Request.{Request, TheVariants.{Cache, Key, Bad}}, Texts.Texts}, went.Went.Went}, assuan_server.specs.{Written.limit_line, Clients.session_lines}, session_client.specs.Fields.◌>>=◌}
+use Rattle.{session_client.specs.declared.{code.Code.{Code, TheVariants.UnknownCommand}, refusal.Refusal.{Refusal, TheVariants.Agent}, unheard.Gone.Gone}, assuan_text.specs.{Options.arguments_of, Rows.found_in_any_case}}
+use Rattle.{assuan_text.specs.Words.{command_of, rest_of, words}, arrayvec.specs.ArrayVec.ArrayVec, cache_policy.specs.{declared.{secret.TheConstants.MAX_SECRET_LEN, mark.MarkStep.TheVariants.Seat}, Extending.Taken, Turns.Open}}
+use Rattle.session_options.specs.{declared.{options.{OptionAnswer.OptionAnswer, PinMode.PinMode}, rules.Rules.Rules}, OptionValues.OptionValues}
+use Rattle.agent_origin.specs.{Doors.{key_rules, trust_rules, rule_named, leaves_cache, passes, passes_by, allowed}, OuterTurns.{AreOuterTurns, no_turns, peeks, unseated, seated, LeavesCache}, declared.door.Door.TheVariants.Outer}
+use Rattle.agent_origin.specs.declared.door.Rule.{Rule, TheVariants.{Always, NotTheMode, AboutTheAgent, Uncached, Never}}
 use Rattle.agent_ask.specs.ConsentParts as consent
-use Rattle.agent_ask.specs.Events.{PromptEvent}
-use Rattle.agent_ask.specs.PartExchanges.{AnyReply, AnyExchange, answered, refused}
-use Rattle.agent_ask.specs.Parts.{Follows, Returns, Refuses}
-use Rattle.agent_ask.proofs.Within.{Within, OfNothing, weaker, returned, refused as refused_so, is_needed, or_otherwise}
 use Rattle.agent_ask.proofs.Within as within
-use Rattle.agent_ask.specs.SessionEvents.{AnyEvent, Received, Sent, Cut, Inquiry, CacheTurn, Further, turns_in, said_last}
-use Rattle.agent_ask.specs.TurnParts.{Seats, opened, interrupted, Closes, unheld, closed}
-use Rattle.agent_ask.specs.SessionPrompts.{AnyInSession, none, called, noted, out_of_memory}
-use Rattle.agent_commands.specs.Exchanges.{CacheExchange, LineExchange, option_replies, confirms_by, CacheReplies, TellsPassphrase, TellsInfo}
 use Rattle.agent_commands.specs.Exchanges as exchange
-use Rattle.agent_ask.specs.Plans.{text}
-use Rattle.agent_commands.specs.Names.{commands, prompt_commands, command_named, is_key_command}
-use Rattle.agent_commands.specs.Parts.{CacheEvent, CachePart, AsksPassphrase}
-use Rattle.assuan_server.specs.Written.{limit_line}
-use Rattle.agent_commands.specs.Passphrases.{LooksFor, WantsPrompt, KeepsUnder, ByCache, Uncached as NotCached, WithoutPrompt, PromptsAny, Prompts, as_wanted, passphrase_by}
 use Rattle.agent_commands.specs.Passphrases as passphrase
-use Rattle.agent_commands.specs.Requests.{GetFields, get_fields, request_of, request_by, either, info_of, confirmation_of}
-use Rattle.session_client.specs.Fields.{◌>>=◌}
-use Rattle.agent_commands.specs.declared.names.CommandName.{CommandName}
 use Rattle.agent_commands.specs.declared.names.CommandName.TheVariants as name
-use Rattle.agent_commands.specs.declared.request.CacheCommand.{CacheCommand}
-use Rattle.agent_commands.specs.declared.request.CacheCommand.TheVariants.{Nop, Reset, Bye, Help, SetOption, GetInfo, GetPassphrase, PresetPassphrase, ClearPassphrase, GetConfirmation, ReloadAgent, KillAgent, SetKeyDesc}
-use Rattle.agent_commands.specs.declared.request.Info.{Info}
-use Rattle.agent_commands.specs.declared.request.Request.{Request}
-use Rattle.agent_commands.specs.declared.request.Request.TheVariants.{Cache, Key, Bad}
-use Rattle.agent_commands.specs.declared.request.Texts.{Texts}
-use Rattle.agent_commands.specs.declared.went.Went.{Went}
-use Rattle.assuan_server.specs.Clients.{session_lines}
-use Rattle.session_client.specs.declared.code.Code.{Code}
-use Rattle.assuan_text.specs.Options.{arguments_of}
-use Rattle.assuan_text.specs.Rows.{found_in_any_case}
-use Rattle.assuan_text.specs.Words.{command_of, rest_of, words}
-use Rattle.arrayvec.specs.ArrayVec.{ArrayVec}
-use Rattle.session_client.specs.declared.code.Code.TheVariants.{UnknownCommand}
 use Rattle.session_client.specs.declared.code.Code.TheVariants as code
-use Rattle.session_client.specs.declared.refusal.Refusal.{Refusal}
-use Rattle.session_client.specs.declared.refusal.Refusal.TheVariants.{Agent}
-use Rattle.session_client.specs.declared.unheard.Gone.{Gone}
-use Rattle.cache_policy.specs.declared.secret.TheConstants.{MAX_SECRET_LEN}
-use Rattle.cache_policy.specs.declared.mark.MarkStep.TheVariants.{Seat}
-use Rattle.session_options.specs.declared.options.OptionAnswer.{OptionAnswer}
 use Rattle.session_options.specs.declared.options.OptionAnswer.TheVariants as option
-use Rattle.session_options.specs.declared.options.PinMode.{PinMode}
 use Rattle.session_options.specs.declared.options.PinMode.TheVariants as mode
-use Rattle.cache_policy.specs.Extending.{Taken}
-use Rattle.cache_policy.specs.Turns.{Open}
-use Rattle.session_options.specs.OptionValues.{OptionValues}
-use Rattle.session_options.specs.declared.rules.Rules.{Rules}
-use Rattle.agent_origin.specs.Doors.{key_rules, trust_rules, rule_named, leaves_cache, passes, passes_by, allowed}
-use Rattle.agent_origin.specs.OuterTurns.{AreOuterTurns, no_turns, peeks, unseated, seated, LeavesCache}
-use Rattle.agent_origin.specs.declared.door.Door.TheVariants.{Outer}
-use Rattle.agent_origin.specs.declared.door.Rule.{Rule}
-use Rattle.agent_origin.specs.declared.door.Rule.TheVariants.{Always, NotTheMode, AboutTheAgent, Uncached, Never}
 
 -- ---- events
 

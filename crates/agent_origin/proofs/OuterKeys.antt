@@ -1,49 +1,18 @@
 -- Lines with a command on keys that are allowed at the outer door, and what is done for them to the cache.
-use Rattle.std.proofs.Common.{◌≡◌, ℕ, Bool, true, false, not, cond, List, [], ◌∷◌, ◌++◌, map, Option, None, Some, Result, Ok, Err, refl, ap, sym, ◌∙◌, subst}
-use Rattle.std.specs.Prelude.{codes}
-use Rattle.std.specs.Str.{str_eq_ignore_ascii_case}
-use Rattle.agent_ask.specs.Further.{FurtherEvent}
-use Rattle.agent_commands.specs.Events.{EventWith}
-use Rattle.agent_ask.specs.Plans.{text}
-use Rattle.agent_commands.specs.Names.{commands as cache_commands, prompt_commands, command_named as cache_command_named, is_key_command}
-use Rattle.agent_commands.specs.Requests.{request_of, asked_by, either as of_cache}
-use Rattle.agent_commands.specs.declared.names.CommandName.{CommandName}
-use Rattle.agent_commands.specs.declared.request.CacheCommand.{CacheCommand}
-use Rattle.agent_commands.specs.declared.request.Request.TheVariants.{Key, Bad as BadLine}
-use Rattle.agent_ports.specs.declared.grip.Grip.{Grip}
-use Rattle.arrayvec.specs.ArrayVec.{ArrayVec}
-use Rattle.session_client.specs.declared.code.Code.{Code}
-use Rattle.session_client.specs.declared.code.Code.TheVariants.{UnknownCommand}
-use Rattle.session_client.specs.declared.code.Code.TheVariants as code
-use Rattle.assuan_text.specs.Options.{arguments_of, has_option, options_of}
-use Rattle.assuan_text.specs.Rows.{found_in_any_case}
-use Rattle.assuan_text.specs.Words.{command_of, rest_of, words}
-use Rattle.key_commands.specs.Events.{Event}
-use Rattle.key_commands.specs.Exchanges.{KeyExchange, KeyReply, KeyReplies, HaveKeyReplies, KeyInfoReplies}
-use Rattle.key_commands.specs.KeyParts.{HasOne, is_key, faulty, no_memory as no_key_memory, unread}
-use Rattle.key_commands.specs.Names.{commands_on_keys, key_command_named}
-use Rattle.agent_ask.specs.Parts.{goes_on, stops, returns}
-use Rattle.agent_ask.proofs.Within.{is_unless}
-use Rattle.key_commands.specs.Parts.{Finds, found, absent, faulted, no_memory}
-use Rattle.agent_ask.specs.TurnParts.{peeked, interrupted}
-use Rattle.key_commands.specs.Requests.{key_or_bad, some_grips, first_grip, key_request_by, key_request_of}
-use Rattle.session_client.specs.Fields.{◌>>=◌, in_form}
-use Rattle.key_commands.specs.declared.names.KeyCommandName.{KeyCommandName}
-use Rattle.key_commands.specs.declared.names.KeyCommandName.TheVariants as name
-use Rattle.session_client.specs.declared.refusal.Refusal.{Refusal}
-use Rattle.session_client.specs.declared.refusal.Refusal.TheVariants.{Agent}
-use Rattle.key_commands.specs.declared.request.KeyRequest.{KeyRequest}
-use Rattle.key_commands.specs.declared.request.KeyRequest.TheVariants.{HaveKey, KeyInfo, ListKeys, KeyWrap, ImportKey, ExportKey, Passwd, DeleteKey, Bad}
-use Rattle.key_commands.specs.declared.went.KeyWent.{KeyWent}
-use Rattle.key_commands.specs.declared.wrap_keys.WrapKeys.{WrapKeys}
-use Rattle.session_options.specs.OptionValues.{OptionValues}
-use Rattle.session_options.specs.declared.rules.Rules.{Rules}
-use Rattle.agent_origin.specs.Doors.{key_rules, trust_rules, rule_named, passes, passes_by, allowed}
-use Rattle.agent_origin.specs.OuterTurns.{peeks, LeavesCache}
-use Rattle.agent_origin.specs.declared.door.Door.TheVariants.{Outer}
-use Rattle.agent_origin.specs.declared.door.Rule.{Rule}
-use Rattle.agent_origin.specs.declared.door.Rule.TheVariants.{Always, OneKey, Never}
+use Rattle.std.{proofs.Common.{◌≡◌, ℕ, Bool, true, false, not, cond, List, [], ◌∷◌, ◌++◌, map, Option, None, Some, Result, Ok, Err, refl, ap, sym, ◌∙◌, subst}, specs.{Prelude.codes, Str.str_eq_ignore_ascii_case}}
+use Rattle.{agent_ask.{specs.{Further.FurtherEvent, Plans.text, Parts.{goes_on, stops, returns}, TurnParts.{peeked, interrupted}}, proofs.Within.is_unless}, agent_commands.specs.Events.EventWith}
+use Rattle.agent_commands.specs.{Names.{commands as cache_commands, prompt_commands, command_named as cache_command_named, is_key_command}, Requests.{request_of, asked_by, either as of_cache}, declared.names.CommandName.CommandName}
+use Rattle.{agent_commands.specs.declared.request.{CacheCommand.CacheCommand, Request.TheVariants.{Key, Bad as BadLine}}, agent_ports.specs.declared.grip.Grip.Grip, arrayvec.specs.ArrayVec.ArrayVec}
+use Rattle.{session_client.specs.{declared.{code.Code.{Code, TheVariants.UnknownCommand}, refusal.Refusal.{Refusal, TheVariants.Agent}}, Fields.{◌>>=◌, in_form}}, assuan_text.specs.Options.{arguments_of, has_option, options_of}}
+use Rattle.{assuan_text.specs.{Rows.found_in_any_case, Words.{command_of, rest_of, words}}, key_commands.specs.{Events.Event, Exchanges.{KeyExchange, KeyReply, KeyReplies, HaveKeyReplies, KeyInfoReplies}}}
+use Rattle.key_commands.specs.{KeyParts.{HasOne, is_key, faulty, no_memory as no_key_memory, unread}, Names.{commands_on_keys, key_command_named}, Parts.{Finds, found, absent, faulted, no_memory}}
+use Rattle.key_commands.specs.{Requests.{key_or_bad, some_grips, first_grip, key_request_by, key_request_of}, declared.{names.KeyCommandName.KeyCommandName, request.KeyRequest.KeyRequest}}
+use Rattle.key_commands.specs.declared.{request.KeyRequest.TheVariants.{HaveKey, KeyInfo, ListKeys, KeyWrap, ImportKey, ExportKey, Passwd, DeleteKey, Bad}, went.KeyWent.KeyWent, wrap_keys.WrapKeys.WrapKeys}
+use Rattle.session_options.specs.{OptionValues.OptionValues, declared.rules.Rules.Rules}
+use Rattle.agent_origin.specs.{Doors.{key_rules, trust_rules, rule_named, passes, passes_by, allowed}, OuterTurns.{peeks, LeavesCache}, declared.door.{Door.TheVariants.Outer, Rule.{Rule, TheVariants.{Always, OneKey, Never}}}}
 use Rattle.agent_origin.proofs.Outer.{LeaveLaw, Leaves, LeavesUnseated, unseated_too, leaves_nothing, bind, gives, refused_by, parts_leave, found_mapped, found_joined, cache_rule, request_is}
+use Rattle.session_client.specs.declared.code.Code.TheVariants as code
+use Rattle.key_commands.specs.declared.names.KeyCommandName.TheVariants as name
 
 -- ---- what is done
 

@@ -1,47 +1,19 @@
 -- At the outer door no terminal and no language is set, so no prompt names one.
-use Rattle.std.specs.List.{AllByRecursion}
-use Rattle.std.specs.Prelude.{codes, drop}
-use Rattle.std.proofs.Common.{◌≡◌, ◌∙◌, ℕ, Bool, true, false, cond, List, [], ◌∷◌, ◌++◌, Option, Some, None, Result, Ok, bytes_eq, refl, sym, ap, subst}
-use Rattle.agent_ask.specs.Answering.{WholeOrCut, whole, cut}
-use Rattle.agent_ask.specs.PartExchanges.{answered, refused}
-use Rattle.agent_ask.specs.SessionEvents.{Cut, Sent, CutAtLast}
-use Rattle.agent_ask.proofs.Within.{Within, Yields, returned_so, refused_so, yields_then}
-use Rattle.agent_commands.specs.Endings.{went_after}
-use Rattle.agent_commands.specs.Exchanges.{CacheExchange, CacheReply, option_replies, CacheReplies}
-use Rattle.agent_commands.specs.Requests.{request_of}
-use Rattle.agent_commands.specs.Talks.{Talk, goes_on, over, ended, spent, read_fault, too_long, cut_too_long, Session, greeted, cut_greeting}
-use Rattle.agent_commands.specs.declared.request.CacheCommand.{CacheCommand}
-use Rattle.agent_commands.specs.declared.request.CacheCommand.TheVariants as on
-use Rattle.agent_commands.specs.declared.request.Request.{Request}
-use Rattle.agent_commands.specs.declared.request.Request.TheVariants.{Cache, Key, Bad}
-use Rattle.agent_commands.specs.declared.went.SessionEnd.{SessionEnd}
-use Rattle.agent_commands.specs.declared.went.Went.{Went}
-use Rattle.agent_commands.specs.declared.went.Went.TheVariants.{On}
-use Rattle.assuan_server.specs.Written.{ok}
-use Rattle.assuan_text.specs.Rows.{found}
-use Rattle.assuan_text.specs.Words.{command_of}
-use Rattle.key_commands.specs.Events.{Event}
-use Rattle.key_commands.proofs.EachEvent.{each_append}
-use Rattle.session_client.specs.declared.refusal.Refusal.TheVariants.{Agent}
-use Rattle.session_options.specs.OptionValues.{OptionValues, Applied, without_description, set_to, with_mode, with_count, valued, applied_as, applied}
-use Rattle.session_options.specs.Table.{names, named, mode_of, count_of}
-use Rattle.session_options.specs.Text.{name_of, option_value, can_be_kept}
-use Rattle.session_options.specs.declared.options.OptionAnswer.{OptionAnswer}
-use Rattle.session_options.specs.declared.options.OptionAnswer.TheVariants as option
-use Rattle.session_options.specs.declared.options.PinMode.{PinMode}
-use Rattle.session_options.specs.declared.options.PinMode.TheVariants as mode
-use Rattle.session_options.specs.declared.rules.Rules.{Rules}
-use Rattle.agent_origin.specs.DoorSessions.{door_command_named, door_command, AllowedExchange, DoorExchange}
-use Rattle.agent_origin.specs.DoorSessions as door
-use Rattle.agent_origin.specs.Doors.{is_of_terminal, sets_terminal, allowed}
-use Rattle.agent_origin.specs.OuterPrompts.{no_words, PromptNames, PromptsName}
-use Rattle.agent_origin.specs.SessionExchanges.{RequestExchange, cache, keys}
-use Rattle.agent_origin.specs.declared.door.Door.TheVariants.{Outer}
-use Rattle.agent_origin.specs.declared.door_session.DoorCommand.{DoorCommand}
-use Rattle.agent_origin.specs.declared.door_session.DoorCommand.TheVariants.{Terminal}
-use Rattle.agent_origin.specs.declared.kept.Kept.{Kept}
-use Rattle.agent_origin.proofs.Naming.{exchange_names}
+use Rattle.std.{specs.{List.AllByRecursion, Prelude.{codes, drop}}, proofs.Common.{◌≡◌, ◌∙◌, ℕ, Bool, true, false, cond, List, [], ◌∷◌, ◌++◌, Option, Some, None, Result, Ok, bytes_eq, refl, sym, ap, subst}}
 use Rattle.std.proofs.lemmas.Slice.Eq.{bytes_eq-Decides}
+use Rattle.agent_ask.{specs.{Answering.{WholeOrCut, whole, cut}, PartExchanges.{answered, refused}, SessionEvents.{Cut, Sent, CutAtLast}}, proofs.Within.{Within, Yields, returned_so, refused_so, yields_then}}
+use Rattle.agent_commands.specs.{Endings.went_after, Exchanges.{CacheExchange, CacheReply, option_replies, CacheReplies}, Requests.request_of}
+use Rattle.agent_commands.specs.{Talks.{Talk, goes_on, over, ended, spent, read_fault, too_long, cut_too_long, Session, greeted, cut_greeting}, declared.request.{CacheCommand.CacheCommand, Request.{Request, TheVariants.{Cache, Key, Bad}}}}
+use Rattle.{agent_commands.specs.declared.went.{SessionEnd.SessionEnd, Went.{Went, TheVariants.On}}, assuan_server.specs.Written.ok, assuan_text.specs.{Rows.found, Words.command_of}, key_commands.specs.Events.Event}
+use Rattle.{key_commands.proofs.EachEvent.each_append, session_client.specs.declared.refusal.Refusal.TheVariants.Agent}
+use Rattle.session_options.specs.{OptionValues.{OptionValues, Applied, without_description, set_to, with_mode, with_count, valued, applied_as, applied}, Table.{names, named, mode_of, count_of}, Text.{name_of, option_value, can_be_kept}}
+use Rattle.session_options.specs.declared.{options.{OptionAnswer.OptionAnswer, PinMode.PinMode}, rules.Rules.Rules}
+use Rattle.agent_origin.specs.{DoorSessions.{door_command_named, door_command, AllowedExchange, DoorExchange}, Doors.{is_of_terminal, sets_terminal, allowed}, OuterPrompts.{no_words, PromptNames, PromptsName}}
+use Rattle.agent_origin.{specs.{SessionExchanges.{RequestExchange, cache, keys}, declared.{door.Door.TheVariants.Outer, door_session.DoorCommand.{DoorCommand, TheVariants.Terminal}, kept.Kept.Kept}}, proofs.Naming.exchange_names}
+use Rattle.agent_commands.specs.declared.request.CacheCommand.TheVariants as on
+use Rattle.session_options.specs.declared.options.OptionAnswer.TheVariants as option
+use Rattle.session_options.specs.declared.options.PinMode.TheVariants as mode
+use Rattle.agent_origin.specs.DoorSessions as door
 
 -- ---- an option that isn't of the terminal
 

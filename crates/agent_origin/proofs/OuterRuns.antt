@@ -1,35 +1,13 @@
 -- Turns of a session at the outer door, and what they do to a run that is known.
-use Rattle.std.proofs.Common.{◌≡◌, ◌≤◌, ◌<◌, ◌+◌, ◌==◌, ℕ, true, false, cond, List, [], ◌∷◌, ◌++◌, length, Option, None, Some, refl, ap, sym, ◌∙◌, subst, arith, append-nil, length-append}
-use Rattle.std.specs.Prelude.{◌≢◌, ⊤, ◌⊎◌, IfSome}
-use Rattle.std.specs.List.{AllByRecursion, list_any}
-use Rattle.std.specs.Option.{option_or, option_map, option_and_then}
-use Rattle.std.proofs.Common.{inl, inr}
-use Rattle.std.proofs.lemmas.List.{append_assoc}
-use Rattle.std.proofs.lemmas.Bool.Decides.{nat_tests}
-use Rattle.std.proofs.lemmas.Grind.{flat_map-append}
-use Rattle.agent_ports.specs.Leads.{Leads, none as stay, one}
-use Rattle.agent_ports.specs.declared.session.SessionId.{SessionId}
-use Rattle.cache_policy.specs.Desks.{AtDesk, IsTurn, is_of, Shows, MakesMarks, marked, refused, spent, GoesOn, GoesOnWhereKnown}
-use Rattle.cache_policy.specs.Entries.{stored, kept, kept_under}
-use Rattle.cache_policy.specs.Extending.{Taken, TakesTurn, AreMarked, none, turned, IsExtendedWhereKnown}
-use Rattle.cache_policy.specs.Histories.{History, start_of, next_number, with_mark, with_marks}
-use Rattle.cache_policy.specs.Legal.{IsLegalRun}
-use Rattle.cache_policy.specs.Runs.{joined, start_of_run, last_history, IsFollowedBy, IsRun}
-use Rattle.cache_policy.specs.Seat.{under_of, is_open, gives_back, last_open, unless_back, seat}
-use Rattle.cache_policy.specs.Turns.{Turn, Given, Empty, Open, Stand, Done, Held as Looked, Stopping, Late, Refused, FitsStep, since_of, with_since}
-use Rattle.cache_policy.specs.declared.grant.Grant.{Grant}
-use Rattle.cache_policy.specs.declared.history.Held.{Held}
-use Rattle.cache_policy.specs.declared.life.Limits.{Limits}
-use Rattle.cache_policy.specs.declared.mark.Mark.{Mark}
+use Rattle.std.proofs.{Common.{◌≡◌, ◌≤◌, ◌<◌, ◌+◌, ◌==◌, ℕ, true, false, cond, List, [], ◌∷◌, ◌++◌, length, Option, None, Some, refl, ap, sym, ◌∙◌, subst, arith, append-nil, length-append, inl, inr}, lemmas.List.append_assoc}
+use Rattle.std.{proofs.lemmas.{Bool.Decides.nat_tests, Grind.flat_map-append}, specs.{Prelude.{◌≢◌, ⊤, ◌⊎◌, IfSome}, List.{AllByRecursion, list_any}, Option.{option_or, option_map, option_and_then}}}
+use Rattle.{agent_ports.specs.{Leads.{Leads, none as stay, one}, declared.session.SessionId.SessionId}, cache_policy.specs.Desks.{AtDesk, IsTurn, is_of, Shows, MakesMarks, marked, refused, spent, GoesOn, GoesOnWhereKnown}}
+use Rattle.cache_policy.specs.{Entries.{stored, kept, kept_under}, Extending.{Taken, TakesTurn, AreMarked, none, turned, IsExtendedWhereKnown}, Histories.{History, start_of, next_number, with_mark, with_marks}, Legal.IsLegalRun}
+use Rattle.cache_policy.specs.{Runs.{joined, start_of_run, last_history, IsFollowedBy, IsRun}, Seat.{under_of, is_open, gives_back, last_open, unless_back, seat}}
+use Rattle.cache_policy.specs.{Turns.{Turn, Given, Empty, Open, Stand, Done, Held as Looked, Stopping, Late, Refused, FitsStep, since_of, with_since}, declared.{grant.Grant.Grant, history.Held.Held, life.Limits.Limits, mark.Mark.Mark}}
+use Rattle.cache_policy.{specs.declared.mark.{MarkStep.{MarkStep, TheVariants.{Seat, Close, Peek}}, Under.Under}, proofs.{Extending.extends, Lists.{all_append, all_weaker}, OnePromptLemmas.numbers_go_on}}
+use Rattle.agent_origin.specs.{OuterRuns.{IsOuterStep, seats, closes, peeks as looks, IsOuterMark, LeavesWhereKnown, LeavesDesk}, OuterTurns.{AreOuterTurns, no_turns, peeks, unseated, seated, GiveNothing}}
 use Rattle.cache_policy.specs.declared.mark.MarkReply.TheVariants as reply
-use Rattle.cache_policy.specs.declared.mark.MarkStep.{MarkStep}
-use Rattle.cache_policy.specs.declared.mark.MarkStep.TheVariants.{Seat, Close, Peek}
-use Rattle.cache_policy.specs.declared.mark.Under.{Under}
-use Rattle.cache_policy.proofs.Extending.{extends}
-use Rattle.cache_policy.proofs.Lists.{all_append, all_weaker}
-use Rattle.cache_policy.proofs.OnePromptLemmas.{numbers_go_on}
-use Rattle.agent_origin.specs.OuterRuns.{IsOuterStep, seats, closes, peeks as looks, IsOuterMark, LeavesWhereKnown, LeavesDesk}
-use Rattle.agent_origin.specs.OuterTurns.{AreOuterTurns, no_turns, peeks, unseated, seated, GiveNothing}
 
 -- ---- marks
 

@@ -1,26 +1,10 @@
 -- Whole sessions at the outer door, and what they do to the cache.
 use Rattle.std.proofs.Common.{◌≡◌, ℕ, true, List, [], ◌∷◌, ◌++◌, refl, ap, sym, ◌∙◌, subst}
-use Rattle.agent_ask.specs.Answering.{WholeOrCut, whole, cut}
-use Rattle.agent_ask.specs.SessionEvents.{AnyEvent, Sent, Cut, turns_in, CutAtLast}
-use Rattle.agent_commands.specs.Endings.{went_after}
-use Rattle.agent_commands.specs.Exchanges.{CacheExchange}
-use Rattle.agent_commands.specs.Requests.{request_of}
-use Rattle.agent_commands.specs.Talks.{Talk, goes_on, over, ended, spent, read_fault, too_long, cut_too_long, Session, greeted, cut_greeting}
-use Rattle.agent_commands.specs.declared.request.Request.{Request}
-use Rattle.agent_commands.specs.declared.went.SessionEnd.{SessionEnd}
-use Rattle.agent_commands.specs.declared.went.Went.{Went}
-use Rattle.key_commands.specs.Events.{Event}
-use Rattle.key_commands.specs.Exchanges.{KeyExchange}
-use Rattle.key_commands.specs.Requests.{key_request_of}
-use Rattle.session_options.specs.declared.rules.Rules.{Rules}
-use Rattle.agent_origin.specs.DoorSessions.{AllowedExchange, helped, unset, trusts, any, DoorExchange, forbidden, is_allowed}
-use Rattle.agent_origin.specs.Doors.{allowed}
-use Rattle.agent_origin.specs.OuterTurns.{AreOuterTurns, no_turns, LeavesCache}
-use Rattle.agent_origin.specs.SessionExchanges.{RequestExchange, cache, keys}
-use Rattle.agent_origin.specs.declared.door.Door.TheVariants.{Outer}
-use Rattle.agent_origin.specs.declared.kept.Kept.{Kept}
-use Rattle.agent_origin.proofs.Outer.{turns_then, leaves_then, line_leaves}
-use Rattle.agent_origin.proofs.OuterKeys.{handed_line, key_leaves}
+use Rattle.{agent_ask.specs.{Answering.{WholeOrCut, whole, cut}, SessionEvents.{AnyEvent, Sent, Cut, turns_in, CutAtLast}}, agent_commands.specs.{Endings.went_after, Exchanges.CacheExchange, Requests.request_of}}
+use Rattle.agent_commands.specs.{Talks.{Talk, goes_on, over, ended, spent, read_fault, too_long, cut_too_long, Session, greeted, cut_greeting}, declared.{request.Request.Request, went.{SessionEnd.SessionEnd, Went.Went}}}
+use Rattle.{key_commands.specs.{Events.Event, Exchanges.KeyExchange, Requests.key_request_of}, session_options.specs.declared.rules.Rules.Rules}
+use Rattle.agent_origin.specs.{DoorSessions.{AllowedExchange, helped, unset, trusts, any, DoorExchange, forbidden, is_allowed}, Doors.allowed, OuterTurns.{AreOuterTurns, no_turns, LeavesCache}}
+use Rattle.agent_origin.{specs.{SessionExchanges.{RequestExchange, cache, keys}, declared.{door.Door.TheVariants.Outer, kept.Kept.Kept}}, proofs.{Outer.{turns_then, leaves_then, line_leaves}, OuterKeys.{handed_line, key_leaves}}}
 use Rattle.agent_origin.proofs.OuterTrust.{trust_leaves}
 
 -- a cut exchange has the turns of the whole one

@@ -1,35 +1,13 @@
 -- Lines with a command on the trust list that are allowed at the outer door, and what is done for them to the cache.
-use Rattle.std.proofs.Common.{◌≡◌, ℕ, Bool, true, false, cond, List, [], ◌∷◌, Option, None, Some, Result, Ok, Err, bytes_eq, refl, subst}
-use Rattle.std.specs.Prelude.{codes}
-use Rattle.std.specs.Str.{str_to_ascii_lowercase}
-use Rattle.agent_ask.specs.Parts.{Refuses}
-use Rattle.agent_commands.specs.declared.went.Went.{Went}
-use Rattle.agent_ports.specs.declared.grip.Grip.{Grip}
-use Rattle.session_client.specs.declared.code.Code.{Code}
-use Rattle.session_client.specs.declared.code.Code.TheVariants as code
-use Rattle.assuan_text.specs.Words.{command_of}
-use Rattle.key_commands.specs.Events.{Event}
-use Rattle.session_client.specs.Fields.{◌>>=◌}
-use Rattle.session_options.specs.OptionValues.{OptionValues}
-use Rattle.session_options.specs.declared.rules.Rules.{Rules}
-use Rattle.trust_list.specs.Trust.{trust}
-use Rattle.agent_origin.specs.Doors.{rules, rule_named, passes_by, allowed}
-use Rattle.agent_origin.specs.TrustExchanges.{TrustExchange, Carried, TrustedNow, unless_said}
-use Rattle.agent_origin.specs.TrustNames.{trust_command_named}
-use Rattle.agent_origin.specs.OuterTurns.{LeavesCache}
-use Rattle.agent_origin.specs.TrustParts.{ReadsFile, has_read, faulted, no_memory}
-use Rattle.agent_origin.specs.TrustRequests.{trust_or_bad, trust_request_by, trust_request_of}
-use Rattle.agent_origin.specs.declared.door.Door.TheVariants.{Outer}
-use Rattle.agent_origin.specs.declared.door.Rule.{Rule}
-use Rattle.agent_origin.specs.declared.door.Rule.TheVariants.{Never}
-use Rattle.agent_origin.specs.declared.trust.names.TrustCommandName.{TrustCommandName}
-use Rattle.agent_origin.specs.declared.trust.names.TrustCommandName.TheVariants as name
-use Rattle.session_client.specs.declared.refusal.Refusal.{Refusal}
-use Rattle.session_client.specs.declared.refusal.Refusal.TheVariants.{Agent}
-use Rattle.agent_origin.specs.declared.trust.request.TrustRequest.{TrustRequest}
-use Rattle.agent_origin.specs.declared.trust.request.TrustRequest.TheVariants.{IsTrusted, MarkTrusted, Bad}
+use Rattle.std.{proofs.{Common.{◌≡◌, ℕ, Bool, true, false, cond, List, [], ◌∷◌, Option, None, Some, Result, Ok, Err, bytes_eq, refl, subst}, lemmas.Slice.Eq.bytes_eq-Decides}, specs.{Prelude.codes, Str.str_to_ascii_lowercase}}
+use Rattle.{agent_ask.specs.Parts.Refuses, agent_commands.specs.declared.went.Went.Went, agent_ports.specs.declared.grip.Grip.Grip, session_client.specs.declared.{code.Code.Code, refusal.Refusal.{Refusal, TheVariants.Agent}}}
+use Rattle.{session_client.specs.Fields.◌>>=◌, assuan_text.specs.Words.command_of, key_commands.specs.Events.Event, session_options.specs.{OptionValues.OptionValues, declared.rules.Rules.Rules}, trust_list.specs.Trust.trust}
+use Rattle.agent_origin.specs.{Doors.{rules, rule_named, passes_by, allowed}, TrustExchanges.{TrustExchange, Carried, TrustedNow, unless_said}, TrustNames.trust_command_named, OuterTurns.LeavesCache}
+use Rattle.agent_origin.specs.{TrustParts.{ReadsFile, has_read, faulted, no_memory}, TrustRequests.{trust_or_bad, trust_request_by, trust_request_of}, declared.door.{Door.TheVariants.Outer, Rule.{Rule, TheVariants.Never}}}
+use Rattle.agent_origin.specs.declared.trust.{names.TrustCommandName.TrustCommandName, request.TrustRequest.{TrustRequest, TheVariants.{IsTrusted, MarkTrusted, Bad}}}
 use Rattle.agent_origin.proofs.Outer.{LeaveLaw, Leaves, bind, unseated_too, gives, refused_by, parts_leave}
-use Rattle.std.proofs.lemmas.Slice.Eq.{bytes_eq-Decides}
+use Rattle.session_client.specs.declared.code.Code.TheVariants as code
+use Rattle.agent_origin.specs.declared.trust.names.TrustCommandName.TheVariants as name
 
 -- ---- MARKTRUSTED is never allowed
 

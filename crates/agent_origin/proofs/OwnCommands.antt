@@ -1,14 +1,7 @@
 -- Lines that a door answers by itself, by what each is.
-use Rattle.std.proofs.Common.{◌≡◌, ℕ, Bool, true, false, cond, List, Option, Some, None, codes, refl, sym}
-use Rattle.std.specs.Str.{str_eq_ignore_ascii_case}
-use Rattle.agent_commands.specs.Requests.{request_of}
-use Rattle.assuan_text.specs.Words.{command_of}
-use Rattle.agent_origin.specs.DoorSessions.{door_command_named, door_command}
-use Rattle.agent_origin.specs.Doors.{sets_terminal}
-use Rattle.agent_origin.specs.declared.door.Door.{Door}
-use Rattle.agent_origin.specs.declared.door.Door.TheVariants.{Home, Outer}
-use Rattle.agent_origin.specs.declared.door_session.DoorCommand.{DoorCommand}
-use Rattle.agent_origin.specs.declared.door_session.DoorCommand.TheVariants.{Help, Trust, Terminal}
+use Rattle.std.{proofs.Common.{◌≡◌, ℕ, Bool, true, false, cond, List, Option, Some, None, codes, refl, sym}, specs.Str.str_eq_ignore_ascii_case}
+use Rattle.{agent_commands.specs.Requests.request_of, assuan_text.specs.Words.command_of}
+use Rattle.agent_origin.specs.{DoorSessions.{door_command_named, door_command}, Doors.sets_terminal, declared.{door.Door.{Door, TheVariants.{Home, Outer}}, door_session.DoorCommand.{DoorCommand, TheVariants.{Help, Trust, Terminal}}}}
 
 named_by : {X : Type 0} {terminal x : X} → ¬ (terminal ≡ x) → (sets : Bool) (rest : Option X) → cond sets (Some terminal) rest ≡ Some x → rest ≡ Some x
 named_by {terminal} {x} other true rest is = absurd (other (let same : terminal ≡ x = cc is in same))

@@ -1,11 +1,7 @@
 -- A session that was served on a connection, as its link shows it.
 use Rattle.std.proofs.Common.{◌≡◌, sym}
-use Rattle.agent_commands.specs.Outside.{World}
-use Rattle.agent_commands.specs.States.{SessionState}
-use Rattle.agent_commands.specs.declared.went.SessionEnd.{SessionEnd}
-use Rattle.agent_ports.specs.Sides.{Side}
-use Rattle.agent_origin.specs.Serving.{ServesConn}
-use Rattle.agent_origin.specs.Sessions.{LineRelation, ServesSession}
+use Rattle.{agent_commands.specs.{Outside.World, States.SessionState, declared.went.SessionEnd.SessionEnd}, agent_ports.specs.Sides.Side}
+use Rattle.agent_origin.specs.{Serving.ServesConn, Sessions.{LineRelation, ServesSession}}
 
 pub on_link : {w : World} {S : Type 0} (exchange : LineRelation w S) (before : S) {start now : SessionState w} {end : SessionEnd} {input output input_now output_now : Side}
     → start.conn.input ≡ input → start.conn.output ≡ output → input_now ≡ now.conn.input → output_now ≡ now.conn.output → ServesConn {w = w} exchange before start end now

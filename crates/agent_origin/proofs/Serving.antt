@@ -1,38 +1,13 @@
 -- A session that is under way, and what each way out of its loop makes of it.
 use Rattle.std.proofs.Common.{◌≡◌, ℕ, List, [], ◌∷◌, ◌++◌, Option, Some, None, Ok, Err, refl, ap, sym, ◌∙◌, subst, arith, append_assoc}
-use Rattle.agent_ports.specs.Counts.{Rose}
-use Rattle.assuan_line.specs.Next.{Reader}
-use Rattle.assuan_line.specs.declared.reader.Took.{Took}
+use Rattle.{agent_ports.specs.{Counts.Rose, declared.link.WriteFault.WriteFault, Writing.StopsWriting}, assuan_line.specs.{Next.Reader, declared.reader.Took.Took}, assuan_server.specs.{Clients.connection_views, Connections.Connection}}
+use Rattle.{assuan_server.{specs.{Requests.NextRequest, Written.{failed, WritesText}, Reading.unread}, proofs.{Clients.{said_so, received_so}, Reading.here_going}}, session_client.specs.declared.code.Code.TheVariants.LineTooLong}
+use Rattle.agent_ask.{specs.{Answering.{ReaderLeft, FaultsCounted}, SessionEvents.{Received, Sent, Cut}}, proofs.{PartsDone.{still_open, no_fault}, Replying.text_written, Doing.{done_none, done_then, done_said, done_cut, done_received}}}
+use Rattle.agent_commands.specs.{Endings.{gone_of, went_after, gone_after}, Events.EventWith, Outside.World, States.{SessionState, EventsLead, AnswersRequest}, Talks.{Talk, goes_on, over, ended, spent, read_fault, too_long, cut_too_long}}
+use Rattle.agent_commands.{specs.declared.went.{SessionEnd.{SessionEnd, TheVariants.{Bye, Killed, Ended, TooLong, Spent, ReadFault}}, Went.{Went, TheVariants.{On, End}}}, proofs.Replying.gone_as_it_went}
+use Rattle.agent_origin.specs.{Sessions.{LineRelation, Leaves}, Serving.{ServesRequests, SaysText, says}}
 use Rattle.assuan_line.specs.declared.reader.Took.TheVariants as took
-use Rattle.assuan_server.specs.Clients.{connection_views}
-use Rattle.assuan_server.specs.Connections.{Connection}
-use Rattle.assuan_server.specs.Requests.{NextRequest}
-use Rattle.session_client.specs.declared.code.Code.TheVariants.{LineTooLong}
-use Rattle.assuan_server.specs.Written.{failed}
-use Rattle.agent_ask.specs.Answering.{ReaderLeft, FaultsCounted}
-use Rattle.agent_commands.specs.Endings.{gone_of, went_after, gone_after}
-use Rattle.agent_commands.specs.Events.{EventWith}
-use Rattle.agent_ask.specs.SessionEvents.{Received, Sent, Cut}
-use Rattle.agent_commands.specs.Outside.{World}
-use Rattle.agent_commands.specs.States.{SessionState, EventsLead, AnswersRequest}
-use Rattle.assuan_server.specs.Written.{WritesText}
-use Rattle.assuan_server.specs.Reading.{unread}
-use Rattle.agent_commands.specs.Talks.{Talk, goes_on, over, ended, spent, read_fault, too_long, cut_too_long}
-use Rattle.agent_ports.specs.declared.link.WriteFault.{WriteFault}
-use Rattle.agent_ports.specs.Writing.{StopsWriting}
-use Rattle.agent_commands.specs.declared.went.SessionEnd.{SessionEnd}
-use Rattle.agent_commands.specs.declared.went.SessionEnd.TheVariants.{Bye, Killed, Ended, TooLong, Spent, ReadFault}
 use Rattle.agent_commands.specs.declared.went.SessionEnd.TheVariants as ends
-use Rattle.agent_commands.specs.declared.went.Went.{Went}
-use Rattle.agent_commands.specs.declared.went.Went.TheVariants.{On, End}
-use Rattle.agent_commands.proofs.Replying.{gone_as_it_went}
-use Rattle.agent_ask.proofs.PartsDone.{still_open, no_fault}
-use Rattle.agent_ask.proofs.Replying.{text_written}
-use Rattle.agent_ask.proofs.Doing.{done_none, done_then, done_said, done_cut, done_received}
-use Rattle.assuan_server.proofs.Clients.{said_so, received_so}
-use Rattle.assuan_server.proofs.Reading.{here_going}
-use Rattle.agent_origin.specs.Sessions.{LineRelation, Leaves}
-use Rattle.agent_origin.specs.Serving.{ServesRequests, SaysText, says}
 
 leaves_part_of : (reader : Reader) (left : List ℕ) (o : Option Took) → reader.ended ≡ o → (ahead : List ℕ) × (unread reader left ≡ ahead ++ left)
 leaves_part_of reader left None is = (reader.ahead, here_going reader left is)

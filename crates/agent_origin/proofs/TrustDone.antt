@@ -1,39 +1,14 @@
 -- Parts of a request on the trust list that were done, each beside the ends of its session that it leaves alone.
 use Rattle.std.proofs.Common.{◌≡◌, ℕ, Bool, List, [], ◌∷◌, Option, Some, None, Result, Ok, Err, arith}
-use Rattle.agent_ask.specs.Clients.{Hears, LeftByPart}
-use Rattle.agent_ask.specs.ConsentParts.{AgreesTo, AsksQuestion}
-use Rattle.agent_ask.specs.Doing.{PromptEnds, DoesPrompt, HasEvents}
-use Rattle.agent_ask.specs.Events.{Call}
-use Rattle.agent_ask.specs.Further.{FurtherEvent, DoesFurther, world_with}
-use Rattle.agent_ask.specs.Further as further
-use Rattle.agent_ask.specs.Parts.{◌>>=◌}
-use Rattle.agent_ask.specs.PartStates.{gone_in, DoesPart, NoTurn}
-use Rattle.agent_ask.specs.SessionEvents.{Further}
-use Rattle.agent_ask.proofs.ConsentParts.{agrees}
-use Rattle.agent_ask.proofs.Doing.{done_further}
-use Rattle.agent_ask.proofs.PartsAtClient.{part_prompted}
-use Rattle.agent_ask.proofs.PartsDone.{part_then, part_stops, part_still, part_in}
-use Rattle.agent_ports.specs.KeyFiles.{KeyFiles}
-use Rattle.agent_ports.specs.Sides.{Side}
-use Rattle.agent_ports.specs.TrustFiles.{TrustState}
-use Rattle.agent_ports.specs.declared.grip.Grip.{Grip}
-use Rattle.assuan_server.specs.Clients.{session_lines, connection_views, Wishes}
-use Rattle.assuan_server.specs.Connections.{Connection, IsOpen}
-use Rattle.cache_policy.specs.declared.mark.MarkStep.{MarkStep}
-use Rattle.cache_policy.specs.Turns.{Turn}
-use Rattle.key_commands.specs.Parts.{Part}
-use Rattle.session_client.specs.declared.refusal.Refusal.{Refusal}
-use Rattle.session_options.specs.OptionValues.{OptionValues}
-use Rattle.session_options.specs.declared.rules.Rules.{Rules}
-use Rattle.trust_list.specs.Trust.{trust}
-use Rattle.agent_ask.specs.PartReplies.{stops_at}
-use Rattle.agent_commands.specs.Steps.{CarriesOut, ok_by}
+use Rattle.agent_ask.specs.{Clients.{Hears, LeftByPart}, ConsentParts.{AgreesTo, AsksQuestion}, Doing.{PromptEnds, DoesPrompt, HasEvents}, Events.Call, Further.{FurtherEvent, DoesFurther, world_with}, Parts.◌>>=◌}
+use Rattle.agent_ask.{specs.{PartStates.{gone_in, DoesPart, NoTurn}, SessionEvents.Further, PartReplies.stops_at}, proofs.{ConsentParts.agrees, Doing.done_further, PartsAtClient.part_prompted}}
+use Rattle.{agent_ask.proofs.PartsDone.{part_then, part_stops, part_still, part_in}, agent_ports.specs.{KeyFiles.KeyFiles, Sides.Side, TrustFiles.TrustState, declared.grip.Grip.Grip}}
+use Rattle.{assuan_server.specs.{Clients.{session_lines, connection_views, Wishes}, Connections.{Connection, IsOpen}}, cache_policy.specs.{declared.mark.MarkStep.MarkStep, Turns.Turn}, key_commands.specs.Parts.Part}
+use Rattle.{session_client.specs.declared.refusal.Refusal.Refusal, session_options.specs.{OptionValues.OptionValues, declared.rules.Rules.Rules}, trust_list.specs.Trust.trust, agent_commands.specs.Steps.{CarriesOut, ok_by}}
 use Rattle.agent_commands.proofs.Carrying.{replies_ok}
-use Rattle.agent_origin.specs.FurtherStates.{further_ends, FurtherState}
-use Rattle.agent_origin.specs.TrustExchanges.{unless_said, Carried, TrustReplies}
-use Rattle.agent_origin.specs.TrustParts.{ReadsFile}
-use Rattle.agent_origin.specs.TrustStates.{DoesTrustFile, called, no_memory, DoesAtFile, LeavesKeys}
+use Rattle.agent_origin.specs.{FurtherStates.{further_ends, FurtherState}, TrustExchanges.{unless_said, Carried, TrustReplies}, TrustParts.ReadsFile, TrustStates.{DoesTrustFile, called, no_memory, DoesAtFile, LeavesKeys}}
 use Rattle.agent_origin.specs.declared.trust.request.TrustRequest.{TrustRequest}
+use Rattle.agent_ask.specs.Further as further
 
 -- ---- the trust file
 

@@ -1,21 +1,9 @@
 -- The definitions on worked examples, each by computation.
-use Rattle.std.specs.Prelude.{◌≡◌, ◌++◌, replicate, codes, true, false, refl}
-use Rattle.std.proofs.Common.{ℕ, ◌≤◌, List, length, None, Some, arith}
-use Rattle.hex.proofs.OnLiterals.{hex_on_literals}
-use Rattle.percent_encoding.proofs.OnLiterals.{percent_encoding_on_literals}
-use Rattle.agent_commands.specs.Names.{command_named as cache_command_named}
-use Rattle.agent_commands.specs.Requests.{request_of}
-use Rattle.agent_ports.specs.declared.grip.Grip.{Grip}
-use Rattle.session_client.specs.declared.code.Code.TheVariants.{UnknownCommand, Parameter}
-use Rattle.agent_origin.specs.Doors.{rule_named, allowed}
-use Rattle.agent_origin.specs.DoorSessions.{door_command_named, door_command}
-use Rattle.agent_origin.specs.declared.door_session.DoorCommand.TheVariants.{Terminal}
-use Rattle.agent_origin.specs.TrustNames.{trust_command_named}
-use Rattle.agent_origin.specs.TrustRequests.{trust_request_of}
-use Rattle.agent_origin.specs.declared.trust.request.TheConstants.{MAX_NAME_LEN}
-use Rattle.agent_origin.specs.declared.door.Door.TheVariants.{Home, Outer}
-use Rattle.agent_origin.specs.declared.trust.request.TrustPurpose.TheVariants.{X509}
-use Rattle.agent_origin.specs.declared.trust.request.TrustRequest.TheVariants.{IsTrusted, MarkTrusted, Bad}
+use Rattle.std.{specs.Prelude.{◌≡◌, ◌++◌, replicate, codes, true, false, refl}, proofs.Common.{ℕ, ◌≤◌, List, length, None, Some, arith}}
+use Rattle.{hex.proofs.OnLiterals.hex_on_literals, percent_encoding.proofs.OnLiterals.percent_encoding_on_literals, agent_commands.specs.{Names.command_named as cache_command_named, Requests.request_of}}
+use Rattle.{agent_ports.specs.declared.grip.Grip.Grip, session_client.specs.declared.code.Code.TheVariants.{UnknownCommand, Parameter}}
+use Rattle.agent_origin.specs.{Doors.{rule_named, allowed}, DoorSessions.{door_command_named, door_command}, declared.{door_session.DoorCommand.TheVariants.Terminal, trust.request.{TheConstants.MAX_NAME_LEN, TrustPurpose.TheVariants.X509}}}
+use Rattle.agent_origin.specs.{declared.{trust.request.TrustRequest.TheVariants.{IsTrusted, MarkTrusted, Bad}, door.Door.TheVariants.{Home, Outer}}, TrustNames.trust_command_named, TrustRequests.trust_request_of}
 
 -- ---- doors
 

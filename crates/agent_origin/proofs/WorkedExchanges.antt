@@ -1,46 +1,15 @@
 -- What is done for requests on the trust list, on worked examples.
-use Rattle.std.proofs.Common.{◌≡◌, ℕ, Bool, false, List, [], ◌∷◌, ◌++◌, replicate, Some, None, refl, lit≤}
-use Rattle.std.specs.Fmt.{digits}
-use Rattle.std.specs.Prelude.{codes}
-use Rattle.hex.specs.Hex.{encode_with}
-use Rattle.agent_ask.specs.Consents.{AsksConsent, agreed_of, asked}
-use Rattle.agent_ask.specs.Events.{Called, Start, Confirm, Shut}
-use Rattle.agent_ask.specs.Further.{Prompt}
-use Rattle.agent_ask.specs.Plans.{IsSpec, text}
-use Rattle.agent_ask.specs.Prompts.{quiet}
-use Rattle.agent_ask.specs.SessionEvents.{Sent, Further, cache_turn}
-use Rattle.agent_ask.specs.TrustCalls.{Read, Replaced}
-use Rattle.agent_ask.specs.SessionPrompts.{none, called as shown}
-use Rattle.agent_ask.specs.declared.prompter.Consent.{Consent}
-use Rattle.agent_ask.specs.declared.prompter.Consent.TheVariants.{Yes, No}
-use Rattle.agent_ask.specs.declared.prompter.Opened.TheVariants.{Pid}
-use Rattle.agent_ask.specs.declared.spec.PromptSpec.{PromptSpec}
-use Rattle.assuan_server.specs.Written.{ok}
-use Rattle.agent_commands.specs.declared.went.Went.TheVariants.{On}
-use Rattle.agent_ports.specs.declared.grip.Grip.{Grip}
-use Rattle.agent_ports.specs.declared.trust.TrustDone.TheVariants.{Done as IsDone}
-use Rattle.agent_ports.specs.declared.trust.TrustRead.{TrustRead}
-use Rattle.agent_ports.specs.declared.trust.TrustRead.TheVariants.{Absent, Failed}
-use Rattle.cache_policy.specs.declared.mark.MarkStep.TheVariants.{Seat, Close}
-use Rattle.cache_policy.specs.Turns.{Open, Done}
-use Rattle.key_commands.specs.Events.{Event}
-use Rattle.session_options.specs.OptionValues.{OptionValues}
-use Rattle.session_options.specs.declared.options.PinMode.TheVariants as mode
-use Rattle.session_options.specs.declared.rules.Rules.{Rules}
-use Rattle.trust_list.specs.Trust.{with_entry}
-use Rattle.agent_origin.specs.TrustExchanges.{trust_question, fingerprint_question, TrustExchange, TrustedNow, Stores, StoresUnsaid, Consented, Marked}
-use Rattle.agent_ask.specs.ConsentParts.{consents, refused as dissents}
-use Rattle.agent_ask.specs.Parts.{goes_on, stops, returns, refuses}
-use Rattle.agent_ask.specs.PartExchanges.{answered, refused}
-use Rattle.agent_ask.specs.TurnParts.{opened, unheld, closed}
-use Rattle.agent_commands.specs.Exchanges.{reply}
-use Rattle.agent_origin.specs.TrustParts.{has_read, faulted, added, replaced, file_in, trust_called}
-use Rattle.session_client.specs.declared.refusal.Refusal.TheVariants.{Agent, Pinentry}
-use Rattle.agent_origin.specs.declared.trust.request.TrustPurpose.TheVariants.{X509}
-use Rattle.agent_origin.specs.declared.trust.request.TrustRequest.{TrustRequest}
-use Rattle.agent_origin.specs.declared.trust.request.TrustRequest.TheVariants.{IsTrusted, MarkTrusted}
-use Rattle.assuan_server.specs.Written.{failed, failed_at_pinentry}
+use Rattle.std.{proofs.Common.{◌≡◌, ℕ, Bool, false, List, [], ◌∷◌, ◌++◌, replicate, Some, None, refl, lit≤}, specs.{Fmt.digits, Prelude.codes}}
+use Rattle.{hex.specs.Hex.encode_with, agent_ask.specs.{Consents.{AsksConsent, agreed_of, asked}, Events.{Called, Start, Confirm, Shut}, Further.Prompt, Plans.{IsSpec, text}, Prompts.quiet, SessionEvents.{Sent, Further, cache_turn}}}
+use Rattle.agent_ask.specs.{TrustCalls.{Read, Replaced}, SessionPrompts.{none, called as shown}, declared.{prompter.{Consent.{Consent, TheVariants.{Yes, No}}, Opened.TheVariants.Pid}, spec.PromptSpec.PromptSpec}}
+use Rattle.agent_ask.specs.{ConsentParts.{consents, refused as dissents}, Parts.{goes_on, stops, returns, refuses}, PartExchanges.{answered, refused}, TurnParts.{opened, unheld, closed}}
+use Rattle.{assuan_server.specs.Written.{ok, failed, failed_at_pinentry}, agent_commands.specs.{declared.went.Went.TheVariants.On, Exchanges.reply}, agent_ports.specs.declared.{grip.Grip.Grip, trust.TrustDone.TheVariants.Done as IsDone}}
+use Rattle.{agent_ports.specs.declared.trust.TrustRead.{TrustRead, TheVariants.{Absent, Failed}}, cache_policy.specs.{declared.mark.MarkStep.TheVariants.{Seat, Close}, Turns.{Open, Done}}, key_commands.specs.Events.Event}
+use Rattle.{session_options.specs.{OptionValues.OptionValues, declared.rules.Rules.Rules}, trust_list.specs.Trust.with_entry, session_client.specs.declared.refusal.Refusal.TheVariants.{Agent, Pinentry}}
 use Rattle.session_client.specs.declared.code.Code.TheVariants.{General, NotTrusted, NotConfirmed, Forbidden}
+use Rattle.agent_origin.specs.{TrustExchanges.{trust_question, fingerprint_question, TrustExchange, TrustedNow, Stores, StoresUnsaid, Consented, Marked}, TrustParts.{has_read, faulted, added, replaced, file_in, trust_called}}
+use Rattle.agent_origin.specs.declared.trust.request.{TrustPurpose.TheVariants.X509, TrustRequest.{TrustRequest, TheVariants.{IsTrusted, MarkTrusted}}}
+use Rattle.session_options.specs.declared.options.PinMode.TheVariants as mode
 
 not_trusted_line : failed NotTrusted ≡ codes "ERR 67108962 Not trusted <GPG Agent>" ++ 10 ∷ []
 unfolding digits

@@ -2,33 +2,11 @@
 -- list are served beside those of every session. A known command that isn't allowed there is answered by an error of its own, and nothing else is
 -- done. The terminal of another machine has no effect at the outer door. This is the project's own.
 use Rattle.std.specs.Prelude.{◌≡◌, ℕ, true, false, List, [], ◌∷◌, codes, map, Option, Some, None, if◌then◌else◌}
-use Rattle.agent_ask.specs.Events.{Call}
-use Rattle.agent_ask.specs.SessionEvents.{Sent}
-use Rattle.agent_commands.specs.Answers.{help_with}
-use Rattle.agent_commands.specs.declared.went.SessionEnd.{SessionEnd}
-use Rattle.agent_commands.specs.declared.went.Went.{Went}
-use Rattle.agent_commands.specs.declared.went.Went.TheVariants.{On}
-use Rattle.assuan_server.specs.Written.{failed, ok}
-use Rattle.session_client.specs.declared.code.Code.TheVariants.{Forbidden}
-use Rattle.assuan_text.specs.Rows.{found_in_any_case}
-use Rattle.assuan_text.specs.Words.{command_of}
-use Rattle.cache_policy.specs.declared.mark.MarkStep.{MarkStep}
-use Rattle.cache_policy.specs.Turns.{Turn}
-use Rattle.key_commands.specs.Events.{Event}
+use Rattle.{agent_ask.specs.{Events.Call, SessionEvents.Sent}, agent_commands.specs.{Answers.help_with, declared.went.{SessionEnd.SessionEnd, Went.{Went, TheVariants.On}}, Requests.request_of}, assuan_server.specs.Written.{failed, ok}}
+use Rattle.{session_client.specs.declared.code.Code.TheVariants.Forbidden, assuan_text.specs.{Rows.found_in_any_case, Words.command_of}, cache_policy.specs.{declared.mark.MarkStep.MarkStep, Turns.Turn}, key_commands.specs.Events.Event}
 use Rattle.session_options.specs.declared.rules.Rules.{Rules}
-use Rattle.agent_commands.specs.Requests.{request_of}
-use Rattle.agent_origin.specs.Doors.{sets_terminal, allowed}
-use Rattle.agent_origin.specs.TrustExchanges.{TrustExchange}
-use Rattle.agent_origin.specs.FurtherStates.{FurtherWorld}
-use Rattle.agent_origin.specs.TrustNames.{commands_on_trust}
-use Rattle.agent_origin.specs.TrustRequests.{trust_request_of}
-use Rattle.agent_origin.specs.SessionExchanges.{SessionExchange, kept_at_start}
-use Rattle.agent_origin.specs.Sessions.{Surroundings, ServesSession}
-use Rattle.agent_origin.specs.declared.door.Door.{Door}
-use Rattle.agent_origin.specs.declared.door.Door.TheVariants.{Home, Outer}
-use Rattle.agent_origin.specs.declared.kept.Kept.{Kept}
-use Rattle.agent_origin.specs.declared.door_session.DoorCommand.{DoorCommand}
-use Rattle.agent_origin.specs.declared.door_session.DoorCommand.TheVariants.{Help, Trust, Terminal}
+use Rattle.agent_origin.specs.{Doors.{sets_terminal, allowed}, TrustExchanges.TrustExchange, FurtherStates.FurtherWorld, TrustNames.commands_on_trust, TrustRequests.trust_request_of, SessionExchanges.{SessionExchange, kept_at_start}}
+use Rattle.agent_origin.specs.{Sessions.{Surroundings, ServesSession}, declared.{door.Door.{Door, TheVariants.{Home, Outer}}, kept.Kept.Kept, door_session.DoorCommand.{DoorCommand, TheVariants.{Help, Trust, Terminal}}}}
 
 -- the commands that a session at a door answers in a way of its own
 abbrev pub door_commands : List (List ℕ × DoorCommand)

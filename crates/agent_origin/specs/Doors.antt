@@ -1,20 +1,9 @@
 -- What a session may ask for that came in by the agent's outer door, as the sessions of another machine do (GnuPG manual, "Agent Options",
 -- `--extra-socket`). Which commands these are is this project's own.
-use Rattle.std.specs.Prelude.{ℕ, ◌||◌, not, Bool, true, false, List, [], ◌∷◌, ◌++◌, codes, Option, Some, None}
-use Rattle.std.specs.Option.{is_none}
-use Rattle.std.specs.Str.{bytes_eq}
-use Rattle.agent_commands.specs.Requests.{GetFields, get_fields, request_of}
-use Rattle.agent_commands.specs.declared.request.CacheCommand.TheVariants.{SetOption}
-use Rattle.agent_commands.specs.declared.request.Request.{Request}
-use Rattle.agent_commands.specs.declared.request.Request.TheVariants.{Cache}
-use Rattle.assuan_text.specs.Options.{options_of, arguments_of, has_option}
-use Rattle.assuan_text.specs.Rows.{found_in_any_case}
-use Rattle.assuan_text.specs.Words.{command_of, rest_of, words}
-use Rattle.session_options.specs.Text.{name_of}
-use Rattle.agent_origin.specs.declared.door.Door.{Door}
-use Rattle.agent_origin.specs.declared.door.Door.TheVariants.{Home, Outer}
-use Rattle.agent_origin.specs.declared.door.Rule.{Rule}
-use Rattle.agent_origin.specs.declared.door.Rule.TheVariants.{Always, NotTheMode, AboutTheAgent, Uncached, OneKey, Never}
+use Rattle.std.specs.{Prelude.{ℕ, ◌||◌, not, Bool, true, false, List, [], ◌∷◌, ◌++◌, codes, Option, Some, None}, Option.is_none, Str.bytes_eq}
+use Rattle.{agent_commands.specs.{Requests.{GetFields, get_fields, request_of}, declared.request.{CacheCommand.TheVariants.SetOption, Request.{Request, TheVariants.Cache}}}, assuan_text.specs.Options.{options_of, arguments_of, has_option}}
+use Rattle.{assuan_text.specs.{Rows.found_in_any_case, Words.{command_of, rest_of, words}}, session_options.specs.Text.name_of}
+use Rattle.agent_origin.specs.declared.door.{Door.{Door, TheVariants.{Home, Outer}}, Rule.{Rule, TheVariants.{Always, NotTheMode, AboutTheAgent, Uncached, OneKey, Never}}}
 
 -- the commands that are known, each with what its line has to be: those on the cache and the session, those on keys, and those on the trust list
 abbrev pub cache_rules : List (List ℕ × Rule)

@@ -1,14 +1,6 @@
 -- What a session stands on beside its link, and how it stands there at some state of its code. This is the project's own.
-use Rattle.agent_ask.specs.Events.{Call}
-use Rattle.agent_ask.specs.Further.{FurtherEnds, further_world}
-use Rattle.agent_commands.specs.Outside.{World}
-use Rattle.agent_commands.specs.States.{SessionState}
-use Rattle.agent_ports.specs.KeyFiles.{KeyFiles}
-use Rattle.agent_ports.specs.Sides.{Side}
-use Rattle.agent_ports.specs.TrustFiles.{TrustState}
-use Rattle.assuan_server.specs.Connections.{Connection}
-use Rattle.cache_policy.specs.declared.mark.MarkStep.{MarkStep}
-use Rattle.cache_policy.specs.Turns.{Turn}
+use Rattle.{agent_ask.specs.{Events.Call, Further.{FurtherEnds, further_world}}, agent_commands.specs.{Outside.World, States.SessionState}, agent_ports.specs.{KeyFiles.KeyFiles, Sides.Side, TrustFiles.TrustState}}
+use Rattle.{assuan_server.specs.Connections.Connection, cache_policy.specs.{declared.mark.MarkStep.MarkStep, Turns.Turn}}
 use Rattle.agent_origin.specs.Sessions.{Surroundings}
 
 abbrev pub further_ends : {P : Type 0} → P → KeyFiles → Side → TrustState → FurtherEnds P

@@ -1,27 +1,11 @@
 -- A new trust file: what was done for its request before it took the old one's place. This is this project's own.
 use Rattle.std.specs.Prelude.{◌≡◌, ◌≤◌, ℕ, List, [], ◌∷◌, ◌++◌, length, Some, None, Ok}
-use Rattle.arrayvec.specs.ArrayVec.{ArrayVec}
-use Rattle.agent_ask.specs.ConsentParts.{AgreesTo}
-use Rattle.agent_ask.specs.SessionEvents.{Received, cache_turn}
-use Rattle.agent_ask.specs.TrustCalls.{Read, Replaced}
-use Rattle.agent_ports.specs.declared.grip.Grip.{Grip}
-use Rattle.agent_ports.specs.declared.trust.TrustDone.TheVariants.{Done}
-use Rattle.agent_ports.specs.declared.trust.TrustRead.{TrustRead}
-use Rattle.assuan_line.specs.declared.reader.Took.TheVariants.{Line}
-use Rattle.assuan_server.specs.Clients.{session_lines}
-use Rattle.cache_policy.specs.Turns.{Turn, Open}
-use Rattle.cache_policy.specs.declared.mark.MarkStep.TheVariants.{Seat, Close}
-use Rattle.key_commands.specs.Events.{Event}
-use Rattle.session_options.specs.OptionValues.{OptionValues}
-use Rattle.session_options.specs.declared.rules.Rules.{Rules}
-use Rattle.trust_list.specs.Trust.{trust, with_entry}
+use Rattle.{arrayvec.specs.ArrayVec.ArrayVec, agent_ask.specs.{ConsentParts.AgreesTo, SessionEvents.{Received, cache_turn}, TrustCalls.{Read, Replaced}}, agent_ports.specs.declared.{grip.Grip.Grip, trust.TrustDone.TheVariants.Done}}
+use Rattle.{agent_ports.specs.declared.trust.TrustRead.TrustRead, assuan_line.specs.declared.reader.Took.TheVariants.Line, assuan_server.specs.Clients.session_lines, cache_policy.specs.Turns.{Turn, Open}}
+use Rattle.{cache_policy.specs.declared.mark.MarkStep.TheVariants.{Seat, Close}, key_commands.specs.Events.Event, session_options.specs.{OptionValues.OptionValues, declared.rules.Rules.Rules}, trust_list.specs.Trust.{trust, with_entry}}
 use Rattle.trust_list.specs.declared.TheConstants.{MAX_TRUST_FILE_LEN}
-use Rattle.agent_origin.specs.TrustExchanges.{flag_of, trust_question, fingerprint_question}
-use Rattle.agent_origin.specs.TrustParts.{file_in, trust_called}
-use Rattle.agent_origin.specs.TrustRequests.{trust_request_of}
-use Rattle.agent_origin.specs.declared.trust.request.TrustPurpose.{TrustPurpose}
-use Rattle.agent_origin.specs.declared.trust.request.TrustRequest.{TrustRequest}
-use Rattle.agent_origin.specs.declared.trust.request.TrustRequest.TheVariants.{MarkTrusted}
+use Rattle.agent_origin.specs.{TrustExchanges.{flag_of, trust_question, fingerprint_question}, TrustParts.{file_in, trust_called}, TrustRequests.trust_request_of, declared.trust.request.TrustPurpose.TrustPurpose}
+use Rattle.agent_origin.specs.declared.trust.request.TrustRequest.{TrustRequest, TheVariants.MarkTrusted}
 
 -- these bytes became the file
 abbrev pub replaced : List ℕ → Event

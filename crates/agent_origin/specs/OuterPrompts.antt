@@ -1,12 +1,7 @@
 -- What prompts name in a session that came in by the outer door. The terminal and the language of its client are another machine's, so its prompts name
 -- none. This is this project's own.
-use Rattle.std.specs.Prelude.{◌≡◌, List, [], ⊤}
-use Rattle.std.specs.List.{AllByRecursion}
-use Rattle.agent_ask.specs.Events.{Start, Called, PromptEvent}
-use Rattle.agent_ask.specs.Further.{Prompt}
-use Rattle.agent_ask.specs.SessionEvents.{Further}
-use Rattle.key_commands.specs.Events.{Event}
-use Rattle.session_options.specs.OptionValues.{EnvWords, words_of}
+use Rattle.std.specs.{Prelude.{◌≡◌, List, [], ⊤}, List.AllByRecursion}
+use Rattle.{agent_ask.specs.{Events.{Start, Called, PromptEvent}, Further.Prompt, SessionEvents.Further}, key_commands.specs.Events.Event, session_options.specs.OptionValues.{EnvWords, words_of}}
 
 -- no terminal and no language is named
 abbrev pub no_words : EnvWords

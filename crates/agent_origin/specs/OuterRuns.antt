@@ -1,20 +1,8 @@
 -- What a session that came in by the outer door does to its desk's run, where that is known: the session's own marks in it store nothing, clear
 -- nothing, and are given nothing. This is this project's own.
-use Rattle.std.specs.Prelude.{◌≡◌, ◌≤◌, ℕ, true, List, [], ◌∷◌, ◌++◌, length, filter, Option, Some, None, ⊤}
-use Rattle.std.specs.List.{AllByRecursion}
-use Rattle.agent_ports.specs.declared.session.SessionId.{SessionId}
-use Rattle.cache_policy.specs.Desks.{AtDesk, is_of}
-use Rattle.cache_policy.specs.Entries.{stored}
-use Rattle.cache_policy.specs.Extending.{Taken, IsExtended}
-use Rattle.cache_policy.specs.Histories.{History, with_marks}
-use Rattle.cache_policy.specs.Legal.{IsLegalRun}
-use Rattle.cache_policy.specs.Runs.{joined}
-use Rattle.cache_policy.specs.declared.life.Limits.{Limits}
-use Rattle.cache_policy.specs.declared.mark.Mark.{Mark}
-use Rattle.cache_policy.specs.declared.mark.MarkReply.TheVariants.{Given}
-use Rattle.cache_policy.specs.declared.mark.MarkStep.{MarkStep}
-use Rattle.cache_policy.specs.declared.mark.MarkStep.TheVariants.{Seat, Close, Peek}
-use Rattle.cache_policy.specs.declared.mode.Mode.{Mode}
+use Rattle.std.specs.{Prelude.{◌≡◌, ◌≤◌, ℕ, true, List, [], ◌∷◌, ◌++◌, length, filter, Option, Some, None, ⊤}, List.AllByRecursion}
+use Rattle.{agent_ports.specs.declared.session.SessionId.SessionId, cache_policy.specs.{Desks.{AtDesk, is_of}, Entries.stored, Extending.{Taken, IsExtended}, Histories.{History, with_marks}, Legal.IsLegalRun, Runs.joined}}
+use Rattle.cache_policy.specs.declared.{life.Limits.Limits, mark.{Mark.Mark, MarkReply.TheVariants.Given, MarkStep.{MarkStep, TheVariants.{Seat, Close, Peek}}}, mode.Mode.Mode}
 
 -- it takes the seat for a prompt of which nothing is kept, gives it back, or looks whether a passphrase is cached
 pub data IsOuterStep : MarkStep → Type 0 where

@@ -1,16 +1,9 @@
 -- What a session does to the cache that came in by the outer door: it takes the seat for a prompt of which nothing is kept, gives it back, or
 -- looks whether a passphrase is cached. So it stores, clears and forgets nothing, and is given no passphrase of the cache. This is this project's
 -- own.
-use Rattle.std.specs.Prelude.{◌≢◌, ℕ, List, [], ◌∷◌, Option, None}
-use Rattle.std.specs.List.{AllByRecursion}
-use Rattle.agent_ask.specs.SessionEvents.{AnyEvent, turns_in}
-use Rattle.agent_ask.specs.Interrupts.{Interrupts}
-use Rattle.session_client.specs.declared.code.Code.{Code}
-use Rattle.cache_policy.specs.Extending.{Taken}
-use Rattle.cache_policy.specs.Turns.{Turn, Given, Open}
-use Rattle.cache_policy.specs.declared.grant.Grant.{Grant}
-use Rattle.cache_policy.specs.declared.mark.MarkStep.TheVariants.{Seat, Close, Peek}
-use Rattle.cache_policy.specs.declared.mode.Mode.{Mode}
+use Rattle.std.specs.{Prelude.{◌≢◌, ℕ, List, [], ◌∷◌, Option, None}, List.AllByRecursion}
+use Rattle.{agent_ask.specs.{SessionEvents.{AnyEvent, turns_in}, Interrupts.Interrupts}, session_client.specs.declared.code.Code.Code, cache_policy.specs.{Extending.Taken, Turns.{Turn, Given, Open}, declared.grant.Grant.Grant}}
+use Rattle.cache_policy.specs.declared.{mark.MarkStep.TheVariants.{Seat, Close, Peek}, mode.Mode.Mode}
 
 -- its turns, one after another
 pub data AreOuterTurns : List Taken → Type 0 where

@@ -1,8 +1,6 @@
 -- What is done for the requests of a session, as contracts see it. This is the project's own.
 use Rattle.std.specs.Prelude.{ℕ, List}
-use Rattle.agent_commands.specs.declared.went.Went.{Went}
-use Rattle.key_commands.specs.Events.{Event}
-use Rattle.session_options.specs.declared.rules.Rules.{Rules}
+use Rattle.{agent_commands.specs.declared.went.Went.Went, key_commands.specs.Events.Event, session_options.specs.declared.rules.Rules.Rules}
 use Rattle.agent_origin.specs.declared.kept.Kept.{Kept}
 
 -- the exchange of a line, by who answers it: what is kept before, the events, what is kept after, and how the session goes on

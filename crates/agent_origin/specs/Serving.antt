@@ -1,20 +1,8 @@
 -- Private: how far a session has come at some state of its code.
 use Rattle.std.specs.Prelude.{◌≡◌, ℕ, List, Result}
-use Rattle.agent_ask.specs.Answering.{unless_cut, FaultsCounted}
-use Rattle.agent_commands.specs.Endings.{gone_of}
-use Rattle.agent_commands.specs.Events.{EventWith}
-use Rattle.agent_commands.specs.Outside.{World}
-use Rattle.agent_commands.specs.States.{SessionState, EventsLead}
-use Rattle.agent_ports.specs.declared.link.WriteFault.{WriteFault as Fault}
-use Rattle.assuan_server.specs.Clients.{connection_views}
-use Rattle.assuan_server.specs.Connections.{Connection}
-use Rattle.assuan_server.specs.Reading.{unread}
-use Rattle.assuan_server.specs.Written.{WritesText}
-use Rattle.agent_commands.specs.Talks.{Talk}
-use Rattle.agent_commands.specs.declared.went.SessionEnd.{SessionEnd}
-use Rattle.agent_commands.specs.declared.went.SessionEnd.TheVariants.{WriteFault}
-use Rattle.agent_commands.specs.declared.went.Went.{Went}
-use Rattle.agent_commands.specs.declared.went.Went.TheVariants.{On, End}
+use Rattle.{agent_ask.specs.Answering.{unless_cut, FaultsCounted}, agent_commands.specs.{Endings.gone_of, Events.EventWith, Outside.World, States.{SessionState, EventsLead}, Talks.Talk, declared.went.SessionEnd.SessionEnd}}
+use Rattle.{agent_commands.specs.declared.went.{SessionEnd.TheVariants.WriteFault, Went.{Went, TheVariants.{On, End}}}, agent_ports.specs.declared.link.WriteFault.WriteFault as Fault, assuan_server.specs.Clients.connection_views}
+use Rattle.assuan_server.specs.{Connections.Connection, Reading.unread, Written.WritesText}
 use Rattle.agent_origin.specs.Sessions.{Surroundings, Leaves, LineRelation, ServesSession}
 
 -- the requests of a session were answered up to its end

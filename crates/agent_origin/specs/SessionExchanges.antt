@@ -1,24 +1,11 @@
 -- What a session does for each of its requests, by what it keeps between them. That the wrapping keys stay until its end, and how long a description lives,
 -- is this project's own.
 use Rattle.std.specs.Prelude.{ℕ, List, None, if◌then◌else◌}
-use Rattle.arrayvec.specs.ArrayVec.{ArrayVec}
-use Rattle.agent_ask.specs.Further.{FurtherEvent}
-use Rattle.agent_commands.specs.Endings.{end_of}
-use Rattle.agent_commands.specs.Events.{EventWith}
-use Rattle.agent_commands.specs.Exchanges.{CacheExchange}
-use Rattle.agent_commands.specs.Requests.{request_of}
-use Rattle.agent_commands.specs.declared.request.Request.{Request}
-use Rattle.agent_commands.specs.declared.request.Request.TheVariants.{Key}
-use Rattle.agent_commands.specs.declared.went.Went.{Went}
-use Rattle.agent_commands.specs.declared.went.Went.TheVariants.{On, End}
-use Rattle.key_commands.specs.Exchanges.{KeyExchange}
-use Rattle.key_commands.specs.Requests.{key_request_of, ends_description}
-use Rattle.key_commands.specs.declared.went.KeyWent.{KeyWent}
-use Rattle.key_commands.specs.declared.went.KeyWent.TheVariants as key
-use Rattle.key_commands.specs.declared.wrap_keys.WrapKeys.{WrapKeys}
-use Rattle.session_options.specs.OptionValues.{OptionValues, at_start, without_description}
-use Rattle.session_options.specs.declared.rules.Rules.{Rules}
+use Rattle.{arrayvec.specs.ArrayVec.ArrayVec, agent_ask.specs.Further.FurtherEvent, agent_commands.specs.{Endings.end_of, Events.EventWith, Exchanges.CacheExchange, Requests.request_of, declared.request.Request.{Request, TheVariants.Key}}}
+use Rattle.{agent_commands.specs.declared.went.Went.{Went, TheVariants.{On, End}}, key_commands.specs.{Exchanges.KeyExchange, Requests.{key_request_of, ends_description}, declared.{went.KeyWent.KeyWent, wrap_keys.WrapKeys.WrapKeys}}}
+use Rattle.session_options.specs.{OptionValues.{OptionValues, at_start, without_description}, declared.rules.Rules.Rules}
 use Rattle.agent_origin.specs.declared.kept.Kept.{Kept}
+use Rattle.key_commands.specs.declared.went.KeyWent.TheVariants as key
 
 -- no option is set before the first request, and no wrapping key was drawn
 abbrev pub kept_at_start : Rules → Kept

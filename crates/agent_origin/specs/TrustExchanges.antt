@@ -1,42 +1,14 @@
 -- Requests on the trust list and what is done for them, as the GnuPG manual has them ("Agent's Assuan protocol", ISTRUSTED and MARKTRUSTED). The
 -- codes, the texts and the order of what is done are this project's own. A row of each stands in proofs/WorkedExchanges.
 use Rattle.std.specs.Prelude.{◌++◌, ℕ, Bool, true, false, List, codes, Option, Some, None}
-use Rattle.agent_ask.specs.ConsentParts.{AgreesTo}
-use Rattle.agent_ask.specs.Events.{Call}
-use Rattle.agent_ask.specs.PartExchanges.{AnyExchange}
-use Rattle.agent_ask.specs.Parts.{◌>>=◌, Returns, Refuses}
-use Rattle.agent_ask.specs.TurnParts.{Seats}
-use Rattle.assuan_server.specs.Written.{ok}
-use Rattle.agent_commands.specs.Endings.{went_after}
-use Rattle.agent_commands.specs.Exchanges.{CacheReply, reply}
-use Rattle.agent_commands.specs.States.{AnswersRequest}
-use Rattle.agent_commands.specs.declared.went.Went.{Went}
-use Rattle.agent_ports.specs.KeyFiles.{KeyFiles}
-use Rattle.agent_ports.specs.Sides.{Side}
-use Rattle.agent_ports.specs.TrustFiles.{TrustState}
-use Rattle.agent_ports.specs.declared.grip.Grip.{Grip}
-use Rattle.assuan_server.specs.Clients.{session_lines}
-use Rattle.assuan_server.specs.Connections.{Connection}
-use Rattle.assuan_server.specs.Written.{refusal_line}
-use Rattle.cache_policy.specs.Turns.{Turn}
-use Rattle.cache_policy.specs.declared.mark.MarkStep.{MarkStep}
-use Rattle.cache_policy.specs.declared.mark.MarkStep.TheVariants.{Seat}
-use Rattle.hex.specs.Hex.{encode_upper}
-use Rattle.key_commands.specs.Events.{Event}
-use Rattle.key_commands.specs.Parts.{Part}
-use Rattle.session_client.specs.declared.code.Code.TheVariants as code
-use Rattle.session_client.specs.declared.refusal.Refusal.TheVariants.{Agent}
-use Rattle.session_options.specs.OptionValues.{OptionValues}
-use Rattle.session_options.specs.declared.options.PinMode.{PinMode}
-use Rattle.session_options.specs.declared.options.PinMode.TheVariants as mode
-use Rattle.session_options.specs.declared.rules.Rules.{Rules}
-use Rattle.trust_list.specs.Trust.{trust}
-use Rattle.agent_origin.specs.FurtherStates.{FurtherWorld, further_state}
-use Rattle.agent_origin.specs.TrustParts.{ReadsFile, AddsEntry, Replaces}
-use Rattle.agent_origin.specs.declared.trust.request.TrustPurpose.{TrustPurpose}
-use Rattle.agent_origin.specs.declared.trust.request.TrustPurpose.TheVariants.{X509, OpenPgp}
-use Rattle.agent_origin.specs.declared.trust.request.TrustRequest.{TrustRequest}
+use Rattle.{agent_ask.specs.{ConsentParts.AgreesTo, Events.Call, PartExchanges.AnyExchange, Parts.{◌>>=◌, Returns, Refuses}, TurnParts.Seats}, assuan_server.specs.{Written.{ok, refusal_line}, Clients.session_lines, Connections.Connection}}
+use Rattle.{agent_commands.specs.{Endings.went_after, Exchanges.{CacheReply, reply}, States.AnswersRequest, declared.went.Went.Went}, agent_ports.specs.{KeyFiles.KeyFiles, Sides.Side, TrustFiles.TrustState, declared.grip.Grip.Grip}}
+use Rattle.{cache_policy.specs.{Turns.Turn, declared.mark.MarkStep.{MarkStep, TheVariants.Seat}}, hex.specs.Hex.encode_upper, key_commands.specs.{Events.Event, Parts.Part}, session_client.specs.declared.refusal.Refusal.TheVariants.Agent}
+use Rattle.{session_options.specs.{OptionValues.OptionValues, declared.{options.PinMode.PinMode, rules.Rules.Rules}}, trust_list.specs.Trust.trust}
+use Rattle.agent_origin.specs.{FurtherStates.{FurtherWorld, further_state}, TrustParts.{ReadsFile, AddsEntry, Replaces}, declared.trust.request.{TrustPurpose.{TrustPurpose, TheVariants.{X509, OpenPgp}}, TrustRequest.TrustRequest}}
 use Rattle.agent_origin.specs.declared.trust.request.TrustRequest.TheVariants.{IsTrusted, MarkTrusted, Bad}
+use Rattle.session_client.specs.declared.code.Code.TheVariants as code
+use Rattle.session_options.specs.declared.options.PinMode.TheVariants as mode
 
 -- the flag of an entry
 abbrev pub flag_of : TrustPurpose → ℕ

@@ -1,8 +1,7 @@
 -- The names that requests on the trust list have (GnuPG manual, "Agent's Assuan protocol").
 use Rattle.std.specs.Prelude.{ℕ, List, [], ◌∷◌, codes, Option}
 use Rattle.assuan_text.specs.Rows.{found_in_any_case}
-use Rattle.agent_origin.specs.declared.trust.names.TrustCommandName.{TrustCommandName}
-use Rattle.agent_origin.specs.declared.trust.names.TrustCommandName.TheVariants.{IsTrusted, MarkTrusted}
+use Rattle.agent_origin.specs.declared.trust.names.TrustCommandName.{TrustCommandName, TheVariants.{IsTrusted, MarkTrusted}}
 
 abbrev pub commands_on_trust : List (List ℕ × TrustCommandName)
 commands_on_trust =

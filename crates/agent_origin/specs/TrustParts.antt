@@ -1,18 +1,10 @@
 -- The parts of a request on the trust list that others don't have: what is done with the trust file. This is the project's own.
 use Rattle.std.specs.Prelude.{◌≡◌, ◌≤◌, ◌<◌, ℕ, List, [], ◌∷◌, length, Option, Some, None, Result, Ok, Err}
-use Rattle.agent_ask.specs.Further.{Trust}
-use Rattle.agent_ask.specs.SessionEvents.{Further}
-use Rattle.agent_ask.specs.TrustCalls.{TrustCall, Read, Replaced}
-use Rattle.agent_ports.specs.declared.grip.Grip.{Grip}
+use Rattle.{agent_ask.specs.{Further.Trust, SessionEvents.Further, TrustCalls.{TrustCall, Read, Replaced}}, agent_ports.specs.declared.{grip.Grip.Grip, trust.TrustRead.TrustRead}, key_commands.specs.Events.{Event, out_of_memory}}
+use Rattle.{session_client.specs.declared.refusal.Refusal.{Refusal, TheVariants.Agent}, trust_list.specs.{Trust.with_entry, declared.TheConstants.MAX_TRUST_FILE_LEN}}
 use Rattle.agent_ports.specs.declared.trust.TrustDone.TheVariants as done
-use Rattle.agent_ports.specs.declared.trust.TrustRead.{TrustRead}
 use Rattle.agent_ports.specs.declared.trust.TrustRead.TheVariants as read
-use Rattle.key_commands.specs.Events.{Event, out_of_memory}
 use Rattle.session_client.specs.declared.code.Code.TheVariants as code
-use Rattle.session_client.specs.declared.refusal.Refusal.{Refusal}
-use Rattle.session_client.specs.declared.refusal.Refusal.TheVariants.{Agent}
-use Rattle.trust_list.specs.Trust.{with_entry}
-use Rattle.trust_list.specs.declared.TheConstants.{MAX_TRUST_FILE_LEN}
 
 -- it was called, and answered so
 abbrev pub trust_called : TrustCall → Event

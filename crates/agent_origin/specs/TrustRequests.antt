@@ -1,23 +1,11 @@
 -- What a line with a command on the trust list asks for, or the fault for which it is refused (GnuPG manual, "Agent's Assuan protocol"). Which
 -- fault a refusal has is this project's own.
-use Rattle.std.specs.Prelude.{ℕ, nat_le, true, List, ◌∷◌, length, codes, Option, Some, None, Result, Ok, Err, if◌then◌else◌}
-use Rattle.std.specs.Str.{bytes_eq}
-use Rattle.arrayvec.specs.ArrayVec.{ArrayVec}
-use Rattle.assuan_escape.specs.Escapes.{unescaped}
-use Rattle.session_client.specs.declared.code.Code.{Code}
-use Rattle.session_client.specs.declared.code.Code.TheVariants.{UnknownCommand, Parameter}
-use Rattle.assuan_text.specs.Options.{arguments_of}
-use Rattle.assuan_text.specs.Words.{command_of, rest_of, words}
-use Rattle.key_commands.specs.Requests.{grip, first_grip}
-use Rattle.session_client.specs.Fields.{◌>>=◌, in_form}
-use Rattle.agent_origin.specs.TrustNames.{trust_command_named}
-use Rattle.agent_origin.specs.declared.trust.request.TheConstants.{MAX_NAME_LEN}
-use Rattle.agent_origin.specs.declared.trust.names.TrustCommandName.{TrustCommandName}
+use Rattle.std.specs.{Prelude.{ℕ, nat_le, true, List, ◌∷◌, length, codes, Option, Some, None, Result, Ok, Err, if◌then◌else◌}, Str.bytes_eq}
+use Rattle.{arrayvec.specs.ArrayVec.ArrayVec, assuan_escape.specs.Escapes.unescaped, session_client.specs.{declared.code.Code.{Code, TheVariants.{UnknownCommand, Parameter}}, Fields.{◌>>=◌, in_form}}, assuan_text.specs.Options.arguments_of}
+use Rattle.{assuan_text.specs.Words.{command_of, rest_of, words}, key_commands.specs.Requests.{grip, first_grip}}
+use Rattle.agent_origin.specs.{TrustNames.trust_command_named, declared.trust.request.{TheConstants.MAX_NAME_LEN, TrustPurpose.{TrustPurpose, TheVariants.{X509, OpenPgp}}, TrustRequest.TrustRequest}}
+use Rattle.agent_origin.specs.declared.trust.{request.TrustRequest.TheVariants.{IsTrusted, MarkTrusted, Bad}, names.TrustCommandName.TrustCommandName}
 use Rattle.agent_origin.specs.declared.trust.names.TrustCommandName.TheVariants as name
-use Rattle.agent_origin.specs.declared.trust.request.TrustPurpose.{TrustPurpose}
-use Rattle.agent_origin.specs.declared.trust.request.TrustPurpose.TheVariants.{X509, OpenPgp}
-use Rattle.agent_origin.specs.declared.trust.request.TrustRequest.{TrustRequest}
-use Rattle.agent_origin.specs.declared.trust.request.TrustRequest.TheVariants.{IsTrusted, MarkTrusted, Bad}
 
 -- what a certificate is to be trusted for
 abbrev pub purpose : List ℕ → Option TrustPurpose

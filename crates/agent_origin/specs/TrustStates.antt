@@ -1,17 +1,7 @@
 -- Private: parts of a request on the trust list that are done in the code.
 use Rattle.std.specs.Prelude.{ℕ, Option, Result}
-use Rattle.agent_ask.specs.Events.{Call}
-use Rattle.agent_ask.specs.Further.{FurtherEvent, DoesFurther, Trust, NoMemory}
-use Rattle.agent_ask.specs.PartStates.{part_state, DoesPart, NoTurn}
-use Rattle.agent_ask.specs.TrustCalls.{TrustCall, DoesTrust}
-use Rattle.agent_ports.specs.KeyFiles.{KeyFiles}
-use Rattle.agent_ports.specs.Sides.{Side}
-use Rattle.agent_ports.specs.TrustFiles.{TrustState}
-use Rattle.assuan_server.specs.Clients.{connection_views}
-use Rattle.assuan_server.specs.Connections.{Connection, IsOpen}
-use Rattle.cache_policy.specs.declared.mark.MarkStep.{MarkStep}
-use Rattle.cache_policy.specs.Turns.{Turn}
-use Rattle.key_commands.specs.Parts.{Part}
+use Rattle.{agent_ask.specs.{Events.Call, Further.{FurtherEvent, DoesFurther, Trust, NoMemory}, PartStates.{part_state, DoesPart, NoTurn}, TrustCalls.{TrustCall, DoesTrust}}, agent_ports.specs.{KeyFiles.KeyFiles, Sides.Side}}
+use Rattle.{agent_ports.specs.TrustFiles.TrustState, assuan_server.specs.{Clients.connection_views, Connections.{Connection, IsOpen}}, cache_policy.specs.{declared.mark.MarkStep.MarkStep, Turns.Turn}, key_commands.specs.Parts.Part}
 use Rattle.session_client.specs.declared.refusal.Refusal.{Refusal}
 use Rattle.agent_origin.specs.FurtherStates.{further_state}
 

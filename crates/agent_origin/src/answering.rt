@@ -4,12 +4,9 @@
 //! (`specs/SessionExchanges`).
 
 ghost use Rattle.std.specs.Prelude.{◌≡◌, ℕ, List, None};
-ghost use Rattle.agent_ask.specs.Prompters.{IsShut};
-ghost use Rattle.agent_ports.specs.TrustFiles.{TrustState};
-ghost use Rattle.assuan_server.specs.Connections.{IsOpen};
-ghost use Rattle.assuan_server.specs.Written.{failed};
-ghost use Rattle.assuan_text.specs.Words.{command_of};
-ghost use Rattle.agent_commands.specs.Requests.{request_of};
+ghost use Rattle.{agent_ask.specs.Prompters.IsShut, agent_ports.specs.TrustFiles.TrustState};
+ghost use Rattle.assuan_server.specs.{Connections.IsOpen, Written.failed};
+ghost use Rattle.{assuan_text.specs.Words.command_of, agent_commands.specs.Requests.request_of};
 ghost use Rattle.agent_commands.specs.States.{AnswersRequest};
 ghost use Rattle.key_commands.specs.States.{KeyWorld, key_state};
 ghost use Rattle.agent_origin.specs.FurtherStates.{FurtherWorld, further_state};

@@ -4,14 +4,11 @@
 //! (`specs/DoorSessions`).
 
 ghost use Rattle.std.specs.Prelude.{◌≡◌, None};
-ghost use Rattle.agent_ask.specs.Prompters.{IsShut};
-ghost use Rattle.assuan_server.specs.Connections.{IsOpen};
+ghost use Rattle.{agent_ask.specs.Prompters.IsShut, assuan_server.specs.Connections.IsOpen};
 ghost use Rattle.assuan_server.specs.Written.{ok};
 ghost use Rattle.agent_origin.specs.DoorSessions.{door_command_named, door_command, door_help};
-ghost use Rattle.agent_origin.specs.DoorSessions.{ServesDoor};
-ghost use Rattle.agent_origin.specs.TrustExchanges.{AnswersTrust};
-ghost use Rattle.agent_origin.specs.FurtherStates.{surroundings};
-ghost use Rattle.agent_origin.specs.TrustRequests.{trust_request_of};
+ghost use Rattle.agent_origin.specs.{DoorSessions.ServesDoor, TrustExchanges.AnswersTrust};
+ghost use Rattle.agent_origin.specs.{FurtherStates.surroundings, TrustRequests.trust_request_of};
 ghost use Rattle.agent_origin.specs.Serving.{SaysText};
 
 use crate::answering::{answer, refuse};

@@ -4,15 +4,11 @@
 //! `specs/Services` and `specs/Sessions`.
 
 ghost use Rattle.std.specs.Prelude.{◌≡◌, [], None};
-ghost use Rattle.agent_ask.specs.Prompters.{IsShut};
-ghost use Rattle.assuan_server.specs.Connections.{IsOpen};
-ghost use Rattle.assuan_server.specs.Reading.{budget};
-ghost use Rattle.agent_commands.specs.States.{AnswersRequest};
+ghost use Rattle.{agent_ask.specs.Prompters.IsShut, assuan_server.specs.Connections.IsOpen};
+ghost use Rattle.{assuan_server.specs.Reading.budget, agent_commands.specs.States.AnswersRequest};
 ghost use Rattle.agent_origin.specs.FurtherStates.{FurtherWorld, further_state, surroundings};
-ghost use Rattle.agent_origin.specs.Services.{Service};
-ghost use Rattle.agent_origin.specs.Serving.{ServesConn, ServesRequests};
-ghost use Rattle.agent_origin.specs.SessionExchanges.{kept_at_start};
-ghost use Rattle.agent_origin.specs.Sessions.{ServesSession};
+ghost use Rattle.agent_origin.specs.{Services.Service, Serving.{ServesConn, ServesRequests}};
+ghost use Rattle.agent_origin.specs.{SessionExchanges.kept_at_start, Sessions.ServesSession};
 
 use crate::Kept;
 use agent_ask::Prompter;

@@ -1,35 +1,15 @@
 -- Sessions whose exchanges are all caused, and whose requests are all answered.
-use Rattle.std.specs.List.{AllByRecursion}
-use Rattle.std.proofs.Common.{◌≡◌, ◌⊎◌, ℕ, List, [], ◌∷◌, ◌++◌, refl, sym, subst, inl, inr}
-use Rattle.agent_ask.specs.Events.{Call}
-use Rattle.agent_ask.specs.Further.{Drew, NotDrawn, Prompt, Keys, Dice, Trust, NoMemory}
-use Rattle.agent_ask.specs.Prompters.{AtPrompter, IsCall, is_failed}
-use Rattle.agent_ask.specs.SessionEvents.{Received, Sent, Cut, Inquiry, CacheTurn, Further, CutAtLast}
-use Rattle.session_client.specs.declared.code.Code.{Code}
-use Rattle.session_client.specs.declared.code.Code.TheVariants as code
-use Rattle.assuan_server.specs.declared.errors.Origin.{Origin}
-use Rattle.assuan_server.specs.declared.errors.Origin.TheVariants.{Agent}
-use Rattle.cache_policy.specs.declared.mark.MarkStep.{MarkStep}
-use Rattle.cache_policy.specs.Turns.{Turn}
-use Rattle.session_options.specs.declared.rules.Rules.{Rules}
-use Rattle.agent_commands.specs.Requests.{request_of}
-use Rattle.agent_commands.specs.Talks.{Session}
-use Rattle.agent_commands.specs.declared.went.SessionEnd.{SessionEnd}
-use Rattle.agent_commands.specs.declared.went.SessionEnd.TheVariants.{Bye, Killed, Ended, TooLong, Spent, ReadFault, WriteFault}
-use Rattle.agent_commands.specs.declared.went.Went.{Went}
-use Rattle.agent_commands.specs.declared.went.Went.TheVariants.{On}
-use Rattle.agent_origin.specs.FurtherStates.{FurtherWorld}
-use Rattle.key_commands.specs.Events.{Event}
-use Rattle.key_commands.proofs.EachEvent.{each_append}
+use Rattle.std.{specs.List.AllByRecursion, proofs.Common.{◌≡◌, ◌⊎◌, ℕ, List, [], ◌∷◌, ◌++◌, refl, sym, subst, inl, inr}}
+use Rattle.agent_ask.specs.{Events.Call, Further.{Drew, NotDrawn, Prompt, Keys, Dice, Trust, NoMemory}, Prompters.{AtPrompter, IsCall, is_failed}, SessionEvents.{Received, Sent, Cut, Inquiry, CacheTurn, Further, CutAtLast}}
+use Rattle.{session_client.specs.declared.code.Code.Code, assuan_server.specs.declared.errors.Origin.{Origin, TheVariants.Agent}, cache_policy.specs.{declared.mark.MarkStep.MarkStep, Turns.Turn}}
+use Rattle.{session_options.specs.declared.rules.Rules.Rules, agent_commands.specs.{Requests.request_of, Talks.Session, declared.went.SessionEnd.{SessionEnd, TheVariants.{Bye, Killed, Ended, TooLong, Spent, ReadFault, WriteFault}}}}
+use Rattle.{agent_commands.specs.declared.went.Went.{Went, TheVariants.On}, agent_origin.specs.{FurtherStates.FurtherWorld, SessionExchanges.{SessionExchange, kept_at_start}, Sessions.{Surroundings, ServesSession}, declared.kept.Kept.Kept}}
+use Rattle.key_commands.{specs.Events.Event, proofs.EachEvent.each_append}
 use Rattle.agent_session.specs.Causes.{HasOne, one, HasCall, called, HasTrustCall, called_trust, WantsMemory, FailsAtKeysOrDice, FailsAtTrust, IsUnprompted, is_broken}
 use Rattle.agent_session.specs.Completeness.{HasError, Exchanges, Causes, Remembers, FaultlessExchange, IsFaultless, NoCountRose, AnswersAll, SessionCauses, CausedInSession}
-use Rattle.agent_origin.specs.SessionExchanges.{SessionExchange, kept_at_start}
-use Rattle.agent_origin.specs.Sessions.{Surroundings, ServesSession}
-use Rattle.agent_origin.specs.declared.kept.Kept.{Kept}
-use Rattle.agent_session.proofs.Completing.{IsPossible, IsSteady, never_absent, StandStill, all_steady, all_possible}
-use Rattle.agent_session.proofs.KeyExplained.{exchange_caused, exchange_goes_on}
-use Rattle.agent_session.proofs.Standing.{each_left, each_right, each_has}
+use Rattle.agent_session.proofs.{Completing.{IsPossible, IsSteady, never_absent, StandStill, all_steady, all_possible}, KeyExplained.{exchange_caused, exchange_goes_on}, Standing.{each_left, each_right, each_has}}
 use Rattle.agent_session.proofs.Talking.{session_whole, session_moved}
+use Rattle.session_client.specs.declared.code.Code.TheVariants as code
 
 -- nothing that stands still has failed
 steady_fails : (event : Event) → IsSteady event → FailsAtKeysOrDice event → ⊥

@@ -1,19 +1,9 @@
 -- Lines that answer nothing, and what stands before an OK line.
-use Rattle.std.proofs.Common.{◌≡◌, ℕ, Bool, true, false, List, [], ◌∷◌, ◌++◌, codes, refl, sym, ap, subst, append_assoc, append-nil, ◌∙◌, arith}
-use Rattle.std.specs.List.{list_all}
+use Rattle.std.{proofs.{Common.{◌≡◌, ℕ, Bool, true, false, List, [], ◌∷◌, ◌++◌, codes, refl, sym, ap, subst, append_assoc, append-nil, ◌∙◌, arith}, lemmas.{Bool.and_parts, List.Folds.list_any-append}}, specs.List.list_all}
 use Rattle.std.specs.Prelude.{not, ◌||◌, ◌<◌, ◌^◌, decimal, if◌then◌else◌}
-use Rattle.std.proofs.lemmas.Bool.{and_parts}
-use Rattle.std.proofs.lemmas.List.Folds.{list_any-append}
-use Rattle.agent_commands.specs.Answers.{comments}
-use Rattle.agent_ports.specs.declared.grip.Grip.{Grip}
-use Rattle.assuan_escape.proofs.EscapeLemmas.{has_lf_escapes, has_lf_hex_text}
-use Rattle.assuan_escape.specs.DataLines.{data_text}
-use Rattle.assuan_escape.specs.Escapes.{hex_text}
-use Rattle.assuan_server.proofs.NoteLines.{decimal_no_lf}
-use Rattle.assuan_text.specs.LineEnds.{is_lf, has_lf, line_of}
-use Rattle.cache_policy.specs.declared.secret.TheConstants.{MAX_SECRET_LEN}
+use Rattle.{agent_commands.specs.Answers.comments, agent_ports.specs.declared.grip.Grip.Grip, assuan_escape.{proofs.EscapeLemmas.{has_lf_escapes, has_lf_hex_text}, specs.{DataLines.data_text, Escapes.hex_text}}}
+use Rattle.{assuan_server.{proofs.NoteLines.decimal_no_lf, specs.Written.limit_line}, assuan_text.specs.LineEnds.{is_lf, has_lf, line_of}, cache_policy.specs.declared.secret.TheConstants.MAX_SECRET_LEN}
 use Rattle.key_commands.specs.Lines.{info_line, info_text, nonce_line}
-use Rattle.assuan_server.specs.Written.{limit_line}
 use Rattle.agent_session.specs.Completeness.{IsAside, of_data, of_status, of_comment, AreAsides, none, one_more, IsStatus}
 
 pub asides_append : {first more : List ℕ} → AreAsides first → AreAsides more → AreAsides (first ++ more)

@@ -1,50 +1,19 @@
 -- Requests that ask nobody.
-use Rattle.std.specs.List.{AllByRecursion}
-use Rattle.std.proofs.Common.{◌≡◌, ℕ, Bool, true, false, List, [], ◌∷◌, ◌++◌, Option, Some, None, Result, Ok, Err, refl, ap}
-use Rattle.std.specs.Prelude.{⊤}
-use Rattle.agent_ask.specs.Events.{Call}
-use Rattle.agent_ask.specs.Further.{FurtherEvent}
-use Rattle.agent_ask.specs.SessionEvents.{Sent, CacheTurn, cache_turn, said_last}
-use Rattle.agent_ask.specs.Worlds.{Outside, Does}
+use Rattle.std.{specs.{List.AllByRecursion, Prelude.⊤}, proofs.Common.{◌≡◌, ℕ, Bool, true, false, List, [], ◌∷◌, ◌++◌, Option, Some, None, Result, Ok, Err, refl, ap}}
+use Rattle.agent_ask.specs.{Events.Call, Further.FurtherEvent, SessionEvents.{Sent, CacheTurn, cache_turn, said_last}, Worlds.{Outside, Does}, Interrupts.Interrupts, PartExchanges.{AnyExchange, answered, refused}}
+use Rattle.{agent_ask.specs.{Parts.{goes_on, stops, returns, refuses, needed}, TurnParts.{Asks, Closes}}, agent_ports.specs.Leads.{Leads, none, one}, assuan_server.specs.{Reading.Supply, Written.{ok, failed, refusal_line}}}
+use Rattle.{session_client.specs.declared.{code.Code.Code, refusal.Refusal.Refusal}, cache_policy.specs.{Desks.{AtDesk, IsTurn}, Turns.{Turn, Done, Late, FitsStep}, declared.{life.Life.Life, mark.MarkStep.MarkStep}}}
+use Rattle.{cache_policy.specs.declared.mark.MarkStep.TheVariants.{Clear, Flush}, session_options.specs.{OptionValues.OptionValues, declared.rules.Rules.Rules}, agent_commands.specs.{Events.EventWith, Answers.IsPassphrase}}
+use Rattle.agent_commands.specs.{Endings.went_after, Exchanges.{CacheExchange, CacheReply, ChangeReplies, GetReplies, PresetReplies, is_quiet, put}, Passphrases.{ByCache, ask, passphrase_by}, Requests.GetFields}
+use Rattle.agent_commands.specs.declared.{request.{CacheCommand.TheVariants.{GetPassphrase, PresetPassphrase, ClearPassphrase, ReloadAgent}, Request.{Request, TheVariants.Cache}, Texts.Texts}, went.Went.Went}
+use Rattle.agent_origin.specs.{FurtherStates.FurtherWorld, SessionExchanges.{RequestExchange, cache, keys}, declared.kept.Kept.Kept}
+use Rattle.agent_session.specs.{Causes.WantsMemory, Completeness.{IsStopped, AnswersFromCache, AnswersAtOnce, AnswersDone}}
 use Rattle.agent_ask.specs.Worlds as worlds
-use Rattle.agent_ports.specs.Leads.{Leads, none, one}
-use Rattle.assuan_server.specs.Reading.{Supply}
-use Rattle.session_client.specs.declared.code.Code.{Code}
 use Rattle.session_client.specs.declared.code.Code.TheVariants as code
-use Rattle.cache_policy.specs.Desks.{AtDesk, IsTurn}
-use Rattle.cache_policy.specs.Turns.{Turn, Done, Late, FitsStep}
-use Rattle.cache_policy.specs.declared.life.Life.{Life}
-use Rattle.cache_policy.specs.declared.mark.MarkStep.{MarkStep}
-use Rattle.cache_policy.specs.declared.mark.MarkStep.TheVariants.{Clear, Flush}
-use Rattle.session_options.specs.OptionValues.{OptionValues}
-use Rattle.session_options.specs.declared.rules.Rules.{Rules}
-use Rattle.agent_commands.specs.Events.{EventWith}
-use Rattle.agent_ask.specs.Interrupts.{Interrupts}
 use Rattle.agent_ask.specs.Interrupts as turns
-use Rattle.agent_ask.specs.PartExchanges.{AnyExchange, answered, refused}
-use Rattle.agent_ask.specs.Parts.{goes_on, stops, returns, refuses, needed}
 use Rattle.agent_ask.specs.TurnParts as turning
-use Rattle.agent_ask.specs.TurnParts.{Asks, Closes}
-use Rattle.agent_commands.specs.Answers.{IsPassphrase}
-use Rattle.assuan_server.specs.Written.{ok}
-use Rattle.agent_commands.specs.Endings.{went_after}
 use Rattle.agent_commands.specs.Exchanges as exchanges
-use Rattle.agent_commands.specs.Exchanges.{CacheExchange, CacheReply, ChangeReplies, GetReplies, PresetReplies, is_quiet, put}
-use Rattle.agent_commands.specs.Passphrases.{ByCache, ask, passphrase_by}
-use Rattle.agent_commands.specs.Requests.{GetFields}
-use Rattle.assuan_server.specs.Written.{failed, refusal_line}
-use Rattle.session_client.specs.declared.refusal.Refusal.{Refusal}
-use Rattle.agent_commands.specs.declared.request.CacheCommand.TheVariants.{GetPassphrase, PresetPassphrase, ClearPassphrase, ReloadAgent}
-use Rattle.agent_commands.specs.declared.request.Request.{Request}
-use Rattle.agent_commands.specs.declared.request.Request.TheVariants.{Cache}
-use Rattle.agent_commands.specs.declared.request.Texts.{Texts}
-use Rattle.agent_commands.specs.declared.went.Went.{Went}
-use Rattle.agent_origin.specs.FurtherStates.{FurtherWorld}
-use Rattle.agent_session.specs.Causes.{WantsMemory}
-use Rattle.agent_session.specs.Completeness.{IsStopped, AnswersFromCache, AnswersAtOnce, AnswersDone}
 use Rattle.agent_session.specs.Completeness as completeness
-use Rattle.agent_origin.specs.SessionExchanges.{RequestExchange, cache, keys}
-use Rattle.agent_origin.specs.declared.kept.Kept.{Kept}
 
 -- a turn came out as its step can
 abbrev pub FitsTurn : EventWith FurtherEvent → Type 0

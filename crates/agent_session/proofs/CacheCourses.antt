@@ -1,52 +1,23 @@
 -- Requests on the cache and on the session: their work, and what ends them.
 use Rattle.std.proofs.Common.{◌≡◌, ℕ, Bool, true, false, List, [], Option, Some, None, Result, Ok, Err, refl, sym, ap, subst}
-use Rattle.agent_ask.specs.PartExchanges.{AnyExchange}
-use Rattle.agent_ask.specs.PartExchanges as exchange
-use Rattle.agent_ask.proofs.Within.{values_so}
-use Rattle.agent_ask.specs.Parts.{◌>>=◌, goes_on, stops, Returns, returns, or_else}
-use Rattle.agent_ask.specs.TurnParts.{Closes}
-use Rattle.agent_ask.specs.TurnParts as taken
-use Rattle.assuan_server.specs.Written.{refusal_line}
-use Rattle.cache_policy.specs.declared.mode.Mode.TheVariants.{User}
-use Rattle.session_client.specs.Refusals.{gone_by}
-use Rattle.session_client.specs.declared.code.Code.TheVariants as code
-use Rattle.session_client.specs.declared.refusal.Refusal.{Refusal}
-use Rattle.session_client.specs.declared.refusal.Refusal.TheVariants.{Agent, Client}
-use Rattle.session_client.specs.declared.unheard.Gone.{Gone}
-use Rattle.session_client.specs.declared.unheard.Unheard.TheVariants as unheard
-use Rattle.session_options.specs.OptionValues.{OptionValues, applied}
-use Rattle.session_options.specs.declared.options.OptionAnswer.{OptionAnswer}
-use Rattle.session_options.specs.declared.options.OptionAnswer.TheVariants as option_answer
-use Rattle.session_options.specs.declared.options.PinMode.{PinMode}
-use Rattle.session_options.specs.declared.options.PinMode.TheVariants as mode
-use Rattle.session_options.specs.declared.rules.Rules.{Rules}
-use Rattle.agent_commands.specs.Answers.{IsInfo}
-use Rattle.assuan_server.specs.Written.{ok}
-use Rattle.agent_commands.specs.Endings.{went_after, end_of}
-use Rattle.agent_commands.specs.Exchanges.{CacheExchange, CacheReply, CacheReplies, TellsPassphrase, TellsInfo, option_replies, reply}
-use Rattle.agent_commands.specs.Exchanges as told
-use Rattle.agent_commands.specs.Parts.{CachePart}
-use Rattle.agent_commands.specs.Passphrases.{Prompts, passphrase_by, as_wanted}
-use Rattle.agent_commands.specs.Requests.{GetFields}
-use Rattle.agent_commands.specs.declared.request.CacheCommand.{CacheCommand}
-use Rattle.agent_commands.specs.declared.request.CacheCommand.TheVariants.{Nop, Reset, Bye, Help, SetOption, GetInfo, GetPassphrase, PresetPassphrase, ClearPassphrase, GetConfirmation, ReloadAgent, KillAgent, SetKeyDesc}
-use Rattle.agent_commands.specs.declared.request.Info.{Info}
-use Rattle.agent_commands.specs.declared.request.Info.TheVariants.{Version, Pid, S2kCount, Listed}
-use Rattle.agent_commands.specs.declared.request.Request.{Request}
-use Rattle.agent_commands.specs.declared.request.Request.TheVariants.{Cache, Key, Bad}
-use Rattle.agent_commands.specs.declared.request.Texts.{Texts}
-use Rattle.agent_commands.specs.declared.went.Went.{Went}
-use Rattle.agent_commands.specs.declared.went.Went.TheVariants.{End}
-use Rattle.key_commands.specs.Events.{Event}
-use Rattle.agent_session.specs.Causes.{IsSaid}
-use Rattle.agent_session.specs.Completeness.{EndsInOk}
-use Rattle.agent_session.specs.Refusals.{IsAllowed, MayStore, preset, given, CourseBy}
-use Rattle.key_commands.specs.Lines.{of_passphrase}
+use Rattle.{agent_ask.{specs.{PartExchanges.AnyExchange, Parts.{◌>>=◌, goes_on, stops, Returns, returns, or_else}, TurnParts.Closes}, proofs.Within.values_so}, assuan_server.specs.Written.{refusal_line, ok}}
+use Rattle.{cache_policy.specs.declared.mode.Mode.TheVariants.User, session_client.specs.{Refusals.gone_by, declared.{refusal.Refusal.{Refusal, TheVariants.{Agent, Client}}, unheard.Gone.Gone}}}
+use Rattle.{session_options.specs.{OptionValues.{OptionValues, applied}, declared.{options.{OptionAnswer.OptionAnswer, PinMode.PinMode}, rules.Rules.Rules}}, agent_commands.specs.{Answers.IsInfo, Endings.{went_after, end_of}}}
+use Rattle.agent_commands.specs.{Exchanges.{CacheExchange, CacheReply, CacheReplies, TellsPassphrase, TellsInfo, option_replies, reply}, Parts.CachePart, Passphrases.{Prompts, passphrase_by, as_wanted}, Requests.GetFields}
+use Rattle.agent_commands.specs.declared.request.CacheCommand.{CacheCommand, TheVariants.{Nop, Reset, Bye, Help, SetOption, GetInfo, GetPassphrase, PresetPassphrase, ClearPassphrase, GetConfirmation, ReloadAgent, KillAgent, SetKeyDesc}}
+use Rattle.agent_commands.specs.declared.{request.{Info.{Info, TheVariants.{Version, Pid, S2kCount, Listed}}, Request.{Request, TheVariants.{Cache, Key, Bad}}, Texts.Texts}, went.Went.{Went, TheVariants.End}}
+use Rattle.key_commands.specs.{Events.Event, Lines.of_passphrase}
+use Rattle.agent_session.specs.{Causes.IsSaid, Completeness.EndsInOk, Refusals.{IsAllowed, MayStore, preset, given, CourseBy}}
 use Rattle.agent_session.proofs.CacheWorks.{FitsCache, wants_prompt, changes, by_cache, without_prompt, prompts_any, confirmed, presets, tells_info}
-use Rattle.agent_session.proofs.Courses.{AnyNonce, Ends, ends_with, EndsSo, working_ends, ends_working, bind_ends, made, closed, RepliesOk, ok_returns, ok_refuses, ok_then, reply_ends_in_ok, ok_course, err_course, ends_said}
-use Rattle.agent_session.proofs.Courses.{gone_only, said_before, answer_heard}
-use Rattle.agent_session.proofs.Replying.{IsReply, reply_ok, reply_closing, reply_help, reply_cache, reply_passphrase}
-use Rattle.agent_session.proofs.Works.{works, WorksSo, bind, returned, refuses_by}
+use Rattle.agent_session.proofs.Courses.{AnyNonce, Ends, ends_with, EndsSo, working_ends, ends_working, bind_ends, made, closed, RepliesOk, ok_returns, ok_refuses, ok_then, reply_ends_in_ok, ok_course, err_course, ends_said, gone_only}
+use Rattle.agent_session.proofs.{Courses.{said_before, answer_heard}, Replying.{IsReply, reply_ok, reply_closing, reply_help, reply_cache, reply_passphrase}, Works.{works, WorksSo, bind, returned, refuses_by}}
+use Rattle.agent_ask.specs.PartExchanges as exchange
+use Rattle.agent_ask.specs.TurnParts as taken
+use Rattle.session_client.specs.declared.code.Code.TheVariants as code
+use Rattle.session_client.specs.declared.unheard.Unheard.TheVariants as unheard
+use Rattle.session_options.specs.declared.options.OptionAnswer.TheVariants as option_answer
+use Rattle.session_options.specs.declared.options.PinMode.TheVariants as mode
+use Rattle.agent_commands.specs.Exchanges as told
 
 module _ (request : Request) where
   abbrev Fits : Event → Type 0

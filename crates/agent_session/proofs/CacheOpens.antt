@@ -1,40 +1,18 @@
 -- In a request on the cache a prompt is opened before the prompter is called, and once; and so in each exchange of a session.
 use Rattle.std.proofs.Common.{ℕ, Bool, true, false, List, Option, Some, None, Result, Ok, Err, refl}
-use Rattle.arrayvec.specs.ArrayVec.{ArrayVec}
-use Rattle.agent_ask.specs.Further.{FurtherEvent}
-use Rattle.agent_ask.specs.PartExchanges.{AnyExchange}
-use Rattle.agent_ask.specs.PartExchanges as exchange
-use Rattle.agent_ask.specs.Parts.{◌>>=◌, Returns}
-use Rattle.agent_origin.proofs.EachCache.{wants_prompt, without_prompt, by_cache, presets, tells_passphrase, tells_info, option_so}
-use Rattle.cache_policy.specs.declared.mark.MarkStep.{MarkStep}
-use Rattle.agent_ask.specs.TurnParts.{Changes}
-use Rattle.assuan_server.specs.Written.{refusal_line}
-use Rattle.session_client.specs.declared.code.Code.TheVariants as code
-use Rattle.session_client.specs.declared.refusal.Refusal.{Refusal}
-use Rattle.session_client.specs.declared.refusal.Refusal.TheVariants.{Agent}
-use Rattle.session_options.specs.OptionValues.{OptionValues, applied}
-use Rattle.session_options.specs.declared.options.PinMode.{PinMode}
-use Rattle.session_options.specs.declared.options.PinMode.TheVariants as mode
-use Rattle.session_options.specs.declared.rules.Rules.{Rules}
-use Rattle.agent_commands.specs.Endings.{went_after}
-use Rattle.agent_commands.specs.Events.{EventWith}
-use Rattle.agent_commands.specs.Exchanges.{CacheExchange, CacheReply, CacheReplies, confirms_by}
-use Rattle.agent_commands.specs.Parts.{CachePart}
-use Rattle.agent_commands.specs.Passphrases.{WithoutPrompt, PromptsAny, Prompts, passphrase_by, as_wanted}
-use Rattle.agent_commands.specs.Passphrases as passphrases
-use Rattle.agent_commands.specs.Requests.{GetFields}
-use Rattle.agent_commands.specs.declared.request.CacheCommand.{CacheCommand}
-use Rattle.agent_commands.specs.declared.request.CacheCommand.TheVariants.{Nop, Reset, Bye, Help, SetOption, GetInfo, GetPassphrase, PresetPassphrase, ClearPassphrase, GetConfirmation, ReloadAgent, KillAgent, SetKeyDesc}
-use Rattle.agent_commands.specs.declared.request.Request.{Request}
-use Rattle.agent_commands.specs.declared.request.Request.TheVariants.{Cache, Key, Bad}
-use Rattle.agent_commands.specs.declared.request.Texts.{Texts}
-use Rattle.agent_commands.specs.declared.went.Went.{Went}
-use Rattle.agent_origin.specs.SessionExchanges.{RequestExchange, cache, keys}
-use Rattle.agent_origin.specs.declared.kept.Kept.{Kept}
-use Rattle.agent_session.specs.Refusals.{IsUnopening, OpensFirst}
-use Rattle.agent_session.proofs.Opens.{Unopening, UnopeningSo, answer_unopening, OpensSo, still_unopening, then_unopening, calls_nobody, behind_opens, key_opens}
-use Rattle.key_commands.specs.Events.{IsUncalled}
+use Rattle.{arrayvec.specs.ArrayVec.ArrayVec, agent_ask.specs.{Further.FurtherEvent, PartExchanges.AnyExchange, Parts.{◌>>=◌, Returns}, TurnParts.Changes}}
+use Rattle.agent_origin.{proofs.EachCache.{wants_prompt, without_prompt, by_cache, presets, tells_passphrase, tells_info, option_so}, specs.{SessionExchanges.{RequestExchange, cache, keys}, declared.kept.Kept.Kept}}
+use Rattle.{cache_policy.specs.declared.mark.MarkStep.MarkStep, assuan_server.specs.Written.refusal_line, session_client.specs.declared.refusal.Refusal.{Refusal, TheVariants.Agent}}
+use Rattle.{session_options.specs.{OptionValues.{OptionValues, applied}, declared.{options.PinMode.PinMode, rules.Rules.Rules}}, agent_commands.specs.{Endings.went_after, Events.EventWith}}
+use Rattle.agent_commands.specs.{Exchanges.{CacheExchange, CacheReply, CacheReplies, confirms_by}, Parts.CachePart, Passphrases.{WithoutPrompt, PromptsAny, Prompts, passphrase_by, as_wanted}, Requests.GetFields}
+use Rattle.agent_commands.specs.declared.request.CacheCommand.{CacheCommand, TheVariants.{Nop, Reset, Bye, Help, SetOption, GetInfo, GetPassphrase, PresetPassphrase, ClearPassphrase, GetConfirmation, ReloadAgent, KillAgent, SetKeyDesc}}
+use Rattle.{agent_commands.specs.declared.{request.{Request.{Request, TheVariants.{Cache, Key, Bad}}, Texts.Texts}, went.Went.Went}, key_commands.specs.Events.IsUncalled}
 use Rattle.key_commands.proofs.EachEvent.{still_uncalled, agrees_to, each_shown, each_bind, each_returned, each_refused, each_otherwise, each_seats, each_changes, each_closes}
+use Rattle.agent_session.{specs.Refusals.{IsUnopening, OpensFirst}, proofs.Opens.{Unopening, UnopeningSo, answer_unopening, OpensSo, still_unopening, then_unopening, calls_nobody, behind_opens, key_opens}}
+use Rattle.agent_ask.specs.PartExchanges as exchange
+use Rattle.session_client.specs.declared.code.Code.TheVariants as code
+use Rattle.session_options.specs.declared.options.PinMode.TheVariants as mode
+use Rattle.agent_commands.specs.Passphrases as passphrases
 
 any_of : {rules : Rules} {options : OptionValues} {texts : Texts} {check quality : Bool} {repeat : ℕ} (before : Option ℕ) (events : List (EventWith FurtherEvent)) (result : Result (List ℕ) Refusal) (after : Option ℕ)
     → PromptsAny rules options texts check quality repeat before events result after → Unopening events

@@ -1,62 +1,29 @@
 -- Requests on the cache and on the session, each of whose refusals has its cause.
 use Rattle.std.proofs.Common.{◌≡◌, ℕ, Bool, true, false, List, [], ◌++◌, codes, Option, Some, None, Result, Ok, refl, sym, subst, inl}
-use Rattle.arrayvec.specs.ArrayVec.{ArrayVec}
-use Rattle.agent_ask.specs.ClientParts as client
-use Rattle.agent_ask.specs.SessionEvents.{said_last}
-use Rattle.agent_ask.specs.Further.{FurtherEvent}
-use Rattle.agent_ask.specs.PartExchanges as exchange
-use Rattle.agent_ask.specs.Parts.{◌>>=◌, Returns}
-use Rattle.agent_ask.specs.Plans.{plan_of}
-use Rattle.agent_ask.specs.TurnParts as taken
-use Rattle.assuan_server.specs.Clients.{session_lines}
-use Rattle.assuan_server.specs.Written.{refusal_line}
-use Rattle.assuan_server.specs.declared.errors.Origin.TheVariants as origin
-use Rattle.session_client.specs.Asking.{gone_of}
-use Rattle.session_client.specs.Refusals.{gone_by}
-use Rattle.session_client.specs.declared.code.Code.{Code}
-use Rattle.session_client.specs.declared.code.Code.TheVariants as code
-use Rattle.session_client.specs.declared.refusal.Refusal.{Refusal}
-use Rattle.session_client.specs.declared.refusal.Refusal.TheVariants.{Agent, Pinentry, Client}
-use Rattle.session_client.specs.declared.unheard.Gone.TheVariants as gone
-use Rattle.session_client.specs.declared.unheard.Unheard.{Unheard}
-use Rattle.session_client.specs.declared.unheard.Unheard.TheVariants as unheard
-use Rattle.cache_policy.specs.Turns.{closes, Empty}
-use Rattle.cache_policy.specs.declared.mark.MarkStep.{MarkStep}
-use Rattle.cache_policy.specs.declared.secret.TheConstants.{MAX_SECRET_LEN}
-use Rattle.session_options.specs.OptionValues.{OptionValues, applied}
-use Rattle.session_options.specs.declared.options.OptionAnswer.{OptionAnswer}
-use Rattle.session_options.specs.declared.options.OptionAnswer.TheVariants as option_answer
-use Rattle.session_options.specs.declared.options.PinMode.{PinMode}
-use Rattle.session_options.specs.declared.options.PinMode.TheVariants as mode
-use Rattle.session_options.specs.declared.rules.Rules.{Rules}
-use Rattle.agent_commands.specs.Answers.{IsInfo}
-use Rattle.agent_commands.specs.Endings.{went_after}
-use Rattle.agent_commands.specs.Events.{EventWith}
-use Rattle.agent_commands.specs.Exchanges.{CacheExchange, CacheReply, CacheReplies, TellsPassphrase, TellsInfo, option_replies, ChangeReplies, confirms_by, is_quiet, tells}
-use Rattle.agent_commands.specs.Parts.{CachePart, AsksPassphrase}
-use Rattle.assuan_server.specs.Written.{limit_line}
-use Rattle.agent_commands.specs.Passphrases.{ask, ask_or_open, LooksFor, WantsPrompt, ByCache, ByClient, Uncached, WithoutPrompt, PromptsAny, ByUser, as_wanted, passphrase_by}
-use Rattle.agent_commands.specs.Passphrases as passphrases
-use Rattle.agent_commands.specs.Requests.{GetFields, get_passphrase}
-use Rattle.agent_commands.specs.declared.request.CacheCommand.{CacheCommand}
-use Rattle.agent_commands.specs.declared.request.CacheCommand.TheVariants as command
-use Rattle.agent_commands.specs.declared.request.Info.{Info}
-use Rattle.agent_commands.specs.declared.request.Info.TheVariants.{Version, Pid, S2kCount, Listed}
-use Rattle.agent_commands.specs.declared.request.Request.{Request}
-use Rattle.agent_commands.specs.declared.request.Request.TheVariants.{Cache, Key, Bad}
-use Rattle.agent_commands.specs.declared.request.Texts.{Texts}
-use Rattle.agent_commands.specs.declared.went.Went.{Went}
-use Rattle.agent_session.specs.Causes.{AsksAny, wanted, StandIn, IsCaused, IsRefusedBy, IsSaid, said, by_client, by_mode, no_id, empty, option, preset, confirmation, none_given, HasNoEntry, IsUnprompted, IsMalformed}
-use Rattle.agent_session.specs.Causes.{IsUnsupported, without_id, passphrase}
+use Rattle.{arrayvec.specs.ArrayVec.ArrayVec, agent_ask.specs.{SessionEvents.said_last, Further.FurtherEvent, Parts.{◌>>=◌, Returns}, Plans.plan_of}, assuan_server.specs.{Clients.session_lines, Written.{refusal_line, limit_line}}}
+use Rattle.{session_client.specs.{Asking.gone_of, Refusals.gone_by, declared.{code.Code.Code, refusal.Refusal.{Refusal, TheVariants.{Agent, Pinentry, Client}}, unheard.Unheard.Unheard}}, cache_policy.specs.Turns.{closes, Empty}}
+use Rattle.{cache_policy.specs.declared.{mark.MarkStep.MarkStep, secret.TheConstants.MAX_SECRET_LEN}, session_options.specs.{OptionValues.{OptionValues, applied}, declared.options.{OptionAnswer.OptionAnswer, PinMode.PinMode}}}
+use Rattle.{session_options.specs.declared.rules.Rules.Rules, agent_commands.specs.{Answers.IsInfo, Endings.went_after, Events.EventWith}}
+use Rattle.agent_commands.specs.{Exchanges.{CacheExchange, CacheReply, CacheReplies, TellsPassphrase, TellsInfo, option_replies, ChangeReplies, confirms_by, is_quiet, tells}, Parts.{CachePart, AsksPassphrase}}
+use Rattle.agent_commands.specs.{Passphrases.{ask, ask_or_open, LooksFor, WantsPrompt, ByCache, ByClient, Uncached, WithoutPrompt, PromptsAny, ByUser, as_wanted, passphrase_by}, Requests.{GetFields, get_passphrase}}
+use Rattle.agent_commands.specs.declared.{request.{CacheCommand.CacheCommand, Info.{Info, TheVariants.{Version, Pid, S2kCount, Listed}}, Request.{Request, TheVariants.{Cache, Key, Bad}}, Texts.Texts}, went.Went.Went}
 use Rattle.agent_origin.specs.declared.kept.Kept.{Kept}
-use Rattle.agent_session.proofs.Asides.{secret_limit}
-use Rattle.agent_session.proofs.Explained.{Explained, replied, failed, silent, after_these, IsLast}
-use Rattle.agent_session.proofs.Explaining.{Caused, CausedRefusal, ClientSays, cut, client_said, Comes, IsExplained, Explains, Anything, bind, whatever, returned, refused, or_otherwise, is_wanted}
-use Rattle.agent_session.proofs.Explaining.{interrupts, looks, seats, changes, closes_of, closes_explained}
-use Rattle.agent_session.proofs.KeyParts.{Either, prompt_silent, refused_any, agrees}
-use Rattle.agent_session.proofs.KeyRequests.{if_needed, or_else_explained}
-use Rattle.agent_session.proofs.Replying.{IsReply, reply_ok, reply_closing, reply_help, reply_cache, reply_passphrase}
-use Rattle.agent_session.proofs.Standing.{has_first, stand_left, stand_right}
+use Rattle.agent_session.specs.Causes.{AsksAny, wanted, StandIn, IsCaused, IsRefusedBy, IsSaid, said, by_client, by_mode, no_id, empty, option, preset, confirmation, none_given, HasNoEntry, IsUnprompted, IsMalformed, IsUnsupported}
+use Rattle.agent_session.{specs.Causes.{without_id, passphrase}, proofs.{Asides.secret_limit, Explained.{Explained, replied, failed, silent, after_these, IsLast}}}
+use Rattle.agent_session.proofs.Explaining.{Caused, CausedRefusal, ClientSays, cut, client_said, Comes, IsExplained, Explains, Anything, bind, whatever, returned, refused, or_otherwise, is_wanted, interrupts, looks, seats, changes}
+use Rattle.agent_session.proofs.{Explaining.{closes_of, closes_explained}, KeyParts.{Either, prompt_silent, refused_any, agrees}, KeyRequests.{if_needed, or_else_explained}}
+use Rattle.agent_session.proofs.{Replying.{IsReply, reply_ok, reply_closing, reply_help, reply_cache, reply_passphrase}, Standing.{has_first, stand_left, stand_right}}
+use Rattle.agent_ask.specs.ClientParts as client
+use Rattle.agent_ask.specs.PartExchanges as exchange
+use Rattle.agent_ask.specs.TurnParts as taken
+use Rattle.assuan_server.specs.declared.errors.Origin.TheVariants as origin
+use Rattle.session_client.specs.declared.code.Code.TheVariants as code
+use Rattle.session_client.specs.declared.unheard.Gone.TheVariants as gone
+use Rattle.session_client.specs.declared.unheard.Unheard.TheVariants as unheard
+use Rattle.session_options.specs.declared.options.OptionAnswer.TheVariants as option_answer
+use Rattle.session_options.specs.declared.options.PinMode.TheVariants as mode
+use Rattle.agent_commands.specs.Passphrases as passphrases
+use Rattle.agent_commands.specs.declared.request.CacheCommand.TheVariants as command
 
 -- a reply that answers the request
 abbrev Answers : CacheReply → Type 0

@@ -1,37 +1,16 @@
 -- Parts of requests on the cache that are work of the one form, where each of their events is fit.
 use Rattle.std.proofs.Common.{◌≡◌, ℕ, Bool, List, [], codes, Option, Some, None, Result, refl}
-use Rattle.arrayvec.specs.ArrayVec.{ArrayVec}
-use Rattle.agent_ask.specs.Events.{PromptEvent}
-use Rattle.agent_ask.specs.Further.{Prompt}
-use Rattle.agent_ask.specs.SessionEvents.{Sent, Cut, Inquiry, Further, cache_turn}
-use Rattle.agent_ask.specs.SessionPrompts.{note}
-use Rattle.agent_ask.specs.TurnParts.{Changes}
-use Rattle.cache_policy.specs.Turns.{Turn, closes}
-use Rattle.cache_policy.specs.declared.life.Life.{Life}
-use Rattle.cache_policy.specs.declared.life.Life.TheVariants.{Default}
-use Rattle.cache_policy.specs.declared.mark.MarkStep.{MarkStep}
-use Rattle.cache_policy.specs.declared.mark.MarkStep.TheVariants.{Seat, Put}
-use Rattle.cache_policy.specs.declared.mode.Mode.TheVariants.{User}
-use Rattle.cache_policy.specs.declared.secret.TheConstants.{MAX_SECRET_LEN}
+use Rattle.{arrayvec.specs.ArrayVec.ArrayVec, agent_ask.specs.{Events.PromptEvent, Further.Prompt, SessionEvents.{Sent, Cut, Inquiry, Further, cache_turn}, SessionPrompts.note, TurnParts.Changes}, cache_policy.specs.Turns.{Turn, closes}}
+use Rattle.cache_policy.specs.declared.{life.Life.{Life, TheVariants.Default}, mark.MarkStep.{MarkStep, TheVariants.{Seat, Put}}, mode.Mode.TheVariants.User, secret.TheConstants.MAX_SECRET_LEN}
+use Rattle.{session_client.specs.declared.refusal.Refusal.{Refusal, TheVariants.Agent}, session_options.specs.{OptionValues.OptionValues, declared.{options.PinMode.PinMode, rules.Rules.Rules}}}
+use Rattle.agent_commands.specs.{Exchanges.{TellsInfo, put, confirms_by, Presets}, Parts.{CachePart, AsksPassphrase}, Passphrases.{LooksFor, WantsPrompt, KeepsUnder, ByCache, Uncached, WithoutPrompt, PromptsAny, ask, ask_or_open}}
+use Rattle.{agent_commands.specs.declared.request.{Info.Info, Texts.Texts}, assuan_server.specs.Written.limit_line, key_commands.specs.Events.Event}
+use Rattle.agent_session.proofs.{PromptWorks.{pin_works, pin_comes, agrees_to}, Works.{WorksTo, works, WorksSo, keeps_works, bind, returned, refuses_by, is_needed, or_otherwise, is_wanted, turns_of}}
 use Rattle.session_client.specs.declared.code.Code.TheVariants as code
-use Rattle.session_client.specs.declared.refusal.Refusal.{Refusal}
-use Rattle.session_client.specs.declared.refusal.Refusal.TheVariants.{Agent}
-use Rattle.session_options.specs.OptionValues.{OptionValues}
-use Rattle.session_options.specs.declared.options.PinMode.{PinMode}
 use Rattle.session_options.specs.declared.options.PinMode.TheVariants as mode
-use Rattle.session_options.specs.declared.rules.Rules.{Rules}
-use Rattle.agent_commands.specs.Exchanges.{TellsInfo, put, confirms_by, Presets}
 use Rattle.agent_commands.specs.Exchanges as exchanges
-use Rattle.agent_commands.specs.Parts.{CachePart, AsksPassphrase}
-use Rattle.assuan_server.specs.Written.{limit_line}
-use Rattle.agent_commands.specs.Passphrases.{LooksFor, WantsPrompt, KeepsUnder, ByCache, Uncached, WithoutPrompt, PromptsAny, ask, ask_or_open}
 use Rattle.agent_commands.specs.Passphrases as passphrases
-use Rattle.agent_commands.specs.declared.request.Info.{Info}
-use Rattle.agent_commands.specs.declared.request.Texts.{Texts}
-use Rattle.key_commands.specs.Events.{Event}
-use Rattle.agent_session.proofs.PromptWorks.{pin_works, pin_comes, agrees_to}
 use Rattle.agent_session.proofs.Works as work
-use Rattle.agent_session.proofs.Works.{WorksTo, works, WorksSo, keeps_works, bind, returned, refuses_by, is_needed, or_otherwise, is_wanted, turns_of}
 
 -- each event of such a part is fit, but that a passphrase is put
 pub record FitsCache (Fits : Event → Type 0) : Type 0 where

@@ -1,37 +1,20 @@
 -- Whole sessions: each of their exchanges is caused, and where no count of faults rose each request is answered.
-use Rattle.std.specs.List.{AllByRecursion}
-use Rattle.std.proofs.Common.{◌≡◌, ◌≤◌, true, List, refl, arith, ◌⊎◌, ℕ, inl, inr}
-use Rattle.std.specs.Prelude.{⊤}
-use Rattle.agent_ask.specs.Doing.{DoesCall, called, out_of_memory}
-use Rattle.agent_ask.specs.Events.{Call, PromptEvent, Called}
+use Rattle.std.{specs.{List.AllByRecursion, Prelude.⊤}, proofs.Common.{◌≡◌, ◌≤◌, true, List, refl, arith, ◌⊎◌, ℕ, inl, inr}}
+use Rattle.agent_ask.specs.{Doing.{DoesCall, called, out_of_memory}, Events.{Call, PromptEvent, Called}}
 use Rattle.agent_ask.specs.Further.{FurtherEvent, FurtherEnds, KeyCall, Read, Listed, Replaced, Removed, Draw, Drew, NotDrawn, Prompt, Keys, Dice, Trust, NoMemory, DoesFurther, DoesKeys, DoesDraw}
+use Rattle.{agent_ask.specs.{Prompters.{AtPrompter, IsCall, is_failed}, SessionEvents.Further, TrustCalls.{TrustCall, DoesTrust}, Worlds.{Outside, Does}}, agent_ports.specs.{Counts.Rose, KeyFiles.KeyFiles, Leads.{Leads, none, one}}}
+use Rattle.{agent_ports.specs.{Sides.Side, TrustFiles.TrustState}, assuan_server.specs.Reading.Supply, cache_policy.specs.{declared.mark.MarkStep.MarkStep, Turns.Turn}, agent_commands.specs.Events.EventWith}
+use Rattle.agent_origin.specs.FurtherStates.{FurtherWorld}
+use Rattle.agent_session.{specs.{Causes.{Has, here, later, FailsAtKeys, FailsAtTrust, FailsAtKeysOrDice, HasOne, HasCall, HasTrustCall}, Completeness.FailuresRise}, proofs.{KeyExplained.NeverAbsent, Standing.each_has}}
 use Rattle.agent_ask.specs.Further as further
-use Rattle.agent_ask.specs.Prompters.{AtPrompter, IsCall, is_failed}
-use Rattle.agent_ask.specs.SessionEvents.{Further}
-use Rattle.agent_ask.specs.TrustCalls.{TrustCall, DoesTrust}
 use Rattle.agent_ask.specs.TrustCalls as trust_call
-use Rattle.agent_ask.specs.Worlds.{Outside, Does}
 use Rattle.agent_ask.specs.Worlds as worlds
-use Rattle.agent_ports.specs.Counts.{Rose}
-use Rattle.agent_ports.specs.KeyFiles.{KeyFiles}
-use Rattle.agent_ports.specs.Leads.{Leads, none, one}
-use Rattle.agent_ports.specs.Sides.{Side}
-use Rattle.agent_ports.specs.TrustFiles.{TrustState}
 use Rattle.agent_ports.specs.declared.keys.KeyDone.TheVariants as key_done
 use Rattle.agent_ports.specs.declared.keys.KeyNames.TheVariants as key_names
 use Rattle.agent_ports.specs.declared.keys.KeyRead.TheVariants as key_read
 use Rattle.agent_ports.specs.declared.trust.TrustDone.TheVariants as trust_done
 use Rattle.agent_ports.specs.declared.trust.TrustRead.TheVariants as trust_read
-use Rattle.assuan_server.specs.Reading.{Supply}
-use Rattle.cache_policy.specs.declared.mark.MarkStep.{MarkStep}
-use Rattle.cache_policy.specs.Turns.{Turn}
-use Rattle.agent_commands.specs.Events.{EventWith}
-use Rattle.agent_session.specs.Causes.{Has, here, later, FailsAtKeys, FailsAtTrust, FailsAtKeysOrDice, HasOne, HasCall, HasTrustCall}
 use Rattle.agent_session.specs.Causes as causes
-use Rattle.agent_session.specs.Completeness.{FailuresRise}
-use Rattle.agent_session.proofs.KeyExplained.{NeverAbsent}
-use Rattle.agent_session.proofs.Standing.{each_has}
-use Rattle.agent_origin.specs.FurtherStates.{FurtherWorld}
 
 -- ---- what no event of a session is
 

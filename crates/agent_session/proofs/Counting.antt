@@ -1,33 +1,17 @@
 -- At most as many events fail on an end as its count rises by.
-use Rattle.std.proofs.Common.{◌≡◌, ◌≤◌, ℕ, Bool, cond, true, false, List, ◌∷◌, length, refl, sym, arith}
-use Rattle.std.specs.List.{count_by, filter}
-use Rattle.std.proofs.lemmas.List.Sums.{length-filter}
-use Rattle.agent_ask.specs.Doing.{DoesCall, called, out_of_memory}
-use Rattle.agent_ask.specs.Events.{Call, PromptEvent}
-use Rattle.agent_ask.specs.Further.{KeyCall, Read, Listed, Replaced, Removed, Draw, Drew, NotDrawn, Prompt, Keys, Dice, Trust, DoesDraw}
+use Rattle.std.{proofs.{Common.{◌≡◌, ◌≤◌, ℕ, Bool, cond, true, false, List, ◌∷◌, length, refl, sym, arith}, lemmas.List.Sums.length-filter}, specs.List.{count_by, filter}}
+use Rattle.agent_ask.specs.{Doing.{DoesCall, called, out_of_memory}, Events.{Call, PromptEvent}, Further.{KeyCall, Read, Listed, Replaced, Removed, Draw, Drew, NotDrawn, Prompt, Keys, Dice, Trust, DoesDraw}, Prompters.{AtPrompter, IsCall}}
+use Rattle.{agent_ask.specs.{SessionEvents.Further, TrustCalls.TrustCall, Worlds.{Outside, Does}}, agent_ports.specs.{Counts.{RoseBy, Rose}, Leads.{Leads, none, one}, Sides.Side}, assuan_server.specs.Reading.Supply}
+use Rattle.{cache_policy.specs.{declared.mark.MarkStep.MarkStep, Turns.Turn}, key_commands.specs.Events.Event, agent_origin.specs.FurtherStates.FurtherWorld}
+use Rattle.agent_session.{specs.{Causes.{FailsAtKeys, FailsAtTrust}, Counting.{fails_at_prompter, fails_at_keys, fails_at_dice, fails_at_trust, CountsFailures}}, proofs.Completing.{keys_rise, trust_rises, event_moves}}
 use Rattle.agent_ask.specs.Further as further
-use Rattle.agent_ask.specs.Prompters.{AtPrompter, IsCall}
-use Rattle.agent_ask.specs.SessionEvents.{Further}
-use Rattle.agent_ask.specs.TrustCalls.{TrustCall}
 use Rattle.agent_ask.specs.TrustCalls as trust_call
-use Rattle.agent_ask.specs.Worlds.{Outside, Does}
 use Rattle.agent_ask.specs.Worlds as worlds
-use Rattle.agent_ports.specs.Counts.{RoseBy, Rose}
-use Rattle.agent_ports.specs.Leads.{Leads, none, one}
-use Rattle.agent_ports.specs.Sides.{Side}
 use Rattle.agent_ports.specs.declared.keys.KeyDone.TheVariants as key_done
 use Rattle.agent_ports.specs.declared.keys.KeyNames.TheVariants as key_names
 use Rattle.agent_ports.specs.declared.keys.KeyRead.TheVariants as key_read
 use Rattle.agent_ports.specs.declared.trust.TrustDone.TheVariants as trust_done
 use Rattle.agent_ports.specs.declared.trust.TrustRead.TheVariants as trust_read
-use Rattle.assuan_server.specs.Reading.{Supply}
-use Rattle.cache_policy.specs.declared.mark.MarkStep.{MarkStep}
-use Rattle.cache_policy.specs.Turns.{Turn}
-use Rattle.key_commands.specs.Events.{Event}
-use Rattle.agent_origin.specs.FurtherStates.{FurtherWorld}
-use Rattle.agent_session.specs.Causes.{FailsAtKeys, FailsAtTrust}
-use Rattle.agent_session.specs.Counting.{fails_at_prompter, fails_at_keys, fails_at_dice, fails_at_trust, CountsFailures}
-use Rattle.agent_session.proofs.Completing.{keys_rise, trust_rises, event_moves}
 
 -- one more event, which failed, or didn't
 counted : {E : Type 0} (failed : Bool) (event : E) (more : List E) (before mid after : ℕ) → (failed ≡ true → Rose before mid) → before ≤ mid → RoseBy (length more) mid after

@@ -1,44 +1,19 @@
 -- How a request ends, once its work is done: what its last part does, and the course that this makes of its exchange. So a client that is gone ends it.
-use Rattle.std.specs.List.{AllByRecursion}
-use Rattle.std.specs.Option.{option_map}
-use Rattle.std.specs.Prelude.{⊤}
-use Rattle.std.proofs.Common.{◌≡◌, ℕ, List, [], ◌∷◌, ◌++◌, Option, Some, None, Result, Ok, Err, refl, sym, ap, ◌∙◌, subst, append_assoc, append-nil, inl, inr, ◌⊎◌}
-use Rattle.agent_ask.specs.Further.{Prompt, Keys, Dice, Trust, NoMemory, Replaced, Removed}
-use Rattle.agent_ask.specs.Interrupts.{Interrupts}
-use Rattle.agent_ask.specs.Parts.{◌>>=◌, Returns, Refuses}
-use Rattle.agent_ask.proofs.Within.{Within, Joins, weaker, bind, returned_so, refused_so, Yields, yields_then}
-use Rattle.agent_ask.specs.SessionEvents.{Received, Sent, Cut, Inquiry, CacheTurn, Further, cache_turn, said_last}
-use Rattle.agent_ask.specs.TurnParts.{Closes}
+use Rattle.std.{specs.{List.AllByRecursion, Option.option_map, Prelude.⊤}, proofs.Common.{◌≡◌, ℕ, List, [], ◌∷◌, ◌++◌, Option, Some, None, Result, Ok, Err, refl, sym, ap, ◌∙◌, subst, append_assoc, append-nil, inl, inr, ◌⊎◌}}
+use Rattle.agent_ask.specs.{Further.{Prompt, Keys, Dice, Trust, NoMemory, Replaced, Removed}, Interrupts.Interrupts, Parts.{◌>>=◌, Returns, Refuses}, SessionEvents.{Received, Sent, Cut, Inquiry, CacheTurn, Further, cache_turn, said_last}}
+use Rattle.{agent_ask.{specs.TurnParts.Closes, proofs.Within.{Within, Joins, weaker, bind, returned_so, refused_so, Yields, yields_then}}, agent_ports.specs.declared.grip.Grip.Grip, assuan_server.specs.Written.{failed, refusal_line}}
+use Rattle.{cache_policy.specs.{Turns.{Turn, Done}, declared.{mark.MarkStep.TheVariants.{Close, Clear}, mode.Mode.TheVariants.Normal}}, session_client.specs.{Refusals.refusal_code, declared.{code.Code.Code, refusal.Refusal.Refusal}}}
+use Rattle.{session_client.specs.declared.{refusal.Refusal.TheVariants.{Agent, Pinentry, Client}, unheard.{Gone.Gone, Unheard.Unheard}}, agent_commands.specs.declared.request.Request.Request, key_commands.specs.Events.Event}
+use Rattle.key_commands.{specs.{Lines.grip_text, Parts.Part, Passphrases.put_key}, proofs.EachEvent.{each_append, each_answer}}
+use Rattle.agent_session.specs.{Causes.{here, later, IsSaid, said as says_so}, Completeness.{EndsInOk, error, done}}
+use Rattle.agent_session.{specs.Refusals.{refuses, shuts, IsAllowed, IsWork, AreWork, IsLast, said, gone, GivesBack, no_ticket, with_ticket, settled, interrupted, IsEnd, CourseBy}, proofs.{Explained.has_split, Replying.{IsReply, begins}}}
+use Rattle.agent_session.proofs.{Standing.each_has, Works.{unsaid, unheard_by, lost_goes, GoesOn, WorkEnd, no_more, refused, lost, forgot, WorksTo, ok_works, err_works, WorkLaw, WorksSo}}
 use Rattle.agent_ask.specs.TurnParts as taken
-use Rattle.agent_ports.specs.declared.grip.Grip.{Grip}
 use Rattle.agent_ports.specs.declared.keys.KeyDone.TheVariants as key_done
-use Rattle.assuan_server.specs.Written.{failed, refusal_line}
 use Rattle.assuan_server.specs.declared.errors.Origin.TheVariants as origin
-use Rattle.cache_policy.specs.Turns.{Turn, Done}
-use Rattle.cache_policy.specs.declared.mark.MarkStep.TheVariants.{Close, Clear}
-use Rattle.cache_policy.specs.declared.mode.Mode.TheVariants.{Normal}
-use Rattle.session_client.specs.Refusals.{refusal_code}
-use Rattle.session_client.specs.declared.code.Code.{Code}
 use Rattle.session_client.specs.declared.code.Code.TheVariants as code
-use Rattle.session_client.specs.declared.refusal.Refusal.{Refusal}
-use Rattle.session_client.specs.declared.refusal.Refusal.TheVariants.{Agent, Pinentry, Client}
-use Rattle.session_client.specs.declared.unheard.Gone.{Gone}
-use Rattle.session_client.specs.declared.unheard.Unheard.{Unheard}
 use Rattle.session_client.specs.declared.unheard.Unheard.TheVariants as unheard
-use Rattle.agent_commands.specs.declared.request.Request.{Request}
-use Rattle.key_commands.specs.Events.{Event}
-use Rattle.key_commands.specs.Lines.{grip_text}
-use Rattle.key_commands.specs.Parts.{Part}
-use Rattle.key_commands.specs.Passphrases.{put_key}
-use Rattle.key_commands.proofs.EachEvent.{each_append, each_answer}
-use Rattle.agent_session.specs.Causes.{here, later, IsSaid, said as says_so}
-use Rattle.agent_session.specs.Completeness.{EndsInOk, error, done}
-use Rattle.agent_session.specs.Refusals.{refuses, shuts, IsAllowed, IsWork, AreWork, IsLast, said, gone, GivesBack, no_ticket, with_ticket, settled, interrupted, IsEnd, CourseBy}
 use Rattle.agent_session.specs.Refusals as course
-use Rattle.agent_session.proofs.Explained.{has_split}
-use Rattle.agent_session.proofs.Replying.{IsReply, begins}
-use Rattle.agent_session.proofs.Standing.{each_has}
-use Rattle.agent_session.proofs.Works.{unsaid, unheard_by, lost_goes, GoesOn, WorkEnd, no_more, refused, lost, forgot, WorksTo, ok_works, err_works, WorkLaw, WorksSo}
 
 -- ---- answers
 

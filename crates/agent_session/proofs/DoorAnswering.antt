@@ -1,50 +1,17 @@
 -- Lines at a door: each exchange is caused, and is one of any session, where its command isn't the door's own.
-use Rattle.std.specs.List.{AllByRecursion}
-use Rattle.std.proofs.Common.{◌≡◌, ◌⊎◌, ℕ, Bool, true, false, cond, List, [], ◌∷◌, ◌++◌, Option, Some, None, bytes_eq, codes, map, refl, sym, ap, subst, inl, inr, ◌∙◌}
-use Rattle.std.specs.Str.{str_to_ascii_lowercase}
-use Rattle.agent_ask.specs.Prompters.{is_failed}
-use Rattle.agent_ask.specs.SessionEvents.{Sent}
-use Rattle.agent_commands.specs.Answers.{comments}
-use Rattle.agent_commands.specs.Names.{command_names}
-use Rattle.agent_commands.specs.Requests.{request_of}
-use Rattle.agent_commands.specs.declared.went.Went.{Went}
-use Rattle.agent_commands.specs.declared.went.Went.TheVariants.{On}
-use Rattle.assuan_server.specs.Written.{failed as failed_line, ok}
-use Rattle.session_client.specs.declared.code.Code.{Code}
+use Rattle.std.{specs.{List.AllByRecursion, Str.str_to_ascii_lowercase}, proofs.Common.{◌≡◌, ◌⊎◌, ℕ, Bool, true, false, cond, List, [], ◌∷◌, ◌++◌, Option, Some, None, bytes_eq, codes, map, refl, sym, ap, subst, inl, inr, ◌∙◌}}
+use Rattle.{agent_ask.specs.{Prompters.is_failed, SessionEvents.Sent}, agent_commands.specs.{Answers.comments, Names.command_names, Requests.request_of, declared.went.Went.{Went, TheVariants.On}}}
+use Rattle.{assuan_server.specs.{Written.{failed as failed_line, ok}, declared.errors.Origin.{Origin, TheVariants.Agent}}, session_client.specs.declared.code.Code.Code, assuan_text.specs.Words.command_of, key_commands.specs.Events.Event}
+use Rattle.{key_commands.proofs.EachRequest.IsBesideTrust, session_options.specs.declared.rules.Rules.Rules, agent_origin.specs.{DoorSessions.{door_help, AllowedExchange, DoorExchange, door_command_named, door_command}, Doors.allowed}}
+use Rattle.agent_origin.specs.{TrustNames.{commands_on_trust, trust_command_named}, TrustExchanges.TrustExchange, TrustRequests.trust_request_of, SessionExchanges.SessionExchange, declared.{door.Door.Door, kept.Kept.Kept}}
+use Rattle.agent_origin.{specs.declared.trust.{names.TrustCommandName.TrustCommandName, request.TrustRequest.TheVariants.Bad}, proofs.{EachLine.each_request, OwnCommands.{own_command, not_own}}}
+use Rattle.agent_session.specs.{Causes.{HasOne, HasCall, WantsMemory, is_broken}, Completeness.{IsAnsweredBy, HasError, CausedAtDoor, WantsNoPrompt, any, on_trust}}
+use Rattle.agent_session.{specs.DoorCauses.{IsTrustCaused, IsCausedBy, IsCausedAtDoor, IsReadTrust, read_trust, IsNotTrusted, unsaid, denied, denied_mark, forbidden, is_allowed}, proofs.Answering.{Judging, none_failed, no_trust_failed}}
+use Rattle.agent_session.proofs.{Asides.{asides_append, comments_aside}, Completing.{IsPossible, IsSteady, never_absent}, Explained.{Explained, replied, failed, silent, is_answered, is_caused, went_on, goes_on as explained_on}}
+use Rattle.agent_session.proofs.{KeyExplained.{exchange_caused, exchange_goes_on}, Replying.{IsReply, begins, reply_ok}, Standing.stand_all, TrustDenied.{none_called, denial_is_said}, TrustExplained.{trust_explained, trust_line_form}}
 use Rattle.session_client.specs.declared.code.Code.TheVariants as code
-use Rattle.assuan_server.specs.declared.errors.Origin.{Origin}
-use Rattle.assuan_server.specs.declared.errors.Origin.TheVariants.{Agent}
-use Rattle.assuan_text.specs.Words.{command_of}
-use Rattle.key_commands.specs.Events.{Event}
-use Rattle.key_commands.proofs.EachRequest.{IsBesideTrust}
-use Rattle.session_options.specs.declared.rules.Rules.{Rules}
-use Rattle.agent_origin.specs.DoorSessions.{door_help, AllowedExchange, DoorExchange}
 use Rattle.agent_origin.specs.DoorSessions as doors
-use Rattle.agent_origin.specs.Doors.{allowed}
-use Rattle.agent_origin.specs.TrustNames.{commands_on_trust, trust_command_named}
-use Rattle.agent_origin.specs.DoorSessions.{door_command_named, door_command}
-use Rattle.agent_origin.specs.TrustExchanges.{TrustExchange}
-use Rattle.agent_origin.specs.TrustRequests.{trust_request_of}
-use Rattle.agent_origin.specs.SessionExchanges.{SessionExchange}
-use Rattle.agent_origin.specs.declared.door.Door.{Door}
-use Rattle.agent_origin.specs.declared.kept.Kept.{Kept}
-use Rattle.agent_origin.specs.declared.trust.names.TrustCommandName.{TrustCommandName}
 use Rattle.agent_origin.specs.declared.trust.names.TrustCommandName.TheVariants as name
-use Rattle.agent_origin.specs.declared.trust.request.TrustRequest.TheVariants.{Bad}
-use Rattle.agent_origin.proofs.EachLine.{each_request}
-use Rattle.agent_origin.proofs.OwnCommands.{own_command, not_own}
-use Rattle.agent_session.specs.Causes.{HasOne, HasCall, WantsMemory, is_broken}
-use Rattle.agent_session.specs.Completeness.{IsAnsweredBy, HasError, CausedAtDoor, WantsNoPrompt, any, on_trust}
-use Rattle.agent_session.specs.DoorCauses.{IsTrustCaused, IsCausedBy, IsCausedAtDoor, IsReadTrust, read_trust, IsNotTrusted, unsaid, denied, denied_mark, forbidden, is_allowed}
-use Rattle.agent_session.proofs.Answering.{Judging, none_failed, no_trust_failed}
-use Rattle.agent_session.proofs.Asides.{asides_append, comments_aside}
-use Rattle.agent_session.proofs.Completing.{IsPossible, IsSteady, never_absent}
-use Rattle.agent_session.proofs.Explained.{Explained, replied, failed, silent, is_answered, is_caused, went_on, goes_on as explained_on}
-use Rattle.agent_session.proofs.KeyExplained.{exchange_caused, exchange_goes_on}
-use Rattle.agent_session.proofs.Replying.{IsReply, begins, reply_ok}
-use Rattle.agent_session.proofs.Standing.{stand_all}
-use Rattle.agent_session.proofs.TrustDenied.{none_called, denial_is_said}
-use Rattle.agent_session.proofs.TrustExplained.{trust_explained, trust_line_form}
 
 -- ---- names of commands
 

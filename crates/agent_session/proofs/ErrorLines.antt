@@ -1,15 +1,8 @@
 -- An error line says its code and where it comes from.
-use Rattle.std.proofs.Common.{◌≡◌, ◌==◌, ◌+◌, ◌*◌, ◌-◌, ◌%◌, ◌/◌, ℕ, List, [], ◌∷◌, take, drop, refl, sym, ap, ◌∙◌}
-use Rattle.std.specs.Fmt.{digits}
-use Rattle.std.specs.Prelude.{if◌then◌else◌, nat_lt}
-use Rattle.assuan_server.specs.Errors.{error_text}
-use Rattle.session_client.specs.declared.code.Code.{Code}
+use Rattle.std.{proofs.Common.{◌≡◌, ◌==◌, ◌+◌, ◌*◌, ◌-◌, ◌%◌, ◌/◌, ℕ, List, [], ◌∷◌, take, drop, refl, sym, ap, ◌∙◌}, specs.{Fmt.digits, Prelude.{if◌then◌else◌, nat_lt}}}
+use Rattle.{assuan_server.specs.{Errors.error_text, declared.errors.Origin.{Origin, TheVariants.{Agent, Pinentry}}}, session_client.specs.declared.code.Code.Code, assuan_text.specs.LineEnds.line_of}
+use Rattle.agent_session.{specs.Completeness.IsStatus, proofs.Replying.{IsReply, begins}}
 use Rattle.session_client.specs.declared.code.Code.TheVariants as code
-use Rattle.assuan_server.specs.declared.errors.Origin.{Origin}
-use Rattle.assuan_server.specs.declared.errors.Origin.TheVariants.{Agent, Pinentry}
-use Rattle.assuan_text.specs.LineEnds.{line_of}
-use Rattle.agent_session.specs.Completeness.{IsStatus}
-use Rattle.agent_session.proofs.Replying.{IsReply, begins}
 
 -- the number that these digits are, up to a byte below them
 abbrev number_by : ℕ → List ℕ → ℕ

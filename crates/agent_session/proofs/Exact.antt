@@ -1,85 +1,33 @@
 -- Each code is answered wherever its cause stands, in a session and at a door.
-use Rattle.std.specs.List.{AllByRecursion}
-use Rattle.std.proofs.Common.{◌≡◌, ◌⊎◌, ℕ, List, [], Option, Some, None, Result, Err, refl, sym, subst, inl, inr, ◌<◌, Bool, true, false, cond, ◌∷◌, ◌++◌, length, Ok, bytes_eq, codes}
-use Rattle.agent_ask.specs.Further.{Keys, Read, Removed}
-use Rattle.agent_ask.specs.SessionEvents.{Inquiry, Further, said_last}
-use Rattle.arrayvec.specs.ArrayVec.{ArrayVec}
-use Rattle.agent_ports.specs.declared.grip.Grip.{Grip}
+use Rattle.std.specs.{List.AllByRecursion, Option.option_or, Str.str_to_ascii_lowercase}
+use Rattle.std.proofs.{Common.{◌≡◌, ◌⊎◌, ℕ, List, [], Option, Some, None, Result, Err, refl, sym, subst, inl, inr, ◌<◌, Bool, true, false, cond, ◌∷◌, ◌++◌, length, Ok, bytes_eq, codes}, lemmas.Slice.Eq.bytes_eq-Decides}
+use Rattle.{agent_ask.specs.{Further.{Keys, Read, Removed}, SessionEvents.{Inquiry, Further, said_last}, Plans.text, TurnParts.Closes}, arrayvec.specs.ArrayVec.ArrayVec, agent_ports.specs.declared.grip.Grip.Grip}
+use Rattle.{session_client.specs.{Refusals.refusal_code, declared.{code.Code.Code, unheard.Unheard.Unheard}}, assuan_server.specs.{declared.errors.Origin.TheVariants.Agent, Written.refusal_line}, key_lines.specs.Canon.Canon}
+use Rattle.{session_options.specs.{OptionValues.OptionValues, declared.{options.OptionAnswer.OptionAnswer, rules.Rules.Rules}}, sexp_keys.specs.{Key.Key, declared.fault.KeyFault.KeyFault}, agent_commands.specs.Exchanges.CacheExchange}
+use Rattle.agent_commands.specs.declared.{request.Request.{Request, TheVariants.{Cache, Key as OnKeys, Bad}}, went.Went.Went, names.CommandName.CommandName}
+use Rattle.{agent_commands.specs.{Names.{commands, prompt_commands, command_named as cache_command_named, is_key_command}, Requests.{request_of, request_by}}, key_commands.specs.{Lines.max_key_data, Events.Event, Exchanges.KeyExchange}}
+use Rattle.key_commands.specs.{Faults.fault_code, Files.FileSays, Requests.key_request_of, declared.{request.KeyRequest.KeyRequest, went.KeyWent.KeyWent, wrap_keys.WrapKeys.WrapKeys}}
+use Rattle.agent_origin.specs.{SessionExchanges.{RequestExchange, cache, keys}, declared.{kept.Kept.Kept, door.Door.Door, trust.{names.TrustCommandName.TrustCommandName, request.{TrustPurpose.TrustPurpose, TrustRequest.TrustRequest}}}}
+use Rattle.agent_origin.specs.{declared.trust.request.TrustRequest.TheVariants.MarkTrusted, DoorSessions.{AllowedExchange, DoorExchange, door_command_named, door_command}, TrustExchanges.{flag_of, Marked, TrustExchange}}
+use Rattle.{agent_origin.{specs.{TrustNames.trust_command_named, TrustRequests.trust_request_of, Doors.sets_terminal}, proofs.OwnCommands.{own_command, not_own, terminal_set}}, assuan_text.specs.Words.command_of}
+use Rattle.trust_list.specs.{Trust.{trust, with_entry}, declared.TheConstants.MAX_TRUST_FILE_LEN}
+use Rattle.agent_session.specs.Causes.{Has, IsSaid, said, sent, IsRead, read, on_keys, IsRefusedBy, Judges, tells, unlocks, Unlocks, exports, changes, LacksKeys, AreUnread, later, IsOption, option, KeyDataSays, data_says, IsFaulty, file}
+use Rattle.agent_session.specs.{Causes.{protection, key_data, HasNoData, no_id, empty, no_import, no_export, there, here}, Completeness.{Remembers, HasError}}
+use Rattle.agent_session.specs.{Exactly.{ExactCause, IsLong, long, long_file, ExactTrustCause, ExactCauseAtDoor, forbidden, on_trust, any}, DoorCauses.{IsReadTrust, read_trust, IsReadAgain, read_again, inquired, too_long}}
+use Rattle.agent_session.proofs.{ExactCache.{option_due, cache_due, cache_answered, none_without, none_cached}, ExactKeys.{have_answered, by_said, NoFault, due_of, deciding_of, keys_answered}, ExactLong.long_answered}
+use Rattle.agent_session.proofs.{ExactParts.{Deciding, SaidDecides, IsDecided, NoneOwed, SaysTo, answer_free, decided_before, said_error}, ExactReads.{SentRefuses, IsUnlockable, FileRefuses, faulty, owes, read_refuses, by_file}}
+use Rattle.agent_session.proofs.{DoorAnswering.{is_word, no_command, door_is_session}, ExactTrust.{ByLong, marked_long, due_trust, trust_answered}, Standing.each_left, TrustDenied.denial_is_said, TrustTold.{Told, told}}
 use Rattle.agent_ports.specs.declared.keys.KeyDone.TheVariants as key_done
 use Rattle.agent_ports.specs.declared.keys.KeyRead.TheVariants as key_read
-use Rattle.session_client.specs.Refusals.{refusal_code}
-use Rattle.session_client.specs.declared.code.Code.{Code}
 use Rattle.session_client.specs.declared.code.Code.TheVariants as code
-use Rattle.assuan_server.specs.declared.errors.Origin.TheVariants.{Agent}
-use Rattle.key_lines.specs.Canon.{Canon}
 use Rattle.session_client.specs.declared.unheard.Gone.TheVariants as gone
-use Rattle.session_client.specs.declared.unheard.Unheard.{Unheard}
 use Rattle.session_client.specs.declared.unheard.Unheard.TheVariants as unheard
-use Rattle.session_options.specs.OptionValues.{OptionValues}
-use Rattle.session_options.specs.declared.options.OptionAnswer.{OptionAnswer}
 use Rattle.session_options.specs.declared.options.OptionAnswer.TheVariants as option_answer
-use Rattle.session_options.specs.declared.rules.Rules.{Rules}
-use Rattle.sexp_keys.specs.Key.{Key}
-use Rattle.sexp_keys.specs.declared.fault.KeyFault.{KeyFault}
-use Rattle.agent_commands.specs.Exchanges.{CacheExchange}
-use Rattle.agent_commands.specs.declared.request.Request.{Request}
-use Rattle.agent_commands.specs.declared.request.Request.TheVariants.{Cache, Key as OnKeys, Bad}
-use Rattle.agent_commands.specs.declared.went.Went.{Went}
-use Rattle.key_commands.specs.Lines.{max_key_data}
-use Rattle.key_commands.specs.Events.{Event}
-use Rattle.key_commands.specs.Exchanges.{KeyExchange}
-use Rattle.key_commands.specs.Faults.{fault_code}
-use Rattle.key_commands.specs.Files.{FileSays}
-use Rattle.key_commands.specs.Requests.{key_request_of}
-use Rattle.key_commands.specs.declared.request.KeyRequest.{KeyRequest}
 use Rattle.key_commands.specs.declared.request.KeyRequest.TheVariants as on
-use Rattle.key_commands.specs.declared.went.KeyWent.{KeyWent}
-use Rattle.key_commands.specs.declared.wrap_keys.WrapKeys.{WrapKeys}
-use Rattle.agent_origin.specs.SessionExchanges.{RequestExchange, cache, keys}
-use Rattle.agent_origin.specs.declared.kept.Kept.{Kept}
-use Rattle.agent_session.specs.Causes.{Has, IsSaid, said, sent, IsRead, read, on_keys, IsRefusedBy, Judges, tells, unlocks, Unlocks, exports, changes, LacksKeys, AreUnread, later}
-use Rattle.agent_session.specs.Causes.{IsOption, option, KeyDataSays, data_says, IsFaulty, file, protection, key_data, HasNoData, no_id, empty, no_import, no_export, there, here}
 use Rattle.agent_session.specs.Causes as causes
-use Rattle.agent_session.specs.Completeness.{Remembers, HasError}
-use Rattle.agent_session.specs.Exactly.{ExactCause, IsLong, long, long_file, ExactTrustCause, ExactCauseAtDoor, forbidden, on_trust, any}
-use Rattle.agent_session.proofs.ExactCache.{option_due, cache_due, cache_answered, none_without, none_cached}
-use Rattle.agent_session.proofs.ExactKeys.{have_answered, by_said, NoFault, due_of, deciding_of, keys_answered}
-use Rattle.agent_session.proofs.ExactLong.{long_answered}
-use Rattle.agent_session.proofs.ExactParts.{Deciding, SaidDecides, IsDecided, NoneOwed, SaysTo, answer_free, decided_before, said_error}
-use Rattle.agent_session.proofs.ExactReads.{SentRefuses, IsUnlockable, FileRefuses, faulty, owes, read_refuses, by_file}
-use Rattle.std.specs.Option.{option_or}
-use Rattle.std.specs.Str.{str_to_ascii_lowercase}
-use Rattle.std.proofs.lemmas.Slice.Eq.{bytes_eq-Decides}
-use Rattle.agent_ask.specs.Plans.{text}
-use Rattle.agent_commands.specs.Names.{commands, prompt_commands, command_named as cache_command_named, is_key_command}
-use Rattle.agent_commands.specs.Requests.{request_of, request_by}
-use Rattle.agent_commands.specs.declared.names.CommandName.{CommandName}
-use Rattle.assuan_text.specs.Words.{command_of}
-use Rattle.trust_list.specs.Trust.{trust, with_entry}
-use Rattle.trust_list.specs.declared.TheConstants.{MAX_TRUST_FILE_LEN}
-use Rattle.agent_origin.specs.DoorSessions.{AllowedExchange, DoorExchange}
 use Rattle.agent_origin.specs.DoorSessions as doors
-use Rattle.agent_origin.specs.TrustExchanges.{flag_of, Marked, TrustExchange}
-use Rattle.agent_origin.specs.TrustNames.{trust_command_named}
-use Rattle.agent_origin.specs.DoorSessions.{door_command_named, door_command}
-use Rattle.assuan_server.specs.Written.{refusal_line}
-use Rattle.agent_origin.specs.TrustRequests.{trust_request_of}
-use Rattle.agent_origin.specs.Doors.{sets_terminal}
-use Rattle.agent_origin.specs.declared.door.Door.{Door}
-use Rattle.agent_origin.specs.declared.trust.names.TrustCommandName.{TrustCommandName}
 use Rattle.agent_origin.specs.declared.trust.names.TrustCommandName.TheVariants as name
-use Rattle.agent_origin.specs.declared.trust.request.TrustPurpose.{TrustPurpose}
-use Rattle.agent_origin.specs.declared.trust.request.TrustRequest.{TrustRequest}
-use Rattle.agent_origin.specs.declared.trust.request.TrustRequest.TheVariants.{MarkTrusted}
-use Rattle.agent_origin.proofs.OwnCommands.{own_command, not_own, terminal_set}
-use Rattle.agent_session.proofs.DoorAnswering.{is_word, no_command, door_is_session}
-use Rattle.agent_session.proofs.ExactTrust.{ByLong, marked_long, due_trust, trust_answered}
-use Rattle.agent_session.proofs.Standing.{each_left}
-use Rattle.agent_session.proofs.TrustDenied.{denial_is_said}
-use Rattle.agent_session.proofs.TrustTold.{Told, told}
 use Rattle.agent_session.proofs.TrustTold as telling
-use Rattle.agent_ask.specs.TurnParts.{Closes}
-use Rattle.agent_session.specs.DoorCauses.{IsReadTrust, read_trust, IsReadAgain, read_again, inquired, too_long}
 use Rattle.agent_ask.specs.TurnParts as turning
 
 -- what the client said decides its request

@@ -1,42 +1,20 @@
 -- Requests on the cache and on the session: what decides one is what it is refused by.
-use Rattle.std.specs.List.{AllByRecursion}
-use Rattle.std.proofs.Common.{◌≡◌, ◌⊎◌, ℕ, Bool, true, false, List, Option, Some, None, Result, refl, subst}
-use Rattle.agent_ask.specs.PartExchanges.{AnyExchange, answered, refused}
-use Rattle.agent_ask.specs.SessionEvents.{cache_turn}
-use Rattle.assuan_server.specs.Written.{refusal_line}
-use Rattle.assuan_server.specs.declared.errors.Origin.TheVariants.{Agent as OfAgent}
-use Rattle.session_client.specs.declared.code.Code.{Code}
-use Rattle.session_client.specs.declared.code.Code.TheVariants as code
-use Rattle.session_client.specs.declared.refusal.Refusal.{Refusal}
-use Rattle.cache_policy.specs.Turns.{Empty, closes}
-use Rattle.cache_policy.specs.declared.mark.MarkStep.{MarkStep}
-use Rattle.session_options.specs.OptionValues.{OptionValues, applied}
-use Rattle.session_options.specs.declared.options.OptionAnswer.{OptionAnswer}
-use Rattle.session_options.specs.declared.options.OptionAnswer.TheVariants.{Set, Unknown, Parameter, NotSupported}
-use Rattle.session_options.specs.declared.options.PinMode.{PinMode}
-use Rattle.session_options.specs.declared.options.PinMode.TheVariants as mode
-use Rattle.session_options.specs.declared.rules.Rules.{Rules}
-use Rattle.agent_commands.specs.Endings.{went_after}
-use Rattle.agent_commands.specs.Exchanges as exchanges
-use Rattle.agent_commands.specs.Exchanges.{CacheExchange, CacheReply, CacheReplies, ChangeReplies, TellsPassphrase, option_replies, is_quiet}
-use Rattle.agent_commands.specs.Parts.{CachePart}
-use Rattle.agent_commands.specs.Passphrases.{WithoutPrompt, as_wanted, passphrase_by, ask}
-use Rattle.agent_commands.specs.Requests.{GetFields, get_passphrase}
-use Rattle.agent_commands.specs.declared.request.CacheCommand.{CacheCommand}
-use Rattle.agent_commands.specs.declared.request.CacheCommand.TheVariants.{Nop, Reset, Bye, Help, SetOption, GetInfo, GetPassphrase, PresetPassphrase, ClearPassphrase, GetConfirmation, ReloadAgent, KillAgent, SetKeyDesc}
-use Rattle.agent_commands.specs.declared.request.Request.{Request}
-use Rattle.agent_commands.specs.declared.request.Request.TheVariants.{Cache, Key as OnKeys, Bad}
-use Rattle.agent_commands.specs.declared.request.Texts.{Texts}
-use Rattle.agent_commands.specs.declared.went.Went.{Went}
-use Rattle.key_commands.specs.Events.{Event}
-use Rattle.agent_session.specs.Causes.{Has, here, later}
-use Rattle.agent_session.specs.Completeness as completeness
-use Rattle.agent_session.specs.Completeness.{HasError, Remembers}
-use Rattle.agent_session.proofs.AtOnce.{LooksAlone, answers, interrupted, looked}
+use Rattle.std.{specs.List.AllByRecursion, proofs.Common.{◌≡◌, ◌⊎◌, ℕ, Bool, true, false, List, Option, Some, None, Result, refl, subst}}
+use Rattle.{agent_ask.specs.{PartExchanges.{AnyExchange, answered, refused}, SessionEvents.cache_turn}, assuan_server.specs.{Written.refusal_line, declared.errors.Origin.TheVariants.Agent as OfAgent}}
+use Rattle.{session_client.specs.declared.{code.Code.Code, refusal.Refusal.Refusal}, cache_policy.specs.{Turns.{Empty, closes}, declared.mark.MarkStep.MarkStep}, session_options.specs.OptionValues.{OptionValues, applied}}
+use Rattle.{session_options.specs.declared.{options.{OptionAnswer.{OptionAnswer, TheVariants.{Set, Unknown, Parameter, NotSupported}}, PinMode.PinMode}, rules.Rules.Rules}, agent_commands.specs.Endings.went_after}
+use Rattle.agent_commands.specs.{Exchanges.{CacheExchange, CacheReply, CacheReplies, ChangeReplies, TellsPassphrase, option_replies, is_quiet}, Parts.CachePart, Passphrases.{WithoutPrompt, as_wanted, passphrase_by, ask}}
+use Rattle.agent_commands.specs.{Requests.{GetFields, get_passphrase}, declared.request.CacheCommand.CacheCommand}
+use Rattle.agent_commands.specs.declared.request.{CacheCommand.TheVariants.{Nop, Reset, Bye, Help, SetOption, GetInfo, GetPassphrase, PresetPassphrase, ClearPassphrase, GetConfirmation, ReloadAgent, KillAgent, SetKeyDesc}, Request.Request}
+use Rattle.{agent_commands.specs.declared.{request.{Request.TheVariants.{Cache, Key as OnKeys, Bad}, Texts.Texts}, went.Went.Went}, key_commands.specs.Events.Event}
+use Rattle.agent_session.{specs.{Causes.{Has, here, later}, Completeness.{HasError, Remembers}}, proofs.AtOnce.{LooksAlone, answers, interrupted, looked}}
 use Rattle.agent_session.proofs.CacheWorks.{FitsCache, wants_prompt, changes, by_cache, without_prompt, prompts_any, confirmed, presets, tells_info}
-use Rattle.agent_session.proofs.ExactParts.{Deciding, IsDecided, NoneDue, NoneOwed, Heeds, refuses_due, IsSaidAlone, free, said_alone, fits_cache, never_ok, error_said}
+use Rattle.agent_session.proofs.{ExactParts.{Deciding, IsDecided, NoneDue, NoneOwed, Heeds, refuses_due, IsSaidAlone, free, said_alone, fits_cache, never_ok, error_said}, Works.{WorksTo, works, WorksSo, returned, or_otherwise}}
+use Rattle.session_client.specs.declared.code.Code.TheVariants as code
+use Rattle.session_options.specs.declared.options.PinMode.TheVariants as mode
+use Rattle.agent_commands.specs.Exchanges as exchanges
+use Rattle.agent_session.specs.Completeness as completeness
 use Rattle.agent_session.proofs.Works as work
-use Rattle.agent_session.proofs.Works.{WorksTo, works, WorksSo, returned, or_otherwise}
 
 -- the request is refused by this, which is due before all else
 abbrev pub option_due : OptionAnswer → Code → Type 0

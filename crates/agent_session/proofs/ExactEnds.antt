@@ -1,44 +1,19 @@
 -- A session that ends since a line was too long has told its client so.
 use Rattle.std.proofs.Common.{◌≡◌, ◌∙◌, ◌++◌, ℕ, List, Option, Some, None, Ok, refl, sym, ap}
-use Rattle.agent_ask.specs.SessionEvents.{said_last}
-use Rattle.agent_ask.specs.PartExchanges.{answered, refused}
+use Rattle.{agent_ask.specs.{SessionEvents.said_last, PartExchanges.{answered, refused}, Parts.goes_on}, agent_commands.specs.{Endings.went_after, Exchanges.{CacheExchange, CacheReply, CacheReplies, option_replies}}}
+use Rattle.agent_commands.specs.declared.request.CacheCommand.{CacheCommand, TheVariants.{Nop, Reset, Bye, Help, SetOption, GetInfo, GetPassphrase, PresetPassphrase, ClearPassphrase, GetConfirmation, ReloadAgent, KillAgent, SetKeyDesc}}
+use Rattle.{agent_commands.specs.declared.{request.Request.{Request, TheVariants.{Cache, Key as OnKeys, Bad}}, went.{SessionEnd.TheVariants.TooLong, Went.{Went, TheVariants.{On, End}}}}, assuan_server.specs.Written.refusal_line}
+use Rattle.{assuan_server.specs.declared.errors.Origin.TheVariants.Agent, key_commands.specs.{Events.Event, Exchanges.KeyExchange, Parts.key_went_after, declared.{request.KeyRequest.KeyRequest, went.KeyWent.KeyWent}}}
+use Rattle.{key_commands.{specs.declared.wrap_keys.WrapKeys.WrapKeys, proofs.GoesOn.goes_on_after}, session_client.specs.{Refusals.gone_by, declared.{refusal.Refusal.Refusal, unheard.Gone.Gone}}}
+use Rattle.session_options.specs.{OptionValues.{OptionValues, applied}, declared.{options.OptionAnswer.{OptionAnswer, TheVariants.{Set, Unknown, Parameter, NotSupported}}, rules.Rules.Rules}}
+use Rattle.agent_origin.specs.{SessionExchanges.{RequestExchange, cache, keys, went_after_key}, declared.kept.Kept.Kept}
+use Rattle.agent_session.{specs.{Causes.here, Completeness.HasError}, proofs.Standing.has_right}
 use Rattle.agent_ask.specs.Parts as chain
-use Rattle.agent_ask.specs.Parts.{goes_on}
-use Rattle.agent_commands.specs.Endings.{went_after}
-use Rattle.agent_commands.specs.Exchanges.{CacheExchange, CacheReply, CacheReplies, option_replies}
-use Rattle.agent_commands.specs.declared.request.CacheCommand.{CacheCommand}
-use Rattle.agent_commands.specs.declared.request.CacheCommand.TheVariants.{Nop, Reset, Bye, Help, SetOption, GetInfo, GetPassphrase, PresetPassphrase, ClearPassphrase, GetConfirmation, ReloadAgent, KillAgent, SetKeyDesc}
-use Rattle.agent_commands.specs.declared.request.Request.{Request}
-use Rattle.agent_commands.specs.declared.request.Request.TheVariants.{Cache, Key as OnKeys, Bad}
-use Rattle.agent_commands.specs.declared.went.SessionEnd.TheVariants.{TooLong}
-use Rattle.agent_commands.specs.declared.went.Went.{Went}
-use Rattle.agent_commands.specs.declared.went.Went.TheVariants.{On, End}
-use Rattle.assuan_server.specs.Written.{refusal_line}
-use Rattle.assuan_server.specs.declared.errors.Origin.TheVariants.{Agent}
-use Rattle.key_commands.specs.Events.{Event}
 use Rattle.agent_ask.specs.PartExchanges as part_exchanges
-use Rattle.key_commands.proofs.GoesOn.{goes_on_after}
-use Rattle.key_commands.specs.Exchanges.{KeyExchange}
-use Rattle.key_commands.specs.Parts.{key_went_after}
-use Rattle.key_commands.specs.declared.request.KeyRequest.{KeyRequest}
-use Rattle.key_commands.specs.declared.went.KeyWent.{KeyWent}
-use Rattle.key_commands.specs.declared.wrap_keys.WrapKeys.{WrapKeys}
-use Rattle.session_client.specs.Refusals.{gone_by}
 use Rattle.session_client.specs.declared.code.Code.TheVariants as code
-use Rattle.session_client.specs.declared.refusal.Refusal.{Refusal}
 use Rattle.session_client.specs.declared.refusal.Refusal.TheVariants as refusals
-use Rattle.session_client.specs.declared.unheard.Gone.{Gone}
 use Rattle.session_client.specs.declared.unheard.Gone.TheVariants as gone
 use Rattle.session_client.specs.declared.unheard.Unheard.TheVariants as unheard
-use Rattle.session_options.specs.OptionValues.{OptionValues, applied}
-use Rattle.session_options.specs.declared.options.OptionAnswer.{OptionAnswer}
-use Rattle.session_options.specs.declared.options.OptionAnswer.TheVariants.{Set, Unknown, Parameter, NotSupported}
-use Rattle.session_options.specs.declared.rules.Rules.{Rules}
-use Rattle.agent_origin.specs.SessionExchanges.{RequestExchange, cache, keys, went_after_key}
-use Rattle.agent_origin.specs.declared.kept.Kept.{Kept}
-use Rattle.agent_session.specs.Causes.{here}
-use Rattle.agent_session.specs.Completeness.{HasError}
-use Rattle.agent_session.proofs.Standing.{has_right}
 
 -- these events end so only where the client was told
 abbrev IsTold : List Event → Went → Type 0

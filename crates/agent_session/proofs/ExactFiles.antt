@@ -1,26 +1,12 @@
 -- What a key's file, its protection and the bytes of a key that a client sent say is one answer.
-use Rattle.std.proofs.Common.{◌≡◌, ℕ, true, false, List, ◌++◌, length, Option, Some, None, Result, Ok, Err, arith, refl, sym, ap, subst, ◌∙◌, inl, inr}
-use Rattle.std.specs.Prelude.{◌≤◌, ◌<◌, replicate}
-use Rattle.session_client.specs.declared.code.Code.{Code}
+use Rattle.std.{proofs.Common.{◌≡◌, ℕ, true, false, List, ◌++◌, length, Option, Some, None, Result, Ok, Err, arith, refl, sym, ap, subst, ◌∙◌, inl, inr}, specs.Prelude.{◌≤◌, ◌<◌, replicate}}
+use Rattle.{session_client.specs.declared.code.Code.Code, key_lines.specs.Canon.Canon, secret_file.specs.{Answers.IsLockedFault, Opens.{LockedKey, IsLocked, first_of}, Protection.IsProtectionFault}}
+use Rattle.{secret_file.proofs.OneAnswer.{one_file, no_file_fault, one_file_fault, one_protection_fault, no_protection_fault}, sexp_canonical.{specs.{View.tree_of, declared.tree.Sexp.Sexp}, proofs.Trees.{one_spelling, tree_of_injective}}}
+use Rattle.{sexp_keys.specs.{Faults.ReadsKey, Key.Key, Lists.key_list_of, declared.fault.KeyFault.KeyFault}, key_commands.specs.{Faults.fault_code, Files.{CanonicalSays, FileSays, canonical, no_canonical}}}
+use Rattle.key_commands.specs.{Wrapping.{ArePadded, PlainSays, WrappedSays, unchecked, checked, unwrapped}, declared.wrapping.TheConstants.MAX_LIST_LEN}
 use Rattle.session_client.specs.declared.code.Code.TheVariants as code
-use Rattle.key_lines.specs.Canon.{Canon}
-use Rattle.secret_file.specs.Answers.{IsLockedFault}
-use Rattle.secret_file.specs.Opens.{LockedKey, IsLocked, first_of}
-use Rattle.secret_file.proofs.OneAnswer.{one_file, no_file_fault, one_file_fault, one_protection_fault, no_protection_fault}
-use Rattle.secret_file.specs.Protection.{IsProtectionFault}
-use Rattle.sexp_canonical.specs.View.{tree_of}
-use Rattle.sexp_canonical.specs.declared.tree.Sexp.{Sexp}
-use Rattle.sexp_canonical.proofs.Trees.{one_spelling, tree_of_injective}
-use Rattle.sexp_keys.specs.Faults.{ReadsKey}
-use Rattle.sexp_keys.specs.Key.{Key}
-use Rattle.sexp_keys.specs.Lists.{key_list_of}
-use Rattle.sexp_keys.specs.declared.fault.KeyFault.{KeyFault}
 use Rattle.sexp_keys.proofs.Keys as keys
-use Rattle.key_commands.specs.Faults.{fault_code}
-use Rattle.key_commands.specs.Files.{CanonicalSays, FileSays, canonical, no_canonical}
-use Rattle.key_commands.specs.Wrapping.{ArePadded, PlainSays, WrappedSays, unchecked, checked, unwrapped}
 use Rattle.key_commands.specs.Wrapping as wrapping
-use Rattle.key_commands.specs.declared.wrapping.TheConstants.{MAX_LIST_LEN}
 
 -- ---- files
 

@@ -1,48 +1,24 @@
 -- Requests on keys: what decides one is what it is refused by; and HAVEKEY, where the reads of all its keys said that none is there.
-use Rattle.std.specs.List.{AllByRecursion}
-use Rattle.std.proofs.Common.{◌≡◌, ◌⊎◌, ℕ, Bool, true, false, List, [], Option, Some, None, Result, refl, subst, inl, inr, ◌+◌, ◌<◌, ◌∷◌, ◌++◌, length, Ok, Err, arith, sym, ap}
-use Rattle.std.specs.Prelude.{drop, map}
-use Rattle.agent_ask.specs.Parts.{◌>>=◌, Follows, goes_on, stops, needed}
-use Rattle.agent_ask.specs.Parts as chain
-use Rattle.agent_ports.specs.declared.grip.Grip.{Grip}
-use Rattle.assuan_server.specs.Written.{failed, refusal_line}
-use Rattle.assuan_server.specs.declared.errors.Origin.TheVariants.{Agent as OfAgent}
-use Rattle.cache_policy.specs.Turns.{closes}
-use Rattle.cache_policy.specs.declared.mark.MarkStep.{MarkStep}
-use Rattle.key_lines.specs.Canon.{Canon}
-use Rattle.session_client.specs.declared.code.Code.{Code}
-use Rattle.session_client.specs.declared.code.Code.TheVariants as code
-use Rattle.session_client.specs.declared.refusal.Refusal.{Refusal}
-use Rattle.session_client.specs.declared.refusal.Refusal.TheVariants as refusals
-use Rattle.session_options.specs.OptionValues.{OptionValues}
-use Rattle.session_options.specs.declared.rules.Rules.{Rules}
-use Rattle.sexp_keys.specs.Key.{Key}
+use Rattle.std.{specs.{List.AllByRecursion, Prelude.{drop, map}}, proofs.Common.{◌≡◌, ◌⊎◌, ℕ, Bool, true, false, List, [], Option, Some, None, Result, refl, subst, inl, inr, ◌+◌, ◌<◌, ◌∷◌, ◌++◌, length, Ok, Err, arith, sym, ap}}
+use Rattle.{agent_ask.specs.{Parts.{◌>>=◌, Follows, goes_on, stops, needed}, PartExchanges.{answered, refused}, Further.{Keys, Read}, SessionEvents.{Sent, Further, said_last}, TurnParts.Closes}, agent_ports.specs.declared.grip.Grip.Grip}
+use Rattle.{assuan_server.specs.{Written.{failed, refusal_line}, declared.errors.Origin.TheVariants.Agent as OfAgent}, cache_policy.specs.{Turns.closes, declared.mark.MarkStep.MarkStep}, key_lines.specs.Canon.Canon}
+use Rattle.{session_client.specs.declared.{code.Code.Code, refusal.Refusal.{Refusal, TheVariants.Agent}}, session_options.specs.{OptionValues.OptionValues, declared.rules.Rules.Rules}, sexp_keys.specs.Key.Key}
 use Rattle.key_commands.specs.Events.{Event}
-use Rattle.key_commands.specs.Exchanges.{KeyExchange, KeyReplies, HaveKeyReplies, KeyInfoReplies, ListKeysReplies, KeyWrapReplies, ImportKeyReplies}
-use Rattle.agent_ask.specs.PartExchanges.{answered, refused}
-use Rattle.key_commands.specs.Exchanges.{ExportKeyReplies, PasswdReplies, VerifyReplies, DeleteKeyReplies, wrap_key, StoresKey, FoundOrNew, RewritesFile, ChangesOpened, KeyReply}
-use Rattle.key_commands.specs.Parts.{Part, refusal_events}
-use Rattle.key_commands.specs.Passphrases.{OldPassphrase, VerifiesPassphrase}
-use Rattle.key_commands.specs.declared.request.Direction.{Direction}
-use Rattle.key_commands.specs.declared.request.KeyRequest.{KeyRequest}
-use Rattle.key_commands.specs.declared.request.KeyRequest.TheVariants as on
-use Rattle.key_commands.specs.declared.went.KeyWent.{KeyWent}
-use Rattle.key_commands.specs.declared.wrap_keys.WrapKeys.{WrapKeys}
-use Rattle.agent_session.specs.Completeness.{Remembers, HasError}
+use Rattle.key_commands.specs.Exchanges.{KeyExchange, KeyReplies, HaveKeyReplies, KeyInfoReplies, ListKeysReplies, KeyWrapReplies, ImportKeyReplies, ExportKeyReplies, PasswdReplies, VerifyReplies, DeleteKeyReplies, wrap_key, StoresKey}
+use Rattle.key_commands.specs.{Exchanges.{FoundOrNew, RewritesFile, ChangesOpened, KeyReply}, Parts.{Part, refusal_events}, Passphrases.{OldPassphrase, VerifiesPassphrase}, declared.request.{Direction.Direction, KeyRequest.KeyRequest}}
+use Rattle.key_commands.specs.{declared.{went.KeyWent.KeyWent, wrap_keys.WrapKeys.WrapKeys}, KeyParts.HasOne}
+use Rattle.agent_session.specs.{Completeness.{Remembers, HasError}, Causes.AreUnread}
 use Rattle.agent_session.proofs.ExactParts.{Deciding, IsDecided, never_decided, NoneDue, NoneOwed, SaysTo, Heeds, bind, undue, is_needed, refuses_due, IsSaidAlone, free, said_alone, fits_keys, never_ok, error_said, said_error}
 use Rattle.agent_session.proofs.ExactReads.{SentRefuses, IsUnlockable, by_file, reads_file, locks, by_absence, IsLacking, finds, is_there, removes, by_import, receives_key, is_free}
-use Rattle.agent_session.proofs.KeyWorks.{looks_nonce, uncached_old, opens_locked, new_here, consents, tells_info, writes_infos, has_one}
+use Rattle.agent_session.proofs.{KeyWorks.{looks_nonce, uncached_old, opens_locked, new_here, consents, tells_info, writes_infos, has_one}, Works.{WorksSo, Keeps, keeps_works, returned, or_otherwise, turns_of}}
+use Rattle.agent_ask.specs.Parts as chain
+use Rattle.session_client.specs.declared.code.Code.TheVariants as code
+use Rattle.session_client.specs.declared.refusal.Refusal.TheVariants as refusals
+use Rattle.key_commands.specs.declared.request.KeyRequest.TheVariants as on
 use Rattle.agent_session.proofs.Works as work
-use Rattle.agent_session.proofs.Works.{WorksSo, Keeps, keeps_works, returned, or_otherwise, turns_of}
-use Rattle.agent_ask.specs.Further.{Keys, Read}
-use Rattle.agent_ask.specs.SessionEvents.{Sent, Further, said_last}
 use Rattle.agent_ports.specs.declared.keys.KeyRead.TheVariants as key_read
-use Rattle.key_commands.specs.KeyParts.{HasOne}
-use Rattle.agent_ask.specs.TurnParts.{Closes}
 use Rattle.agent_ask.specs.TurnParts as turning
 use Rattle.key_commands.specs.Parts as small
-use Rattle.session_client.specs.declared.refusal.Refusal.TheVariants.{Agent}
-use Rattle.agent_session.specs.Causes.{AreUnread}
 
 -- nothing but what the client said, and the bytes of a key that it sent
 abbrev pub by_said : Option (List ℕ) → Deciding

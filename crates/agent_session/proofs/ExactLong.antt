@@ -1,79 +1,36 @@
 -- PASSWD of a key whose list is too long is answered Bad secret key, and so is one whose new file is too long.
-use Rattle.std.specs.List.{AllByRecursion}
-use Rattle.std.proofs.Common.{◌≡◌, ◌<◌, ◌∙◌, ℕ, Bool, true, false, List, [], ◌∷◌, ◌++◌, length, Option, Some, None, Result, Ok, Err, arith, refl, sym, ap, subst, inl, inr, ◌⊎◌}
-use Rattle.std.specs.Prelude.{⊤}
-use Rattle.agent_ask.specs.Events.{PromptEvent, Called, OutOfMemory, GetPin}
-use Rattle.agent_ask.specs.Further.{Prompt, Keys, Read, Dice, Drew}
-use Rattle.agent_ask.specs.Interrupts.{Interrupts}
+use Rattle.std.{specs.{List.AllByRecursion, Prelude.⊤}, proofs.Common.{◌≡◌, ◌<◌, ◌∙◌, ℕ, Bool, true, false, List, [], ◌∷◌, ◌++◌, length, Option, Some, None, Result, Ok, Err, arith, refl, sym, ap, subst, inl, inr, ◌⊎◌}}
+use Rattle.agent_ask.specs.{Events.{PromptEvent, Called, OutOfMemory, GetPin}, Further.{Prompt, Keys, Read, Dice, Drew}, Interrupts.Interrupts, Parts.{◌>>=◌, goes_on, stops, returns}, Prompts.{AsksPin, AsksBefore, Tries, IsTry, Repeats}}
+use Rattle.agent_ask.specs.{SessionEvents.{CacheTurn, Further, cache_turn, said_last}, SessionPrompts.AnyInSession, TurnParts.Closes, declared.{ask.Asked.Asked, prompter.Outcome.Outcome, spec.{AskPlan.AskPlan, PromptSpec.PromptSpec}}}
+use Rattle.{agent_ports.specs.declared.{grip.Grip.Grip, keys.KeyRead.KeyRead}, assuan_server.specs.{Clients.session_lines, Written.{failed, refusal_line}, declared.errors.Origin.TheVariants.Agent as OfAgent}}
+use Rattle.{cache_policy.specs.{Turns.{Turn, Given, Done}, declared.{mark.{MarkStep.{MarkStep, TheVariants.{Ask, Put}}, Way.TheVariants.Quiet}, mode.Mode.TheVariants.{Normal, Nonce}}}, key_lines.specs.Canon.Canon}
+use Rattle.{secret_file.specs.Opens.LockedKey, session_client.specs.declared.{code.Code.Code, refusal.Refusal.Refusal}, session_options.specs.{OptionValues.OptionValues, declared.{options.PinMode.PinMode, rules.Rules.Rules}}}
+use Rattle.{sexp_keys.specs.{Key.Key, Lists.key_list_of}, agent_commands.specs.declared.request.Request.Request, key_commands.specs.Events.Event}
+use Rattle.key_commands.specs.{Exchanges.{KeyReply, KeyExchange, PasswdReplies, RenewsPassphrase, RewritesFile, ChangesOpened}, Files.FileSays, KeyParts.{ReadsFile, file_in}, Lines.grip_text}
+use Rattle.key_commands.specs.{Passphrases.{OpensBy, PromptsOld, ClientOld, UncachedOld, CachedOld, OpensLocked, OldPassphrase, TakesSeat, old_by, put_key}, declared.{wrapping.TheConstants.MAX_LIST_LEN, request.KeyRequest.KeyRequest}}
+use Rattle.{key_commands.{specs.declared.{went.KeyWent.KeyWent, wrap_keys.WrapKeys.WrapKeys}, proofs.EachEvent.each_append}, agent_origin.specs.declared.kept.Kept.Kept}
+use Rattle.agent_session.specs.{Causes.{Has, here, IsRead, read, IsReadOf, read_of, IsDrawn, protected, OpensRead, of_change, on_keys, StandIn, changed, changes}, Completeness.{HasError, Remembers}}
+use Rattle.agent_session.{specs.Exactly.{OpensIt, IsOpened, clear, by_nonce, cached, typed, given, HasLongList, HasLongFile, IsLong, long, long_file}, proofs.ImportCourses.some_key}
+use Rattle.agent_session.proofs.{ExactParts.{Deciding, IsDecided, IsFree, NoneOwed, SaysTo, answer_free, decided_before, said_error}, ExactReads.{by_file, reads_file, read_refuses, owes}, KeyRequests.old_passphrase}
+use Rattle.agent_session.proofs.{KeyWorks.{FitsKeys, looks_nonce, old_here, new_here}, Standing.{each_left, each_right, each_has, has_first, stand_left, stand_right}, Works.{WorksSo, bind, or_otherwise, each_fits}}
 use Rattle.agent_ask.specs.Interrupts as turns
-use Rattle.agent_ask.specs.Parts.{◌>>=◌, goes_on, stops, returns}
 use Rattle.agent_ask.specs.Parts as chain
-use Rattle.agent_ask.specs.Prompts.{AsksPin, AsksBefore, Tries, IsTry, Repeats}
 use Rattle.agent_ask.specs.Prompts as prompts
-use Rattle.agent_ask.specs.SessionEvents.{CacheTurn, Further, cache_turn, said_last}
-use Rattle.agent_ask.specs.SessionPrompts.{AnyInSession}
 use Rattle.agent_ask.specs.SessionPrompts as session
-use Rattle.agent_ask.specs.TurnParts.{Closes}
 use Rattle.agent_ask.specs.TurnParts as taken
-use Rattle.agent_ask.specs.declared.ask.Asked.{Asked}
 use Rattle.agent_ask.specs.declared.ask.Asked.TheVariants as asked
-use Rattle.agent_ask.specs.declared.prompter.Outcome.{Outcome}
 use Rattle.agent_ask.specs.declared.prompter.Outcome.TheVariants as outcome
-use Rattle.agent_ask.specs.declared.spec.AskPlan.{AskPlan}
-use Rattle.agent_ask.specs.declared.spec.PromptSpec.{PromptSpec}
-use Rattle.agent_ports.specs.declared.grip.Grip.{Grip}
-use Rattle.agent_ports.specs.declared.keys.KeyRead.{KeyRead}
-use Rattle.assuan_server.specs.Clients.{session_lines}
-use Rattle.assuan_server.specs.Written.{failed, refusal_line}
-use Rattle.assuan_server.specs.declared.errors.Origin.TheVariants.{Agent as OfAgent}
-use Rattle.cache_policy.specs.Turns.{Turn, Given, Done}
-use Rattle.cache_policy.specs.declared.mark.MarkStep.{MarkStep}
-use Rattle.cache_policy.specs.declared.mark.MarkStep.TheVariants.{Ask, Put}
-use Rattle.cache_policy.specs.declared.mode.Mode.TheVariants.{Normal, Nonce}
-use Rattle.cache_policy.specs.declared.mark.Way.TheVariants.{Quiet}
-use Rattle.key_lines.specs.Canon.{Canon}
-use Rattle.secret_file.specs.Opens.{LockedKey}
-use Rattle.session_client.specs.declared.code.Code.{Code}
 use Rattle.session_client.specs.declared.code.Code.TheVariants as code
-use Rattle.session_client.specs.declared.refusal.Refusal.{Refusal}
-use Rattle.session_options.specs.OptionValues.{OptionValues}
-use Rattle.session_options.specs.declared.options.PinMode.{PinMode}
 use Rattle.session_options.specs.declared.options.PinMode.TheVariants as mode
-use Rattle.session_options.specs.declared.rules.Rules.{Rules}
-use Rattle.sexp_keys.specs.Key.{Key}
-use Rattle.sexp_keys.specs.Lists.{key_list_of}
-use Rattle.agent_commands.specs.declared.request.Request.{Request}
-use Rattle.key_commands.specs.Events.{Event}
-use Rattle.key_commands.specs.Exchanges.{KeyReply, KeyExchange, PasswdReplies, RenewsPassphrase, RewritesFile, ChangesOpened}
 use Rattle.agent_ask.specs.PartExchanges as part_exchanges
-use Rattle.key_commands.specs.Files.{FileSays}
 use Rattle.key_commands.specs.Files as files
-use Rattle.key_commands.specs.KeyParts.{ReadsFile, file_in}
 use Rattle.key_commands.specs.KeyParts as parts
-use Rattle.key_commands.specs.Lines.{grip_text}
 use Rattle.agent_ask.specs.ClientParts as client_parts
 use Rattle.key_commands.specs.Parts as small
-use Rattle.key_commands.specs.Passphrases.{OpensBy, PromptsOld, ClientOld, UncachedOld, CachedOld, OpensLocked, OldPassphrase, TakesSeat, old_by, put_key}
 use Rattle.agent_ask.specs.PinParts as pin_parts
 use Rattle.key_commands.specs.Passphrases as passphrases
-use Rattle.key_commands.specs.declared.wrapping.TheConstants.{MAX_LIST_LEN}
-use Rattle.key_commands.specs.declared.request.KeyRequest.{KeyRequest}
 use Rattle.key_commands.specs.declared.request.KeyRequest.TheVariants as on
-use Rattle.key_commands.specs.declared.went.KeyWent.{KeyWent}
-use Rattle.key_commands.specs.declared.wrap_keys.WrapKeys.{WrapKeys}
-use Rattle.key_commands.proofs.EachEvent.{each_append}
-use Rattle.agent_origin.specs.declared.kept.Kept.{Kept}
-use Rattle.agent_session.specs.Causes.{Has, here, IsRead, read, IsReadOf, read_of, IsDrawn, protected, OpensRead, of_change, on_keys, StandIn, changed, changes}
-use Rattle.agent_session.specs.Completeness.{HasError, Remembers}
-use Rattle.agent_session.specs.Exactly.{OpensIt, IsOpened, clear, by_nonce, cached, typed, given, HasLongList, HasLongFile, IsLong, long, long_file}
-use Rattle.agent_session.proofs.ImportCourses.{some_key}
-use Rattle.agent_session.proofs.ExactParts.{Deciding, IsDecided, IsFree, NoneOwed, SaysTo, answer_free, decided_before, said_error}
-use Rattle.agent_session.proofs.ExactReads.{by_file, reads_file, read_refuses, owes}
-use Rattle.agent_session.proofs.KeyRequests.{old_passphrase}
-use Rattle.agent_session.proofs.KeyWorks.{FitsKeys, looks_nonce, old_here, new_here}
-use Rattle.agent_session.proofs.Standing.{each_left, each_right, each_has, has_first, stand_left, stand_right}
 use Rattle.agent_session.proofs.Works as work
-use Rattle.agent_session.proofs.Works.{WorksSo, bind, or_otherwise, each_fits}
 
 -- ---- passphrases that came to nothing
 

@@ -1,42 +1,14 @@
 -- Parts of a request: what decides the request among their events is what they are refused by.
-use Rattle.std.specs.List.{AllByRecursion}
-use Rattle.std.proofs.Common.{◌≡◌, ◌≢◌, ◌∙◌, ◌⊎◌, ℕ, List, [], ◌∷◌, ◌++◌, Option, Some, None, Result, Ok, Err, arith, refl, sym, ap, subst, inl, inr}
-use Rattle.std.specs.Option.{option_map}
-use Rattle.agent_ask.specs.Further.{Keys, Read, Removed, Trust}
-use Rattle.agent_ask.specs.Parts.{◌>>=◌, Refuses, needed, or_else}
-use Rattle.agent_ask.proofs.Within.{Within, Joins, weaker, returned_so, refused_so, or_otherwise}
+use Rattle.std.{specs.{List.AllByRecursion, Option.option_map}, proofs.Common.{◌≡◌, ◌≢◌, ◌∙◌, ◌⊎◌, ℕ, List, [], ◌∷◌, ◌++◌, Option, Some, None, Result, Ok, Err, arith, refl, sym, ap, subst, inl, inr}}
+use Rattle.agent_ask.specs.{Further.{Keys, Read, Removed, Trust}, Parts.{◌>>=◌, Refuses, needed, or_else}, SessionEvents.{Received, Sent, Cut, Inquiry, CacheTurn, Further, said_last}, TrustCalls.TrustCall, TurnParts.Closes}
+use Rattle.{agent_ask.{specs.ClientParts.Inquires, proofs.Within.{Within, Joins, weaker, returned_so, refused_so, or_otherwise}}, agent_ports.specs.declared.{grip.Grip.Grip, keys.{KeyDone.KeyDone, KeyRead.KeyRead}}}
+use Rattle.{assuan_server.specs.{Clients.session_lines, Written.{failed, refusal_line}, declared.errors.Origin.TheVariants.Agent as OfAgent}, cache_policy.specs.declared.secret.TheConstants.MAX_SECRET_LEN}
+use Rattle.session_client.specs.{Asking.said_by, Refusals.refusal_code, declared.{client.TheConstants.MAX_NOTE_LEN, code.Code.Code, refusal.Refusal.{Refusal, TheVariants.{Agent, Client}}, unheard.Unheard.Unheard}}
+use Rattle.key_commands.{specs.{Lines.max_key_data, Events.Event, Parts.Part}, proofs.EachEvent.each_answer}
+use Rattle.agent_session.{specs.{Causes.{Has, here, later}, Completeness.{Remembers, HasError}, Refusals.{refuses, shuts}}, proofs.{CacheWorks.FitsCache, Explained.has_split, KeyWorks.FitsKeys}}
+use Rattle.agent_session.proofs.{Standing.{each_left, each_right, each_has, has_right}, Works.{unsaid, unheard_by, GoesOn, WorkEnd, no_more, refused, lost, forgot, WorksTo, WorksSo, shuts_fit}}
 use Rattle.agent_ask.proofs.Within as within
-use Rattle.agent_ask.specs.SessionEvents.{Received, Sent, Cut, Inquiry, CacheTurn, Further, said_last}
-use Rattle.agent_ask.specs.TrustCalls.{TrustCall}
-use Rattle.agent_ask.specs.TurnParts.{Closes}
-use Rattle.agent_ports.specs.declared.grip.Grip.{Grip}
-use Rattle.agent_ports.specs.declared.keys.KeyDone.{KeyDone}
-use Rattle.agent_ports.specs.declared.keys.KeyRead.{KeyRead}
-use Rattle.assuan_server.specs.Clients.{session_lines}
-use Rattle.assuan_server.specs.Written.{failed, refusal_line}
-use Rattle.assuan_server.specs.declared.errors.Origin.TheVariants.{Agent as OfAgent}
-use Rattle.cache_policy.specs.declared.secret.TheConstants.{MAX_SECRET_LEN}
-use Rattle.session_client.specs.Asking.{said_by}
-use Rattle.session_client.specs.Refusals.{refusal_code}
-use Rattle.session_client.specs.declared.client.TheConstants.{MAX_NOTE_LEN}
-use Rattle.session_client.specs.declared.code.Code.{Code}
-use Rattle.session_client.specs.declared.refusal.Refusal.{Refusal}
-use Rattle.session_client.specs.declared.refusal.Refusal.TheVariants.{Agent, Client}
-use Rattle.session_client.specs.declared.unheard.Unheard.{Unheard}
-use Rattle.key_commands.specs.Lines.{max_key_data}
-use Rattle.key_commands.specs.Events.{Event}
-use Rattle.key_commands.specs.Parts.{Part}
-use Rattle.agent_ask.specs.ClientParts.{Inquires}
 use Rattle.agent_ask.specs.ClientParts as client_parts
-use Rattle.key_commands.proofs.EachEvent.{each_answer}
-use Rattle.agent_session.specs.Causes.{Has, here, later}
-use Rattle.agent_session.specs.Completeness.{Remembers, HasError}
-use Rattle.agent_session.specs.Refusals.{refuses, shuts}
-use Rattle.agent_session.proofs.CacheWorks.{FitsCache}
-use Rattle.agent_session.proofs.Explained.{has_split}
-use Rattle.agent_session.proofs.KeyWorks.{FitsKeys}
-use Rattle.agent_session.proofs.Standing.{each_left, each_right, each_has, has_right}
-use Rattle.agent_session.proofs.Works.{unsaid, unheard_by, GoesOn, WorkEnd, no_more, refused, lost, forgot, WorksTo, WorksSo, shuts_fit}
 
 -- the bytes of a key that a client sent, the reads of a key's file, the removals of one, and the calls of the trust file by which a request is refused by a code
 pub record Deciding : Type 1 where

@@ -1,37 +1,17 @@
 -- Reads of a key's file, and keys that a client sent, by which a request is refused.
-use Rattle.std.specs.List.{AllByRecursion}
-use Rattle.std.proofs.Common.{◌≡◌, ◌∙◌, ◌⊎◌, ℕ, Bool, true, false, List, [], codes, Option, Some, None, Result, Ok, Err, sym, ap, subst, inl, inr}
-use Rattle.std.specs.Prelude.{not}
-use Rattle.agent_ports.specs.declared.grip.Grip.{Grip}
-use Rattle.agent_ports.specs.declared.keys.KeyDone.{KeyDone}
-use Rattle.agent_ports.specs.declared.keys.KeyDone.TheVariants as key_done
-use Rattle.agent_ports.specs.declared.keys.KeyRead.{KeyRead}
-use Rattle.agent_ports.specs.declared.keys.KeyRead.TheVariants as key_read
-use Rattle.assuan_server.specs.Written.{failed, refusal_line}
-use Rattle.session_client.specs.declared.code.Code.{Code}
-use Rattle.session_client.specs.declared.code.Code.TheVariants as code
-use Rattle.key_lines.specs.Canon.{Canon}
-use Rattle.secret_file.specs.Answers.{IsLockedFault}
-use Rattle.secret_file.specs.Opens.{LockedKey}
-use Rattle.sexp_keys.specs.Key.{Key}
-use Rattle.sexp_keys.specs.declared.fault.KeyFault.{KeyFault}
-use Rattle.key_commands.specs.Lines.{max_key_data}
-use Rattle.key_commands.specs.Events.{Event}
-use Rattle.key_commands.specs.Faults.{fault_code}
-use Rattle.key_commands.specs.Files.{FileSays}
-use Rattle.key_commands.specs.KeyParts.{ReadsFile, Removes, IsFree, AsksKeyData, Unwraps, ReceivesKey, file_in, change_fault}
-use Rattle.key_commands.specs.KeyParts as parts
-use Rattle.key_commands.specs.Parts.{Finds, read_fault}
-use Rattle.agent_ask.specs.Parts.{wanted, refuses, returns}
-use Rattle.key_commands.specs.Parts as small
-use Rattle.key_commands.specs.Passphrases.{Locks}
-use Rattle.key_commands.specs.Passphrases as passphrases
-use Rattle.key_commands.specs.Wrapping.{WrappedSays}
-use Rattle.session_client.specs.declared.refusal.Refusal.{Refusal}
-use Rattle.session_client.specs.declared.refusal.Refusal.TheVariants.{Agent}
-use Rattle.agent_session.specs.Completeness.{Remembers}
-use Rattle.agent_session.proofs.ExactFiles.{one_says, one_locked_fault, no_locked_fault, one_wrapped}
+use Rattle.std.{specs.{List.AllByRecursion, Prelude.not}, proofs.Common.{◌≡◌, ◌∙◌, ◌⊎◌, ℕ, Bool, true, false, List, [], codes, Option, Some, None, Result, Ok, Err, sym, ap, subst, inl, inr}}
+use Rattle.{agent_ports.specs.declared.{grip.Grip.Grip, keys.{KeyDone.KeyDone, KeyRead.KeyRead}}, assuan_server.specs.Written.{failed, refusal_line}, session_client.specs.declared.{code.Code.Code, refusal.Refusal.Refusal}}
+use Rattle.{session_client.specs.declared.refusal.Refusal.TheVariants.Agent, key_lines.specs.Canon.Canon, secret_file.specs.{Answers.IsLockedFault, Opens.LockedKey}, sexp_keys.specs.{Key.Key, declared.fault.KeyFault.KeyFault}}
+use Rattle.key_commands.specs.{Lines.max_key_data, Events.Event, Faults.fault_code, Files.FileSays, KeyParts.{ReadsFile, Removes, IsFree, AsksKeyData, Unwraps, ReceivesKey, file_in, change_fault}, Parts.{Finds, read_fault}}
+use Rattle.{key_commands.specs.{Passphrases.Locks, Wrapping.WrappedSays}, agent_ask.specs.Parts.{wanted, refuses, returns}}
+use Rattle.agent_session.{specs.Completeness.Remembers, proofs.ExactFiles.{one_says, one_locked_fault, no_locked_fault, one_wrapped}}
 use Rattle.agent_session.proofs.ExactParts.{Deciding, IsDecided, never_decided, NoneDue, NoneOwed, SaysTo, Heeds, bind, decided_only, inquires_of, IsSaidAlone, free, said_alone}
+use Rattle.agent_ports.specs.declared.keys.KeyDone.TheVariants as key_done
+use Rattle.agent_ports.specs.declared.keys.KeyRead.TheVariants as key_read
+use Rattle.session_client.specs.declared.code.Code.TheVariants as code
+use Rattle.key_commands.specs.KeyParts as parts
+use Rattle.key_commands.specs.Parts as small
+use Rattle.key_commands.specs.Passphrases as passphrases
 use Rattle.agent_session.proofs.Works as work
 
 -- the line of a code is that of the same code

@@ -1,44 +1,22 @@
 -- Requests on the trust list: what decides one is what it is refused by.
-use Rattle.std.specs.List.{AllByRecursion}
-use Rattle.std.proofs.Common.{◌≡◌, ◌⊎◌, ◌∙◌, ◌<◌, ℕ, Bool, true, false, List, [], ◌∷◌, length, Option, Some, None, Result, Ok, arith, refl, sym, ap, subst, inl, inr}
-use Rattle.agent_ask.specs.Parts.{◌>>=◌, Refuses}
-use Rattle.agent_ask.specs.Parts as chain
-use Rattle.agent_ask.specs.TrustCalls.{TrustCall, Read, Replaced}
-use Rattle.assuan_server.specs.Written.{ok}
-use Rattle.agent_commands.specs.declared.went.Went.{Went}
-use Rattle.agent_ports.specs.declared.grip.Grip.{Grip}
-use Rattle.agent_ports.specs.declared.trust.TrustDone.{TrustDone}
-use Rattle.agent_ports.specs.declared.trust.TrustRead.{TrustRead}
-use Rattle.agent_ports.specs.declared.trust.TrustRead.TheVariants as trust_read
-use Rattle.assuan_server.specs.Written.{failed, refusal_line}
-use Rattle.assuan_server.specs.declared.errors.Origin.TheVariants.{Agent as OfAgent}
-use Rattle.session_client.specs.declared.code.Code.{Code}
-use Rattle.session_client.specs.declared.code.Code.TheVariants as code
-use Rattle.session_client.specs.declared.refusal.Refusal.{Refusal}
-use Rattle.session_options.specs.OptionValues.{OptionValues}
-use Rattle.session_options.specs.declared.options.PinMode.{PinMode}
-use Rattle.session_options.specs.declared.options.PinMode.TheVariants as mode
-use Rattle.session_options.specs.declared.rules.Rules.{Rules}
-use Rattle.trust_list.specs.Trust.{trust, with_entry}
+use Rattle.std.{specs.List.AllByRecursion, proofs.Common.{◌≡◌, ◌⊎◌, ◌∙◌, ◌<◌, ℕ, Bool, true, false, List, [], ◌∷◌, length, Option, Some, None, Result, Ok, arith, refl, sym, ap, subst, inl, inr}}
+use Rattle.{agent_ask.specs.{Parts.{◌>>=◌, Refuses}, TrustCalls.{TrustCall, Read, Replaced}, ConsentParts.AgreesTo}, assuan_server.specs.{Written.{ok, failed, refusal_line}, declared.errors.Origin.TheVariants.Agent as OfAgent}}
+use Rattle.{assuan_server.specs.Clients.session_lines, agent_commands.specs.declared.went.Went.Went, agent_ports.specs.declared.{grip.Grip.Grip, trust.{TrustDone.TrustDone, TrustRead.TrustRead}}}
+use Rattle.{session_client.specs.declared.{code.Code.Code, refusal.Refusal.Refusal}, session_options.specs.{OptionValues.OptionValues, declared.{options.PinMode.PinMode, rules.Rules.Rules}}, trust_list.specs.Trust.{trust, with_entry}}
 use Rattle.trust_list.specs.declared.TheConstants.{MAX_TRUST_FILE_LEN}
 use Rattle.agent_origin.specs.TrustExchanges.{flag_of, trust_question, fingerprint_question, unless_said, TrustedNow, Stores, StoresUnsaid, Consented, asked_in, Marked, Carried, TrustExchange}
-use Rattle.agent_origin.specs.TrustParts.{ReadsFile, AddsEntry, Replaces, file_in, trust_called}
+use Rattle.agent_origin.specs.{TrustParts.{ReadsFile, AddsEntry, Replaces, file_in, trust_called}, declared.trust.request.{TrustPurpose.TrustPurpose, TrustRequest.{TrustRequest, TheVariants.{IsTrusted, MarkTrusted, Bad}}}}
+use Rattle.key_commands.specs.{Events.Event, Parts.Part}
+use Rattle.agent_session.{specs.Completeness.{Remembers, HasError}, proofs.ExactKeys.by_said}
+use Rattle.agent_session.proofs.{ExactParts.{Deciding, IsDecided, never_decided, decided_only, NoneDue, NoneOwed, SaysTo, Heeds, bind, refuses_due, IsSaidAlone, free, said_alone, fits_keys, never_ok, error_said}, PromptWorks.agrees_to}
+use Rattle.agent_session.proofs.{Works.{WorksTo, works, one_works, refused_by, WorksSo, Keeps, keeps_works, returned, refuses_by, turns_of}, TrustTold.{Told, told}}
+use Rattle.agent_ask.specs.Parts as chain
+use Rattle.agent_ports.specs.declared.trust.TrustRead.TheVariants as trust_read
+use Rattle.session_client.specs.declared.code.Code.TheVariants as code
+use Rattle.session_options.specs.declared.options.PinMode.TheVariants as mode
 use Rattle.agent_origin.specs.TrustParts as parts
-use Rattle.agent_origin.specs.declared.trust.request.TrustPurpose.{TrustPurpose}
-use Rattle.agent_origin.specs.declared.trust.request.TrustRequest.{TrustRequest}
-use Rattle.agent_origin.specs.declared.trust.request.TrustRequest.TheVariants.{IsTrusted, MarkTrusted, Bad}
-use Rattle.key_commands.specs.Events.{Event}
-use Rattle.key_commands.specs.Parts.{Part}
-use Rattle.agent_session.specs.Completeness.{Remembers, HasError}
-use Rattle.agent_session.proofs.ExactKeys.{by_said}
-use Rattle.agent_session.proofs.ExactParts.{Deciding, IsDecided, never_decided, decided_only, NoneDue, NoneOwed, SaysTo, Heeds, bind, refuses_due, IsSaidAlone, free, said_alone, fits_keys, never_ok, error_said}
-use Rattle.agent_session.proofs.PromptWorks.{agrees_to}
 use Rattle.agent_session.proofs.Works as work
-use Rattle.agent_session.proofs.Works.{WorksTo, works, one_works, refused_by, WorksSo, Keeps, keeps_works, returned, refuses_by, turns_of}
-use Rattle.agent_session.proofs.TrustTold.{Told, told}
 use Rattle.agent_session.proofs.TrustTold as telling
-use Rattle.agent_ask.specs.ConsentParts.{AgreesTo}
-use Rattle.assuan_server.specs.Clients.{session_lines}
 
 module _ (deciding : Deciding) where
   abbrev Alone : Event → Type 0

@@ -1,26 +1,12 @@
 -- Exchanges in which the request has its one answer, and the error line its cause.
-use Rattle.std.specs.List.{AllByRecursion}
-use Rattle.std.proofs.Common.{◌≡◌, ◌⊎◌, List, [], ◌∷◌, ◌++◌, ℕ, refl, sym, subst, append_assoc, inl, inr}
-use Rattle.std.specs.Prelude.{⊤}
-use Rattle.agent_ask.specs.Further.{FurtherEvent}
-use Rattle.agent_ask.specs.SessionEvents.{Sent}
-use Rattle.assuan_server.specs.Errors.{error_text}
-use Rattle.session_client.specs.declared.code.Code.{Code}
+use Rattle.std.{specs.{List.AllByRecursion, Prelude.⊤}, proofs.Common.{◌≡◌, ◌⊎◌, List, [], ◌∷◌, ◌++◌, ℕ, refl, sym, subst, append_assoc, inl, inr}}
+use Rattle.{agent_ask.specs.{Further.FurtherEvent, SessionEvents.Sent}, assuan_server.specs.{Errors.error_text, declared.errors.Origin.Origin}, session_client.specs.declared.code.Code.Code, assuan_text.specs.LineEnds.line_of}
+use Rattle.{agent_commands.specs.{Events.EventWith, declared.went.{SessionEnd.TheVariants.{Bye, Killed, Ended, TooLong, Spent, ReadFault, WriteFault}, Went.{Went, TheVariants.{On, End}}}}, key_commands.proofs.EachEvent.each_append}
+use Rattle.agent_session.{specs.{Causes.{IsSaid, Has, here, later}, Completeness.{AnswersNothing, AnswersAtLast, IsAnsweredBy, HasError, EndsInOk, done, error}}, proofs.ErrorLines.{same_code, same_origin, no_reply, no_status}}
+use Rattle.agent_session.proofs.{Replying.{IsReply, begins}, Standing.each_has}
 use Rattle.session_client.specs.declared.code.Code.TheVariants as code
-use Rattle.assuan_server.specs.declared.errors.Origin.{Origin}
-use Rattle.assuan_text.specs.LineEnds.{line_of}
-use Rattle.agent_commands.specs.Events.{EventWith}
-use Rattle.agent_commands.specs.declared.went.SessionEnd.TheVariants.{Bye, Killed, Ended, TooLong, Spent, ReadFault, WriteFault}
-use Rattle.agent_commands.specs.declared.went.Went.{Went}
-use Rattle.agent_commands.specs.declared.went.Went.TheVariants.{On, End}
 use Rattle.session_client.specs.declared.unheard.Gone.TheVariants as gone
 use Rattle.session_client.specs.declared.unheard.Unheard.TheVariants as unheard
-use Rattle.agent_session.specs.Causes.{IsSaid, Has, here, later}
-use Rattle.agent_session.specs.Completeness.{AnswersNothing, AnswersAtLast, IsAnsweredBy, HasError, EndsInOk, done, error}
-use Rattle.agent_session.proofs.ErrorLines.{same_code, same_origin, no_reply, no_status}
-use Rattle.agent_session.proofs.Replying.{IsReply, begins}
-use Rattle.agent_session.proofs.Standing.{each_has}
-use Rattle.key_commands.proofs.EachEvent.{each_append}
 
 -- a request that went so is answered, or its client is gone
 abbrev pub IsLast : Went → Type 0

@@ -1,47 +1,22 @@
 -- Parts of a request on keys each of whose refusals has its cause among the events of the request.
-use Rattle.std.specs.List.{AllByRecursion}
-use Rattle.std.proofs.Common.{◌≡◌, ℕ, Bool, true, false, List, ◌∷◌, Option, Some, None, Result, Ok, Err, refl}
-use Rattle.std.specs.Prelude.{⊤, ◌<◌, ◌^◌}
-use Rattle.agent_ask.specs.Further.{FurtherEvent, Keys, Read, Dice, NotDrawn, NoMemory}
-use Rattle.agent_ask.specs.SessionEvents.{Further, cache_turn}
-use Rattle.agent_ports.specs.declared.grip.Grip.{Grip}
+use Rattle.std.{specs.{List.AllByRecursion, Prelude.{⊤, ◌<◌, ◌^◌}}, proofs.Common.{◌≡◌, ℕ, Bool, true, false, List, ◌∷◌, Option, Some, None, Result, Ok, Err, refl}}
+use Rattle.agent_ask.specs.{Further.{FurtherEvent, Keys, Read, Dice, NotDrawn, NoMemory}, SessionEvents.{Further, cache_turn}, ClientParts.{Writes, Inquires, AsksClient}, Parts.{◌>>=◌, Returns, Refuses, needed, or_else, unless, wanted}}
+use Rattle.{agent_ask.{specs.{Interrupts.Interrupts, TurnParts.{Asks, Seats, Changes, Peeks, Closes}}, proofs.Within.{Within, Joins, weaker, returned_so, refused_so}}, agent_ports.specs.declared.grip.Grip.Grip}
+use Rattle.{session_client.specs.declared.{code.Code.Code, unheard.Unheard.Unheard, refusal.Refusal.{Refusal, TheVariants.{Agent, Pinentry, Client}}}, assuan_server.specs.{Clients.session_lines, declared.errors.Origin.Origin}}
+use Rattle.{assuan_server.specs.{declared.errors.Origin.TheVariants.{Agent as OfAgent, Pinentry as OfPinentry}, Written.limit_line}, cache_policy.specs.declared.{mode.Mode.TheVariants.Normal, grant.Grant.Grant, mark.MarkStep.MarkStep}}
+use Rattle.{cache_policy.specs.Turns.{Turn, Refused, closes, Given, Empty, Open}, session_options.specs.declared.rules.Rules.Rules, agent_commands.specs.{Events.EventWith, declared.request.Request.Request}}
+use Rattle.{key_commands.{specs.{Parts.{Part, Finds, Draws}, Lines.grip_text}, proofs.EachEvent.each_append}, agent_origin.specs.declared.kept.Kept.Kept}
+use Rattle.agent_session.{specs.{Causes.{Has, StandIn, IsCaused, IsSaid, said, IsSent, sent, IsUnread, IsDrawn, one, turned, by_stop, GivesNone, none_given}, Completeness.{AnswersNothing, IsStatus}}, proofs.Asides.limit_status}
+use Rattle.agent_session.proofs.Standing.{has_first, has_second, stand_left, stand_right}
 use Rattle.agent_ports.specs.declared.keys.KeyRead.TheVariants as key_read
-use Rattle.session_client.specs.declared.code.Code.{Code}
 use Rattle.session_client.specs.declared.code.Code.TheVariants as code
-use Rattle.assuan_server.specs.Clients.{session_lines}
-use Rattle.assuan_server.specs.declared.errors.Origin.{Origin}
-use Rattle.assuan_server.specs.declared.errors.Origin.TheVariants.{Agent as OfAgent, Pinentry as OfPinentry}
-use Rattle.cache_policy.specs.declared.mode.Mode.TheVariants.{Normal}
-use Rattle.cache_policy.specs.Turns.{Turn, Refused, closes, Given, Empty, Open}
-use Rattle.cache_policy.specs.declared.grant.Grant.{Grant}
-use Rattle.cache_policy.specs.declared.mark.MarkStep.{MarkStep}
 use Rattle.session_client.specs.declared.unheard.Gone.TheVariants as gone
-use Rattle.session_client.specs.declared.unheard.Unheard.{Unheard}
 use Rattle.session_client.specs.declared.unheard.Unheard.TheVariants as unheard
-use Rattle.session_options.specs.declared.rules.Rules.{Rules}
-use Rattle.agent_commands.specs.Events.{EventWith}
-use Rattle.agent_commands.specs.declared.request.Request.{Request}
-use Rattle.key_commands.specs.Parts.{Part, Finds, Draws}
-use Rattle.agent_ask.specs.ClientParts.{Writes, Inquires, AsksClient}
-use Rattle.agent_ask.specs.Parts.{◌>>=◌, Returns, Refuses, needed, or_else, unless, wanted}
-use Rattle.agent_ask.proofs.Within.{Within, Joins, weaker, returned_so, refused_so}
 use Rattle.agent_ask.proofs.Within as within
-use Rattle.agent_ask.specs.Interrupts.{Interrupts}
 use Rattle.agent_ask.specs.Interrupts as turns
 use Rattle.agent_ask.specs.TurnParts as taken
-use Rattle.agent_ask.specs.TurnParts.{Asks, Seats, Changes, Peeks, Closes}
 use Rattle.agent_ask.specs.ClientParts as client_parts
 use Rattle.key_commands.specs.Parts as parts
-use Rattle.key_commands.specs.Lines.{grip_text}
-use Rattle.assuan_server.specs.Written.{limit_line}
-use Rattle.session_client.specs.declared.refusal.Refusal.{Refusal}
-use Rattle.session_client.specs.declared.refusal.Refusal.TheVariants.{Agent, Pinentry, Client}
-use Rattle.key_commands.proofs.EachEvent.{each_append}
-use Rattle.agent_session.specs.Causes.{Has, StandIn, IsCaused, IsSaid, said, IsSent, sent, IsUnread, IsDrawn, one, turned, by_stop, GivesNone, none_given}
-use Rattle.agent_session.specs.Completeness.{AnswersNothing, IsStatus}
-use Rattle.agent_session.proofs.Asides.{limit_status}
-use Rattle.agent_origin.specs.declared.kept.Kept.{Kept}
-use Rattle.agent_session.proofs.Standing.{has_first, has_second, stand_left, stand_right}
 
 -- whatever value
 abbrev pub Anything : {A : Type 0} → A → Type 0

@@ -1,32 +1,11 @@
 -- Requests that ask the cache alone, or clear it, at a desk that finds no memory only for steps that may want some.
-use Rattle.std.specs.List.{AllByRecursion}
-use Rattle.std.proofs.Common.{◌≡◌, ℕ, Bool, List, [], ◌∷◌, Option, Some, None, refl, subst}
-use Rattle.std.specs.Prelude.{⊤}
-use Rattle.agent_ask.specs.Events.{Call}
-use Rattle.agent_ask.specs.Further.{FurtherEvent}
-use Rattle.agent_ask.specs.SessionEvents.{CacheTurn, cache_turn}
-use Rattle.agent_ask.specs.Worlds.{Outside, Does}
+use Rattle.std.{specs.{List.AllByRecursion, Prelude.⊤}, proofs.Common.{◌≡◌, ℕ, Bool, List, [], ◌∷◌, Option, Some, None, refl, subst}}
+use Rattle.{agent_ask.specs.{Events.Call, Further.FurtherEvent, SessionEvents.{CacheTurn, cache_turn}, Worlds.{Outside, Does}}, agent_ports.specs.Leads.{Leads, none, one}, assuan_server.specs.Reading.Supply}
+use Rattle.{cache_policy.specs.{Turns.{Turn, Late, Refused, FitsStep, MayWantMemory}, declared.mark.MarkStep.{MarkStep, TheVariants.{Clear, Flush}}}, agent_origin.specs.FurtherStates.FurtherWorld}
+use Rattle.{agent_origin.specs.{SessionExchanges.{RequestExchange, cache, keys}, declared.kept.Kept.Kept}, session_options.specs.{OptionValues.OptionValues, declared.rules.Rules.Rules}, agent_commands.specs.Events.EventWith}
+use Rattle.agent_commands.specs.{Exchanges.CacheExchange, Passphrases.ask, declared.{request.{CacheCommand.TheVariants.{GetPassphrase, ClearPassphrase, ReloadAgent}, Request.{Request, TheVariants.Cache}}, went.Went.Went}}
+use Rattle.agent_session.{specs.{Completeness.{IsStopped, AnswersFromCache}, Refusals.AnswersAlone}, proofs.AtOnce.{FitsTurn, IsCalm, ByTurn, answers, interrupted, LooksAlone, not_interrupted, changed, looked}}
 use Rattle.agent_ask.specs.Worlds as worlds
-use Rattle.agent_ports.specs.Leads.{Leads, none, one}
-use Rattle.assuan_server.specs.Reading.{Supply}
-use Rattle.cache_policy.specs.Turns.{Turn, Late, Refused, FitsStep, MayWantMemory}
-use Rattle.cache_policy.specs.declared.mark.MarkStep.{MarkStep}
-use Rattle.cache_policy.specs.declared.mark.MarkStep.TheVariants.{Clear, Flush}
-use Rattle.agent_origin.specs.FurtherStates.{FurtherWorld}
-use Rattle.session_options.specs.OptionValues.{OptionValues}
-use Rattle.session_options.specs.declared.rules.Rules.{Rules}
-use Rattle.agent_commands.specs.Events.{EventWith}
-use Rattle.agent_commands.specs.Exchanges.{CacheExchange}
-use Rattle.agent_commands.specs.Passphrases.{ask}
-use Rattle.agent_commands.specs.declared.request.CacheCommand.TheVariants.{GetPassphrase, ClearPassphrase, ReloadAgent}
-use Rattle.agent_commands.specs.declared.request.Request.{Request}
-use Rattle.agent_commands.specs.declared.request.Request.TheVariants.{Cache}
-use Rattle.agent_commands.specs.declared.went.Went.{Went}
-use Rattle.agent_session.specs.Completeness.{IsStopped, AnswersFromCache}
-use Rattle.agent_origin.specs.SessionExchanges.{RequestExchange, cache, keys}
-use Rattle.agent_session.specs.Refusals.{AnswersAlone}
-use Rattle.agent_origin.specs.declared.kept.Kept.{Kept}
-use Rattle.agent_session.proofs.AtOnce.{FitsTurn, IsCalm, ByTurn, answers, interrupted, LooksAlone, not_interrupted, changed, looked}
 
 -- a turn finds no memory only where its step may want some
 abbrev pub IsFair : EventWith FurtherEvent → Type 0

@@ -1,12 +1,7 @@
 -- No fault of a key is a want of memory.
-use Rattle.std.proofs.Common.{ℕ, Bool, true, false, List, [], ◌∷◌, Option, Some, None, Err, sym, subst, inl, inr}
-use Rattle.std.specs.Prelude.{if◌then◌else◌}
-use Rattle.key_commands.specs.Files.{FileSays, canonical, no_canonical}
-use Rattle.secret_file.specs.Answers.{IsFileFault, IsLockedFault}
-use Rattle.sexp_canonical.specs.Tree.{Tree, leaf, branch, items}
-use Rattle.sexp_keys.specs.Faults.{form_fault, name_fault, algorithm_fault, first_fault, IsFirstKeyFault}
-use Rattle.sexp_keys.specs.Key.{Key}
-use Rattle.sexp_keys.specs.declared.fault.KeyFault.{KeyFault}
+use Rattle.std.{proofs.Common.{ℕ, Bool, true, false, List, [], ◌∷◌, Option, Some, None, Err, sym, subst, inl, inr}, specs.Prelude.if◌then◌else◌}
+use Rattle.{key_commands.specs.Files.{FileSays, canonical, no_canonical}, secret_file.specs.Answers.{IsFileFault, IsLockedFault}, sexp_canonical.specs.Tree.{Tree, leaf, branch, items}}
+use Rattle.sexp_keys.specs.{Faults.{form_fault, name_fault, algorithm_fault, first_fault, IsFirstKeyFault}, Key.Key, declared.fault.KeyFault.KeyFault}
 use Rattle.sexp_keys.specs.declared.fault.KeyFault.TheVariants as faults
 
 -- none, or one that bytes can have

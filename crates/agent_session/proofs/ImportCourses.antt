@@ -1,60 +1,25 @@
 -- What an IMPORT_KEY hands to the cache, in its order.
-use Rattle.std.specs.Prelude.{drop}
-use Rattle.std.proofs.Common.{◌≡◌, ◌⊎◌, ℕ, Bool, List, [], ◌∷◌, ◌++◌, length, inl, inr, Option, Some, None, Result, Ok, Err, refl, sym, ap, ◌∙◌, subst, append_assoc}
-use Rattle.agent_ask.specs.Further.{FurtherEvent, Replaced}
-use Rattle.agent_ask.specs.SessionEvents.{Sent, CacheTurn, cache_turn, said_last}
-use Rattle.agent_ports.specs.declared.grip.Grip.{Grip}
-use Rattle.agent_ports.specs.declared.keys.KeyDone.{KeyDone}
-use Rattle.assuan_escape.specs.Escapes.{hex_text}
+use Rattle.std.{specs.Prelude.drop, proofs.Common.{◌≡◌, ◌⊎◌, ℕ, Bool, List, [], ◌∷◌, ◌++◌, length, inl, inr, Option, Some, None, Result, Ok, Err, refl, sym, ap, ◌∙◌, subst, append_assoc}}
+use Rattle.agent_ask.{specs.{Further.{FurtherEvent, Replaced}, SessionEvents.{Sent, CacheTurn, cache_turn, said_last}, Parts.{◌>>=◌, goes_on, stops}, TurnParts.Closes}, proofs.Within.{Within, Does, does_join, bind}}
+use Rattle.{agent_ports.specs.declared.{grip.Grip.Grip, keys.KeyDone.KeyDone}, assuan_escape.specs.Escapes.hex_text, cache_policy.specs.{Turns.Turn, declared.{life.Life.Life, mark.MarkStep.{MarkStep, TheVariants.{Close, Put}}}}}
+use Rattle.{cache_policy.specs.declared.mode.Mode.TheVariants.Nonce, session_client.specs.declared.{code.Code.Code, refusal.Refusal.{Refusal, TheVariants.Agent}}, session_options.specs.OptionValues.OptionValues}
+use Rattle.{session_options.specs.declared.{options.PinMode.PinMode, rules.Rules.Rules}, sexp_keys.specs.Key.Key, agent_commands.specs.{Events.EventWith, declared.request.Request.{Request, TheVariants.{Cache, Key as OnKeys, Bad}}}}
+use Rattle.{agent_commands.specs.declared.went.Went.Went, key_commands.specs.{Events.{drew, called}, Exchanges.{KeyExchange, ImportKeyReplies, StoresKey, FoundOrNew}, KeyParts.change_fault, Parts.{Part, refusal_events}}}
+use Rattle.key_commands.specs.{Passphrases.put_key, declared.{request.KeyRequest.KeyRequest, went.KeyWent.KeyWent, wrap_keys.WrapKeys.WrapKeys}}
+use Rattle.key_commands.proofs.EachEvent.{each_answer, each_returned, each_append, EachSo, each_bind, each_refused, each_needed, each_otherwise, receives_key, names_key, is_free, looks_over, takes_seat, prompts_new, client_new}
+use Rattle.{assuan_server.specs.Written.refusal_line, agent_origin.specs.{SessionExchanges.{RequestExchange, cache, keys}, declared.kept.Kept.Kept}}
+use Rattle.agent_session.specs.{Causes.{Has, here, later, on_keys}, Imports.{HandsNothing, HandNothing, put_nonce, KeepsPass, put, given_back, ImportCourse, not_drawn, not_put, not_replaced, replaced}, OwnPassphrases.puts}
+use Rattle.agent_session.{specs.Refusals.{IsNonceOf, nonce_of}, proofs.{Explained.has_split, OwnKeys.still_quiet, OwnParts.kept_none, Standing.{each_has, has_right}}}
 use Rattle.agent_ports.specs.declared.keys.KeyDone.TheVariants as key_done
-use Rattle.cache_policy.specs.Turns.{Turn}
-use Rattle.cache_policy.specs.declared.life.Life.{Life}
-use Rattle.cache_policy.specs.declared.mark.MarkStep.{MarkStep}
-use Rattle.cache_policy.specs.declared.mark.MarkStep.TheVariants.{Close, Put}
-use Rattle.cache_policy.specs.declared.mode.Mode.TheVariants.{Nonce}
-use Rattle.session_client.specs.declared.code.Code.{Code}
 use Rattle.session_client.specs.declared.code.Code.TheVariants as code
-use Rattle.session_options.specs.OptionValues.{OptionValues}
-use Rattle.session_options.specs.declared.options.PinMode.{PinMode}
 use Rattle.session_options.specs.declared.options.PinMode.TheVariants as mode
-use Rattle.session_options.specs.declared.rules.Rules.{Rules}
-use Rattle.sexp_keys.specs.Key.{Key}
-use Rattle.agent_commands.specs.Events.{EventWith}
-use Rattle.agent_commands.specs.declared.request.Request.{Request}
-use Rattle.agent_commands.specs.declared.request.Request.TheVariants.{Cache, Key as OnKeys, Bad}
-use Rattle.agent_commands.specs.declared.went.Went.{Went}
-use Rattle.key_commands.specs.Events.{drew, called}
-use Rattle.key_commands.specs.Exchanges.{KeyExchange, ImportKeyReplies, StoresKey, FoundOrNew}
 use Rattle.agent_ask.specs.PartExchanges as part_exchanges
-use Rattle.key_commands.specs.KeyParts.{change_fault}
 use Rattle.key_commands.specs.KeyParts as parts
-use Rattle.key_commands.specs.Parts.{Part, refusal_events}
-use Rattle.agent_ask.specs.Parts.{◌>>=◌, goes_on, stops}
-use Rattle.agent_ask.proofs.Within.{Within, Does, does_join, bind}
-use Rattle.agent_ask.specs.TurnParts.{Closes}
-use Rattle.assuan_server.specs.Written.{refusal_line}
 use Rattle.agent_ask.specs.Parts as chain
 use Rattle.agent_ask.specs.TurnParts as turning
 use Rattle.key_commands.specs.Parts as small
-use Rattle.key_commands.specs.Passphrases.{put_key}
 use Rattle.key_commands.specs.Passphrases as passphrases
-use Rattle.session_client.specs.declared.refusal.Refusal.{Refusal}
-use Rattle.session_client.specs.declared.refusal.Refusal.TheVariants.{Agent}
-use Rattle.key_commands.specs.declared.request.KeyRequest.{KeyRequest}
 use Rattle.key_commands.specs.declared.request.KeyRequest.TheVariants as on
-use Rattle.key_commands.specs.declared.went.KeyWent.{KeyWent}
-use Rattle.key_commands.specs.declared.wrap_keys.WrapKeys.{WrapKeys}
-use Rattle.key_commands.proofs.EachEvent.{each_answer, each_returned, each_append, EachSo, each_bind, each_refused, each_needed, each_otherwise, receives_key, names_key, is_free, looks_over, takes_seat, prompts_new, client_new}
-use Rattle.agent_origin.specs.SessionExchanges.{RequestExchange, cache, keys}
-use Rattle.agent_origin.specs.declared.kept.Kept.{Kept}
-use Rattle.agent_session.specs.Causes.{Has, here, later, on_keys}
-use Rattle.agent_session.specs.Imports.{HandsNothing, HandNothing, put_nonce, KeepsPass, put, given_back, ImportCourse, not_drawn, not_put, not_replaced, replaced}
-use Rattle.agent_session.specs.OwnPassphrases.{puts}
-use Rattle.agent_session.specs.Refusals.{IsNonceOf, nonce_of}
-use Rattle.agent_session.proofs.Explained.{has_split}
-use Rattle.agent_session.proofs.OwnKeys.{still_quiet}
-use Rattle.agent_session.proofs.OwnParts.{kept_none}
-use Rattle.agent_session.proofs.Standing.{each_has, has_right}
 
 -- ---- what is stored under a nonce is stored under one that was drawn
 

@@ -1,59 +1,28 @@
 -- Requests on keys: their work, and what is done once a ticket was given back or a key's file changed.
-use Rattle.std.proofs.Common.{◌≡◌, ℕ, Bool, true, false, List, [], ◌∷◌, ◌++◌, Option, Some, None, Result, Ok, Err, refl, ap}
-use Rattle.std.specs.Prelude.{not, drop}
-use Rattle.agent_ask.specs.Further.{Keys, Replaced, Removed}
-use Rattle.agent_ask.proofs.Within.{values_so}
-use Rattle.agent_ask.specs.Parts.{◌>>=◌, goes_on, stops, Returns, returns}
-use Rattle.agent_ask.specs.SessionEvents.{Further}
-use Rattle.agent_ask.specs.TurnParts.{Changes, Closes}
-use Rattle.agent_ask.specs.TurnParts as taken
-use Rattle.agent_ports.specs.declared.grip.Grip.{Grip}
-use Rattle.agent_ports.specs.declared.keys.KeyDone.{KeyDone}
-use Rattle.assuan_server.specs.Written.{refusal_line}
-use Rattle.session_client.specs.declared.code.Code.{Code}
-use Rattle.session_client.specs.declared.code.Code.TheVariants as code
-use Rattle.cache_policy.specs.Turns.{closes}
-use Rattle.cache_policy.specs.declared.mark.MarkStep.{MarkStep}
-use Rattle.cache_policy.specs.declared.mark.MarkStep.TheVariants.{Clear}
-use Rattle.cache_policy.specs.declared.mode.Mode.TheVariants.{Normal, Nonce}
-use Rattle.session_client.specs.Refusals.{gone_by}
-use Rattle.session_client.specs.declared.refusal.Refusal.{Refusal}
-use Rattle.session_client.specs.declared.refusal.Refusal.TheVariants.{Agent, Client}
-use Rattle.session_client.specs.declared.unheard.Gone.{Gone}
-use Rattle.session_client.specs.declared.unheard.Unheard.TheVariants as unheard
-use Rattle.session_options.specs.OptionValues.{OptionValues}
-use Rattle.session_options.specs.declared.rules.Rules.{Rules}
-use Rattle.sexp_keys.specs.Key.{Key}
-use Rattle.agent_commands.specs.declared.request.Request.{Request}
-use Rattle.key_commands.specs.Events.{Event}
-use Rattle.key_commands.specs.Exchanges.{KeyReply, KeyExchange, HaveKeyReplies, KeyInfoReplies, ListKeysReplies, KeyWrapReplies, ImportKeyReplies, ExportKeyReplies, PasswdReplies, VerifyReplies}
-use Rattle.key_commands.specs.Exchanges.{DeleteKeyReplies, KeyReplies, wrap_key, StoresKey, RewritesFile, ChangesOpened}
-use Rattle.agent_ask.specs.PartExchanges as part_exchanges
-use Rattle.key_commands.specs.Exchanges as exchange
-use Rattle.key_commands.specs.KeyParts.{Tells, tells, Replaces, Removes, KeepsNew, TellsKeyInfo, ReceivesKey, IsFree, WrapsKey}
-use Rattle.key_commands.specs.KeyParts as parts
-use Rattle.key_commands.specs.Lines.{grip_text, info_line}
-use Rattle.assuan_server.specs.Written.{ok}
-use Rattle.key_commands.specs.Parts.{Part, key_went_after}
-use Rattle.key_commands.specs.declared.request.Direction.{Direction}
-use Rattle.key_commands.specs.declared.request.KeyRequest.{KeyRequest}
-use Rattle.key_commands.specs.declared.request.KeyRequest.TheVariants as on
-use Rattle.key_commands.specs.declared.went.KeyWent.{KeyWent}
-use Rattle.key_commands.specs.declared.went.KeyWent.TheVariants as key_went
-use Rattle.key_commands.specs.declared.wrap_keys.WrapKeys.{WrapKeys}
-use Rattle.assuan_escape.specs.Escapes.{hex_text}
-use Rattle.agent_session.specs.Causes.{on_keys, IsSaid}
-use Rattle.agent_session.specs.Completeness.{EndsInOk}
-use Rattle.agent_session.specs.Completeness as completeness
-use Rattle.agent_session.specs.Refusals.{IsAllowed, IsWorkStep, MayStore, exported, changed, imported, CourseBy}
-use Rattle.key_commands.specs.Lines.{of_passphrase, of_key_data, of_key}
-use Rattle.agent_session.proofs.Asides.{info_status, nonce_status, status_aside}
+use Rattle.std.{proofs.Common.{◌≡◌, ℕ, Bool, true, false, List, [], ◌∷◌, ◌++◌, Option, Some, None, Result, Ok, Err, refl, ap}, specs.Prelude.{not, drop}}
+use Rattle.{agent_ask.{specs.{Further.{Keys, Replaced, Removed}, Parts.{◌>>=◌, goes_on, stops, Returns, returns}, SessionEvents.Further, TurnParts.{Changes, Closes}}, proofs.Within.values_so}, agent_ports.specs.declared.grip.Grip.Grip}
+use Rattle.{agent_ports.specs.declared.keys.KeyDone.KeyDone, assuan_server.specs.Written.{refusal_line, ok}, session_client.specs.declared.{code.Code.Code, refusal.Refusal.{Refusal, TheVariants.{Agent, Client}}, unheard.Gone.Gone}}
+use Rattle.{session_client.specs.Refusals.gone_by, cache_policy.specs.{Turns.closes, declared.{mark.MarkStep.{MarkStep, TheVariants.Clear}, mode.Mode.TheVariants.{Normal, Nonce}}}, session_options.specs.OptionValues.OptionValues}
+use Rattle.{session_options.specs.declared.rules.Rules.Rules, sexp_keys.specs.Key.Key, agent_commands.specs.declared.request.Request.Request, key_commands.specs.Events.Event}
+use Rattle.key_commands.specs.Exchanges.{KeyReply, KeyExchange, HaveKeyReplies, KeyInfoReplies, ListKeysReplies, KeyWrapReplies, ImportKeyReplies, ExportKeyReplies, PasswdReplies, VerifyReplies, DeleteKeyReplies, KeyReplies, wrap_key}
+use Rattle.key_commands.specs.{Exchanges.{StoresKey, RewritesFile, ChangesOpened}, KeyParts.{Tells, tells, Replaces, Removes, KeepsNew, TellsKeyInfo, ReceivesKey, IsFree, WrapsKey}}
+use Rattle.key_commands.specs.{Lines.{grip_text, info_line, of_passphrase, of_key_data, of_key}, Parts.{Part, key_went_after}, declared.{request.{Direction.Direction, KeyRequest.KeyRequest}, went.KeyWent.KeyWent}}
+use Rattle.{key_commands.specs.declared.wrap_keys.WrapKeys.WrapKeys, assuan_escape.specs.Escapes.hex_text}
+use Rattle.agent_session.{specs.{Causes.{on_keys, IsSaid}, Completeness.EndsInOk, Refusals.{IsAllowed, IsWorkStep, MayStore, exported, changed, imported, CourseBy}}, proofs.Asides.{info_status, nonce_status, status_aside}}
 use Rattle.agent_session.proofs.Courses.{AnyNonce, Ends, ends_with, EndsSo, working_ends, ends_working, bind_ends, made, makes, closed, unwrapped, kept, put, unput, cleared, uncleared, RepliesOk, ok_returns, ok_refuses, ok_then}
 use Rattle.agent_session.proofs.Courses.{reply_ends_in_ok, ok_course, err_course, ends_said, gone_only, said_before, answer_heard}
-use Rattle.agent_session.proofs.KeyWorks.{FitsKeys, looks_nonce, old_here, verified_here, new_here, consents, tells_info, writes_infos, has_one}
-use Rattle.agent_session.proofs.Replying.{ends_in_ok, reply_keys}
-use Rattle.agent_session.proofs.Works as work
+use Rattle.agent_session.proofs.{KeyWorks.{FitsKeys, looks_nonce, old_here, verified_here, new_here, consents, tells_info, writes_infos, has_one}, Replying.{ends_in_ok, reply_keys}}
 use Rattle.agent_session.proofs.Works.{WorksTo, works, WorksSo, Keeps, keeps_works, bind, returned, refuses_by, is_needed, or_otherwise, is_wanted, turns_of}
+use Rattle.agent_ask.specs.TurnParts as taken
+use Rattle.session_client.specs.declared.code.Code.TheVariants as code
+use Rattle.session_client.specs.declared.unheard.Unheard.TheVariants as unheard
+use Rattle.agent_ask.specs.PartExchanges as part_exchanges
+use Rattle.key_commands.specs.Exchanges as exchange
+use Rattle.key_commands.specs.KeyParts as parts
+use Rattle.key_commands.specs.declared.request.KeyRequest.TheVariants as on
+use Rattle.key_commands.specs.declared.went.KeyWent.TheVariants as key_went
+use Rattle.agent_session.specs.Completeness as completeness
+use Rattle.agent_session.proofs.Works as work
 
 module _ (request : Request) where
   abbrev Fits : Event → Type 0

@@ -1,39 +1,15 @@
 -- What a session does for a line has one answer, and each error line in it its cause.
 use Rattle.std.proofs.Common.{◌≡◌, ◌++◌, ℕ, List, [], ◌∷◌, Option, Some, None, refl, sym, subst}
-use Rattle.agent_ask.specs.Further.{FurtherEvent, Keys, Replaced}
-use Rattle.agent_ask.specs.SessionEvents.{Sent, Further}
-use Rattle.agent_ports.specs.declared.grip.Grip.{Grip}
+use Rattle.{agent_ask.specs.{Further.{FurtherEvent, Keys, Replaced}, SessionEvents.{Sent, Further}, PartExchanges.{answered, refused}}, agent_ports.specs.declared.grip.Grip.Grip, session_client.specs.declared.code.Code.Code}
+use Rattle.{session_client.specs.{declared.{unheard.Gone.Gone, refusal.Refusal.Refusal}, Refusals.gone_by}, assuan_server.specs.declared.errors.Origin.Origin, session_options.specs.declared.rules.Rules.Rules}
+use Rattle.{agent_commands.specs.{Endings.went_after, Events.EventWith, Requests.request_of, declared.{request.Request.Request, went.Went.{Went, TheVariants.On}}}, key_commands.specs.Exchanges.KeyExchange}
+use Rattle.key_commands.{specs.{Parts.{refusal_events, key_went_after as key_went}, declared.{request.KeyRequest.KeyRequest, went.KeyWent.KeyWent, wrap_keys.WrapKeys.WrapKeys}}, proofs.GoesOn.goes_on_after}
+use Rattle.agent_origin.specs.{SessionExchanges.{RequestExchange, cache, keys, SessionExchange, went_after_key}, declared.kept.Kept.Kept}
+use Rattle.agent_session.{specs.{Causes.{Has, StandIn, IsCaused, IsRefusedBy, on_keys}, Completeness.{CausedInSession, HasError}}, proofs.CacheRequests.{cache_explained, in_exchange, refusal_explained}}
+use Rattle.agent_session.proofs.{Explained.{Explained, replied, is_answered, is_caused, goes_on, went_on}, KeyRequests.replies, LineFaults.line_caused, Standing.stand_all}
 use Rattle.agent_ports.specs.declared.keys.KeyDone.TheVariants as key_done
-use Rattle.session_client.specs.declared.code.Code.{Code}
 use Rattle.session_client.specs.declared.code.Code.TheVariants as code
-use Rattle.assuan_server.specs.declared.errors.Origin.{Origin}
 use Rattle.assuan_server.specs.declared.errors.Origin.TheVariants as origin
-use Rattle.session_client.specs.declared.unheard.Gone.{Gone}
-use Rattle.session_options.specs.declared.rules.Rules.{Rules}
-use Rattle.agent_commands.specs.Endings.{went_after}
-use Rattle.agent_commands.specs.Events.{EventWith}
-use Rattle.session_client.specs.Refusals.{gone_by}
-use Rattle.agent_commands.specs.Requests.{request_of}
-use Rattle.agent_commands.specs.declared.request.Request.{Request}
-use Rattle.agent_commands.specs.declared.went.Went.{Went}
-use Rattle.agent_commands.specs.declared.went.Went.TheVariants.{On}
-use Rattle.key_commands.specs.Exchanges.{KeyExchange}
-use Rattle.agent_ask.specs.PartExchanges.{answered, refused}
-use Rattle.key_commands.specs.Parts.{refusal_events, key_went_after as key_went}
-use Rattle.key_commands.proofs.GoesOn.{goes_on_after}
-use Rattle.session_client.specs.declared.refusal.Refusal.{Refusal}
-use Rattle.key_commands.specs.declared.request.KeyRequest.{KeyRequest}
-use Rattle.key_commands.specs.declared.went.KeyWent.{KeyWent}
-use Rattle.key_commands.specs.declared.wrap_keys.WrapKeys.{WrapKeys}
-use Rattle.agent_session.specs.Causes.{Has, StandIn, IsCaused, IsRefusedBy, on_keys}
-use Rattle.agent_session.specs.Completeness.{CausedInSession, HasError}
-use Rattle.agent_origin.specs.SessionExchanges.{RequestExchange, cache, keys, SessionExchange, went_after_key}
-use Rattle.agent_origin.specs.declared.kept.Kept.{Kept}
-use Rattle.agent_session.proofs.CacheRequests.{cache_explained, in_exchange, refusal_explained}
-use Rattle.agent_session.proofs.Explained.{Explained, replied, is_answered, is_caused, goes_on, went_on}
-use Rattle.agent_session.proofs.KeyRequests.{replies}
-use Rattle.agent_session.proofs.LineFaults.{line_caused}
-use Rattle.agent_session.proofs.Standing.{stand_all}
 
 -- a file that is replaced needn't be there
 abbrev pub NeverAbsent : List (EventWith FurtherEvent) → Type 0

@@ -1,65 +1,31 @@
 -- The parts of requests on keys, each of whose refusals has its cause.
-use Rattle.std.specs.List.{AllByRecursion}
-use Rattle.std.proofs.Common.{false, ◌≡◌, ℕ, List, ◌∷◌, Option, Some, None, Result, Ok, Err, refl, sym, subst, inl, inr}
-use Rattle.std.specs.Prelude.{⊤}
-use Rattle.std.specs.Option.{option_map}
-use Rattle.agent_ask.specs.Callers.{unheard_of}
-use Rattle.agent_ask.specs.Events.{OutOfMemory, PromptEvent, Called, Notified}
-use Rattle.agent_ask.specs.Further.{FurtherEvent, Keys, Read, Replaced, Removed, Prompt}
-use Rattle.agent_ask.specs.SessionEvents.{Further, cache_turn}
-use Rattle.agent_ask.specs.SessionPrompts.{AnyInSession}
+use Rattle.std.{specs.{List.AllByRecursion, Prelude.⊤, Option.option_map}, proofs.Common.{false, ◌≡◌, ℕ, List, ◌∷◌, Option, Some, None, Result, Ok, Err, refl, sym, subst, inl, inr}}
+use Rattle.agent_ask.specs.{Callers.unheard_of, Events.{OutOfMemory, PromptEvent, Called, Notified}, Further.{FurtherEvent, Keys, Read, Replaced, Removed, Prompt}, SessionEvents.{Further, cache_turn}, SessionPrompts.AnyInSession}
+use Rattle.agent_ask.specs.{declared.{ask.Asked.Asked, caller.Heard.Heard, consent.Agreed.Agreed, spec.{AskPlan.AskPlan, PromptSpec.PromptSpec}}, ConsentParts.{AgreesTo, consent_refusal}, PinParts.{PromptsPin, pin_refusal}}
+use Rattle.{agent_ports.specs.declared.{grip.Grip.Grip, keys.{KeyDone.KeyDone, KeyRead.KeyRead}}, assuan_server.specs.Clients.session_lines, session_client.specs.declared.{code.Code.Code, unheard.Unheard.Unheard, refusal.Refusal.Refusal}}
+use Rattle.{session_client.specs.declared.refusal.Refusal.TheVariants.Client, cache_policy.specs.{Turns.Given, declared.{grant.Grant.Grant, mark.MarkStep.MarkStep}}, session_options.specs.declared.rules.Rules.Rules, sexp_keys.specs.Key.Key}
+use Rattle.{sexp_keys.specs.declared.fault.KeyFault.KeyFault, secret_file.specs.Opens.LockedKey, agent_commands.specs.{Events.EventWith, declared.request.Request.Request}, key_commands.specs.Faults.fault_code}
+use Rattle.key_commands.specs.{KeyParts.{ReadsFile, change_fault, Replaces, Removes, KeepsNew}, Parts.read_fault, Passphrases.{ask_nonce, LooksForNonce, TakesSeat, Locks, OpensBy, TriesPassphrase, TriesFound, PromptsOld, PromptsNew}}
+use Rattle.agent_origin.specs.declared.kept.Kept.{Kept}
+use Rattle.agent_session.specs.Causes.{Has, StandIn, IsCaused, IsSaid, said, IsUnread, IsUnremoved, LacksKeys, on_keys, one, IsRead, read, IsReadOf, read_of, IsReadLocked, OpensRead, opens, IsFaulty, Unlocks, Judges, NamesOld, ComesBy}
+use Rattle.agent_session.specs.{Causes.{HasPrompt, AsksAny, old_plan, new_plan, protection, faulty, HasCall, GivesNone, GivesNoneFor, none_at_all, wrong, ByNonce}, Completeness.AnswersNothing}
+use Rattle.agent_session.proofs.Explaining.{Caused, CausedRefusal, client_said, Comes, Explains, Anything, returned, FoundBy, found, found_none, looks, seats, changes, closes_of, out_of_memory_first, out_of_memory_second}
+use Rattle.agent_session.proofs.{Faulty.{file_fault_said, locked_fault_said}, Prompted.{has_prompt, PinShows, ConsentShows, HasCalled, HasHeard, pin_shows, consent_shows, shown_as, note_says}, Standing.{has_first, has_in}}
 use Rattle.agent_ask.specs.SessionPrompts as session
-use Rattle.agent_ask.specs.declared.ask.Asked.{Asked}
 use Rattle.agent_ask.specs.declared.ask.Asked.TheVariants as asked
-use Rattle.agent_ask.specs.declared.caller.Heard.{Heard}
 use Rattle.agent_ask.specs.declared.caller.Heard.TheVariants as heard_as
-use Rattle.agent_ask.specs.declared.consent.Agreed.{Agreed}
 use Rattle.agent_ask.specs.declared.consent.Agreed.TheVariants as agreed
-use Rattle.agent_ask.specs.declared.spec.AskPlan.{AskPlan}
-use Rattle.agent_ask.specs.declared.spec.PromptSpec.{PromptSpec}
-use Rattle.agent_ports.specs.declared.grip.Grip.{Grip}
-use Rattle.agent_ports.specs.declared.keys.KeyDone.{KeyDone}
 use Rattle.agent_ports.specs.declared.keys.KeyDone.TheVariants as key_done
-use Rattle.agent_ports.specs.declared.keys.KeyRead.{KeyRead}
 use Rattle.agent_ports.specs.declared.keys.KeyRead.TheVariants as key_read
-use Rattle.assuan_server.specs.Clients.{session_lines}
-use Rattle.session_client.specs.declared.code.Code.{Code}
 use Rattle.session_client.specs.declared.code.Code.TheVariants as code
-use Rattle.cache_policy.specs.Turns.{Given}
-use Rattle.cache_policy.specs.declared.grant.Grant.{Grant}
-use Rattle.cache_policy.specs.declared.mark.MarkStep.{MarkStep}
-use Rattle.session_client.specs.declared.unheard.Unheard.{Unheard}
 use Rattle.session_client.specs.declared.unheard.Unheard.TheVariants as unheard
-use Rattle.session_options.specs.declared.rules.Rules.{Rules}
-use Rattle.sexp_keys.specs.Key.{Key}
-use Rattle.sexp_keys.specs.declared.fault.KeyFault.{KeyFault}
 use Rattle.sexp_keys.specs.declared.fault.KeyFault.TheVariants as faults
-use Rattle.secret_file.specs.Opens.{LockedKey}
-use Rattle.agent_commands.specs.Events.{EventWith}
-use Rattle.agent_commands.specs.declared.request.Request.{Request}
-use Rattle.key_commands.specs.Faults.{fault_code}
-use Rattle.key_commands.specs.KeyParts.{ReadsFile, change_fault, Replaces, Removes, KeepsNew}
-use Rattle.agent_ask.specs.ConsentParts.{AgreesTo, consent_refusal}
 use Rattle.agent_ask.specs.ConsentParts as consent
 use Rattle.key_commands.specs.KeyParts as parts
-use Rattle.key_commands.specs.Parts.{read_fault}
-use Rattle.key_commands.specs.Passphrases.{ask_nonce, LooksForNonce, TakesSeat, Locks, OpensBy, TriesPassphrase, TriesFound, PromptsOld, PromptsNew}
-use Rattle.agent_ask.specs.PinParts.{PromptsPin, pin_refusal}
 use Rattle.key_commands.specs.Passphrases as passphrases
-use Rattle.session_client.specs.declared.refusal.Refusal.{Refusal}
-use Rattle.session_client.specs.declared.refusal.Refusal.TheVariants.{Client}
-use Rattle.agent_session.specs.Causes.{Has, StandIn, IsCaused, IsSaid, said, IsUnread, IsUnremoved, LacksKeys, on_keys, one, IsRead, read, IsReadOf, read_of, IsReadLocked, OpensRead, opens, IsFaulty, Unlocks, Judges, NamesOld}
-use Rattle.agent_session.specs.Causes.{ComesBy, HasPrompt, AsksAny, old_plan, new_plan}
-use Rattle.agent_session.specs.Causes.{protection, faulty, HasCall, GivesNone, GivesNoneFor, none_at_all, wrong, ByNonce}
 use Rattle.agent_session.specs.Causes as causes
-use Rattle.agent_session.specs.Completeness.{AnswersNothing}
-use Rattle.agent_origin.specs.declared.kept.Kept.{Kept}
-use Rattle.agent_session.proofs.Explaining.{Caused, CausedRefusal, client_said, Comes, Explains, Anything, returned, FoundBy, found, found_none, looks, seats, changes, closes_of, out_of_memory_first, out_of_memory_second}
-use Rattle.agent_session.proofs.Faulty.{file_fault_said, locked_fault_said}
 use Rattle.agent_session.proofs.Faulty as said
 use Rattle.agent_session.proofs.Prompted as prompted
-use Rattle.agent_session.proofs.Prompted.{has_prompt, PinShows, ConsentShows, HasCalled, HasHeard, pin_shows, consent_shows, shown_as, note_says}
-use Rattle.agent_session.proofs.Standing.{has_first, has_in}
 
 -- nothing is answered by a prompt
 pub prompt_silent : {prompt : List PromptEvent} {shown : List (EventWith FurtherEvent)} → AnyInSession session_lines prompt shown → AllByRecursion AnswersNothing shown

@@ -1,65 +1,34 @@
 -- Requests on keys, each of whose refusals has its cause.
 use Rattle.std.proofs.Common.{◌≡◌, ◌≢◌, ◌==◌, ℕ, Bool, true, false, List, [], ◌∷◌, ◌++◌, length, codes, Option, Some, None, Result, Ok, Err, refl, sym, ap, ◌∙◌, subst, append_assoc, append-nil, inl, inr, arith}
-use Rattle.std.specs.Prelude.{⊤, not, map, take, drop}
-use Rattle.std.proofs.lemmas.Bool.Decides.{nat_tests}
-use Rattle.std.proofs.lemmas.List.{map-append, nil_from_length}
-use Rattle.agent_ask.specs.Further.{FurtherEvent, Keys, Read, Replaced}
-use Rattle.agent_ask.specs.SessionEvents.{Further, cache_turn}
-use Rattle.agent_ports.specs.declared.grip.Grip.{Grip}
-use Rattle.agent_ports.specs.declared.keys.KeyDone.TheVariants as key_done
-use Rattle.agent_ports.specs.declared.keys.KeyRead.{KeyRead}
-use Rattle.agent_ports.specs.declared.keys.KeyRead.TheVariants as key_read
-use Rattle.session_client.specs.declared.code.Code.{Code}
-use Rattle.session_client.specs.declared.code.Code.TheVariants as code
-use Rattle.assuan_server.specs.declared.errors.Origin.TheVariants.{Agent as OfAgent}
-use Rattle.cache_policy.specs.Turns.{Refused, Empty, Stopping}
-use Rattle.cache_policy.specs.declared.secret.TheConstants.{MAX_SECRET_LEN}
-use Rattle.secret_file.specs.Opens.{LockedKey}
-use Rattle.secret_file.specs.Protects.{ocb_protection, protected_file}
-use Rattle.session_options.specs.OptionValues.{OptionValues}
-use Rattle.session_options.specs.declared.options.PinMode.{PinMode}
-use Rattle.session_options.specs.declared.options.PinMode.TheVariants as mode
-use Rattle.session_options.specs.declared.rules.Rules.{Rules}
-use Rattle.sexp_keys.specs.Key.{Key}
-use Rattle.sexp_keys.specs.Lists.{grip_of}
-use Rattle.agent_commands.specs.Events.{EventWith}
-use Rattle.agent_commands.specs.declared.request.Request.{Request}
+use Rattle.std.{proofs.lemmas.{Bool.Decides.nat_tests, List.{map-append, nil_from_length}}, specs.Prelude.{⊤, not, map, take, drop}}
+use Rattle.{agent_ask.specs.{Further.{FurtherEvent, Keys, Read, Replaced}, SessionEvents.{Further, cache_turn}, Parts.{Returns, needed, or_else, wanted}}, agent_ports.specs.declared.{grip.Grip.Grip, keys.KeyRead.KeyRead}}
+use Rattle.{session_client.specs.declared.{code.Code.Code, refusal.Refusal.{Refusal, TheVariants.Agent}}, assuan_server.specs.{declared.errors.Origin.TheVariants.Agent as OfAgent, Written.limit_line}}
+use Rattle.{cache_policy.specs.{Turns.{Refused, Empty, Stopping}, declared.secret.TheConstants.MAX_SECRET_LEN}, secret_file.specs.{Opens.LockedKey, Protects.{ocb_protection, protected_file}}, session_options.specs.OptionValues.OptionValues}
+use Rattle.{session_options.specs.declared.{options.PinMode.PinMode, rules.Rules.Rules}, sexp_keys.specs.{Key.Key, Lists.grip_of}, agent_commands.specs.{Events.EventWith, declared.request.Request.Request}}
 use Rattle.key_commands.specs.Lines.{max_key_data}
-use Rattle.key_commands.specs.Exchanges.{KeyReply, HaveKeyReplies, KeyInfoReplies, ListKeysReplies, KeyWrapReplies, ImportKeyReplies, ExportKeyReplies, PasswdReplies, VerifyReplies, DeleteKeyReplies}
-use Rattle.key_commands.specs.Exchanges.{KeyReplies, wrap_key, StoresKey, FoundOrNew, RenewsPassphrase, RewritesFile, ChangesOpened}
-use Rattle.key_commands.specs.Files.{Rewrites}
+use Rattle.key_commands.specs.Exchanges.{KeyReply, HaveKeyReplies, KeyInfoReplies, ListKeysReplies, KeyWrapReplies, ImportKeyReplies, ExportKeyReplies, PasswdReplies, VerifyReplies, DeleteKeyReplies, KeyReplies, wrap_key, StoresKey}
+use Rattle.key_commands.specs.{Exchanges.{FoundOrNew, RenewsPassphrase, RewritesFile, ChangesOpened}, Files.Rewrites}
+use Rattle.key_commands.specs.KeyParts.{Tells, tells, Protects, IsShort, HasOne as HasOneKey, TellsKeyInfo, ListsGrips, ReadsListed, WritesInfo, TellsListed, WritesInfos, AsksKeyData, Unwraps, ReceivesKey, NamesKey, IsFree, LooksOver}
+use Rattle.key_commands.specs.{KeyParts.{WrapsKey, Consents}, Parts.{Part, read_fault}, Passphrases.{OpensBy, ClientOld, UncachedOld, OpensLocked, OldPassphrase, VerifiesPassphrase, ClientNew, NewPassphrase, ask_key, way_of}}
+use Rattle.{key_commands.specs.{Wrapping.WrappedSays, declared.request.{Direction.Direction, KeyRequest.KeyRequest}}, agent_origin.specs.declared.kept.Kept.Kept}
+use Rattle.agent_session.specs.Causes.{Has, here, StandIn, IsCaused, IsSent, AreUnread, LacksKeys, on_keys, IsRefusedBy, one, IsRead, IsReadOf, IsDrawn, IsListOf, protected, IsReadLocked, OpensRead, Unlocks, exports, NamesOld, of_export}
+use Rattle.agent_session.specs.Causes.{of_change, ComesBy, AsksAny, of_new, of_import, new_plan, is_clear, key_data, KeyDataSays, data_says, faulty, long, long_file, by_mode, deletion, stays, empty, no_import, no_export, there, GivesNone}
+use Rattle.agent_session.specs.{Causes.{none_given, GivesNoneFor, ByNonce, HasNoEntry, exported, changed, verified, imported, renewed, IsUnprompted}, Completeness.IsStatus}
+use Rattle.agent_session.proofs.Explaining.{Caused, Comes, Explains, Anything, IsFound, bind, whatever, returned, refused, is_needed, or_otherwise, is_wanted, seats, changes, peeks, closes_explained, writes, inquires_of, asks_client, finds}
+use Rattle.agent_session.proofs.{Explaining.{draws, out_of_memory_first, out_of_memory_second, FoundBy, looks}, Asides.{info_status, limit_status}, Faulty.first_fault_said}
+use Rattle.agent_session.proofs.KeyParts.{Either, fault_caused, looks_for_nonce, takes_seat, keeps_new, locks, tries, tries_found, prompts_old, prompts_new, agrees, reads_file, removes, replaces, OpensHere, comes_of, comes_by_nonce}
+use Rattle.agent_session.proofs.{KeyParts.{FoundByNonce, nonce_none, none_opens, nonce_none_opens, NoneOpens}, Replying.{IsReply, reply_ok, reply_status, reply_nonce, reply_keys}, Standing.{has_first, has_in, has_right}}
+use Rattle.agent_ports.specs.declared.keys.KeyDone.TheVariants as key_done
+use Rattle.agent_ports.specs.declared.keys.KeyRead.TheVariants as key_read
+use Rattle.session_client.specs.declared.code.Code.TheVariants as code
+use Rattle.session_options.specs.declared.options.PinMode.TheVariants as mode
 use Rattle.key_commands.specs.Files as files
-use Rattle.key_commands.specs.KeyParts.{Tells, tells, Protects, IsShort, HasOne as HasOneKey, TellsKeyInfo, ListsGrips, ReadsListed, WritesInfo, TellsListed, WritesInfos, AsksKeyData}
-use Rattle.key_commands.specs.KeyParts.{Unwraps, ReceivesKey, NamesKey, IsFree, LooksOver, WrapsKey, Consents}
 use Rattle.key_commands.specs.KeyParts as parts
-use Rattle.assuan_server.specs.Written.{limit_line}
-use Rattle.key_commands.specs.Parts.{Part, read_fault}
-use Rattle.agent_ask.specs.Parts.{Returns, needed, or_else, wanted}
 use Rattle.agent_ask.specs.Parts as chain
 use Rattle.key_commands.specs.Parts as small
-use Rattle.key_commands.specs.Passphrases.{OpensBy, ClientOld, UncachedOld, OpensLocked, OldPassphrase, VerifiesPassphrase, ClientNew, NewPassphrase, ask_key, way_of}
-use Rattle.key_commands.specs.Wrapping.{WrappedSays}
 use Rattle.key_commands.specs.Wrapping as wrapping
-use Rattle.session_client.specs.declared.refusal.Refusal.{Refusal}
-use Rattle.session_client.specs.declared.refusal.Refusal.TheVariants.{Agent}
-use Rattle.key_commands.specs.declared.request.Direction.{Direction}
-use Rattle.key_commands.specs.declared.request.KeyRequest.{KeyRequest}
 use Rattle.key_commands.specs.declared.request.KeyRequest.TheVariants as on
-use Rattle.agent_session.specs.Causes.{Has, here, StandIn, IsCaused, IsSent, AreUnread, LacksKeys, on_keys, IsRefusedBy, one, IsRead, IsReadOf, IsDrawn, IsListOf, protected, IsReadLocked, OpensRead, Unlocks, exports, NamesOld}
-use Rattle.agent_session.specs.Causes.{of_export, of_change, ComesBy, AsksAny, of_new, of_import, new_plan}
-use Rattle.agent_session.specs.Causes.{is_clear, key_data, KeyDataSays, data_says, faulty, long, long_file, by_mode, deletion, stays, empty, no_import, no_export, there, GivesNone, none_given}
-use Rattle.agent_session.specs.Causes.{GivesNoneFor, ByNonce, HasNoEntry, exported, changed, verified, imported, renewed, IsUnprompted}
 use Rattle.agent_session.specs.Causes as causes
-use Rattle.agent_session.specs.Completeness.{IsStatus}
-use Rattle.agent_origin.specs.declared.kept.Kept.{Kept}
-use Rattle.agent_session.proofs.Explaining.{Caused, Comes, Explains, Anything, IsFound, bind, whatever, returned, refused, is_needed, or_otherwise, is_wanted, seats, changes, peeks, closes_explained}
-use Rattle.agent_session.proofs.Asides.{info_status, limit_status}
-use Rattle.agent_session.proofs.Explaining.{writes, inquires_of, asks_client, finds, draws, out_of_memory_first, out_of_memory_second, FoundBy, looks}
-use Rattle.agent_session.proofs.Faulty.{first_fault_said}
-use Rattle.agent_session.proofs.KeyParts.{Either, fault_caused, looks_for_nonce, takes_seat, keeps_new, locks, tries, tries_found, prompts_old, prompts_new, agrees, reads_file, removes, replaces}
-use Rattle.agent_session.proofs.KeyParts.{OpensHere, comes_of, comes_by_nonce, FoundByNonce, nonce_none, none_opens, nonce_none_opens, NoneOpens}
-use Rattle.agent_session.proofs.Replying.{IsReply, reply_ok, reply_status, reply_nonce, reply_keys}
-use Rattle.agent_session.proofs.Standing.{has_first, has_in, has_right}
 
 module _ (rules : Rules) (kept : Kept) (request : Request) (whole : List (EventWith FurtherEvent)) where
   abbrev CausedHere : Code → Type 0

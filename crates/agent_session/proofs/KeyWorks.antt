@@ -1,37 +1,16 @@
 -- Parts of requests on keys that are work of the one form, where each of their events is fit.
-use Rattle.std.proofs.Common.{◌==◌, ℕ, Bool, true, false, List, [], ◌∷◌, length, codes, Option, Some, None, Result, Ok, refl}
-use Rattle.std.specs.Prelude.{not}
-use Rattle.agent_ask.specs.Events.{PromptEvent}
-use Rattle.agent_ask.specs.Further.{Prompt}
-use Rattle.agent_ask.specs.Parts.{goes_on, stops, returns}
-use Rattle.agent_ask.specs.SessionEvents.{Sent, Cut, Inquiry, Further, cache_turn}
-use Rattle.agent_ask.specs.SessionPrompts.{note}
-use Rattle.agent_ports.specs.declared.grip.Grip.{Grip}
-use Rattle.agent_ports.specs.declared.keys.KeyRead.{KeyRead}
-use Rattle.session_client.specs.declared.code.Code.TheVariants as code
-use Rattle.cache_policy.specs.Turns.{Turn}
-use Rattle.cache_policy.specs.declared.mark.MarkStep.TheVariants.{Peek, Seat}
-use Rattle.cache_policy.specs.declared.mark.Way.{Way}
-use Rattle.cache_policy.specs.declared.mode.Mode.TheVariants.{Normal}
-use Rattle.cache_policy.specs.declared.secret.TheConstants.{MAX_SECRET_LEN}
-use Rattle.secret_file.specs.Opens.{LockedKey}
-use Rattle.session_client.specs.declared.refusal.Refusal.{Refusal}
-use Rattle.session_client.specs.declared.refusal.Refusal.TheVariants.{Agent}
-use Rattle.session_options.specs.OptionValues.{OptionValues}
-use Rattle.session_options.specs.declared.options.PinMode.{PinMode}
-use Rattle.session_options.specs.declared.options.PinMode.TheVariants as mode
-use Rattle.session_options.specs.declared.rules.Rules.{Rules}
-use Rattle.sexp_keys.specs.Key.{Key}
-use Rattle.key_commands.specs.Events.{Event, read, out_of_memory}
-use Rattle.key_commands.specs.KeyParts.{Consents, HasOne, TellsKeyInfo, WritesInfo, WritesInfos}
-use Rattle.key_commands.specs.Lines.{grip_text, info_line}
-use Rattle.assuan_server.specs.Written.{limit_line}
-use Rattle.key_commands.specs.Parts.{Part}
-use Rattle.key_commands.specs.Passphrases.{AsksSecret, PromptsOld, PromptsNew, ClientOld, UncachedOld, OpensLocked, ClientNew, ask_nonce, ask_key, seat_for, put_key}
-use Rattle.key_commands.specs.Passphrases as passphrases
+use Rattle.std.{proofs.Common.{◌==◌, ℕ, Bool, true, false, List, [], ◌∷◌, length, codes, Option, Some, None, Result, Ok, refl}, specs.Prelude.not}
+use Rattle.{agent_ask.specs.{Events.PromptEvent, Further.Prompt, Parts.{goes_on, stops, returns}, SessionEvents.{Sent, Cut, Inquiry, Further, cache_turn}, SessionPrompts.note}, agent_ports.specs.declared.grip.Grip.Grip}
+use Rattle.{agent_ports.specs.declared.keys.KeyRead.KeyRead, cache_policy.specs.{Turns.Turn, declared.{mark.{MarkStep.TheVariants.{Peek, Seat}, Way.Way}, mode.Mode.TheVariants.Normal, secret.TheConstants.MAX_SECRET_LEN}}}
+use Rattle.{secret_file.specs.Opens.LockedKey, session_client.specs.declared.refusal.Refusal.{Refusal, TheVariants.Agent}, session_options.specs.{OptionValues.OptionValues, declared.{options.PinMode.PinMode, rules.Rules.Rules}}}
+use Rattle.{sexp_keys.specs.Key.Key, key_commands.specs.{Events.{Event, read, out_of_memory}, KeyParts.{Consents, HasOne, TellsKeyInfo, WritesInfo, WritesInfos}, Lines.{grip_text, info_line}, Parts.Part}}
+use Rattle.{key_commands.specs.Passphrases.{AsksSecret, PromptsOld, PromptsNew, ClientOld, UncachedOld, OpensLocked, ClientNew, ask_nonce, ask_key, seat_for, put_key}, assuan_server.specs.Written.limit_line}
 use Rattle.agent_session.proofs.PromptWorks.{pin_works, pin_comes, agrees_to}
-use Rattle.agent_session.proofs.Works as work
 use Rattle.agent_session.proofs.Works.{WorksTo, works, ok_works, err_works, behind_work, WorksSo, Keeps, keeps_works, bind, returned, refuses_by, is_needed, or_otherwise, is_unless, is_wanted, turns_of}
+use Rattle.session_client.specs.declared.code.Code.TheVariants as code
+use Rattle.session_options.specs.declared.options.PinMode.TheVariants as mode
+use Rattle.key_commands.specs.Passphrases as passphrases
+use Rattle.agent_session.proofs.Works as work
 
 -- each event of such a part is fit, but that a passphrase is put for a key
 pub record FitsKeys (Fits : Event → Type 0) : Type 0 where

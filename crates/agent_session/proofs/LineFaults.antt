@@ -1,34 +1,19 @@
 -- By which codes lines are refused.
-use Rattle.std.proofs.Common.{◌≡◌, ℕ, Bool, true, false, List, [], ◌∷◌, codes, Option, Some, None, Result, Ok, Err, subst, inl, inr}
-use Rattle.std.specs.Prelude.{if◌then◌else◌, ⊤}
-use Rattle.agent_ask.specs.Further.{FurtherEvent}
-use Rattle.session_client.specs.declared.code.Code.{Code}
+use Rattle.std.{proofs.Common.{◌≡◌, ℕ, Bool, true, false, List, [], ◌∷◌, codes, Option, Some, None, Result, Ok, Err, subst, inl, inr}, specs.Prelude.{if◌then◌else◌, ⊤}}
+use Rattle.{agent_ask.specs.{Further.FurtherEvent, Plans.text}, session_client.specs.declared.code.Code.Code, assuan_server.specs.declared.errors.Origin.TheVariants.Agent}
+use Rattle.{assuan_text.specs.{Options.{options_of, arguments_of, has_option, last_option, last_value}, Words.{command_of, rest_of, words}}, session_options.specs.declared.rules.Rules.Rules, agent_commands.specs.Events.EventWith}
+use Rattle.agent_commands.specs.{Fields.{cache_id, repeats, texts, life, cleared_mode, given_passphrase}, Names.{command_named, is_key_command, info_named}, Requests.request_of, declared.names.CommandName.CommandName}
+use Rattle.{agent_commands.specs.declared.request.{CacheCommand.CacheCommand, Request.{Request, TheVariants.{Cache, Key, Bad}}}, key_commands.specs.{Requests.key_request_of, declared.names.KeyCommandName.KeyCommandName}}
+use Rattle.{key_commands.specs.declared.request.KeyRequest.KeyRequest, agent_origin.specs.declared.kept.Kept.Kept}
+use Rattle.agent_session.specs.Causes.{IsCaused, IsRefusedBy, on_keys, IsMalformed, IsUnsupported}
 use Rattle.session_client.specs.declared.code.Code.TheVariants as code
-use Rattle.assuan_server.specs.declared.errors.Origin.TheVariants.{Agent}
-use Rattle.assuan_text.specs.Options.{options_of, arguments_of, has_option, last_option, last_value}
-use Rattle.assuan_text.specs.Words.{command_of, rest_of, words}
-use Rattle.session_options.specs.declared.rules.Rules.{Rules}
-use Rattle.agent_commands.specs.Events.{EventWith}
-use Rattle.agent_commands.specs.Fields.{cache_id, repeats, texts, life, cleared_mode, given_passphrase}
-use Rattle.agent_ask.specs.Plans.{text}
-use Rattle.agent_commands.specs.Names.{command_named, is_key_command, info_named}
 use Rattle.session_client.specs.Fields as fields
 use Rattle.agent_commands.specs.Requests as requests
-use Rattle.agent_commands.specs.Requests.{request_of}
-use Rattle.agent_commands.specs.declared.names.CommandName.{CommandName}
 use Rattle.agent_commands.specs.declared.names.CommandName.TheVariants as name
-use Rattle.agent_commands.specs.declared.request.CacheCommand.{CacheCommand}
-use Rattle.agent_commands.specs.declared.request.Request.{Request}
-use Rattle.agent_commands.specs.declared.request.Request.TheVariants.{Cache, Key, Bad}
 use Rattle.key_commands.specs.Names as key_names
 use Rattle.key_commands.specs.Requests as key_requests
-use Rattle.key_commands.specs.Requests.{key_request_of}
-use Rattle.key_commands.specs.declared.names.KeyCommandName.{KeyCommandName}
 use Rattle.key_commands.specs.declared.names.KeyCommandName.TheVariants as key_name
-use Rattle.key_commands.specs.declared.request.KeyRequest.{KeyRequest}
 use Rattle.key_commands.specs.declared.request.KeyRequest.TheVariants as on
-use Rattle.agent_session.specs.Causes.{IsCaused, IsRefusedBy, on_keys, IsMalformed, IsUnsupported}
-use Rattle.agent_origin.specs.declared.kept.Kept.{Kept}
 
 -- the codes by which lines are refused
 pub data IsLineCode : Code → Type 0 where

@@ -1,54 +1,20 @@
 -- A session ends where a line of its client's was too long, and its client is told so exactly where it ends by that.
-use Rattle.std.specs.List.{AllByRecursion}
-use Rattle.std.proofs.Common.{◌≡◌, ◌∙◌, ◌++◌, ◌⊎◌, ℕ, List, [], ◌∷◌, Option, None, Some, codes, arith, refl, sym, ap, subst, inl, inr}
-use Rattle.agent_ask.specs.Answering.{whole, cut}
-use Rattle.agent_ask.specs.SessionEvents.{Received, Sent, Cut, CutAtLast}
-use Rattle.agent_commands.specs.Requests.{request_of}
-use Rattle.agent_commands.specs.Endings.{end_of}
-use Rattle.agent_commands.specs.Talks.{Talk, Session}
+use Rattle.std.{specs.List.AllByRecursion, proofs.Common.{◌≡◌, ◌∙◌, ◌++◌, ◌⊎◌, ℕ, List, [], ◌∷◌, Option, None, Some, codes, arith, refl, sym, ap, subst, inl, inr}}
+use Rattle.{agent_ask.specs.{Answering.{whole, cut}, SessionEvents.{Received, Sent, Cut, CutAtLast}}, agent_commands.specs.{Requests.request_of, Endings.end_of, Talks.{Talk, Session}, declared.request.Request.{Request, TheVariants.Key}}}
+use Rattle.agent_commands.specs.declared.went.{SessionEnd.{SessionEnd, TheVariants.{Bye, Killed, Ended, TooLong, Spent, ReadFault, WriteFault}}, Went.{Went, TheVariants.{On, End}}}
+use Rattle.agent_origin.specs.{DoorSessions.{AllowedExchange, DoorExchange}, TrustExchanges.TrustExchange, TrustNames.trust_command_named, SessionExchanges.{RequestExchange, cache, keys, went_after_key}, declared.door.Door.Door}
+use Rattle.{agent_origin.specs.declared.{kept.Kept.Kept, trust.names.TrustCommandName.TrustCommandName}, assuan_server.specs.{Errors.error_text, Written.greeting, declared.errors.Origin.TheVariants.Agent}}
+use Rattle.{assuan_text.specs.{LineEnds.line_of, Words.command_of}, key_commands.specs.Events.Event, session_client.specs.declared.unheard.Gone.Gone, session_options.specs.declared.rules.Rules.Rules}
+use Rattle.agent_session.specs.{Causes.{Has, here, later, IsSaid, said}, Completeness.{AnswersNothing, AnswersAtLast, IsAnsweredBy, HasError, Exchanges, CausedInSession, CausedAtDoor}, DoorCauses.IsCausedBy}
+use Rattle.agent_session.{specs.Exactly.{WasTooLong, at_read, at_inquiry, EndsTooLong}, proofs.{CacheCourses.cache_gone, Courses.heard_so, DoorAnswering.because, ErrorLines.{no_reply, no_status}, ExactEnds.{refusal_told, end_told}}}
+use Rattle.agent_session.proofs.{Explained.has_split, KeyCourses.key_gone, Replying.begins, Standing.{has_left, has_right, each_has}, TrustGone.trust_gone, TrustTold.{Told, told}}
 use Rattle.agent_commands.specs.Talks as talks
-use Rattle.agent_commands.specs.declared.request.Request.{Request}
-use Rattle.agent_commands.specs.declared.request.Request.TheVariants.{Key}
-use Rattle.agent_commands.specs.declared.went.SessionEnd.{SessionEnd}
-use Rattle.agent_commands.specs.declared.went.SessionEnd.TheVariants.{Bye, Killed, Ended, TooLong, Spent, ReadFault, WriteFault}
-use Rattle.agent_commands.specs.declared.went.Went.{Went}
-use Rattle.agent_commands.specs.declared.went.Went.TheVariants.{On, End}
-use Rattle.agent_origin.specs.DoorSessions.{AllowedExchange, DoorExchange}
 use Rattle.agent_origin.specs.DoorSessions as doors
-use Rattle.agent_origin.specs.TrustExchanges.{TrustExchange}
-use Rattle.agent_origin.specs.TrustNames.{trust_command_named}
-use Rattle.agent_origin.specs.SessionExchanges.{RequestExchange, cache, keys, went_after_key}
-use Rattle.agent_origin.specs.declared.door.Door.{Door}
-use Rattle.agent_origin.specs.declared.kept.Kept.{Kept}
-use Rattle.agent_origin.specs.declared.trust.names.TrustCommandName.{TrustCommandName}
 use Rattle.assuan_line.specs.declared.reader.Took.TheVariants as took
-use Rattle.assuan_server.specs.Errors.{error_text}
-use Rattle.assuan_server.specs.Written.{greeting}
-use Rattle.assuan_server.specs.declared.errors.Origin.TheVariants.{Agent}
-use Rattle.assuan_text.specs.LineEnds.{line_of}
-use Rattle.assuan_text.specs.Words.{command_of}
-use Rattle.key_commands.specs.Events.{Event}
 use Rattle.session_client.specs.declared.code.Code.TheVariants as code
-use Rattle.session_client.specs.declared.unheard.Gone.{Gone}
 use Rattle.session_client.specs.declared.unheard.Gone.TheVariants as gone
 use Rattle.session_client.specs.declared.unheard.Unheard.TheVariants as unheard
-use Rattle.session_options.specs.declared.rules.Rules.{Rules}
-use Rattle.agent_session.specs.Causes.{Has, here, later, IsSaid, said}
-use Rattle.agent_session.specs.Completeness.{AnswersNothing, AnswersAtLast, IsAnsweredBy, HasError, Exchanges, CausedInSession, CausedAtDoor}
 use Rattle.agent_session.specs.Completeness as answers
-use Rattle.agent_session.specs.DoorCauses.{IsCausedBy}
-use Rattle.agent_session.specs.Exactly.{WasTooLong, at_read, at_inquiry, EndsTooLong}
-use Rattle.agent_session.proofs.CacheCourses.{cache_gone}
-use Rattle.agent_session.proofs.Courses.{heard_so}
-use Rattle.agent_session.proofs.DoorAnswering.{because}
-use Rattle.agent_session.proofs.ErrorLines.{no_reply, no_status}
-use Rattle.agent_session.proofs.ExactEnds.{refusal_told, end_told}
-use Rattle.agent_session.proofs.Explained.{has_split}
-use Rattle.agent_session.proofs.KeyCourses.{key_gone}
-use Rattle.agent_session.proofs.Replying.{begins}
-use Rattle.agent_session.proofs.Standing.{has_left, has_right, each_has}
-use Rattle.agent_session.proofs.TrustGone.{trust_gone}
-use Rattle.agent_session.proofs.TrustTold.{Told, told}
 use Rattle.agent_session.proofs.TrustTold as telling
 
 -- ---- lists

@@ -1,72 +1,32 @@
 -- What requests on the cache hand to it is their own, and so is the passphrase that they are answered; and so of what each request of a session hands in.
-use Rattle.std.specs.List.{AllByRecursion}
-use Rattle.std.specs.Prelude.{⊤}
-use Rattle.std.proofs.Common.{◌≡◌, ℕ, Bool, true, false, List, [], ◌∷◌, ◌++◌, Option, Some, None, Result, Ok, Err, refl, sym, ◌∙◌, subst, append_assoc, append-nil, codes}
-use Rattle.agent_ask.specs.ClientParts.{Writes, Inquires}
-use Rattle.agent_ask.specs.ClientParts as client
-use Rattle.agent_ask.specs.ConsentParts.{AgreesTo}
-use Rattle.agent_ask.specs.ConsentParts as consent
-use Rattle.agent_ask.specs.Further.{FurtherEvent}
-use Rattle.agent_ask.specs.PartExchanges.{AnyExchange}
-use Rattle.agent_ask.specs.PartExchanges as exchange
-use Rattle.agent_ask.specs.Parts.{◌>>=◌, Returns, Refuses, needed, or_else}
-use Rattle.agent_ask.proofs.Within.{HoldsOf, Within, Joins, returned_so, refused_so}
-use Rattle.agent_ask.proofs.Within as within
-use Rattle.agent_ask.specs.SessionEvents.{Sent, cache_turn, said_last}
-use Rattle.agent_ask.specs.TurnParts.{Asks, Seats, Changes, Closes}
-use Rattle.agent_ask.specs.TurnParts as turning
-use Rattle.assuan_server.specs.Clients.{session_lines}
-use Rattle.assuan_server.specs.Written.{refusal_line}
-use Rattle.cache_policy.specs.Turns.{Given, FitsStep}
-use Rattle.cache_policy.specs.Turns as turns
-use Rattle.cache_policy.specs.declared.grant.Grant.{Grant}
-use Rattle.cache_policy.specs.declared.life.Life.{Life}
-use Rattle.cache_policy.specs.declared.life.Life.TheVariants.{Default}
-use Rattle.cache_policy.specs.declared.mark.MarkStep.{MarkStep}
-use Rattle.cache_policy.specs.declared.mark.MarkStep.TheVariants.{Put, Seat}
-use Rattle.cache_policy.specs.declared.mode.Mode.TheVariants.{User}
-use Rattle.cache_policy.specs.declared.secret.TheConstants.{MAX_SECRET_LEN}
-use Rattle.session_client.specs.declared.code.Code.TheVariants as code
-use Rattle.session_client.specs.declared.refusal.Refusal.{Refusal}
-use Rattle.session_client.specs.declared.refusal.Refusal.TheVariants.{Agent}
-use Rattle.session_options.specs.OptionValues.{OptionValues, applied}
-use Rattle.session_options.specs.declared.options.OptionAnswer.{OptionAnswer}
-use Rattle.session_options.specs.declared.options.OptionAnswer.TheVariants.{Set, Unknown, Parameter, NotSupported}
-use Rattle.session_options.specs.declared.options.PinMode.{PinMode}
-use Rattle.session_options.specs.declared.options.PinMode.TheVariants as mode
-use Rattle.session_options.specs.declared.rules.Rules.{Rules}
-use Rattle.agent_commands.specs.Endings.{went_after}
-use Rattle.agent_commands.specs.Events.{EventWith}
-use Rattle.agent_commands.specs.Exchanges as exchanges
-use Rattle.agent_commands.specs.Exchanges.{CacheExchange, CacheReply, TellsPassphrase, TellsInfo, GivenOrAsked, Presets, CacheReplies, option_replies, confirms_by, put}
-use Rattle.agent_commands.specs.Parts.{CachePart, AsksPassphrase}
-use Rattle.assuan_server.specs.Written.{limit_line}
-use Rattle.agent_commands.specs.Passphrases.{ask, ask_or_open, LooksFor, WantsPrompt, KeepsUnder, ByCache, ByClient, Uncached, WithoutPrompt, PromptsAny, ByUser, as_wanted, passphrase_by}
-use Rattle.agent_commands.specs.Passphrases as passphrases
-use Rattle.agent_commands.specs.Requests.{GetFields, get_passphrase}
-use Rattle.agent_commands.specs.declared.request.CacheCommand.{CacheCommand}
-use Rattle.agent_commands.specs.declared.request.CacheCommand.TheVariants as on
-use Rattle.agent_commands.specs.declared.request.Info.{Info}
-use Rattle.agent_commands.specs.declared.request.Request.{Request}
-use Rattle.agent_commands.specs.declared.request.Request.TheVariants.{Cache, Key as OnKeys, Bad}
-use Rattle.agent_commands.specs.declared.request.Texts.{Texts}
-use Rattle.agent_commands.specs.declared.went.Went.{Went}
-use Rattle.key_commands.proofs.EachEvent.{each_append, EachSo, each_bind, each_refused, each_seats, each_changes, each_wanted}
-use Rattle.agent_origin.specs.SessionExchanges.{RequestExchange, cache, keys}
+use Rattle.std.{specs.{List.AllByRecursion, Prelude.⊤}, proofs.Common.{◌≡◌, ℕ, Bool, true, false, List, [], ◌∷◌, ◌++◌, Option, Some, None, Result, Ok, Err, refl, sym, ◌∙◌, subst, append_assoc, append-nil, codes}}
+use Rattle.agent_ask.specs.{ClientParts.{Writes, Inquires}, ConsentParts.AgreesTo, Further.FurtherEvent, PartExchanges.AnyExchange, Parts.{◌>>=◌, Returns, Refuses, needed, or_else}, SessionEvents.{Sent, cache_turn, said_last}}
+use Rattle.{agent_ask.{specs.TurnParts.{Asks, Seats, Changes, Closes}, proofs.Within.{HoldsOf, Within, Joins, returned_so, refused_so}}, assuan_server.specs.{Clients.session_lines, Written.{refusal_line, limit_line}}}
+use Rattle.cache_policy.specs.{Turns.{Given, FitsStep}, declared.{grant.Grant.Grant, life.Life.{Life, TheVariants.Default}, mark.MarkStep.{MarkStep, TheVariants.{Put, Seat}}, mode.Mode.TheVariants.User, secret.TheConstants.MAX_SECRET_LEN}}
+use Rattle.{session_client.specs.declared.refusal.Refusal.{Refusal, TheVariants.Agent}, session_options.specs.{OptionValues.{OptionValues, applied}, declared.options.OptionAnswer.OptionAnswer}}
+use Rattle.{session_options.specs.declared.{options.{OptionAnswer.TheVariants.{Set, Unknown, Parameter, NotSupported}, PinMode.PinMode}, rules.Rules.Rules}, agent_commands.specs.{Endings.went_after, Events.EventWith}}
+use Rattle.agent_commands.specs.{Exchanges.{CacheExchange, CacheReply, TellsPassphrase, TellsInfo, GivenOrAsked, Presets, CacheReplies, option_replies, confirms_by, put}, Parts.{CachePart, AsksPassphrase}}
+use Rattle.agent_commands.specs.{Passphrases.{ask, ask_or_open, LooksFor, WantsPrompt, KeepsUnder, ByCache, ByClient, Uncached, WithoutPrompt, PromptsAny, ByUser, as_wanted, passphrase_by}, Requests.{GetFields, get_passphrase}}
+use Rattle.agent_commands.specs.declared.{request.{CacheCommand.CacheCommand, Info.Info, Request.{Request, TheVariants.{Cache, Key as OnKeys, Bad}}, Texts.Texts}, went.Went.Went}
+use Rattle.{key_commands.{proofs.EachEvent.{each_append, EachSo, each_bind, each_refused, each_seats, each_changes, each_wanted}, specs.Lines.of_passphrase}, agent_origin.specs.SessionExchanges.{RequestExchange, cache, keys}}
 use Rattle.agent_origin.specs.declared.kept.Kept.{Kept}
-use Rattle.agent_session.specs.Causes.{Has, here, wanted, IsSent, sent, on_keys}
-use Rattle.agent_session.specs.OwnAnswers.{IsPublic, done, closes, helps, tells, notice, IsAnswered, cached, unprompted, typed, SaysOwn, public, passphrase, SaysOwnAlone}
+use Rattle.agent_session.specs.{Causes.{Has, here, wanted, IsSent, sent, on_keys}, OwnAnswers.{IsPublic, done, closes, helps, tells, notice, IsAnswered, cached, unprompted, typed, SaysOwn, public, passphrase, SaysOwnAlone}}
+use Rattle.agent_session.specs.{OwnPassphrases.{for_get, for_preset, by_command, WantsTicket, by_id, unkept, HasTicket, has_ticket, IsAccepted, any, HandsIn, StoresOwn}, Refusals.{preset, given}}
+use Rattle.agent_session.proofs.{OwnFacts.{ticket_more, accepted_more, sent_more}, OwnLines.{IsOpen, IsPlain, Open, Plain, each_first, each_second, shown_plain, refusal_plain, back_plain, open_are_own, said_last_own}}
+use Rattle.agent_session.proofs.{OwnKeys.{stand_last, key_own}, OwnParts.{IsQuiet, Fit, Fact, AreOwn, own_then, quiet_are_own, whatever, Anything}, Prompted.has_prompt, Standing.{has_left, has_right}}
+use Rattle.agent_ask.specs.ClientParts as client
+use Rattle.agent_ask.specs.ConsentParts as consent
+use Rattle.agent_ask.specs.PartExchanges as exchange
+use Rattle.agent_ask.proofs.Within as within
+use Rattle.agent_ask.specs.TurnParts as turning
+use Rattle.cache_policy.specs.Turns as turns
+use Rattle.session_client.specs.declared.code.Code.TheVariants as code
+use Rattle.session_options.specs.declared.options.PinMode.TheVariants as mode
+use Rattle.agent_commands.specs.Exchanges as exchanges
+use Rattle.agent_commands.specs.Passphrases as passphrases
+use Rattle.agent_commands.specs.declared.request.CacheCommand.TheVariants as on
 use Rattle.agent_session.specs.OwnAnswers as answers
-use Rattle.agent_session.specs.OwnPassphrases.{for_get, for_preset, by_command, WantsTicket, by_id, unkept, HasTicket, has_ticket, IsAccepted, any, HandsIn, StoresOwn}
 use Rattle.agent_session.specs.OwnPassphrases as whose
-use Rattle.agent_session.specs.Refusals.{preset, given}
-use Rattle.key_commands.specs.Lines.{of_passphrase}
-use Rattle.agent_session.proofs.OwnFacts.{ticket_more, accepted_more, sent_more}
-use Rattle.agent_session.proofs.OwnLines.{IsOpen, IsPlain, Open, Plain, each_first, each_second, shown_plain, refusal_plain, back_plain, open_are_own, said_last_own}
-use Rattle.agent_session.proofs.OwnKeys.{stand_last, key_own}
-use Rattle.agent_session.proofs.OwnParts.{IsQuiet, Fit, Fact, AreOwn, own_then, quiet_are_own, whatever, Anything}
-use Rattle.agent_session.proofs.Prompted.{has_prompt}
-use Rattle.agent_session.proofs.Standing.{has_left, has_right}
 
 module _ (rules : Rules) where
   agrees_of : {options : OptionValues} {question : List ℕ} (before : Option ℕ) (events : List (EventWith FurtherEvent)) (result : Result (Unit {0}) Refusal) (after : Option ℕ)

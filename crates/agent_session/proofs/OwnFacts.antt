@@ -1,39 +1,18 @@
 -- What was done for a request stays so, whatever is done then; and the parts of requests on keys by which nothing is handed to the cache and the ticket stays.
-use Rattle.std.specs.List.{AllByRecursion}
-use Rattle.std.proofs.Common.{◌≡◌, ℕ, List, ◌++◌, codes, Option, Some, None, Result, Ok, refl, ap, ◌∙◌, append_assoc}
-use Rattle.agent_ask.specs.Further.{FurtherEvent}
-use Rattle.agent_ask.specs.declared.ask.Asked.{Asked}
-use Rattle.agent_ask.specs.declared.spec.AskPlan.{AskPlan}
-use Rattle.cache_policy.specs.declared.mark.MarkStep.{MarkStep}
-use Rattle.agent_ports.specs.declared.grip.Grip.{Grip}
-use Rattle.secret_file.specs.Opens.{LockedKey, IsLocked}
-use Rattle.sexp_keys.specs.Key.{Key}
-use Rattle.sexp_keys.specs.Lists.{grip_of}
-use Rattle.agent_commands.specs.Events.{EventWith}
-use Rattle.agent_commands.specs.declared.request.Request.{Request}
-use Rattle.key_commands.specs.Lines.{max_key_data}
-use Rattle.key_commands.specs.Wrapping.{WrappedSays}
-use Rattle.key_commands.specs.KeyParts.{ReadsFile, LooksOver, AsksKeyData, Unwraps, NamesKey}
-use Rattle.key_commands.specs.KeyParts as parts
-use Rattle.key_commands.specs.Parts.{Draws}
-use Rattle.agent_ask.specs.ClientParts.{Inquires}
-use Rattle.agent_ask.specs.TurnParts.{Asks}
-use Rattle.agent_ask.specs.Parts as chain
-use Rattle.agent_ask.specs.TurnParts as turning
-use Rattle.assuan_server.specs.Clients.{session_lines}
-use Rattle.agent_ask.specs.ClientParts as client_parts
-use Rattle.key_commands.specs.Parts as small
-use Rattle.key_commands.specs.Passphrases.{LooksForNonce, Locks, TriesPassphrase, OpensBy, ask_nonce}
-use Rattle.key_commands.specs.Passphrases as passphrases
-use Rattle.session_client.specs.declared.refusal.Refusal.{Refusal}
+use Rattle.std.{specs.List.AllByRecursion, proofs.Common.{◌≡◌, ℕ, List, ◌++◌, codes, Option, Some, None, Result, Ok, refl, ap, ◌∙◌, append_assoc}}
+use Rattle.{agent_ask.{specs.{Further.FurtherEvent, declared.{ask.Asked.Asked, spec.AskPlan.AskPlan}, ClientParts.Inquires, TurnParts.Asks}, proofs.Within.HoldsOf}, cache_policy.specs.declared.mark.MarkStep.MarkStep}
+use Rattle.{agent_ports.specs.declared.grip.Grip.Grip, secret_file.specs.Opens.{LockedKey, IsLocked}, sexp_keys.specs.{Key.Key, Lists.grip_of}, agent_commands.specs.{Events.EventWith, declared.request.Request.Request}}
+use Rattle.key_commands.specs.{Lines.max_key_data, Wrapping.WrappedSays, KeyParts.{ReadsFile, LooksOver, AsksKeyData, Unwraps, NamesKey}, Parts.Draws, Passphrases.{LooksForNonce, Locks, TriesPassphrase, OpensBy, ask_nonce}}
+use Rattle.{assuan_server.specs.Clients.session_lines, session_client.specs.declared.refusal.Refusal.Refusal, agent_origin.specs.declared.kept.Kept.Kept, session_options.specs.{OptionValues.OptionValues, declared.rules.Rules.Rules}}
 use Rattle.agent_session.specs.Causes.{here, StandIn, HasPrompt, ComesBy, cached_by_nonce, cached_by_key, sent_by_client, typed_by_user, OpensRead, is_clear, opens, KeyDataSays, data_says, IsSent, sent, IsDrawn, IsRead, read, IsReadLocked}
 use Rattle.agent_session.specs.OwnPassphrases.{IsAbout, named, brought, WantsTicket, by_id, by_key, by_seat, unkept, HasTicket, has_ticket, IsAccepted, any, opening, IsGivenNew, given, NamesNew}
-use Rattle.agent_origin.specs.declared.kept.Kept.{Kept}
-use Rattle.session_options.specs.OptionValues.{OptionValues}
-use Rattle.session_options.specs.declared.rules.Rules.{Rules}
-use Rattle.agent_ask.proofs.Within.{HoldsOf}
-use Rattle.agent_session.proofs.OwnParts.{IsQuiet, Fit, Quiet, QuietWith}
-use Rattle.agent_session.proofs.Standing.{has_left, has_right}
+use Rattle.agent_session.proofs.{OwnParts.{IsQuiet, Fit, Quiet, QuietWith}, Standing.{has_left, has_right}}
+use Rattle.key_commands.specs.KeyParts as parts
+use Rattle.agent_ask.specs.Parts as chain
+use Rattle.agent_ask.specs.TurnParts as turning
+use Rattle.agent_ask.specs.ClientParts as client_parts
+use Rattle.key_commands.specs.Parts as small
+use Rattle.key_commands.specs.Passphrases as passphrases
 
 pub stand_more : {E : Type 0} {part whole : List E} (more : List E) → StandIn part whole → StandIn part (whole ++ more)
 stand_more {part} more stands = record {

@@ -1,48 +1,19 @@
 -- No line of a request on keys has a passphrase in it: what is written before its reply are notices, and the reply is one of these.
-use Rattle.std.specs.List.{AllByRecursion}
-use Rattle.std.specs.Prelude.{⊤, drop}
-use Rattle.std.proofs.Common.{◌≡◌, ℕ, Bool, true, false, List, [], ◌∷◌, ◌++◌, Option, Some, None, Result, Ok, Err, refl, sym, subst, append-nil, append_assoc}
-use Rattle.std.specs.Option.{option_map}
-use Rattle.agent_ask.specs.PartExchanges.{answered, refused}
-use Rattle.agent_ask.specs.Parts.{goes_on, returns, needed, or_else}
-use Rattle.agent_ask.specs.SessionEvents.{Received, Sent, Cut, Inquiry, CacheTurn, said_last}
+use Rattle.std.{specs.{List.AllByRecursion, Prelude.{⊤, drop}, Option.option_map}, proofs.Common.{◌≡◌, ℕ, Bool, true, false, List, [], ◌∷◌, ◌++◌, Option, Some, None, Result, Ok, Err, refl, sym, subst, append-nil, append_assoc}}
+use Rattle.agent_ask.specs.{PartExchanges.{answered, refused}, Parts.{goes_on, returns, needed, or_else}, SessionEvents.{Received, Sent, Cut, Inquiry, CacheTurn, said_last}, TurnParts.{Closes, unheld, closed}}
+use Rattle.{agent_commands.specs.declared.{request.Request.{Request, TheVariants.{Cache, Bad, Key as OnKeys}}, went.Went.Went}, agent_origin.specs.{SessionExchanges.{RequestExchange, cache, keys}, declared.kept.Kept.Kept}}
+use Rattle.{agent_ports.specs.declared.grip.Grip.Grip, assuan_server.specs.Written.{failed, refusal_line}, session_client.specs.{Refusals.refusal_code, declared.{code.Code.Code, refusal.Refusal.Refusal}}}
+use Rattle.{session_client.specs.declared.refusal.Refusal.TheVariants.{Agent, Pinentry, Client}, session_options.specs.declared.rules.Rules.Rules, sexp_keys.specs.Key.Key, key_commands.specs.Events.Event}
+use Rattle.key_commands.specs.Exchanges.{KeyExchange, KeyReply, KeyReplies, HaveKeyReplies, KeyInfoReplies, ListKeysReplies, KeyWrapReplies, ImportKeyReplies, ExportKeyReplies, PasswdReplies, VerifyReplies, DeleteKeyReplies, wrap_key}
+use Rattle.key_commands.specs.{Exchanges.StoresKey, KeyParts.{tells, is_wrapped}, Lines.IsNotice, Parts.Draws, declared.{request.{Direction.Direction, KeyRequest.KeyRequest}, went.KeyWent.KeyWent, wrap_keys.WrapKeys.WrapKeys}}
+use Rattle.key_commands.proofs.{EachEvent.each_append, EachRequest.{IsKeyWork, each_carries, key_replies}}
+use Rattle.agent_session.specs.{Causes.{here, IsDrawn, read, on_keys, exports, exported, of_export}, OwnAnswers.{IsWrapKey, had, drew, TellsOfKeys, fails, succeeds, notes, known, drawn, wrap, wrapped, TellsOfKeysAlone}}
+use Rattle.agent_session.proofs.{KeyRequests.old_passphrase, OwnFacts.{drawn_more, opens_more}, OwnLines.{in_either, in_first, in_second}, Standing.{has_right, each_right, has_first, stand_all, stand_left, stand_right}}
 use Rattle.agent_ask.specs.SessionEvents as events
-use Rattle.agent_ask.specs.TurnParts.{Closes, unheld, closed}
-use Rattle.agent_commands.specs.declared.request.Request.{Request}
-use Rattle.agent_commands.specs.declared.request.Request.TheVariants.{Cache, Bad, Key as OnKeys}
-use Rattle.agent_commands.specs.declared.went.Went.{Went}
-use Rattle.agent_origin.specs.SessionExchanges.{RequestExchange, cache, keys}
-use Rattle.agent_origin.specs.declared.kept.Kept.{Kept}
-use Rattle.agent_ports.specs.declared.grip.Grip.{Grip}
-use Rattle.assuan_server.specs.Written.{failed, refusal_line}
 use Rattle.assuan_server.specs.declared.errors.Origin.TheVariants as origin
-use Rattle.session_client.specs.Refusals.{refusal_code}
-use Rattle.session_client.specs.declared.code.Code.{Code}
-use Rattle.session_client.specs.declared.refusal.Refusal.{Refusal}
-use Rattle.session_client.specs.declared.refusal.Refusal.TheVariants.{Agent, Pinentry, Client}
-use Rattle.session_options.specs.declared.rules.Rules.{Rules}
-use Rattle.sexp_keys.specs.Key.{Key}
-use Rattle.key_commands.specs.Events.{Event}
-use Rattle.key_commands.specs.Exchanges.{KeyExchange, KeyReply, KeyReplies, HaveKeyReplies, KeyInfoReplies, ListKeysReplies, KeyWrapReplies, ImportKeyReplies, ExportKeyReplies, PasswdReplies, VerifyReplies}
-use Rattle.key_commands.specs.Exchanges.{DeleteKeyReplies, wrap_key, StoresKey}
-use Rattle.key_commands.specs.KeyParts.{tells, is_wrapped}
 use Rattle.key_commands.specs.KeyParts as key_parts
-use Rattle.key_commands.specs.Lines.{IsNotice}
-use Rattle.key_commands.specs.Parts.{Draws}
 use Rattle.key_commands.specs.Parts as parts
-use Rattle.key_commands.specs.declared.request.Direction.{Direction}
-use Rattle.key_commands.specs.declared.request.KeyRequest.{KeyRequest}
 use Rattle.key_commands.specs.declared.request.KeyRequest.TheVariants as on
-use Rattle.key_commands.specs.declared.went.KeyWent.{KeyWent}
-use Rattle.key_commands.specs.declared.wrap_keys.WrapKeys.{WrapKeys}
-use Rattle.key_commands.proofs.EachEvent.{each_append}
-use Rattle.key_commands.proofs.EachRequest.{IsKeyWork, each_carries, key_replies}
-use Rattle.agent_session.specs.Causes.{here, IsDrawn, read, on_keys, exports, exported, of_export}
-use Rattle.agent_session.specs.OwnAnswers.{IsWrapKey, had, drew, TellsOfKeys, fails, succeeds, notes, known, drawn, wrap, wrapped, TellsOfKeysAlone}
-use Rattle.agent_session.proofs.KeyRequests.{old_passphrase}
-use Rattle.agent_session.proofs.OwnFacts.{drawn_more, opens_more}
-use Rattle.agent_session.proofs.OwnLines.{in_either, in_first, in_second}
-use Rattle.agent_session.proofs.Standing.{has_right, each_right, has_first, stand_all, stand_left, stand_right}
 
 -- ---- what is written before the reply
 

@@ -1,65 +1,31 @@
 -- What requests on keys hand to the cache is their own.
-use Rattle.std.specs.List.{AllByRecursion}
-use Rattle.std.specs.Prelude.{not, drop}
-use Rattle.std.proofs.Common.{◌≡◌, ◌==◌, ℕ, Bool, true, false, List, [], ◌∷◌, ◌++◌, length, codes, Option, Some, None, Result, Ok, Err, refl, sym, ap, subst, append-nil}
-use Rattle.agent_ask.specs.Further.{FurtherEvent}
-use Rattle.agent_ask.specs.SessionEvents.{Received, Sent, Cut, Inquiry, CacheTurn, Further, cache_turn, said_last}
-use Rattle.assuan_server.specs.Clients.{session_lines}
-use Rattle.agent_ports.specs.declared.grip.Grip.{Grip}
-use Rattle.assuan_escape.specs.Escapes.{hex_text}
+use Rattle.std.{specs.{List.AllByRecursion, Prelude.{not, drop}}, proofs.Common.{◌≡◌, ◌==◌, ℕ, Bool, true, false, List, [], ◌∷◌, ◌++◌, length, codes, Option, Some, None, Result, Ok, Err, refl, sym, ap, subst, append-nil}}
+use Rattle.agent_ask.specs.{Further.FurtherEvent, SessionEvents.{Received, Sent, Cut, Inquiry, CacheTurn, Further, cache_turn, said_last}, ClientParts.AsksClient, TurnParts.{Asks, Changes, Closes}, Parts.{needed, or_else}}
+use Rattle.{agent_ask.proofs.Within.HoldsOf, assuan_server.specs.{Clients.session_lines, Written.{refusal_line, limit_line}}, agent_ports.specs.declared.grip.Grip.Grip, assuan_escape.specs.Escapes.hex_text, cache_policy.specs.Turns.Open}
+use Rattle.{cache_policy.specs.declared.{life.Life.TheVariants.Default, mark.MarkStep.{MarkStep, TheVariants.{Close, Put}}, mode.Mode.TheVariants.Nonce, secret.TheConstants.MAX_SECRET_LEN}, secret_file.specs.Opens.{LockedKey, IsLocked}}
+use Rattle.{session_options.specs.declared.{options.PinMode.PinMode, rules.Rules.Rules}, sexp_keys.specs.Key.Key, agent_commands.specs.{Events.EventWith, declared.request.Request.Request}}
+use Rattle.key_commands.specs.Exchanges.{KeyExchange, KeyReplies, HaveKeyReplies, KeyInfoReplies, ListKeysReplies, KeyWrapReplies, DeleteKeyReplies, wrap_key, RewritesFile, ChangesOpened, StoresKey, FoundOrNew, ExportKeyReplies}
+use Rattle.key_commands.specs.{Exchanges.{PasswdReplies, VerifyReplies, ImportKeyReplies}, Lines.max_key_data, KeyParts.{KeepsNew, ReceivesKey, NamesKey, IsFree, Consents}, Parts.{Part, refusal_events}}
+use Rattle.key_commands.specs.{Passphrases.{OpensBy, PromptsOld, PromptsNew, ClientOld, UncachedOld, OpensLocked, ClientNew, TakesSeat, TriesFound, Locks, ask_key, put_key, way_of}, declared.request.Direction.Direction}
+use Rattle.key_commands.specs.declared.{request.KeyRequest.KeyRequest, went.KeyWent.KeyWent, wrap_keys.WrapKeys.WrapKeys}
+use Rattle.key_commands.proofs.EachEvent.{each_append, each_shown, IsStill, EachSo, each_bind, each_returned, each_refused, each_otherwise, each_wanted, each_seats, each_changes, finds, draws, reads_file, lists, told, has_one, removes}
+use Rattle.{key_commands.proofs.EachEvent.{tells_info, writes_infos, agrees_to}, session_client.specs.declared.refusal.Refusal.{Refusal, TheVariants.Agent}, agent_origin.specs.declared.kept.Kept.Kept}
+use Rattle.agent_session.specs.Causes.{here, StandIn, on_keys, Unlocks, KeyDataSays, data_says, AsksAny, of_new, of_import, new_plan, IsSent, IsDrawn, IsRead, IsReadLocked}
+use Rattle.agent_session.specs.OwnPassphrases.{KeepsOld, exports, verifies, GivesBy, for_change, for_import, IsAbout, named, brought, by_command, of_key, NamesNew, brings, changes, WantsTicket, by_key, by_seat, HasTicket, has_ticket}
+use Rattle.agent_session.specs.{OwnPassphrases.{IsAccepted, any, opening, IsGivenNew, StoresOwn, HandsIn}, Refusals.{imported, nonce_of}}
+use Rattle.agent_session.proofs.{OwnFacts.{sent_more, key_data_more, drawn_more, read_more, locked_more, about_more, ticket_more, accepted_more, given_more, FoundNew}, Prompted.has_prompt}
+use Rattle.agent_session.proofs.OwnParts.{IsQuiet, kept_none, Fit, AreOwn, own_then, each_quiet, quiet_keeps, OwnSo, owns, own_bind, own_weaker, own_there, own_where, Stays, quiet_with, quietly, quiet_are_own, Anything, own_returned}
+use Rattle.agent_session.proofs.{OwnParts.{own_refused, own_needed, own_wanted}, AtOnce.FitsTurn, Standing.{has_right, each_left}}
 use Rattle.session_client.specs.declared.code.Code.TheVariants as code
-use Rattle.cache_policy.specs.Turns.{Open}
-use Rattle.cache_policy.specs.declared.life.Life.TheVariants.{Default}
-use Rattle.cache_policy.specs.declared.mark.MarkStep.{MarkStep}
-use Rattle.cache_policy.specs.declared.mark.MarkStep.TheVariants.{Close, Put}
-use Rattle.cache_policy.specs.declared.mode.Mode.TheVariants.{Nonce}
-use Rattle.cache_policy.specs.declared.secret.TheConstants.{MAX_SECRET_LEN}
-use Rattle.secret_file.specs.Opens.{LockedKey, IsLocked}
-use Rattle.session_options.specs.declared.options.PinMode.{PinMode}
 use Rattle.session_options.specs.declared.options.PinMode.TheVariants as mode
-use Rattle.session_options.specs.declared.rules.Rules.{Rules}
-use Rattle.sexp_keys.specs.Key.{Key}
-use Rattle.agent_commands.specs.Events.{EventWith}
-use Rattle.agent_commands.specs.declared.request.Request.{Request}
 use Rattle.agent_ask.specs.PartExchanges as part_exchanges
-use Rattle.key_commands.specs.Exchanges.{KeyExchange, KeyReplies, HaveKeyReplies, KeyInfoReplies, ListKeysReplies, KeyWrapReplies, DeleteKeyReplies, wrap_key}
-use Rattle.key_commands.specs.Exchanges.{RewritesFile, ChangesOpened, StoresKey, FoundOrNew, ExportKeyReplies, PasswdReplies, VerifyReplies, ImportKeyReplies}
-use Rattle.key_commands.specs.Lines.{max_key_data}
-use Rattle.key_commands.specs.KeyParts.{KeepsNew, ReceivesKey, NamesKey, IsFree, Consents}
-use Rattle.key_commands.specs.Parts.{Part, refusal_events}
-use Rattle.agent_ask.specs.ClientParts.{AsksClient}
-use Rattle.agent_ask.specs.TurnParts.{Asks, Changes, Closes}
-use Rattle.agent_ask.specs.Parts.{needed, or_else}
-use Rattle.assuan_server.specs.Written.{refusal_line, limit_line}
 use Rattle.agent_ask.specs.Parts as chain
 use Rattle.agent_ask.specs.TurnParts as turning
-use Rattle.key_commands.specs.Passphrases.{OpensBy, PromptsOld, PromptsNew, ClientOld, UncachedOld, OpensLocked, ClientNew, TakesSeat, TriesFound, Locks, ask_key, put_key, way_of}
 use Rattle.key_commands.specs.Passphrases as passphrases
-use Rattle.session_client.specs.declared.refusal.Refusal.{Refusal}
-use Rattle.session_client.specs.declared.refusal.Refusal.TheVariants.{Agent}
-use Rattle.key_commands.specs.declared.request.Direction.{Direction}
-use Rattle.key_commands.specs.declared.request.KeyRequest.{KeyRequest}
 use Rattle.key_commands.specs.declared.request.KeyRequest.TheVariants as on
-use Rattle.key_commands.specs.declared.went.KeyWent.{KeyWent}
-use Rattle.key_commands.specs.declared.wrap_keys.WrapKeys.{WrapKeys}
-use Rattle.key_commands.proofs.EachEvent.{each_append, each_shown, IsStill, EachSo, each_bind, each_returned, each_refused, each_otherwise, each_wanted, each_seats}
-use Rattle.key_commands.proofs.EachEvent.{each_changes, finds, draws, reads_file, lists, told, has_one, removes, tells_info, writes_infos, agrees_to}
 use Rattle.agent_session.specs.Causes as causes
-use Rattle.agent_session.specs.Causes.{here, StandIn, on_keys, Unlocks, KeyDataSays, data_says, AsksAny, of_new, of_import, new_plan, IsSent, IsDrawn, IsRead, IsReadLocked}
-use Rattle.agent_session.specs.OwnPassphrases.{KeepsOld, exports, verifies, GivesBy, for_change, for_import, IsAbout, named, brought, by_command, of_key, NamesNew, brings, changes, WantsTicket, by_key, by_seat, HasTicket}
-use Rattle.agent_session.specs.OwnPassphrases.{has_ticket, IsAccepted, any, opening, IsGivenNew}
-use Rattle.agent_session.specs.OwnPassphrases.{StoresOwn, HandsIn}
 use Rattle.agent_session.specs.OwnPassphrases as whose
-use Rattle.agent_session.specs.Refusals.{imported, nonce_of}
-use Rattle.agent_origin.specs.declared.kept.Kept.{Kept}
-use Rattle.agent_session.proofs.OwnFacts.{sent_more, key_data_more, drawn_more, read_more, locked_more, about_more, ticket_more, accepted_more, given_more, FoundNew}
-use Rattle.agent_session.proofs.Prompted.{has_prompt}
 use Rattle.agent_session.proofs.OwnFacts as quiet
-use Rattle.agent_ask.proofs.Within.{HoldsOf}
-use Rattle.agent_session.proofs.OwnParts.{IsQuiet, kept_none, Fit, AreOwn, own_then, each_quiet, quiet_keeps, OwnSo, owns, own_bind}
-use Rattle.agent_session.proofs.OwnParts.{own_weaker, own_there, own_where, Stays, quiet_with, quietly, quiet_are_own, Anything, own_returned, own_refused, own_needed, own_wanted}
-use Rattle.agent_session.proofs.AtOnce.{FitsTurn}
-use Rattle.agent_session.proofs.Standing.{has_right, each_left}
 use Rattle.agent_session.proofs.Works as work
 
 -- ---- what stays so

@@ -1,29 +1,12 @@
 -- Lines of requests on the cache and on the session that have no passphrase in them, and the events beside them by which nothing is handed to the cache.
-use Rattle.std.specs.List.{AllByRecursion}
-use Rattle.std.specs.Option.{option_map}
-use Rattle.std.specs.Prelude.{⊤}
-use Rattle.std.proofs.Common.{◌≡◌, ℕ, List, [], ◌∷◌, ◌++◌, Option, Some, None, Ok, refl, sym, ap, ◌∙◌, subst, append-nil}
-use Rattle.agent_ask.specs.Events.{PromptEvent}
-use Rattle.agent_ask.specs.Further.{FurtherEvent}
-use Rattle.agent_ask.specs.SessionEvents.{Sent, said_last}
-use Rattle.agent_ask.specs.TurnParts.{Closes}
+use Rattle.std.{specs.{List.AllByRecursion, Option.option_map, Prelude.⊤}, proofs.Common.{◌≡◌, ℕ, List, [], ◌∷◌, ◌++◌, Option, Some, None, Ok, refl, sym, ap, ◌∙◌, subst, append-nil}}
+use Rattle.{agent_ask.specs.{Events.PromptEvent, Further.FurtherEvent, SessionEvents.{Sent, said_last}, TurnParts.Closes, SessionPrompts.AnyInSession}, assuan_server.specs.{Clients.session_lines, Written.{failed, refusal_line}}}
+use Rattle.{session_client.specs.{Refusals.refusal_code, declared.{code.Code.Code, refusal.Refusal.{Refusal, TheVariants.{Agent, Pinentry, Client}}}}, session_options.specs.{OptionValues.OptionValues, declared.rules.Rules.Rules}}
+use Rattle.agent_commands.specs.{Events.EventWith, declared.request.Request.Request}
+use Rattle.agent_session.{specs.OwnAnswers.{IsPublic, error, SaysOwn, public, SaysOwnAlone}, proofs.{OwnParts.{IsQuiet, kept_none}, Standing.each_right}}
 use Rattle.agent_ask.specs.TurnParts as turning
-use Rattle.agent_ask.specs.SessionPrompts.{AnyInSession}
 use Rattle.agent_ask.specs.SessionPrompts as session
-use Rattle.assuan_server.specs.Clients.{session_lines}
-use Rattle.assuan_server.specs.Written.{failed, refusal_line}
 use Rattle.assuan_server.specs.declared.errors.Origin.TheVariants as origin
-use Rattle.session_client.specs.Refusals.{refusal_code}
-use Rattle.session_client.specs.declared.code.Code.{Code}
-use Rattle.session_client.specs.declared.refusal.Refusal.{Refusal}
-use Rattle.session_client.specs.declared.refusal.Refusal.TheVariants.{Agent, Pinentry, Client}
-use Rattle.session_options.specs.OptionValues.{OptionValues}
-use Rattle.session_options.specs.declared.rules.Rules.{Rules}
-use Rattle.agent_commands.specs.Events.{EventWith}
-use Rattle.agent_commands.specs.declared.request.Request.{Request}
-use Rattle.agent_session.specs.OwnAnswers.{IsPublic, error, SaysOwn, public, SaysOwnAlone}
-use Rattle.agent_session.proofs.OwnParts.{IsQuiet, kept_none}
-use Rattle.agent_session.proofs.Standing.{each_right}
 
 -- each is so, and so
 pub each_first : {E : Type 0} (Is Other : E → Type 0) (events : List E) → AllByRecursion (λ event. Is event × Other event) events → AllByRecursion Is events

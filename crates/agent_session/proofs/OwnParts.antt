@@ -1,25 +1,9 @@
 -- Parts of a request on keys, by which nothing is handed to the cache but the request's own: how they follow one another.
-use Rattle.std.specs.List.{AllByRecursion}
-use Rattle.std.specs.Prelude.{⊤}
-use Rattle.std.proofs.Common.{◌≡◌, ℕ, Bool, true, false, List, [], ◌∷◌, ◌++◌, Option, Some, None, Result, Ok, Err, refl, sym, subst, append_assoc, append-nil}
-use Rattle.agent_ask.specs.Further.{FurtherEvent}
-use Rattle.agent_ask.specs.SessionEvents.{Received, Sent, Cut, Inquiry, CacheTurn, Further, cache_turn}
-use Rattle.cache_policy.specs.Turns.{Turn}
-use Rattle.cache_policy.specs.declared.mark.MarkStep.{MarkStep}
-use Rattle.cache_policy.specs.declared.mark.MarkStep.TheVariants.{Close}
-use Rattle.agent_commands.specs.Events.{EventWith}
-use Rattle.session_client.specs.declared.code.Code.{Code}
-use Rattle.key_commands.specs.Parts.{Part}
-use Rattle.agent_ask.specs.Parts.{◌>>=◌, Returns, Refuses, needed, wanted}
-use Rattle.agent_ask.proofs.Within.{HoldsOf, Within, Joins, weaker, bind, returned_so, refused_so}
-use Rattle.session_client.specs.declared.refusal.Refusal.{Refusal}
-use Rattle.session_client.specs.declared.refusal.Refusal.TheVariants.{Agent}
-use Rattle.key_commands.proofs.EachEvent.{EachSo}
-use Rattle.agent_session.specs.Imports.{HandsNothing}
-use Rattle.agent_session.specs.OwnPassphrases.{HandsIn}
-use Rattle.agent_session.proofs.AtOnce.{FitsTurn}
-use Rattle.agent_session.proofs.Standing.{each_left, each_right}
-use Rattle.agent_session.proofs.Works.{Keeps, each_fits}
+use Rattle.std.{specs.{List.AllByRecursion, Prelude.⊤}, proofs.Common.{◌≡◌, ℕ, Bool, true, false, List, [], ◌∷◌, ◌++◌, Option, Some, None, Result, Ok, Err, refl, sym, subst, append_assoc, append-nil}}
+use Rattle.agent_ask.specs.{Further.FurtherEvent, SessionEvents.{Received, Sent, Cut, Inquiry, CacheTurn, Further, cache_turn}, Parts.{◌>>=◌, Returns, Refuses, needed, wanted}}
+use Rattle.{agent_ask.proofs.Within.{HoldsOf, Within, Joins, weaker, bind, returned_so, refused_so}, cache_policy.specs.{Turns.Turn, declared.mark.MarkStep.{MarkStep, TheVariants.Close}}, agent_commands.specs.Events.EventWith}
+use Rattle.{session_client.specs.declared.{code.Code.Code, refusal.Refusal.{Refusal, TheVariants.Agent}}, key_commands.{specs.Parts.Part, proofs.EachEvent.EachSo}}
+use Rattle.agent_session.{specs.{Imports.HandsNothing, OwnPassphrases.HandsIn}, proofs.{AtOnce.FitsTurn, Standing.{each_left, each_right}, Works.{Keeps, each_fits}}}
 
 -- it hands no passphrase to the cache
 abbrev pub IsQuiet : EventWith FurtherEvent → Type 0

@@ -1,43 +1,16 @@
 -- What a session hands to the cache is of the last line that was read before.
-use Rattle.std.specs.List.{AllByRecursion}
-use Rattle.std.specs.Prelude.{⊤}
-use Rattle.std.proofs.Common.{◌≡◌, ℕ, List, [], ◌∷◌, ◌++◌, refl, sym, ap, ◌∙◌, subst, append_assoc}
-use Rattle.agent_ask.specs.Answering.{WholeOrCut, whole, cut}
-use Rattle.agent_ask.specs.Further.{FurtherEvent}
-use Rattle.agent_ask.specs.SessionEvents.{Received, Sent, Cut, Inquiry, CacheTurn, Further, cache_turn, CutAtLast}
-use Rattle.assuan_line.specs.declared.reader.Took.TheVariants as took
-use Rattle.assuan_server.specs.Written.{failed, ok}
-use Rattle.session_client.specs.declared.code.Code.TheVariants.{Forbidden, LineTooLong}
-use Rattle.cache_policy.specs.Turns.{Turn}
-use Rattle.cache_policy.specs.declared.mark.MarkStep.{MarkStep}
-use Rattle.agent_commands.specs.Endings.{went_after}
-use Rattle.agent_commands.specs.Events.{EventWith}
-use Rattle.agent_commands.specs.Requests.{request_of}
-use Rattle.agent_commands.specs.Talks.{Talk, Session}
-use Rattle.agent_commands.specs.Talks as talks
-use Rattle.agent_commands.specs.declared.went.SessionEnd.{SessionEnd}
-use Rattle.agent_commands.specs.declared.went.Went.{Went}
-use Rattle.key_commands.proofs.EachEvent.{each_append}
-use Rattle.key_commands.proofs.EachRequest.{IsBesideTrust}
-use Rattle.session_options.specs.declared.rules.Rules.{Rules}
-use Rattle.agent_origin.proofs.EachLine.{each_request}
-use Rattle.agent_origin.specs.DoorSessions.{AllowedExchange, DoorExchange, door_help}
-use Rattle.agent_origin.specs.DoorSessions as doors
-use Rattle.agent_origin.specs.TrustRequests.{trust_request_of}
-use Rattle.agent_origin.specs.SessionExchanges.{SessionExchange}
-use Rattle.agent_origin.specs.declared.door.Door.{Door}
-use Rattle.agent_origin.specs.declared.kept.Kept.{Kept}
-use Rattle.agent_session.specs.Completeness.{Exchanges}
-use Rattle.agent_session.specs.OwnPassphrases.{StoresOwn, HandsIn, IsUnreceived, Served, none, one_more, StoresOwnIn, StoresOwnThroughout}
-use Rattle.agent_commands.specs.declared.went.Went.TheVariants.{On}
-use Rattle.assuan_server.specs.Written.{greeting}
-use Rattle.assuan_text.specs.LineEnds.{line_of}
-use Rattle.agent_session.proofs.OwnCache.{request_own}
-use Rattle.agent_session.proofs.OwnLines.{each_first, each_second, in_first, in_second, in_either}
-use Rattle.agent_session.proofs.OwnParts.{IsQuiet, Fit, AreOwn, own_at, own_left, own_then, quiet_are_own}
-use Rattle.agent_session.proofs.OwnTrust.{IsIdle, trust_idle}
-use Rattle.agent_session.proofs.AtOnce.{FitsTurn}
+use Rattle.std.{specs.{List.AllByRecursion, Prelude.⊤}, proofs.Common.{◌≡◌, ℕ, List, [], ◌∷◌, ◌++◌, refl, sym, ap, ◌∙◌, subst, append_assoc}}
+use Rattle.{agent_ask.specs.{Answering.{WholeOrCut, whole, cut}, Further.FurtherEvent, SessionEvents.{Received, Sent, Cut, Inquiry, CacheTurn, Further, cache_turn, CutAtLast}}, assuan_server.specs.Written.{failed, ok, greeting}}
+use Rattle.{session_client.specs.declared.code.Code.TheVariants.{Forbidden, LineTooLong}, cache_policy.specs.{Turns.Turn, declared.mark.MarkStep.MarkStep}, agent_commands.specs.{Endings.went_after, Events.EventWith, Requests.request_of}}
+use Rattle.{agent_commands.specs.{Talks.{Talk, Session}, declared.went.{SessionEnd.SessionEnd, Went.{Went, TheVariants.On}}}, key_commands.proofs.{EachEvent.each_append, EachRequest.IsBesideTrust}}
+use Rattle.{session_options.specs.declared.rules.Rules.Rules, agent_origin.{proofs.EachLine.each_request, specs.{DoorSessions.{AllowedExchange, DoorExchange, door_help}, TrustRequests.trust_request_of, SessionExchanges.SessionExchange}}}
+use Rattle.{agent_origin.specs.declared.{door.Door.Door, kept.Kept.Kept}, assuan_text.specs.LineEnds.line_of}
+use Rattle.agent_session.{specs.{Completeness.Exchanges, OwnPassphrases.{StoresOwn, HandsIn, IsUnreceived, Served, none, one_more, StoresOwnIn, StoresOwnThroughout}}, proofs.OwnCache.request_own}
+use Rattle.agent_session.proofs.{OwnLines.{each_first, each_second, in_first, in_second, in_either}, OwnParts.{IsQuiet, Fit, AreOwn, own_at, own_left, own_then, quiet_are_own}, OwnTrust.{IsIdle, trust_idle}, AtOnce.FitsTurn}
 use Rattle.agent_session.proofs.Standing.{each_left, each_right}
+use Rattle.assuan_line.specs.declared.reader.Took.TheVariants as took
+use Rattle.agent_commands.specs.Talks as talks
+use Rattle.agent_origin.specs.DoorSessions as doors
 
 -- ---- the events of a line
 

@@ -1,45 +1,22 @@
 -- Prompts in which each event goes on, but one by which the request is refused or its client is gone, which is the last before the prompter is shut.
-use Rattle.std.specs.List.{AllByRecursion}
-use Rattle.std.specs.Option.{option_map}
-use Rattle.std.proofs.Common.{◌≡◌, ◌≢◌, ℕ, zero, suc, List, [], ◌∙◌, ◌∷◌, ◌++◌, Option, Some, None, Result, Ok, Err, refl, sym, ap, subst, append_assoc}
-use Rattle.agent_ask.specs.Callers.{SaysNote, unheard_of}
-use Rattle.agent_ask.specs.ConsentParts.{AgreesTo, consent_refusal}
+use Rattle.std.{specs.{List.AllByRecursion, Option.option_map}, proofs.Common.{◌≡◌, ◌≢◌, ℕ, zero, suc, List, [], ◌∙◌, ◌∷◌, ◌++◌, Option, Some, None, Result, Ok, Err, refl, sym, ap, subst, append_assoc}}
+use Rattle.agent_ask.specs.{Callers.{SaysNote, unheard_of}, ConsentParts.{AgreesTo, consent_refusal}, PinParts.pin_refusal, Consents.{AsksConsent, ConsentBefore, agreed_of}}
+use Rattle.agent_ask.specs.{Events.{Call, Start, Confirm, Shut, PromptEvent, Called, Notified, OutOfMemory}, Further.Prompt, Prompts.{AsksPin, AsksBefore, Tries, repeated}, SessionEvents.Further, SessionPrompts.AnyInSession}
+use Rattle.{agent_ask.specs.declared.{ask.Asked.Asked, caller.Heard.Heard, consent.Agreed.Agreed, prompter.Consent.Consent, spec.{AskPlan.AskPlan, PromptSpec.PromptSpec}}, assuan_server.specs.Clients.session_lines}
+use Rattle.{session_client.specs.{Asking.{said_by, without_data}, declared.{code.Code.Code, refusal.Refusal.{Refusal, TheVariants.{Agent, Client}}, unheard.Unheard.Unheard}}, session_options.specs.OptionValues.OptionValues}
+use Rattle.{session_options.specs.declared.rules.Rules.Rules, key_commands.{specs.Events.Event, proofs.EachEvent.each_append}}
+use Rattle.agent_session.{specs.Refusals.call_refuses, proofs.Works.{unsaid, GoesOn, refused, lost, WorksTo, works, WorksSo}}
 use Rattle.agent_ask.specs.ConsentParts as consenting
-use Rattle.agent_ask.specs.PinParts.{pin_refusal}
-use Rattle.agent_ask.specs.Consents.{AsksConsent, ConsentBefore, agreed_of}
 use Rattle.agent_ask.specs.Consents as consents
-use Rattle.agent_ask.specs.Events.{Call, Start, Confirm, Shut, PromptEvent, Called, Notified, OutOfMemory}
-use Rattle.agent_ask.specs.Further.{Prompt}
-use Rattle.agent_ask.specs.Prompts.{AsksPin, AsksBefore, Tries, repeated}
 use Rattle.agent_ask.specs.Prompts as prompts
-use Rattle.agent_ask.specs.SessionEvents.{Further}
-use Rattle.agent_ask.specs.SessionPrompts.{AnyInSession}
 use Rattle.agent_ask.specs.SessionPrompts as session
-use Rattle.agent_ask.specs.declared.ask.Asked.{Asked}
 use Rattle.agent_ask.specs.declared.ask.Asked.TheVariants as asked
-use Rattle.agent_ask.specs.declared.caller.Heard.{Heard}
 use Rattle.agent_ask.specs.declared.caller.Heard.TheVariants as heard_as
-use Rattle.agent_ask.specs.declared.consent.Agreed.{Agreed}
 use Rattle.agent_ask.specs.declared.consent.Agreed.TheVariants as agreed
-use Rattle.agent_ask.specs.declared.prompter.Consent.{Consent}
 use Rattle.agent_ask.specs.declared.prompter.Consent.TheVariants as consent
 use Rattle.agent_ask.specs.declared.prompter.Opened.TheVariants as opened
 use Rattle.agent_ask.specs.declared.prompter.Outcome.TheVariants as outcome
-use Rattle.agent_ask.specs.declared.spec.AskPlan.{AskPlan}
-use Rattle.agent_ask.specs.declared.spec.PromptSpec.{PromptSpec}
-use Rattle.assuan_server.specs.Clients.{session_lines}
-use Rattle.session_client.specs.Asking.{said_by, without_data}
-use Rattle.session_client.specs.declared.code.Code.{Code}
 use Rattle.session_client.specs.declared.code.Code.TheVariants as code
-use Rattle.session_client.specs.declared.refusal.Refusal.{Refusal}
-use Rattle.session_client.specs.declared.refusal.Refusal.TheVariants.{Agent, Client}
-use Rattle.session_client.specs.declared.unheard.Unheard.{Unheard}
-use Rattle.session_options.specs.OptionValues.{OptionValues}
-use Rattle.session_options.specs.declared.rules.Rules.{Rules}
-use Rattle.key_commands.specs.Events.{Event}
-use Rattle.key_commands.proofs.EachEvent.{each_append}
-use Rattle.agent_session.specs.Refusals.{call_refuses}
-use Rattle.agent_session.proofs.Works.{unsaid, GoesOn, refused, lost, WorksTo, works, WorksSo}
 
 -- ---- single events
 

@@ -1,35 +1,17 @@
 -- What the events of a prompt say of its answer.
-use Rattle.std.proofs.Common.{◌≡◌, ◌⊎◌, ℕ, Bool, true, List, ◌∷◌, Some, Result, Ok, Err, refl, sym, subst, inl, inr}
-use Rattle.std.specs.Prelude.{⊤}
-use Rattle.agent_ask.specs.Callers.{SaysNote, unheard_of}
-use Rattle.agent_ask.specs.Consents.{AsksConsent, ConsentBefore, agreed_of}
+use Rattle.std.{proofs.Common.{◌≡◌, ◌⊎◌, ℕ, Bool, true, List, ◌∷◌, Some, Result, Ok, Err, refl, sym, subst, inl, inr}, specs.Prelude.⊤}
+use Rattle.agent_ask.specs.{Callers.{SaysNote, unheard_of}, Consents.{AsksConsent, ConsentBefore, agreed_of}, Events.{Call, GetPin, Confirm, Called, Notified, OutOfMemory, PromptEvent}, Further.{FurtherEvent, Prompt}, Prompters.is_failed}
+use Rattle.agent_ask.specs.{Prompts.{AsksPin, AsksBefore, Tries, repeated, repeat_text}, SessionEvents.Further, Tests.PinTest, SessionPrompts.{AnyInSession, note}, declared.{ask.Asked.Asked, caller.Heard.Heard, consent.Agreed.Agreed}}
+use Rattle.{agent_ask.specs.{declared.{prompter.Consent.Consent, spec.{AskPlan.AskPlan, PromptSpec.PromptSpec}}, PinParts.PromptsPin}, assuan_server.specs.Clients.session_lines, session_client.specs.Asking.{said_by, without_data}}
+use Rattle.{session_client.specs.declared.unheard.Unheard.Unheard, agent_commands.specs.Events.{EventWith, Inquired}}
+use Rattle.agent_session.{specs.Causes.{Has, here, later, HasPrompt, StandIn, is_cancelled, is_timed_out, is_disagreed, is_broken}, proofs.Standing.{has_left, has_right}}
 use Rattle.agent_ask.specs.Consents as consents
-use Rattle.agent_ask.specs.Events.{Call, GetPin, Confirm, Called, Notified, OutOfMemory, PromptEvent}
-use Rattle.agent_ask.specs.Further.{FurtherEvent, Prompt}
-use Rattle.agent_ask.specs.Prompters.{is_failed}
-use Rattle.agent_ask.specs.Prompts.{AsksPin, AsksBefore, Tries, repeated, repeat_text}
 use Rattle.agent_ask.specs.Prompts as prompts
-use Rattle.agent_ask.specs.SessionEvents.{Further}
-use Rattle.agent_ask.specs.Tests.{PinTest}
-use Rattle.agent_ask.specs.SessionPrompts.{AnyInSession, note}
 use Rattle.agent_ask.specs.SessionPrompts as session
-use Rattle.agent_ask.specs.declared.ask.Asked.{Asked}
 use Rattle.agent_ask.specs.declared.ask.Asked.TheVariants as asked
-use Rattle.agent_ask.specs.declared.caller.Heard.{Heard}
-use Rattle.agent_ask.specs.declared.consent.Agreed.{Agreed}
 use Rattle.agent_ask.specs.declared.consent.Agreed.TheVariants as agreed
-use Rattle.agent_ask.specs.declared.prompter.Consent.{Consent}
 use Rattle.agent_ask.specs.declared.prompter.Consent.TheVariants as consent
 use Rattle.agent_ask.specs.declared.prompter.Outcome.TheVariants as outcome
-use Rattle.agent_ask.specs.declared.spec.AskPlan.{AskPlan}
-use Rattle.agent_ask.specs.declared.spec.PromptSpec.{PromptSpec}
-use Rattle.assuan_server.specs.Clients.{session_lines}
-use Rattle.session_client.specs.Asking.{said_by, without_data}
-use Rattle.session_client.specs.declared.unheard.Unheard.{Unheard}
-use Rattle.agent_commands.specs.Events.{EventWith, Inquired}
-use Rattle.agent_ask.specs.PinParts.{PromptsPin}
-use Rattle.agent_session.specs.Causes.{Has, here, later, HasPrompt, StandIn, is_cancelled, is_timed_out, is_disagreed, is_broken}
-use Rattle.agent_session.proofs.Standing.{has_left, has_right}
 
 -- it is among the events of its request
 pub has_prompt : {spec : PromptSpec} {plan : AskPlan} {Rule : List ℕ → Type 0} {shown whole : List (EventWith FurtherEvent)} {answer : Asked} → PromptsPin session_lines spec plan Rule shown answer → StandIn shown whole

@@ -1,38 +1,21 @@
 -- Requests that are answered for want of memory, or for a failure of the keys or of the dice: an event refused them.
-use Rattle.std.specs.List.{AllByRecursion}
-use Rattle.std.proofs.Common.{◌≡◌, List, [], ◌∷◌, ◌++◌, ℕ, Option, Some, None, refl, sym, ap, subst, inl, inr}
-use Rattle.agent_ask.specs.Events.{Called, OutOfMemory, Notified}
-use Rattle.agent_ask.specs.Further.{FurtherEvent, Read, Listed, Replaced, Removed, Drew, NotDrawn, Prompt, Keys, Dice, NoMemory, Trust}
-use Rattle.agent_ask.specs.SessionEvents.{Received, Sent, Cut, Inquiry, CacheTurn, Further, cache_turn}
+use Rattle.std.{specs.List.AllByRecursion, proofs.Common.{◌≡◌, List, [], ◌∷◌, ◌++◌, ℕ, Option, Some, None, refl, sym, ap, subst, inl, inr}}
+use Rattle.agent_ask.specs.{Events.{Called, OutOfMemory, Notified}, Further.{FurtherEvent, Read, Listed, Replaced, Removed, Drew, NotDrawn, Prompt, Keys, Dice, NoMemory, Trust}}
+use Rattle.{agent_ask.specs.SessionEvents.{Received, Sent, Cut, Inquiry, CacheTurn, Further, cache_turn}, agent_ports.specs.declared.grip.Grip.Grip, assuan_server.specs.{Written.failed, declared.errors.Origin.TheVariants.Agent}}
+use Rattle.{session_client.specs.declared.code.Code.Code, cache_policy.specs.{Turns.{Turn, Refused, FitsStep, closes}, declared.{mark.MarkStep.{MarkStep, TheVariants.{Clear, Close}}, mode.Mode.TheVariants.Normal}}}
+use Rattle.{session_options.specs.declared.rules.Rules.Rules, agent_commands.specs.{Events.EventWith, declared.request.Request.Request}, key_commands.specs.{Lines.grip_text, Passphrases.put_key}, agent_origin.specs.declared.kept.Kept.Kept}
+use Rattle.agent_session.specs.Causes.{Has, here, later, HasOne, one, WantsMemory, FailsAtKeysOrDice, IsCaused}
+use Rattle.agent_session.specs.Refusals.{IsNonceOf, refuses, turn_refuses, AreWork, IsWork, IsEnd, Course, GivesBack, Settles, IsLast, RefusedEnd, at_work, at_answer, at_store, at_clear, RefusedCourse, IsOwnCode, memory, fault, shuts}
+use Rattle.agent_session.proofs.{AtOnce.FitsTurn, Explained.has_split, Refusing.no_close, Standing.each_has}
 use Rattle.agent_ask.specs.TrustCalls as trust_call
 use Rattle.agent_ask.specs.Interrupts as turns
-use Rattle.agent_ports.specs.declared.grip.Grip.{Grip}
 use Rattle.agent_ports.specs.declared.keys.KeyDone.TheVariants as key_done
 use Rattle.agent_ports.specs.declared.keys.KeyNames.TheVariants as key_names
 use Rattle.agent_ports.specs.declared.keys.KeyRead.TheVariants as key_read
 use Rattle.agent_ports.specs.declared.trust.TrustDone.TheVariants as trust_done
 use Rattle.agent_ports.specs.declared.trust.TrustRead.TheVariants as trust_read
-use Rattle.assuan_server.specs.Written.{failed}
-use Rattle.session_client.specs.declared.code.Code.{Code}
 use Rattle.session_client.specs.declared.code.Code.TheVariants as code
-use Rattle.assuan_server.specs.declared.errors.Origin.TheVariants.{Agent}
-use Rattle.cache_policy.specs.Turns.{Turn, Refused, FitsStep, closes}
-use Rattle.cache_policy.specs.declared.mark.MarkStep.{MarkStep}
-use Rattle.cache_policy.specs.declared.mark.MarkStep.TheVariants.{Clear, Close}
-use Rattle.cache_policy.specs.declared.mode.Mode.TheVariants.{Normal}
-use Rattle.session_options.specs.declared.rules.Rules.{Rules}
-use Rattle.agent_commands.specs.Events.{EventWith}
-use Rattle.agent_commands.specs.declared.request.Request.{Request}
-use Rattle.key_commands.specs.Lines.{grip_text}
-use Rattle.key_commands.specs.Passphrases.{put_key}
-use Rattle.agent_session.specs.Causes.{Has, here, later, HasOne, one, WantsMemory, FailsAtKeysOrDice, IsCaused}
 use Rattle.agent_session.specs.Refusals as course
-use Rattle.agent_session.specs.Refusals.{IsNonceOf, refuses, turn_refuses, AreWork, IsWork, IsEnd, Course, GivesBack, Settles, IsLast, RefusedEnd, at_work, at_answer, at_store, at_clear, RefusedCourse, IsOwnCode, memory, fault, shuts}
-use Rattle.agent_origin.specs.declared.kept.Kept.{Kept}
-use Rattle.agent_session.proofs.AtOnce.{FitsTurn}
-use Rattle.agent_session.proofs.Explained.{has_split}
-use Rattle.agent_session.proofs.Refusing.{no_close}
-use Rattle.agent_session.proofs.Standing.{each_has}
 
 -- ---- an event that the answer blames refuses its request
 

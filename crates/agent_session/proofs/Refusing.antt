@@ -1,14 +1,9 @@
 -- A turn that finds no memory leaves its desk.
 use Rattle.std.proofs.Common.{◌≡◌, ℕ, List, [], ◌++◌, Option, Some, None, refl, ap, ◌∙◌, append-nil}
-use Rattle.cache_policy.specs.Desks.{AtDesk, GoesOn, GoesOnWhereKnown, MakesMarks, IsTurn}
-use Rattle.cache_policy.specs.Desks as desks
-use Rattle.cache_policy.specs.Histories.{History}
-use Rattle.cache_policy.specs.Runs.{joined}
-use Rattle.cache_policy.specs.Turns.{Refused, FitsStep, closes}
-use Rattle.cache_policy.specs.declared.mark.Mark.{Mark}
-use Rattle.cache_policy.specs.declared.mark.MarkStep.{MarkStep}
+use Rattle.cache_policy.specs.{Desks.{AtDesk, GoesOn, GoesOnWhereKnown, MakesMarks, IsTurn}, Histories.History, Runs.joined, Turns.{Refused, FitsStep, closes}, declared.mark.{Mark.Mark, MarkStep.MarkStep}}
 use Rattle.cache_policy.specs.declared.mark.MarkStep.TheVariants.{Ask, Seat, Close, Put, Clear, Flush, Peek, Stop}
 use Rattle.agent_session.specs.Refusals.{LeavesRun, LeavesDesk}
+use Rattle.cache_policy.specs.Desks as desks
 
 pub no_close : (asked : MarkStep) → FitsStep asked Refused → closes asked ≡ None
 no_close (Ask id mode way since) fits = refl

@@ -1,18 +1,11 @@
 -- Texts that answer a request, and aren't error lines.
-use Rattle.std.proofs.Common.{◌≡◌, ◌≢◌, ℕ, Bool, true, false, List, [], ◌∷◌, ◌++◌, codes, refl, sym, subst, arith}
-use Rattle.std.specs.Prelude.{if◌then◌else◌}
+use Rattle.std.{proofs.Common.{◌≡◌, ◌≢◌, ℕ, Bool, true, false, List, [], ◌∷◌, ◌++◌, codes, refl, sym, subst, arith}, specs.Prelude.if◌then◌else◌}
+use Rattle.{agent_commands.specs.{Answers.{closing, help, comments}, Names.command_names}, assuan_server.specs.Written.ok, assuan_escape.{specs.{DataLines.data_text, Escapes.hex_text}, proofs.EscapeLemmas.has_lf_hex_text}}
+use Rattle.assuan_text.specs.LineEnds.{has_lf, line_of}
+use Rattle.agent_session.{specs.Completeness.{AreAsides, none, of_status, EndsInOk, IsStatus}, proofs.Asides.{comments_aside, data_aside, nonce_status, one_aside}}
 use Rattle.assuan_server.specs.Written as written
 use Rattle.agent_commands.specs.Answers as answers
-use Rattle.agent_commands.specs.Answers.{closing, help, comments}
-use Rattle.assuan_server.specs.Written.{ok}
-use Rattle.agent_commands.specs.Names.{command_names}
-use Rattle.assuan_escape.specs.DataLines.{data_text}
-use Rattle.assuan_escape.proofs.EscapeLemmas.{has_lf_hex_text}
-use Rattle.assuan_escape.specs.Escapes.{hex_text}
-use Rattle.assuan_text.specs.LineEnds.{has_lf, line_of}
 use Rattle.key_commands.specs.Lines as lines
-use Rattle.agent_session.specs.Completeness.{AreAsides, none, of_status, EndsInOk, IsStatus}
-use Rattle.agent_session.proofs.Asides.{comments_aside, data_aside, nonce_status, one_aside}
 
 -- it begins with another byte than `E`, and ends in an OK line
 pub data IsReply : List ℕ → Type 0 where

@@ -1,49 +1,16 @@
 -- Each exchange of a session stands between two states of its desk and of its further ends, and the laws on single requests hold of it.
 use Rattle.std.proofs.Common.{ℕ, List, [], ◌∷◌, ◌++◌, sym, subst}
-use Rattle.agent_ask.specs.Answering.{WholeOrCut, whole, cut}
-use Rattle.agent_ask.specs.Events.{Call}
-use Rattle.agent_ask.specs.Prompters.{AtPrompter, IsCall}
-use Rattle.agent_ask.specs.SessionEvents.{Sent, Cut, CutAtLast}
-use Rattle.agent_ask.specs.Worlds.{Outside, Does}
-use Rattle.agent_ask.specs.Worlds as worlds
-use Rattle.agent_commands.specs.Endings.{went_after}
-use Rattle.agent_commands.specs.Events.{EventWith}
-use Rattle.agent_commands.specs.Outside.{World}
-use Rattle.agent_commands.specs.Requests.{request_of}
-use Rattle.agent_commands.specs.Talks.{Talk, Session}
-use Rattle.agent_commands.specs.Talks as talks
-use Rattle.agent_commands.specs.declared.went.SessionEnd.{SessionEnd}
-use Rattle.agent_commands.specs.declared.went.Went.{Went}
-use Rattle.agent_origin.specs.FurtherStates.{FurtherWorld}
-use Rattle.agent_origin.specs.SessionExchanges.{SessionExchange}
-use Rattle.agent_origin.specs.Sessions.{LineRelation}
-use Rattle.agent_origin.specs.declared.kept.Kept.{Kept}
-use Rattle.agent_ports.proofs.Leading.{leads_then}
-use Rattle.agent_ports.specs.Leads.{Leads, none, one}
-use Rattle.agent_ports.specs.Sides.{with_bytes}
-use Rattle.assuan_server.specs.Reading.{Supply}
-use Rattle.assuan_server.specs.declared.errors.Origin.TheVariants.{Agent}
-use Rattle.cache_policy.specs.Desks.{AtDesk, IsTurn}
-use Rattle.cache_policy.specs.Turns.{Turn, Refused, MayWantMemory}
-use Rattle.cache_policy.specs.declared.mark.MarkStep.{MarkStep}
-use Rattle.key_commands.specs.Events.{Event as SessionEvent}
+use Rattle.{agent_ask.specs.{Answering.{WholeOrCut, whole, cut}, Events.Call, Prompters.{AtPrompter, IsCall}, SessionEvents.{Sent, Cut, CutAtLast}, Worlds.{Outside, Does}}, agent_commands.specs.{Endings.went_after, Events.EventWith}}
+use Rattle.{agent_commands.specs.{Outside.World, Requests.request_of, Talks.{Talk, Session}, declared.went.{SessionEnd.SessionEnd, Went.Went}}, agent_origin.specs.{FurtherStates.FurtherWorld, SessionExchanges.SessionExchange}}
+use Rattle.{agent_origin.specs.{Sessions.LineRelation, declared.kept.Kept.Kept}, agent_ports.{proofs.Leading.leads_then, specs.{Leads.{Leads, none, one}, Sides.with_bytes}}, assuan_server.specs.Reading.Supply}
+use Rattle.{assuan_server.specs.declared.errors.Origin.TheVariants.Agent, cache_policy.specs.{Desks.{AtDesk, IsTurn}, Turns.{Turn, Refused, MayWantMemory}, declared.mark.MarkStep.MarkStep}, key_commands.specs.Events.Event as SessionEvent}
 use Rattle.session_options.specs.declared.rules.Rules.{Rules}
-use Rattle.agent_session.specs.Completeness.{Exchanges as Relations, Causes, IsAnsweredBy}
-use Rattle.agent_session.specs.Exactly.{EndsTooLong}
-use Rattle.agent_session.specs.OwnPassphrases.{StoresOwn}
-use Rattle.agent_session.specs.RunExchanges.{Between, LinkBytes, with_link, Saying, ExchangeBetween, LawfulRequest, LawfulExchange, LawfulSession}
-use Rattle.agent_session.proofs.Answering.{Judging}
-use Rattle.agent_session.proofs.AtOnce.{all_fit, at_once, each_calm}
-use Rattle.agent_session.proofs.Completing.{failures_rise, all_possible, never_absent}
-use Rattle.agent_session.proofs.Counting.{counts_failures}
-use Rattle.agent_session.proofs.Fair.{first_fair, alone_first}
-use Rattle.agent_session.proofs.KeyExplained.{exchange_caused}
-use Rattle.agent_session.proofs.OwnCache.{request_own, request_says_own}
-use Rattle.agent_session.proofs.OwnKeyLines.{request_told}
-use Rattle.agent_session.proofs.OwnParts.{own_at}
-use Rattle.agent_session.proofs.RefusedCourses.{caused_refuses, refused_course}
-use Rattle.agent_session.proofs.SessionCourses.{request_course}
-use Rattle.agent_session.proofs.Uncaused.{ok_by}
+use Rattle.agent_session.specs.{Completeness.{Exchanges as Relations, Causes, IsAnsweredBy}, Exactly.EndsTooLong, OwnPassphrases.StoresOwn}
+use Rattle.agent_session.{specs.RunExchanges.{Between, LinkBytes, with_link, Saying, ExchangeBetween, LawfulRequest, LawfulExchange, LawfulSession}, proofs.{Answering.Judging, AtOnce.{all_fit, at_once, each_calm}}}
+use Rattle.agent_session.proofs.{Completing.{failures_rise, all_possible, never_absent}, Counting.counts_failures, Fair.{first_fair, alone_first}, KeyExplained.exchange_caused, OwnCache.{request_own, request_says_own}}
+use Rattle.agent_session.proofs.{OwnKeyLines.request_told, OwnParts.own_at, RefusedCourses.{caused_refuses, refused_course}, SessionCourses.request_course, Uncaused.ok_by}
+use Rattle.agent_ask.specs.Worlds as worlds
+use Rattle.agent_commands.specs.Talks as talks
 
 -- some events, and those behind them
 record Parts {S E : Type 0} (Step : S → E → S → Type 0) (start : S) (first second : List E) (now : S) : Type 0 where

@@ -1,27 +1,12 @@
 -- Each exchange of a session is a course.
 use Rattle.std.proofs.Common.{◌≡◌, List, [], ◌∷◌, ℕ, refl, sym, subst, Some}
-use Rattle.agent_ask.specs.Further.{FurtherEvent, Replaced, Removed, Read, Listed, Prompt, Keys, Dice, Trust, NoMemory}
-use Rattle.agent_ask.specs.SessionEvents.{Received, Sent, Cut, Inquiry, CacheTurn, Further, cache_turn}
-use Rattle.cache_policy.specs.Turns.{Turn}
-use Rattle.cache_policy.specs.declared.life.Life.{Life}
-use Rattle.cache_policy.specs.declared.mark.MarkStep.{MarkStep}
-use Rattle.cache_policy.specs.declared.mark.MarkStep.TheVariants.{Ask, Seat, Close, Put, Clear, Flush, Peek, Stop}
-use Rattle.cache_policy.specs.declared.mode.Mode.{Mode}
-use Rattle.cache_policy.specs.declared.mode.Mode.TheVariants.{Nonce}
-use Rattle.session_options.specs.declared.rules.Rules.{Rules}
-use Rattle.agent_commands.specs.Events.{EventWith}
-use Rattle.agent_commands.specs.declared.request.Request.{Request}
-use Rattle.agent_commands.specs.declared.went.Went.{Went}
-use Rattle.agent_origin.specs.SessionExchanges.{RequestExchange, cache, keys}
+use Rattle.{agent_ask.specs.{Further.{FurtherEvent, Replaced, Removed, Read, Listed, Prompt, Keys, Dice, Trust, NoMemory}, SessionEvents.{Received, Sent, Cut, Inquiry, CacheTurn, Further, cache_turn}}, cache_policy.specs.Turns.Turn}
+use Rattle.{cache_policy.specs.declared.{life.Life.Life, mark.MarkStep.{MarkStep, TheVariants.{Ask, Seat, Close, Put, Clear, Flush, Peek, Stop}}, mode.Mode.{Mode, TheVariants.Nonce}}, session_options.specs.declared.rules.Rules.Rules}
+use Rattle.{agent_commands.specs.{Events.EventWith, declared.{request.Request.Request, went.Went.Went}}, agent_origin.specs.{SessionExchanges.{RequestExchange, cache, keys}, declared.kept.Kept.Kept}}
 use Rattle.agent_session.specs.Causes.{Has, here, later, on_keys}
 use Rattle.agent_session.specs.Refusals.{IsNonceOf, MayStore, preset, given, exported, changed, imported, IsWorkStep, IsAllowed, AreWork, IsEnd, answered, given_back, unanswered, refused, kept, stored, cleared, CourseBy, Course}
-use Rattle.agent_origin.specs.declared.kept.Kept.{Kept}
+use Rattle.agent_session.proofs.{CacheCourses.cache_course, Courses.AnyNonce, ImportCourses.{import_course, nonce_drawn}, KeyCourses.key_course, Standing.{has_left, has_right}}
 use Rattle.key_commands.specs.declared.request.KeyRequest.TheVariants as on
-use Rattle.agent_session.proofs.CacheCourses.{cache_course}
-use Rattle.agent_session.proofs.Courses.{AnyNonce}
-use Rattle.agent_session.proofs.ImportCourses.{import_course, nonce_drawn}
-use Rattle.agent_session.proofs.KeyCourses.{key_course}
-use Rattle.agent_session.proofs.Standing.{has_left, has_right}
 
 -- a course by whatever nonces is one by those that were drawn for it
 module _ (request : Request) (events : List (EventWith FurtherEvent))

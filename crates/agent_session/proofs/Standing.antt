@@ -1,6 +1,5 @@
 -- Events among others.
-use Rattle.std.specs.List.{AllByRecursion}
-use Rattle.std.proofs.Common.{List, [], ◌∷◌, ◌++◌, ap, sym, ◌∙◌, subst, append_assoc, append-nil}
+use Rattle.std.{specs.List.AllByRecursion, proofs.Common.{List, [], ◌∷◌, ◌++◌, ap, sym, ◌∙◌, subst, append_assoc, append-nil}}
 use Rattle.agent_session.specs.Causes.{Has, here, later, StandIn}
 
 pub has_left : {E : Type 0} {event : E} {events : List E} (more : List E) → Has event events → Has event (events ++ more)

@@ -1,16 +1,9 @@
 -- Sessions whose exchanges are each seen otherwise, by what holds of their events.
 use Rattle.std.proofs.Common.{◌≡◌, ℕ, List, [], ◌∷◌, ◌++◌, refl, sym, subst}
-use Rattle.agent_ask.specs.Answering.{WholeOrCut, whole, cut}
-use Rattle.agent_ask.specs.SessionEvents.{CutAtLast}
-use Rattle.agent_commands.specs.Endings.{went_after}
-use Rattle.agent_commands.specs.Events.{EventWith}
-use Rattle.agent_commands.specs.Talks.{Talk, Session}
-use Rattle.agent_commands.specs.Talks as talks
-use Rattle.agent_commands.specs.declared.went.SessionEnd.{SessionEnd}
-use Rattle.agent_commands.specs.declared.went.SessionEnd.TheVariants.{WriteFault}
-use Rattle.agent_commands.specs.declared.went.Went.{Went}
-use Rattle.agent_commands.specs.declared.went.Went.TheVariants.{End}
+use Rattle.{agent_ask.specs.{Answering.{WholeOrCut, whole, cut}, SessionEvents.CutAtLast}, agent_commands.specs.{Endings.went_after, Events.EventWith, Talks.{Talk, Session}, declared.went.SessionEnd.{SessionEnd, TheVariants.WriteFault}}}
+use Rattle.agent_commands.specs.declared.went.Went.{Went, TheVariants.End}
 use Rattle.agent_session.specs.Completeness.{WholeTalk, WholeSession, IsFaultless}
+use Rattle.agent_commands.specs.Talks as talks
 use Rattle.agent_session.specs.Completeness as faultless
 
 whole_of : {S F : Type 0} {after : S} {events : List (EventWith F)} {went : Went} (exchange : List (EventWith F) → S → Went → Type 0) → (went ≡ End WriteFault → ⊥)

@@ -1,43 +1,18 @@
 -- A request on the trust list is answered Not trusted wherever a read of the file says so.
-use Rattle.std.specs.List.{AllByRecursion}
-use Rattle.std.proofs.Common.{◌≡◌, ◌⊎◌, ◌∙◌, ℕ, Bool, true, false, List, [], ◌∷◌, ◌++◌, Option, Some, None, Result, Ok, Err, refl, sym, subst, inl, inr}
-use Rattle.agent_ask.specs.SessionEvents.{said_last}
-use Rattle.agent_ask.specs.TrustCalls.{TrustCall}
-use Rattle.assuan_server.specs.Written.{ok}
-use Rattle.agent_commands.specs.declared.went.Went.{Went}
-use Rattle.agent_ports.specs.declared.grip.Grip.{Grip}
-use Rattle.assuan_server.specs.Written.{failed, refusal_line}
+use Rattle.std.{specs.List.AllByRecursion, proofs.Common.{◌≡◌, ◌⊎◌, ◌∙◌, ℕ, Bool, true, false, List, [], ◌∷◌, ◌++◌, Option, Some, None, Result, Ok, Err, refl, sym, subst, inl, inr}}
+use Rattle.agent_ask.specs.{SessionEvents.said_last, TrustCalls.TrustCall, Parts.{◌>>=◌, Follows, Refuses}, ConsentParts.AgreesTo, TurnParts.Closes}
+use Rattle.{agent_ask.proofs.Within.{Within, Joins, OfNothing, Does, weaker, bind, returned, refused, refused_so}, assuan_server.specs.{Written.{ok, failed, refusal_line}, declared.errors.Origin.TheVariants.Agent, Clients.session_lines}}
+use Rattle.{agent_commands.specs.declared.went.Went.Went, agent_ports.specs.declared.grip.Grip.Grip, session_client.specs.declared.refusal.Refusal.Refusal, key_commands.specs.{Events.{Event, out_of_memory}, Parts.Part}}
+use Rattle.{key_commands.proofs.{EachEvent.{EachSo, each_seats, agrees_to}, EachRequest.{IsBesideTrust, still_beside}}, session_options.specs.{OptionValues.OptionValues, declared.{options.PinMode.PinMode, rules.Rules.Rules}}}
+use Rattle.{trust_list.specs.Trust.trust, agent_origin.specs.TrustExchanges.{flag_of, trust_question, fingerprint_question, unless_said, TrustedNow, Stores, StoresUnsaid, Consented, asked_in, Marked, Carried, TrustExchange}}
+use Rattle.agent_origin.{specs.{TrustParts.{ReadsFile, Replaces, trust_called}, declared.trust.request.{TrustPurpose.TrustPurpose, TrustRequest.{TrustRequest, TheVariants.{IsTrusted, MarkTrusted}}}}, proofs.EachTrust.each_adds}
+use Rattle.agent_session.{specs.{Causes.{Has, here, later}, Completeness.HasError, DoorCauses.{IsReadTrust, read_trust, IsAsked, IsNotTrusted, unsaid, denied, denied_mark}}, proofs.Standing.has_right}
+use Rattle.agent_session.proofs.TrustTold.{Told, answered, refused as refused_then, told}
 use Rattle.session_client.specs.declared.code.Code.TheVariants as code
-use Rattle.assuan_server.specs.declared.errors.Origin.TheVariants.{Agent}
-use Rattle.session_client.specs.declared.refusal.Refusal.{Refusal}
-use Rattle.agent_ask.proofs.Within.{Within, Joins, OfNothing, Does, weaker, bind, returned, refused, refused_so}
-use Rattle.key_commands.specs.Events.{Event, out_of_memory}
-use Rattle.key_commands.proofs.EachEvent.{EachSo, each_seats, agrees_to}
-use Rattle.key_commands.proofs.EachRequest.{IsBesideTrust, still_beside}
-use Rattle.session_options.specs.OptionValues.{OptionValues}
-use Rattle.session_options.specs.declared.options.PinMode.{PinMode}
 use Rattle.session_options.specs.declared.options.PinMode.TheVariants as mode
-use Rattle.session_options.specs.declared.rules.Rules.{Rules}
-use Rattle.trust_list.specs.Trust.{trust}
-use Rattle.agent_origin.specs.TrustExchanges.{flag_of, trust_question, fingerprint_question, unless_said, TrustedNow, Stores, StoresUnsaid, Consented, asked_in, Marked, Carried, TrustExchange}
-use Rattle.agent_ask.specs.Parts.{◌>>=◌, Follows, Refuses}
 use Rattle.agent_ask.specs.Parts as chain
 use Rattle.agent_ask.specs.TurnParts as taken
-use Rattle.agent_origin.specs.TrustParts.{ReadsFile, Replaces, trust_called}
-use Rattle.key_commands.specs.Parts.{Part}
 use Rattle.agent_origin.specs.TrustParts as parts
-use Rattle.agent_origin.specs.declared.trust.request.TrustPurpose.{TrustPurpose}
-use Rattle.agent_origin.specs.declared.trust.request.TrustRequest.{TrustRequest}
-use Rattle.agent_origin.proofs.EachTrust.{each_adds}
-use Rattle.agent_session.specs.Causes.{Has, here, later}
-use Rattle.agent_session.specs.Completeness.{HasError}
-use Rattle.agent_session.specs.DoorCauses.{IsReadTrust, read_trust, IsAsked, IsNotTrusted, unsaid, denied, denied_mark}
-use Rattle.agent_session.proofs.Standing.{has_right}
-use Rattle.agent_session.proofs.TrustTold.{Told, answered, refused as refused_then, told}
-use Rattle.agent_ask.specs.ConsentParts.{AgreesTo}
-use Rattle.assuan_server.specs.Clients.{session_lines}
-use Rattle.agent_ask.specs.TurnParts.{Closes}
-use Rattle.agent_origin.specs.declared.trust.request.TrustRequest.TheVariants.{IsTrusted, MarkTrusted}
 
 -- no call of the trust file is among events that are beside it
 pub none_called : (events : List Event) → AllByRecursion IsBesideTrust events → {call : TrustCall} → Has (trust_called call) events → ⊥

@@ -1,39 +1,16 @@
 -- A call of the trust file that decides its request is the last thing that is done for it.
-use Rattle.std.specs.List.{AllByRecursion}
-use Rattle.std.proofs.Common.{◌≡◌, ◌∙◌, ℕ, List, [], ◌∷◌, ◌++◌, Option, Some, None, Result, Ok, Err, refl, sym, ap, subst, append_assoc}
-use Rattle.agent_ask.specs.Further.{Keys, Dice, NoMemory, Prompt, Trust}
-use Rattle.agent_ask.specs.SessionEvents.{Received, Sent, Cut, Inquiry, CacheTurn, Further, cache_turn, said_last}
-use Rattle.agent_ask.specs.TrustCalls.{Read}
-use Rattle.assuan_server.specs.Written.{ok}
-use Rattle.agent_commands.specs.Requests.{request_of}
-use Rattle.agent_commands.specs.declared.went.Went.{Went}
-use Rattle.agent_ports.specs.declared.trust.TrustRead.{TrustRead}
+use Rattle.std.{specs.List.AllByRecursion, proofs.Common.{◌≡◌, ◌∙◌, ℕ, List, [], ◌∷◌, ◌++◌, Option, Some, None, Result, Ok, Err, refl, sym, ap, subst, append_assoc}}
+use Rattle.agent_ask.{specs.{Further.{Keys, Dice, NoMemory, Prompt, Trust}, SessionEvents.{Received, Sent, Cut, Inquiry, CacheTurn, Further, cache_turn, said_last}, TrustCalls.Read, TurnParts.Closes}, proofs.Within.{Within, weaker}}
+use Rattle.{assuan_server.specs.Written.{ok, refusal_line}, agent_commands.specs.{Requests.request_of, declared.went.Went.Went}, agent_ports.specs.declared.trust.TrustRead.TrustRead, cache_policy.specs.Turns.Turn}
+use Rattle.{cache_policy.specs.declared.mark.MarkStep.TheVariants.Close, session_client.specs.declared.refusal.Refusal.Refusal, session_options.specs.{OptionValues.OptionValues, declared.rules.Rules.Rules}}
+use Rattle.agent_origin.specs.{DoorSessions.{AllowedExchange, DoorExchange}, TrustExchanges.{Carried, TrustExchange}, TrustParts.{ReadsFile, Replaces, file_in, trust_called}, declared.{door.Door.Door, kept.Kept.Kept}}
+use Rattle.{agent_origin.{specs.declared.trust.request.TrustRequest.TrustRequest, proofs.{EachLine.each_request, EachTrust.{TrustLaws, carried_so, each_adds}}}, key_commands.specs.{Parts.{Part, refusal_events}, Events.Event}}
+use Rattle.key_commands.proofs.{EachEvent.{IsStill, EachSo, each_append, each_seats, agrees_to}, EachRequest.{IsBesideTrust, still_beside}}
+use Rattle.agent_session.{specs.TrustCalls.{decided_line, IsLastLine, alone, given_back, EndsAtCalls}, proofs.TrustTold.{Told, answered, refused, told}}
 use Rattle.agent_ports.specs.declared.trust.TrustRead.TheVariants as read
-use Rattle.cache_policy.specs.Turns.{Turn}
-use Rattle.cache_policy.specs.declared.mark.MarkStep.TheVariants.{Close}
-use Rattle.session_client.specs.declared.refusal.Refusal.{Refusal}
-use Rattle.session_options.specs.OptionValues.{OptionValues}
-use Rattle.session_options.specs.declared.rules.Rules.{Rules}
-use Rattle.agent_origin.specs.DoorSessions.{AllowedExchange, DoorExchange}
 use Rattle.agent_origin.specs.DoorSessions as doors
-use Rattle.agent_origin.specs.TrustExchanges.{Carried, TrustExchange}
 use Rattle.agent_ask.specs.TurnParts as taken
-use Rattle.agent_origin.specs.TrustParts.{ReadsFile, Replaces, file_in, trust_called}
-use Rattle.key_commands.specs.Parts.{Part, refusal_events}
-use Rattle.assuan_server.specs.Written.{refusal_line}
 use Rattle.agent_origin.specs.TrustParts as parts
-use Rattle.agent_origin.specs.declared.door.Door.{Door}
-use Rattle.agent_origin.specs.declared.kept.Kept.{Kept}
-use Rattle.agent_origin.specs.declared.trust.request.TrustRequest.{TrustRequest}
-use Rattle.agent_session.specs.TrustCalls.{decided_line, IsLastLine, alone, given_back, EndsAtCalls}
-use Rattle.agent_ask.proofs.Within.{Within, weaker}
-use Rattle.agent_origin.proofs.EachLine.{each_request}
-use Rattle.agent_origin.proofs.EachTrust.{TrustLaws, carried_so, each_adds}
-use Rattle.key_commands.specs.Events.{Event}
-use Rattle.key_commands.proofs.EachEvent.{IsStill, EachSo, each_append, each_seats, agrees_to}
-use Rattle.key_commands.proofs.EachRequest.{IsBesideTrust, still_beside}
-use Rattle.agent_session.proofs.TrustTold.{Told, answered, refused, told}
-use Rattle.agent_ask.specs.TurnParts.{Closes}
 
 -- ---- lists
 

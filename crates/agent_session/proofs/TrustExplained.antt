@@ -1,88 +1,40 @@
 -- What a session does for a request on the trust list has one answer, and each error line in it its cause.
-use Rattle.std.specs.List.{AllByRecursion}
+use Rattle.std.specs.{List.AllByRecursion, Option.option_map, Prelude.{⊤, IfSome}}
 use Rattle.std.proofs.Common.{◌≡◌, ◌<◌, ℕ, Bool, true, false, List, [], ◌∷◌, ◌++◌, length, Option, Some, None, Result, Ok, Err, refl, sym, ap, subst, append_assoc, inl, inr}
-use Rattle.std.specs.Option.{option_map}
-use Rattle.std.specs.Prelude.{⊤, IfSome}
-use Rattle.agent_ask.specs.Callers.{unheard_of}
-use Rattle.agent_ask.specs.Events.{PromptEvent}
-use Rattle.agent_ask.specs.Further.{NoMemory}
-use Rattle.agent_ask.specs.SessionEvents.{Further, cache_turn, said_last}
-use Rattle.agent_ask.specs.TrustCalls.{Read, Replaced}
-use Rattle.agent_ask.specs.SessionPrompts.{AnyInSession}
-use Rattle.agent_ask.specs.declared.caller.Heard.{Heard}
-use Rattle.agent_ask.specs.declared.caller.Heard.TheVariants as heard_as
-use Rattle.agent_ask.specs.declared.consent.Agreed.{Agreed}
-use Rattle.agent_ask.specs.declared.consent.Agreed.TheVariants as agreed
-use Rattle.assuan_server.specs.Written.{ok}
-use Rattle.agent_commands.specs.Endings.{went_after}
-use Rattle.agent_ask.specs.Interrupts.{Interrupts}
-use Rattle.agent_ask.specs.Interrupts as turns
-use Rattle.agent_commands.specs.declared.request.Request.{Request}
-use Rattle.agent_commands.specs.declared.went.Went.{Went}
-use Rattle.agent_ports.specs.declared.grip.Grip.{Grip}
-use Rattle.agent_ports.specs.declared.trust.TrustDone.TheVariants as done
-use Rattle.agent_ports.specs.declared.trust.TrustRead.TheVariants as read
-use Rattle.arrayvec.specs.ArrayVec.{ArrayVec}
-use Rattle.assuan_server.specs.Clients.{session_lines}
-use Rattle.session_client.specs.Refusals.{refusal_code, gone_by}
-use Rattle.assuan_server.specs.Written as written
-use Rattle.session_client.specs.declared.code.Code.{Code}
-use Rattle.session_client.specs.declared.code.Code.TheVariants as code
-use Rattle.assuan_server.specs.declared.errors.Origin.{Origin}
-use Rattle.assuan_server.specs.declared.errors.Origin.TheVariants.{Agent, Pinentry}
-use Rattle.cache_policy.specs.Turns.{Turn, Refused, closes}
-use Rattle.cache_policy.specs.declared.mark.MarkStep.{MarkStep}
-use Rattle.cache_policy.specs.declared.mark.MarkStep.TheVariants.{Seat}
-use Rattle.assuan_text.specs.Options.{arguments_of}
-use Rattle.assuan_text.specs.Words.{command_of, rest_of, words}
-use Rattle.key_commands.specs.Events.{Event}
-use Rattle.session_client.specs.Fields as fields
-use Rattle.key_commands.specs.Requests.{grip, first_grip}
-use Rattle.session_client.specs.Fields.{in_form}
-use Rattle.session_client.specs.Asking.{gone_of}
-use Rattle.session_client.specs.declared.refusal.Refusal.{Refusal}
-use Rattle.session_client.specs.declared.refusal.Refusal.TheVariants as refusals
-use Rattle.session_client.specs.declared.refusal.Refusal.TheVariants.{Client}
-use Rattle.session_client.specs.declared.unheard.Gone.TheVariants as gone
-use Rattle.session_client.specs.declared.unheard.Unheard.{Unheard}
-use Rattle.session_client.specs.declared.unheard.Unheard.TheVariants as unheard
-use Rattle.session_options.specs.declared.options.PinMode.{PinMode}
-use Rattle.session_options.specs.declared.options.PinMode.TheVariants as mode
-use Rattle.session_options.specs.declared.rules.Rules.{Rules}
-use Rattle.trust_list.specs.Trust.{trust, with_entry}
+use Rattle.agent_ask.specs.{Callers.unheard_of, Events.PromptEvent, Further.NoMemory, SessionEvents.{Further, cache_turn, said_last}, TrustCalls.{Read, Replaced}, SessionPrompts.AnyInSession, declared.caller.Heard.Heard}
+use Rattle.{agent_ask.specs.{declared.consent.Agreed.Agreed, Interrupts.Interrupts, ConsentParts.{consent_refusal, AgreesTo}, TurnParts.{Seats, Closes}}, assuan_server.specs.{Written.ok, Clients.session_lines}}
+use Rattle.{assuan_server.specs.declared.errors.Origin.{Origin, TheVariants.{Agent, Pinentry}}, agent_commands.specs.{Endings.went_after, declared.{request.Request.Request, went.Went.Went}}, agent_ports.specs.declared.grip.Grip.Grip}
+use Rattle.{arrayvec.specs.ArrayVec.ArrayVec, session_client.specs.{Refusals.{refusal_code, gone_by}, declared.{code.Code.Code, refusal.Refusal.{Refusal, TheVariants.Client}, unheard.Unheard.Unheard}, Fields.in_form, Asking.gone_of}}
+use Rattle.{cache_policy.specs.{Turns.{Turn, Refused, closes}, declared.mark.MarkStep.{MarkStep, TheVariants.Seat}}, assuan_text.specs.{Options.arguments_of, Words.{command_of, rest_of, words}}, key_commands.specs.Events.Event}
+use Rattle.{key_commands.specs.{Requests.{grip, first_grip}, Parts.{Part, refusal_events}}, session_options.specs.declared.{options.PinMode.PinMode, rules.Rules.Rules}, trust_list.specs.Trust.{trust, with_entry}}
 use Rattle.trust_list.specs.declared.TheConstants.{MAX_TRUST_FILE_LEN}
 use Rattle.agent_origin.specs.TrustExchanges.{flag_of, trust_question, fingerprint_question, unless_said, TrustedNow, Stores, StoresUnsaid, Consented, asked_in, Marked, Carried, TrustExchange}
-use Rattle.agent_ask.specs.ConsentParts.{consent_refusal}
+use Rattle.agent_origin.specs.{TrustParts.{ReadsFile, AddsEntry, Replaces, trust_called}, TrustNames.trust_command_named, TrustRequests.{purpose, owner, mark_trusted_of, trust_asked_by, trust_or_bad, trust_request_by, trust_request_of}}
+use Rattle.agent_origin.specs.declared.{kept.Kept.Kept, trust.{names.TrustCommandName.TrustCommandName, request.{TrustPurpose.TrustPurpose, TrustRequest.{TrustRequest, TheVariants.{IsTrusted, MarkTrusted, Bad}}}}}
+use Rattle.agent_session.specs.{Causes.{StandIn, IsSaid, one, called_trust, turned}, Completeness.AnswersNothing}
+use Rattle.agent_session.specs.DoorCauses.{IsReadTrust, read_trust, IsReadAgain, read_again, IsMarked, IsTrustCaused, by_mode, by_client, by_stop, unsaid, denied, denied_mark, inquired, too_long, error, loopback}
+use Rattle.agent_session.proofs.{Explained.{Explained, replied, failed, silent, after_these}, Explaining.{Anything, ClientSays, cut, client_said, CausedRefusal, IsExplained, Comes, Explains, bind, returned, refused}}
+use Rattle.agent_session.proofs.{KeyParts.{has_call, heard_caused, prompt_silent}, Prompted.{ConsentShows, HasHeard, consent_shows}, Replying.reply_ok, Standing.{has_first, has_in, stand_all, stand_left}, TrustTold.{Told, told}}
+use Rattle.agent_ask.specs.declared.caller.Heard.TheVariants as heard_as
+use Rattle.agent_ask.specs.declared.consent.Agreed.TheVariants as agreed
+use Rattle.agent_ask.specs.Interrupts as turns
+use Rattle.agent_ports.specs.declared.trust.TrustDone.TheVariants as done
+use Rattle.agent_ports.specs.declared.trust.TrustRead.TheVariants as read
+use Rattle.assuan_server.specs.Written as written
+use Rattle.session_client.specs.declared.code.Code.TheVariants as code
+use Rattle.session_client.specs.Fields as fields
+use Rattle.session_client.specs.declared.refusal.Refusal.TheVariants as refusals
+use Rattle.session_client.specs.declared.unheard.Gone.TheVariants as gone
+use Rattle.session_client.specs.declared.unheard.Unheard.TheVariants as unheard
+use Rattle.session_options.specs.declared.options.PinMode.TheVariants as mode
 use Rattle.agent_ask.specs.ConsentParts as consent
-use Rattle.agent_ask.specs.TurnParts.{Seats}
 use Rattle.agent_ask.specs.Parts as chain
 use Rattle.agent_ask.specs.TurnParts as taken
-use Rattle.agent_origin.specs.TrustParts.{ReadsFile, AddsEntry, Replaces, trust_called}
-use Rattle.key_commands.specs.Parts.{Part, refusal_events}
 use Rattle.agent_origin.specs.TrustParts as parts
-use Rattle.agent_origin.specs.TrustNames.{trust_command_named}
-use Rattle.agent_origin.specs.TrustRequests.{purpose, owner, mark_trusted_of, trust_asked_by, trust_or_bad, trust_request_by, trust_request_of}
-use Rattle.agent_origin.specs.declared.kept.Kept.{Kept}
-use Rattle.agent_origin.specs.declared.trust.names.TrustCommandName.{TrustCommandName}
 use Rattle.agent_origin.specs.declared.trust.names.TrustCommandName.TheVariants as name
-use Rattle.agent_origin.specs.declared.trust.request.TrustPurpose.{TrustPurpose}
-use Rattle.agent_origin.specs.declared.trust.request.TrustRequest.{TrustRequest}
-use Rattle.agent_origin.specs.declared.trust.request.TrustRequest.TheVariants.{IsTrusted, MarkTrusted, Bad}
-use Rattle.agent_session.specs.Causes.{StandIn, IsSaid, one, called_trust, turned}
 use Rattle.agent_session.specs.Causes as causes
-use Rattle.agent_session.specs.Completeness.{AnswersNothing}
-use Rattle.agent_session.specs.DoorCauses.{IsReadTrust, read_trust, IsReadAgain, read_again, IsMarked, IsTrustCaused, by_mode, by_client, by_stop, unsaid, denied, denied_mark, inquired, too_long, error, loopback}
-use Rattle.agent_session.proofs.Explained.{Explained, replied, failed, silent, after_these}
-use Rattle.agent_session.proofs.Explaining.{Anything, ClientSays, cut, client_said, CausedRefusal, IsExplained, Comes, Explains, bind, returned, refused}
-use Rattle.agent_session.proofs.KeyParts.{has_call, heard_caused, prompt_silent}
 use Rattle.agent_session.proofs.Prompted as prompted
-use Rattle.agent_session.proofs.Prompted.{ConsentShows, HasHeard, consent_shows}
-use Rattle.agent_session.proofs.Replying.{reply_ok}
-use Rattle.agent_session.proofs.Standing.{has_first, has_in, stand_all, stand_left}
-use Rattle.agent_session.proofs.TrustTold.{Told, told}
 use Rattle.agent_session.proofs.TrustTold as telling
-use Rattle.agent_ask.specs.ConsentParts.{AgreesTo}
-use Rattle.agent_ask.specs.TurnParts.{Closes}
 
 -- `other` is a request of any session, of which nothing is said. A part is done within some of the events of the whole exchange.
 module _ (rules : Rules) (kept : Kept) (other : Request) (request : TrustRequest) (whole within : List Event) (lift : (events : List Event) → StandIn events within → StandIn events whole) where

@@ -1,26 +1,11 @@
 -- A client that is gone ends its request on the trust list.
 use Rattle.std.proofs.Common.{◌≡◌, List, [], Some, None, Ok, Err, refl, ap, inl, inr}
-use Rattle.agent_ask.proofs.Within.{Within, Joins, weaker}
-use Rattle.assuan_server.specs.Written.{ok, refusal_line}
-use Rattle.session_client.specs.Refusals.{gone_by}
-use Rattle.session_client.specs.declared.refusal.Refusal.TheVariants.{Client}
-use Rattle.session_client.specs.declared.unheard.Gone.{Gone}
-use Rattle.session_client.specs.declared.unheard.Unheard.TheVariants as unheard
-use Rattle.session_options.specs.OptionValues.{OptionValues}
-use Rattle.session_options.specs.declared.rules.Rules.{Rules}
-use Rattle.agent_commands.specs.Endings.{went_after, end_of}
-use Rattle.agent_commands.specs.declared.went.Went.{Went}
-use Rattle.agent_commands.specs.declared.went.Went.TheVariants.{End}
-use Rattle.agent_origin.specs.TrustExchanges.{TrustExchange}
-use Rattle.agent_origin.specs.declared.trust.request.TrustRequest.{TrustRequest}
-use Rattle.agent_origin.proofs.EachTrust.{TrustLaws, carried_so, each_reads, each_adds, each_replaces}
-use Rattle.key_commands.specs.Events.{Event}
-use Rattle.key_commands.specs.Parts.{Part}
+use Rattle.{agent_ask.proofs.Within.{Within, Joins, weaker}, assuan_server.specs.Written.{ok, refusal_line}, session_client.specs.{Refusals.gone_by, declared.{refusal.Refusal.TheVariants.Client, unheard.Gone.Gone}}}
+use Rattle.{session_options.specs.{OptionValues.OptionValues, declared.rules.Rules.Rules}, agent_commands.specs.{Endings.{went_after, end_of}, declared.went.Went.{Went, TheVariants.End}}, agent_origin.specs.TrustExchanges.TrustExchange}
+use Rattle.{agent_origin.{specs.declared.trust.request.TrustRequest.TrustRequest, proofs.EachTrust.{TrustLaws, carried_so, each_reads, each_adds, each_replaces}}, key_commands.specs.{Events.Event, Parts.Part}}
 use Rattle.key_commands.proofs.EachEvent.{EachSo, each_seats}
-use Rattle.agent_session.specs.Causes.{IsSaid}
-use Rattle.agent_session.proofs.Courses.{IsHeard, heard_so, said_split, said_before, works_said, gone_only, answer_heard}
-use Rattle.agent_session.proofs.PromptWorks.{agrees_to}
-use Rattle.agent_session.proofs.TrustTold.{Told, answered, refused, told}
+use Rattle.agent_session.{specs.Causes.IsSaid, proofs.{Courses.{IsHeard, heard_so, said_split, said_before, works_said, gone_only, answer_heard}, PromptWorks.agrees_to, TrustTold.{Told, answered, refused, told}}}
+use Rattle.session_client.specs.declared.unheard.Unheard.TheVariants as unheard
 
 -- a part that is refused so where the client is gone by one of its events
 abbrev GoneLaw : {A : Type 0} → Part A

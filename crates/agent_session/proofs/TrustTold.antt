@@ -1,21 +1,9 @@
 -- An exchange on the trust list by what its request came to: its work, the return of a ticket that it still holds, and its line.
 use Rattle.std.proofs.Common.{ℕ, List, [], ◌∷◌, ◌++◌, Option, None, Ok, Err, sym, subst, append-nil}
-use Rattle.agent_ask.specs.PartExchanges.{AnyExchange}
+use Rattle.{agent_ask.specs.{PartExchanges.AnyExchange, Parts.{goes_on, stops, returns}, SessionEvents.{Sent, said_last}, TurnParts.Closes}, assuan_server.specs.Written.{ok, refusal_line}, session_client.specs.Refusals.gone_by}
+use Rattle.{session_client.specs.declared.refusal.Refusal.Refusal, session_options.specs.{OptionValues.OptionValues, declared.rules.Rules.Rules}, agent_commands.specs.{Endings.went_after, declared.went.Went.{Went, TheVariants.On}}}
+use Rattle.{key_commands.specs.Events.Event, agent_origin.specs.{TrustExchanges.{Carried, TrustReplies, TrustExchange}, declared.trust.request.TrustRequest.TrustRequest}}
 use Rattle.agent_ask.specs.PartExchanges as exchange
-use Rattle.agent_ask.specs.Parts.{goes_on, stops, returns}
-use Rattle.agent_ask.specs.SessionEvents.{Sent, said_last}
-use Rattle.agent_ask.specs.TurnParts.{Closes}
-use Rattle.assuan_server.specs.Written.{ok, refusal_line}
-use Rattle.session_client.specs.Refusals.{gone_by}
-use Rattle.session_client.specs.declared.refusal.Refusal.{Refusal}
-use Rattle.session_options.specs.OptionValues.{OptionValues}
-use Rattle.session_options.specs.declared.rules.Rules.{Rules}
-use Rattle.agent_commands.specs.Endings.{went_after}
-use Rattle.agent_commands.specs.declared.went.Went.{Went}
-use Rattle.agent_commands.specs.declared.went.Went.TheVariants.{On}
-use Rattle.key_commands.specs.Events.{Event}
-use Rattle.agent_origin.specs.TrustExchanges.{Carried, TrustReplies, TrustExchange}
-use Rattle.agent_origin.specs.declared.trust.request.TrustRequest.{TrustRequest}
 
 module _ (rules : Rules) (options : OptionValues) (request : TrustRequest) where
   pub data Told : List Event → Went → Type 0 where

@@ -1,16 +1,8 @@
 -- A request none of whose errors has a cause is answered by OK.
 use Rattle.std.proofs.Common.{ℕ, List, sym, subst}
-use Rattle.agent_ask.specs.Further.{FurtherEvent}
-use Rattle.agent_ask.specs.SessionEvents.{Sent}
-use Rattle.session_client.specs.declared.code.Code.{Code}
-use Rattle.assuan_server.specs.declared.errors.Origin.{Origin}
-use Rattle.agent_commands.specs.Events.{EventWith}
-use Rattle.agent_commands.specs.declared.went.SessionEnd.TheVariants.{Bye, Killed, Ended, TooLong, Spent, ReadFault, WriteFault}
-use Rattle.agent_commands.specs.declared.went.Went.{Went}
-use Rattle.agent_commands.specs.declared.went.Went.TheVariants.{On, End}
-use Rattle.agent_session.specs.Causes.{Has, here}
-use Rattle.agent_session.specs.Completeness.{AnswersAtLast, IsAnswer, done, error, IsAnsweredBy, HasError, HasOk, IsAnsweredOk}
-use Rattle.agent_session.proofs.Standing.{has_right}
+use Rattle.{agent_ask.specs.{Further.FurtherEvent, SessionEvents.Sent}, session_client.specs.declared.code.Code.Code, assuan_server.specs.declared.errors.Origin.Origin, agent_commands.specs.Events.EventWith}
+use Rattle.agent_commands.specs.declared.went.{SessionEnd.TheVariants.{Bye, Killed, Ended, TooLong, Spent, ReadFault, WriteFault}, Went.{Went, TheVariants.{On, End}}}
+use Rattle.agent_session.{specs.{Causes.{Has, here}, Completeness.{AnswersAtLast, IsAnswer, done, error, IsAnsweredBy, HasError, HasOk, IsAnsweredOk}}, proofs.Standing.has_right}
 
 module _ (events : List (EventWith FurtherEvent)) (never : (why : Code) (origin : Origin) → HasError why origin events → ⊥) where
   ok_text : (text : List ℕ) → IsAnswer text → Has (Sent text) events → HasOk events

@@ -1,81 +1,37 @@
 -- Worked examples: exchanges in which a cause stands, and their answers.
-use Rattle.std.specs.List.{AllByRecursion}
-use Rattle.std.proofs.Common.{◌≡◌, ◌<◌, ◌≤◌, ◌⊎◌, ◌∙◌, ◌++◌, ℕ, Bool, true, false, List, [], ◌∷◌, length, take, drop, codes, Option, Some, None, Ok, refl, sym, ap, subst, inl, inr}
-use Rattle.arrayvec.specs.ArrayVec.{ArrayVec}
-use Rattle.agent_ask.specs.Answering.{whole}
-use Rattle.agent_ask.specs.Further.{Replaced}
-use Rattle.agent_ask.specs.SessionEvents.{Received, Sent, Inquiry, cache_turn}
+use Rattle.std.{specs.List.AllByRecursion, proofs.Common.{◌≡◌, ◌<◌, ◌≤◌, ◌⊎◌, ◌∙◌, ◌++◌, ℕ, Bool, true, false, List, [], ◌∷◌, length, take, drop, codes, Option, Some, None, Ok, refl, sym, ap, subst, inl, inr}}
+use Rattle.{arrayvec.specs.ArrayVec.ArrayVec, agent_ask.specs.{Answering.whole, Further.Replaced, SessionEvents.{Received, Sent, Inquiry, cache_turn}}, agent_commands.specs.{Exchanges.CacheExchange, Passphrases.ask}}
+use Rattle.agent_commands.specs.{Requests.{GetFields, get_passphrase, request_of}, declared.{request.{CacheCommand.TheVariants.PresetPassphrase, Request.{Request, TheVariants.{Cache, Key as OnKeys}}}, went.Went.Went}}
+use Rattle.{agent_commands.specs.declared.went.Went.TheVariants.{On, End}, assuan_server.specs.{Written.{limit_line, failed, greeting}, Inquiries.TooLong, declared.errors.Origin.TheVariants.Agent}, agent_ports.specs.declared.grip.Grip.Grip}
+use Rattle.{agent_ports.specs.declared.keys.KeyRead.KeyRead, assuan_text.specs.{LineEnds.line_of, Words.command_of}, cache_policy.specs.{Turns.{Empty, Given, FitsStep}, declared.{grant.Grant.Grant, life.Life.Life}}}
+use Rattle.{cache_policy.specs.declared.secret.TheConstants.MAX_SECRET_LEN, key_commands.specs.{Events.{Event, called, read, drew}, Exchanges.{KeyExchange, KeyInfoReplies, PasswdReplies, RewritesFile}, Files.{FileSays, IsWithList}}}
+use Rattle.{key_commands.specs.{KeyParts.file_in, Passphrases.{old_by, ask_nonce}, Requests.key_request_of, declared.wrapping.TheConstants.MAX_LIST_LEN}, key_lines.specs.Canon.{Canon, is_canonical}}
+use Rattle.{secret_file.specs.Protects.{ocb_protection, protected_file}, session_client.specs.Asking.Asked, session_options.specs.declared.rules.Rules.Rules, sexp_canonical.specs.Spelling.most_bytes, sexp_keys.specs.Key.Key}
+use Rattle.{sexp_keys.specs.Lists.key_list_of, agent_origin.specs.{DoorSessions.DoorExchange, Doors.allowed, TrustNames.trust_command_named, TrustRequests.trust_request_of, SessionExchanges.{RequestExchange, cache, keys}}}
+use Rattle.agent_origin.specs.declared.{door.Door.Door, kept.Kept.Kept, trust.request.TrustRequest.TheVariants.Bad}
+use Rattle.agent_session.specs.{Causes.{Has, here, later, LacksKeys, empty, IsRead, IsReadOf, read_of, OpensRead, opens, protected, said}, Completeness.{Remembers, HasError}}
+use Rattle.agent_session.{specs.Exactly.{on_trust, clear, long, long_file, HasLongList, HasLongFile, EndsTooLong, at_inquiry}, proofs.{Exact.{cause_answered, door_cause}, ExactEnds.end_told, ExactFiles.one_says}}
+use Rattle.agent_session.proofs.{KeyExplained.exchange_caused, LongLines.{session_long, long_session}}
 use Rattle.agent_ask.specs.ClientParts as client
 use Rattle.agent_ask.specs.PartExchanges as exchanges
-use Rattle.agent_commands.specs.Exchanges.{CacheExchange}
-use Rattle.assuan_server.specs.Written.{limit_line}
-use Rattle.agent_commands.specs.Passphrases.{ask}
-use Rattle.agent_commands.specs.Requests.{GetFields, get_passphrase, request_of}
 use Rattle.agent_commands.specs.Talks as talks
-use Rattle.agent_commands.specs.declared.request.CacheCommand.TheVariants.{PresetPassphrase}
-use Rattle.agent_commands.specs.declared.request.Request.{Request}
-use Rattle.agent_commands.specs.declared.request.Request.TheVariants.{Cache, Key as OnKeys}
 use Rattle.agent_commands.specs.declared.went.SessionEnd.TheVariants as ends
-use Rattle.agent_commands.specs.declared.went.Went.{Went}
-use Rattle.agent_commands.specs.declared.went.Went.TheVariants.{On, End}
-use Rattle.agent_ports.specs.declared.grip.Grip.{Grip}
 use Rattle.agent_ports.specs.declared.keys.KeyDone.TheVariants as key_done
-use Rattle.agent_ports.specs.declared.keys.KeyRead.{KeyRead}
 use Rattle.agent_ports.specs.declared.keys.KeyRead.TheVariants as key_read
 use Rattle.assuan_line.specs.declared.reader.Took.TheVariants as took
-use Rattle.assuan_server.specs.Inquiries.{TooLong}
-use Rattle.assuan_server.specs.Written.{failed, greeting}
 use Rattle.session_client.specs.declared.code.Code.TheVariants as code
-use Rattle.assuan_server.specs.declared.errors.Origin.TheVariants.{Agent}
-use Rattle.assuan_text.specs.LineEnds.{line_of}
-use Rattle.assuan_text.specs.Words.{command_of}
-use Rattle.cache_policy.specs.Turns.{Empty, Given, FitsStep}
-use Rattle.cache_policy.specs.declared.grant.Grant.{Grant}
-use Rattle.cache_policy.specs.declared.life.Life.{Life}
-use Rattle.cache_policy.specs.declared.secret.TheConstants.{MAX_SECRET_LEN}
-use Rattle.key_commands.specs.Events.{Event, called, read, drew}
-use Rattle.key_commands.specs.Exchanges.{KeyExchange, KeyInfoReplies, PasswdReplies, RewritesFile}
-use Rattle.key_commands.specs.Files.{FileSays, IsWithList}
 use Rattle.key_commands.specs.Files as files
-use Rattle.key_commands.specs.KeyParts.{file_in}
 use Rattle.key_commands.specs.KeyParts as key_parts
 use Rattle.key_commands.specs.Parts as small
-use Rattle.key_commands.specs.Passphrases.{old_by, ask_nonce}
 use Rattle.agent_ask.specs.Parts as chain
 use Rattle.agent_ask.specs.TurnParts as turning
-use Rattle.key_commands.specs.Requests.{key_request_of}
 use Rattle.session_client.specs.declared.refusal.Refusal.TheVariants as refusals
 use Rattle.key_commands.specs.declared.request.KeyRequest.TheVariants as on
 use Rattle.key_commands.specs.declared.went.KeyWent.TheVariants as key_went
-use Rattle.key_commands.specs.declared.wrapping.TheConstants.{MAX_LIST_LEN}
-use Rattle.key_lines.specs.Canon.{Canon, is_canonical}
-use Rattle.secret_file.specs.Protects.{ocb_protection, protected_file}
-use Rattle.session_client.specs.Asking.{Asked}
 use Rattle.session_client.specs.declared.unheard.Gone.TheVariants as gone
 use Rattle.session_client.specs.declared.unheard.Unheard.TheVariants as unheard
-use Rattle.session_options.specs.declared.rules.Rules.{Rules}
-use Rattle.sexp_canonical.specs.Spelling.{most_bytes}
-use Rattle.sexp_keys.specs.Key.{Key}
-use Rattle.sexp_keys.specs.Lists.{key_list_of}
-use Rattle.agent_origin.specs.DoorSessions.{DoorExchange}
-use Rattle.agent_origin.specs.Doors.{allowed}
-use Rattle.agent_origin.specs.TrustNames.{trust_command_named}
-use Rattle.agent_origin.specs.TrustRequests.{trust_request_of}
-use Rattle.agent_origin.specs.SessionExchanges.{RequestExchange, cache, keys}
-use Rattle.agent_origin.specs.declared.door.Door.{Door}
-use Rattle.agent_origin.specs.declared.kept.Kept.{Kept}
 use Rattle.agent_origin.specs.declared.trust.names.TrustCommandName.TheVariants as name
-use Rattle.agent_origin.specs.declared.trust.request.TrustRequest.TheVariants.{Bad}
-use Rattle.agent_session.specs.Causes.{Has, here, later, LacksKeys, empty, IsRead, IsReadOf, read_of, OpensRead, opens, protected, said}
 use Rattle.agent_session.specs.Causes as causes
-use Rattle.agent_session.specs.Completeness.{Remembers, HasError}
-use Rattle.agent_session.specs.Exactly.{on_trust, clear, long, long_file, HasLongList, HasLongFile, EndsTooLong, at_inquiry}
-use Rattle.agent_session.proofs.Exact.{cause_answered}
-use Rattle.agent_session.proofs.Exact.{door_cause}
-use Rattle.agent_session.proofs.ExactEnds.{end_told}
-use Rattle.agent_session.proofs.ExactFiles.{one_says}
-use Rattle.agent_session.proofs.KeyExplained.{exchange_caused}
-use Rattle.agent_session.proofs.LongLines.{session_long, long_session}
 
 one_of_two : {event first second : Event} → Has event (first ∷ second ∷ []) → (event ≡ first) ⊎ (event ≡ second)
 one_of_two here = inl refl

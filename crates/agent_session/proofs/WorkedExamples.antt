@@ -1,35 +1,16 @@
 -- Worked examples: error lines that have no cause.
-use Rattle.std.specs.List.{AllByRecursion, count_by}
-use Rattle.std.proofs.Common.{◌≡◌, ℕ, false, List, [], ◌∷◌, Some, None, refl, inl, inr}
-use Rattle.std.specs.Prelude.{⊤}
-use Rattle.agent_ask.specs.Events.{GetPin, Start, Shut, Called}
-use Rattle.agent_ask.specs.Further.{FurtherEvent, Prompt, Dice, Trust, Drew, NotDrawn}
-use Rattle.agent_ask.specs.Prompters.{is_failed}
-use Rattle.agent_ask.specs.SessionEvents.{Sent, Further, cache_turn}
-use Rattle.agent_ask.specs.TrustCalls.{Read}
+use Rattle.std.{specs.{List.{AllByRecursion, count_by}, Prelude.⊤}, proofs.Common.{◌≡◌, ℕ, false, List, [], ◌∷◌, Some, None, refl, inl, inr}}
+use Rattle.agent_ask.specs.{Events.{GetPin, Start, Shut, Called}, Further.{FurtherEvent, Prompt, Dice, Trust, Drew, NotDrawn}, Prompters.is_failed, SessionEvents.{Sent, Further, cache_turn}, TrustCalls.Read}
+use Rattle.{agent_ask.specs.declared.spec.PromptSpec.PromptSpec, assuan_server.specs.{Written.failed, declared.errors.Origin.TheVariants.Agent}, cache_policy.specs.{Turns.{Given, Open, Done}, declared.grant.Grant.Grant}}
+use Rattle.{cache_policy.specs.declared.mark.MarkStep.{MarkStep, TheVariants.Close}, session_options.specs.declared.rules.Rules.Rules, agent_commands.specs.{Events.EventWith, Passphrases.{ask, ask_or_open}}}
+use Rattle.{agent_commands.specs.{Requests.{GetFields, get_passphrase}, declared.request.Request.{Request, TheVariants.Cache}}, agent_origin.specs.declared.kept.Kept.Kept}
+use Rattle.agent_session.{specs.{Causes.{here, later, IsCaused, HasNoEntry, GivesNone, HasCall, is_broken}, Counting.{fails_at_keys, fails_at_dice, fails_at_trust}}, proofs.Standing.each_has}
 use Rattle.agent_ports.specs.declared.trust.TrustRead.TheVariants as trust_read
 use Rattle.agent_ask.specs.declared.prompter.Opened.TheVariants as opened
 use Rattle.agent_ask.specs.declared.prompter.Outcome.TheVariants as outcome
-use Rattle.agent_ask.specs.declared.spec.PromptSpec.{PromptSpec}
-use Rattle.assuan_server.specs.Written.{failed}
 use Rattle.session_client.specs.declared.code.Code.TheVariants as code
-use Rattle.assuan_server.specs.declared.errors.Origin.TheVariants.{Agent}
-use Rattle.cache_policy.specs.Turns.{Given, Open, Done}
-use Rattle.cache_policy.specs.declared.grant.Grant.{Grant}
-use Rattle.cache_policy.specs.declared.mark.MarkStep.{MarkStep}
-use Rattle.cache_policy.specs.declared.mark.MarkStep.TheVariants.{Close}
 use Rattle.session_options.specs.declared.options.PinMode.TheVariants as mode
-use Rattle.session_options.specs.declared.rules.Rules.{Rules}
-use Rattle.agent_commands.specs.Events.{EventWith}
-use Rattle.agent_commands.specs.Passphrases.{ask, ask_or_open}
-use Rattle.agent_commands.specs.Requests.{GetFields, get_passphrase}
-use Rattle.agent_commands.specs.declared.request.Request.{Request}
-use Rattle.agent_commands.specs.declared.request.Request.TheVariants.{Cache}
-use Rattle.agent_session.specs.Causes.{here, later, IsCaused, HasNoEntry, GivesNone, HasCall, is_broken}
 use Rattle.agent_session.specs.Causes as causes
-use Rattle.agent_session.specs.Counting.{fails_at_keys, fails_at_dice, fails_at_trust}
-use Rattle.agent_origin.specs.declared.kept.Kept.{Kept}
-use Rattle.agent_session.proofs.Standing.{each_has}
 
 module _ (rules : Rules) (kept : Kept) where
   -- a request in which the keys and the dice weren't called isn't answered by a General error

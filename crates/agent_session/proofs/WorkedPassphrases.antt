@@ -1,89 +1,37 @@
 -- Worked exchanges: whose their passphrases are, and what stands after a refusal.
-use Rattle.std.specs.Prelude.{⊤, take, drop}
-use Rattle.arrayvec.specs.ArrayVec.{ArrayVec}
-use Rattle.std.proofs.Common.{◌≡◌, ◌≤◌, ℕ, false, true, List, [], ◌∷◌, ◌++◌, length, Some, None, Ok, Err, refl, sym, ap, subst, arith, codes}
-use Rattle.agent_ask.specs.Answering.{whole}
-use Rattle.agent_ask.specs.Events.{PromptEvent, Start, GetPin, Shut, Called}
-use Rattle.agent_ask.specs.Further.{FurtherEvent, Prompt, Replaced}
-use Rattle.agent_ask.specs.Plans.{IsSpec, plan_of}
-use Rattle.agent_ask.specs.Prompts.{AsksPin, tried, quiet, good, accepted, same}
-use Rattle.agent_ask.specs.SessionEvents.{Received, Sent, Inquiry, Further, cache_turn}
-use Rattle.agent_ask.specs.Tests.{test_of}
-use Rattle.agent_ask.specs.SessionPrompts.{AnyInSession}
+use Rattle.std.{specs.Prelude.{⊤, take, drop}, proofs.Common.{◌≡◌, ◌≤◌, ℕ, false, true, List, [], ◌∷◌, ◌++◌, length, Some, None, Ok, Err, refl, sym, ap, subst, arith, codes}}
+use Rattle.{arrayvec.specs.ArrayVec.ArrayVec, agent_ask.specs.{Answering.whole, Events.{PromptEvent, Start, GetPin, Shut, Called}, Further.{FurtherEvent, Prompt, Replaced}, Plans.{IsSpec, plan_of}}}
+use Rattle.agent_ask.specs.{Prompts.{AsksPin, tried, quiet, good, accepted, same}, SessionEvents.{Received, Sent, Inquiry, Further, cache_turn}, Tests.test_of, SessionPrompts.AnyInSession, declared.spec.AskPlan.AskPlan}
+use Rattle.{agent_ask.specs.{declared.{spec.PromptSpec.PromptSpec, test.Tested.TheVariants.Yes}, Parts.{goes_on, stops, returns, wanted, or_else}}, agent_ports.specs.declared.grip.Grip.Grip, assuan_escape.specs.Escapes.hex_text}
+use Rattle.{assuan_server.specs.{Clients.session_lines, Inquiries.Data, Written.{failed, greeting, ok_text, limit_line, IsDataAnswer}, declared.errors.Origin.TheVariants.Agent as OfAgent}, assuan_text.specs.LineEnds.line_of}
+use Rattle.{cache_policy.specs.{Turns.{Given, Open, Done, Refused, FitsStep}, declared.{grant.Grant.Grant, life.Life.Life, mark.MarkStep.TheVariants.Close}}, secret_file.specs.Protects.{ocb_protection, protected_file}}
+use Rattle.{session_client.specs.{Asking.Asked, declared.refusal.Refusal.TheVariants.Agent}, session_options.specs.{OptionValues.OptionValues, declared.rules.Rules.Rules}, sexp_keys.specs.{Key.Key, Lists.grip_of}}
+use Rattle.agent_commands.specs.{Events.EventWith, Exchanges.{CacheExchange, Presets, put, reply}, Passphrases.{ask_or_open, ByUser, as_wanted}, Requests.{GetFields, get_passphrase, request_of}, Talks.{Session, greeted}}
+use Rattle.agent_commands.specs.declared.{request.{CacheCommand.TheVariants.PresetPassphrase, Request.{Request, TheVariants.{Cache, Key as OnKeys}}, Texts.Texts}, went.{SessionEnd.TheVariants.Ended, Went.TheVariants.On}}
+use Rattle.key_commands.specs.{Lines.max_key_data, Events.{drew, called}, Exchanges.{KeyExchange, KeyWrapReplies, ImportKeyReplies, key_reply, wrap_key, with_wrap_key}, Parts.Draws, Requests.key_request_of}
+use Rattle.{key_commands.specs.{declared.{request.Direction.Direction, wrap_keys.WrapKeys.WrapKeys}, Passphrases.ask_nonce, Wrapping.WrappedSays}, agent_origin.specs.SessionExchanges.{SessionExchange, RequestExchange, cache, keys}}
+use Rattle.agent_origin.specs.declared.kept.Kept.{Kept}
+use Rattle.agent_session.{specs.{Causes.{Has, here, later}, Imports.{put_nonce, ImportCourse}, OwnAnswers.{SaysOwn, TellsOfKeys}, OwnPassphrases.{StoresOwn, StoresOwnIn, keeps}}, proofs.ImportCourses.import_exchange}
+use Rattle.agent_session.proofs.{KeyExplained.exchange_goes_on, OwnCache.{cache_own, request_own}, OwnKeyLines.request_told, OwnParts.{Fit, own_at}, OwnSessions.{exchange_own, session_own}}
 use Rattle.agent_ask.specs.SessionPrompts as under
 use Rattle.agent_ask.specs.declared.ask.Asked.TheVariants as asked
 use Rattle.agent_ask.specs.declared.prompter.Opened.TheVariants as opened
 use Rattle.agent_ask.specs.declared.prompter.Outcome.TheVariants as outcome
-use Rattle.agent_ask.specs.declared.spec.AskPlan.{AskPlan}
-use Rattle.agent_ask.specs.declared.spec.PromptSpec.{PromptSpec}
-use Rattle.agent_ask.specs.declared.test.Tested.TheVariants.{Yes}
-use Rattle.agent_ports.specs.declared.grip.Grip.{Grip}
 use Rattle.agent_ports.specs.declared.keys.KeyDone.TheVariants as key_done
-use Rattle.assuan_escape.specs.Escapes.{hex_text}
 use Rattle.assuan_line.specs.declared.reader.Took.TheVariants as took
-use Rattle.assuan_server.specs.Clients.{session_lines}
-use Rattle.assuan_server.specs.Inquiries.{Data}
-use Rattle.assuan_server.specs.Written.{failed, greeting, ok_text}
 use Rattle.session_client.specs.declared.code.Code.TheVariants as code
-use Rattle.assuan_server.specs.declared.errors.Origin.TheVariants.{Agent as OfAgent}
-use Rattle.assuan_text.specs.LineEnds.{line_of}
-use Rattle.cache_policy.specs.Turns.{Given, Open, Done, Refused, FitsStep}
-use Rattle.cache_policy.specs.declared.grant.Grant.{Grant}
-use Rattle.cache_policy.specs.declared.life.Life.{Life}
-use Rattle.cache_policy.specs.declared.mark.MarkStep.TheVariants.{Close}
-use Rattle.secret_file.specs.Protects.{ocb_protection, protected_file}
-use Rattle.session_client.specs.Asking.{Asked}
-use Rattle.session_options.specs.OptionValues.{OptionValues}
 use Rattle.session_options.specs.declared.options.PinMode.TheVariants as mode
-use Rattle.session_options.specs.declared.rules.Rules.{Rules}
-use Rattle.sexp_keys.specs.Key.{Key}
-use Rattle.sexp_keys.specs.Lists.{grip_of}
-use Rattle.agent_commands.specs.Events.{EventWith}
 use Rattle.agent_commands.specs.Exchanges as exchanges
-use Rattle.agent_commands.specs.Exchanges.{CacheExchange, Presets, put, reply}
-use Rattle.agent_commands.specs.Passphrases.{ask_or_open, ByUser, as_wanted}
 use Rattle.agent_commands.specs.Passphrases as passphrases
-use Rattle.agent_commands.specs.Requests.{GetFields, get_passphrase, request_of}
-use Rattle.agent_commands.specs.Talks.{Session, greeted}
 use Rattle.agent_commands.specs.Talks as talks
-use Rattle.agent_commands.specs.declared.request.CacheCommand.TheVariants.{PresetPassphrase}
-use Rattle.agent_commands.specs.declared.request.Request.{Request}
-use Rattle.agent_commands.specs.declared.request.Request.TheVariants.{Cache, Key as OnKeys}
-use Rattle.agent_commands.specs.declared.request.Texts.{Texts}
-use Rattle.agent_commands.specs.declared.went.SessionEnd.TheVariants.{Ended}
-use Rattle.agent_commands.specs.declared.went.Went.TheVariants.{On}
-use Rattle.key_commands.specs.Lines.{max_key_data}
-use Rattle.key_commands.specs.Events.{drew, called}
-use Rattle.key_commands.specs.Exchanges.{KeyExchange, KeyWrapReplies, ImportKeyReplies, key_reply, wrap_key, with_wrap_key}
-use Rattle.key_commands.specs.Parts.{Draws}
-use Rattle.key_commands.specs.Requests.{key_request_of}
-use Rattle.key_commands.specs.declared.request.Direction.{Direction}
 use Rattle.key_commands.specs.declared.went.KeyWent.TheVariants as key_went
 use Rattle.key_commands.specs.KeyParts as parts
-use Rattle.assuan_server.specs.Written.{limit_line, IsDataAnswer}
 use Rattle.agent_ask.specs.Interrupts as interrupts
 use Rattle.agent_ask.specs.TurnParts as turning
 use Rattle.agent_ask.specs.ClientParts as client_parts
 use Rattle.key_commands.specs.Parts as small
 use Rattle.agent_ask.specs.PartExchanges as part_exchange
-use Rattle.agent_ask.specs.Parts.{goes_on, stops, returns, wanted, or_else}
-use Rattle.key_commands.specs.Passphrases.{ask_nonce}
-use Rattle.key_commands.specs.Wrapping.{WrappedSays}
-use Rattle.session_client.specs.declared.refusal.Refusal.TheVariants.{Agent}
 use Rattle.key_commands.specs.declared.request.KeyRequest.TheVariants as on
-use Rattle.key_commands.specs.declared.wrap_keys.WrapKeys.{WrapKeys}
-use Rattle.agent_origin.specs.SessionExchanges.{SessionExchange, RequestExchange, cache, keys}
-use Rattle.agent_origin.specs.declared.kept.Kept.{Kept}
-use Rattle.agent_session.specs.Causes.{Has, here, later}
-use Rattle.agent_session.specs.Imports.{put_nonce, ImportCourse}
-use Rattle.agent_session.specs.OwnAnswers.{SaysOwn, TellsOfKeys}
-use Rattle.agent_session.specs.OwnPassphrases.{StoresOwn, StoresOwnIn, keeps}
-use Rattle.agent_session.proofs.ImportCourses.{import_exchange}
-use Rattle.agent_session.proofs.KeyExplained.{exchange_goes_on}
-use Rattle.agent_session.proofs.OwnCache.{cache_own, request_own}
-use Rattle.agent_session.proofs.OwnKeyLines.{request_told}
-use Rattle.agent_session.proofs.OwnParts.{Fit, own_at}
-use Rattle.agent_session.proofs.OwnSessions.{exchange_own, session_own}
 
 -- ---- a passphrase is typed, and kept
 

@@ -1,38 +1,18 @@
 -- Worked lists of events that no request has: what a prompt didn't accept isn't kept, a file that was read once isn't too long, and a key that didn't come in is
 -- no request's.
-use Rattle.std.specs.Prelude.{if◌then◌else◌}
-use Rattle.std.proofs.Common.{◌≡◌, ℕ, true, List, [], ◌∷◌, Option, Some, None, Ok, ap, subst}
-use Rattle.agent_ask.specs.Prompts.{AsksPin, AsksBefore, Tries, IsTry, MeetsCheck}
+use Rattle.std.{specs.Prelude.if◌then◌else◌, proofs.Common.{◌≡◌, ℕ, true, List, [], ◌∷◌, Option, Some, None, Ok, ap, subst}}
+use Rattle.agent_ask.specs.{Prompts.{AsksPin, AsksBefore, Tries, IsTry, MeetsCheck}, SessionEvents.Sent, TrustCalls.Read, declared.spec.{AskPlan.AskPlan, PromptSpec.PromptSpec}, Further.FurtherEvent}
+use Rattle.{agent_ports.specs.declared.{grip.Grip.Grip, trust.TrustRead.TrustRead}, assuan_server.specs.Written.failed, cache_policy.specs.declared.mark.MarkStep.TheVariants.Close, secret_file.specs.Opens.LockedKey}
+use Rattle.{session_options.specs.{OptionValues.OptionValues, declared.rules.Rules.Rules}, agent_commands.specs.{Events.EventWith, Requests.{GetFields, get_passphrase}, declared.request.Request.{Request, TheVariants.Cache}}}
+use Rattle.{key_commands.specs.Passphrases.OpensBy, agent_origin.specs.{TrustParts.trust_called, declared.{kept.Kept.Kept, trust.request.TrustRequest.TrustRequest}}}
+use Rattle.agent_session.specs.{Causes.{later, on_keys, IsReadLocked, exports, changes, wanted, of_new, of_import, data_says, sent, said}, DoorCauses.{IsTooMuch, inquired, too_long, read_again, read_trust}}
+use Rattle.agent_session.specs.{OwnPassphrases.{IsAccepted, any, opening, verifies, StoresOwn, accepted, changed, IsAbout, named, brought}, Refusals.{IsNonceOf, nonce_of}}
 use Rattle.agent_ask.specs.Prompts as prompts
-use Rattle.agent_ask.specs.SessionEvents.{Sent}
-use Rattle.agent_ask.specs.TrustCalls.{Read}
 use Rattle.agent_ask.specs.declared.ask.Asked.TheVariants as asked
 use Rattle.agent_ask.specs.declared.prompter.Outcome.TheVariants as outcome
-use Rattle.agent_ask.specs.declared.spec.AskPlan.{AskPlan}
-use Rattle.agent_ask.specs.declared.spec.PromptSpec.{PromptSpec}
-use Rattle.agent_ports.specs.declared.grip.Grip.{Grip}
-use Rattle.agent_ports.specs.declared.trust.TrustRead.{TrustRead}
-use Rattle.assuan_server.specs.Written.{failed}
-use Rattle.cache_policy.specs.declared.mark.MarkStep.TheVariants.{Close}
-use Rattle.secret_file.specs.Opens.{LockedKey}
 use Rattle.session_client.specs.declared.code.Code.TheVariants as code
-use Rattle.session_options.specs.OptionValues.{OptionValues}
-use Rattle.session_options.specs.declared.rules.Rules.{Rules}
-use Rattle.agent_commands.specs.Events.{EventWith}
-use Rattle.agent_commands.specs.Requests.{GetFields, get_passphrase}
-use Rattle.agent_commands.specs.declared.request.Request.{Request}
-use Rattle.agent_commands.specs.declared.request.Request.TheVariants.{Cache}
-use Rattle.agent_ask.specs.Further.{FurtherEvent}
-use Rattle.key_commands.specs.Passphrases.{OpensBy}
 use Rattle.key_commands.specs.declared.request.KeyRequest.TheVariants as on
-use Rattle.agent_origin.specs.TrustParts.{trust_called}
-use Rattle.agent_origin.specs.declared.kept.Kept.{Kept}
-use Rattle.agent_origin.specs.declared.trust.request.TrustRequest.{TrustRequest}
-use Rattle.agent_session.specs.Causes.{later, on_keys, IsReadLocked, exports, changes, wanted, of_new, of_import, data_says, sent, said}
-use Rattle.agent_session.specs.DoorCauses.{IsTooMuch, inquired, too_long, read_again, read_trust}
-use Rattle.agent_session.specs.OwnPassphrases.{IsAccepted, any, opening, verifies, StoresOwn, accepted, changed, IsAbout, named, brought}
 use Rattle.agent_session.specs.OwnPassphrases as whose
-use Rattle.agent_session.specs.Refusals.{IsNonceOf, nonce_of}
 
 -- ---- what a prompt came to is right, and meets the check
 

@@ -1,45 +1,16 @@
 -- Worked examples: a session with the one request NOP, of whose exchange the laws hold.
-use Rattle.std.proofs.Common.{◌≡◌, List, [], ◌∷◌, None, refl, sym, subst}
-use Rattle.std.specs.Prelude.{⊤, codes}
-use Rattle.agent_ask.specs.Answering as answering
-use Rattle.agent_ask.specs.Events.{Call}
-use Rattle.agent_ask.specs.PartExchanges as whole
-use Rattle.agent_ask.specs.Parts.{returns}
-use Rattle.agent_ask.specs.Prompters.{AtPrompter}
-use Rattle.agent_ask.specs.SessionEvents.{Received, Sent}
-use Rattle.agent_ask.specs.TurnParts.{unheld}
-use Rattle.agent_ask.specs.Worlds.{Outside, Does}
-use Rattle.agent_ask.specs.Worlds as worlds
-use Rattle.assuan_server.specs.Written.{ok}
-use Rattle.agent_commands.specs.Names.{command_named}
-use Rattle.agent_commands.specs.Requests.{request_of}
-use Rattle.agent_commands.specs.Talks.{Session}
-use Rattle.agent_commands.specs.Talks as talks
-use Rattle.agent_commands.specs.declared.request.CacheCommand.TheVariants.{Nop}
-use Rattle.agent_commands.specs.declared.request.Request.{Request}
-use Rattle.agent_commands.specs.declared.request.Request.TheVariants.{Cache}
-use Rattle.agent_commands.specs.declared.went.SessionEnd.TheVariants.{Ended}
-use Rattle.agent_commands.specs.declared.went.Went.TheVariants.{On}
-use Rattle.agent_origin.specs.FurtherStates.{FurtherWorld}
-use Rattle.agent_origin.specs.SessionExchanges.{SessionExchange, RequestExchange, cache}
-use Rattle.agent_origin.specs.declared.kept.Kept.{Kept}
-use Rattle.agent_ports.specs.KeyFiles.{KeyFiles}
-use Rattle.agent_ports.specs.Leads.{Leads, none, one}
-use Rattle.agent_ports.specs.Sides.{Side}
-use Rattle.agent_ports.specs.TrustFiles.{TrustState}
-use Rattle.assuan_line.specs.declared.reader.Took.TheVariants as took
-use Rattle.assuan_server.specs.Reading.{Supply}
-use Rattle.assuan_server.specs.Written.{greeting}
-use Rattle.assuan_text.specs.LineEnds.{line_of}
-use Rattle.cache_policy.specs.Desks.{AtDesk}
-use Rattle.cache_policy.specs.Turns.{Turn}
-use Rattle.cache_policy.specs.declared.mark.MarkStep.{MarkStep}
-use Rattle.key_commands.specs.Events.{Event}
+use Rattle.std.{proofs.Common.{◌≡◌, List, [], ◌∷◌, None, refl, sym, subst}, specs.Prelude.{⊤, codes}}
+use Rattle.{agent_ask.specs.{Events.Call, Parts.returns, Prompters.AtPrompter, SessionEvents.{Received, Sent}, TurnParts.unheld, Worlds.{Outside, Does}}, assuan_server.specs.{Written.{ok, greeting}, Reading.Supply}}
+use Rattle.agent_commands.specs.{Names.command_named, Requests.request_of, Talks.Session, declared.{request.{CacheCommand.TheVariants.Nop, Request.{Request, TheVariants.Cache}}, went.{SessionEnd.TheVariants.Ended, Went.TheVariants.On}}}
+use Rattle.{agent_origin.specs.{FurtherStates.FurtherWorld, SessionExchanges.{SessionExchange, RequestExchange, cache}, declared.kept.Kept.Kept}, agent_ports.specs.{KeyFiles.KeyFiles, Leads.{Leads, none, one}, Sides.Side}}
+use Rattle.{agent_ports.specs.TrustFiles.TrustState, assuan_text.specs.LineEnds.line_of, cache_policy.specs.{Desks.AtDesk, Turns.Turn, declared.mark.MarkStep.MarkStep}, key_commands.specs.Events.Event}
 use Rattle.session_options.specs.declared.rules.Rules.{Rules}
-use Rattle.agent_session.specs.Completeness.{SessionCauses}
-use Rattle.agent_session.specs.RunExchanges.{ExchangeBetween, LawfulExchange}
-use Rattle.agent_session.proofs.Answering.{in_session}
-use Rattle.agent_session.proofs.RunExchanges.{between, session_between, lawful}
+use Rattle.agent_session.{specs.{Completeness.SessionCauses, RunExchanges.{ExchangeBetween, LawfulExchange}}, proofs.{Answering.in_session, RunExchanges.{between, session_between, lawful}}}
+use Rattle.agent_ask.specs.Answering as answering
+use Rattle.agent_ask.specs.PartExchanges as whole
+use Rattle.agent_ask.specs.Worlds as worlds
+use Rattle.agent_commands.specs.Talks as talks
+use Rattle.assuan_line.specs.declared.reader.Took.TheVariants as took
 
 -- a desk and a prompter of which nobody wants anything
 abbrev no_turn : Unit {0} → MarkStep → Turn → Unit {0} → Type 0

@@ -1,50 +1,20 @@
 -- A worked exchange of a request on the trust list: MARKTRUSTED whose file is too long with one entry more, as it is read once the user consented.
-use Rattle.std.specs.List.{AllByRecursion}
-use Rattle.std.proofs.Common.{◌≡◌, ◌<◌, ℕ, Bool, true, List, [], ◌∷◌, ◌++◌, length, Option, Some, None, Result, Ok, Err, refl, sym, subst}
-use Rattle.agent_ask.specs.ConsentParts.{AgreesTo}
+use Rattle.std.{specs.List.AllByRecursion, proofs.Common.{◌≡◌, ◌<◌, ℕ, Bool, true, List, [], ◌∷◌, ◌++◌, length, Option, Some, None, Result, Ok, Err, refl, sym, subst}}
+use Rattle.{agent_ask.specs.{ConsentParts.AgreesTo, SessionEvents.{Sent, cache_turn}, TrustCalls.Read}, agent_ports.specs.declared.{grip.Grip.Grip, trust.TrustRead.TrustRead}, arrayvec.specs.ArrayVec.ArrayVec}
+use Rattle.{assuan_server.specs.{Clients.session_lines, Written.failed, declared.errors.Origin.TheVariants.Agent}, assuan_text.specs.Words.command_of, cache_policy.specs.Turns.{Open, Done}}
+use Rattle.{cache_policy.specs.declared.mark.MarkStep.TheVariants.{Seat, Close}, key_commands.specs.{Events.Event, Parts.Part}, key_lines.specs.Canon.Canon, session_client.specs.declared.refusal.Refusal.Refusal}
+use Rattle.{session_options.specs.declared.rules.Rules.Rules, trust_list.specs.{Trust.{trust, with_entry}, declared.TheConstants.MAX_TRUST_FILE_LEN}, agent_commands.specs.declared.went.Went.TheVariants.On}
+use Rattle.agent_origin.specs.{DoorSessions.DoorExchange, Doors.allowed, TrustExchanges.{flag_of, trust_question, fingerprint_question, unless_said, TrustExchange, Marked, Consented, StoresUnsaid, Stores}, TrustNames.trust_command_named}
+use Rattle.agent_origin.specs.{TrustParts.{file_in, trust_called, has_read}, TrustRequests.trust_request_of, declared.{door.Door.Door, kept.Kept.Kept, trust.request.{TrustPurpose.TrustPurpose, TrustRequest.TheVariants.MarkTrusted}}}
+use Rattle.agent_session.{specs.{Causes.{here, later}, Completeness.{Remembers, HasError}, DoorCauses.{IsTooMuch, too_long, read_again, read_trust}, Exactly.on_trust}, proofs.{Exact.door_cause, Standing.{has_left, has_right}}}
 use Rattle.agent_ask.specs.PartExchanges as exchanges
 use Rattle.agent_ask.specs.Parts as chain
-use Rattle.agent_ask.specs.SessionEvents.{Sent, cache_turn}
-use Rattle.agent_ask.specs.TrustCalls.{Read}
 use Rattle.agent_ask.specs.TurnParts as turning
-use Rattle.agent_ports.specs.declared.grip.Grip.{Grip}
-use Rattle.agent_ports.specs.declared.trust.TrustRead.{TrustRead}
-use Rattle.arrayvec.specs.ArrayVec.{ArrayVec}
-use Rattle.assuan_server.specs.Clients.{session_lines}
-use Rattle.assuan_server.specs.Written.{failed}
-use Rattle.assuan_server.specs.declared.errors.Origin.TheVariants.{Agent}
-use Rattle.assuan_text.specs.Words.{command_of}
-use Rattle.cache_policy.specs.Turns.{Open, Done}
-use Rattle.cache_policy.specs.declared.mark.MarkStep.TheVariants.{Seat, Close}
-use Rattle.key_commands.specs.Events.{Event}
-use Rattle.key_commands.specs.Parts.{Part}
-use Rattle.key_lines.specs.Canon.{Canon}
 use Rattle.session_client.specs.declared.code.Code.TheVariants as code
-use Rattle.session_client.specs.declared.refusal.Refusal.{Refusal}
 use Rattle.session_client.specs.declared.refusal.Refusal.TheVariants as refusals
 use Rattle.session_options.specs.declared.options.PinMode.TheVariants as mode
-use Rattle.session_options.specs.declared.rules.Rules.{Rules}
-use Rattle.trust_list.specs.Trust.{trust, with_entry}
-use Rattle.trust_list.specs.declared.TheConstants.{MAX_TRUST_FILE_LEN}
-use Rattle.agent_commands.specs.declared.went.Went.TheVariants.{On}
-use Rattle.agent_origin.specs.DoorSessions.{DoorExchange}
-use Rattle.agent_origin.specs.Doors.{allowed}
-use Rattle.agent_origin.specs.TrustExchanges.{flag_of, trust_question, fingerprint_question, unless_said, TrustExchange, Marked, Consented, StoresUnsaid, Stores}
-use Rattle.agent_origin.specs.TrustNames.{trust_command_named}
-use Rattle.agent_origin.specs.TrustParts.{file_in, trust_called, has_read}
 use Rattle.agent_origin.specs.TrustParts as parts
-use Rattle.agent_origin.specs.TrustRequests.{trust_request_of}
-use Rattle.agent_origin.specs.declared.door.Door.{Door}
-use Rattle.agent_origin.specs.declared.kept.Kept.{Kept}
 use Rattle.agent_origin.specs.declared.trust.names.TrustCommandName.TheVariants as name
-use Rattle.agent_origin.specs.declared.trust.request.TrustPurpose.{TrustPurpose}
-use Rattle.agent_origin.specs.declared.trust.request.TrustRequest.TheVariants.{MarkTrusted}
-use Rattle.agent_session.specs.Causes.{here, later}
-use Rattle.agent_session.specs.Completeness.{Remembers, HasError}
-use Rattle.agent_session.specs.DoorCauses.{IsTooMuch, too_long, read_again, read_trust}
-use Rattle.agent_session.specs.Exactly.{on_trust}
-use Rattle.agent_session.proofs.Exact.{door_cause}
-use Rattle.agent_session.proofs.Standing.{has_left, has_right}
 
 -- what the file doesn't say is asked
 asked_next : {said : Option Bool} (otherwise : Part (Unit {0})) {before after : Option ℕ} {events : List Event} {result : Result (Unit {0}) Refusal} → said ≡ None → otherwise before events result after

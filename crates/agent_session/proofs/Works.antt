@@ -1,55 +1,29 @@
 -- The one form of what is done for a request: each event goes on, but a last one by which the request is refused or its client is gone. It is so of nothing, of a
 -- part and what follows on its value, and of the smallest parts of a request.
-use Rattle.std.specs.List.{AllByRecursion}
-use Rattle.std.proofs.Common.{codes, ◌≡◌, ◌≢◌, ℕ, Bool, List, [], ◌∷◌, ◌++◌, Option, Some, None, Result, Ok, Err, refl, sym, ap, ◌∙◌, subst, append_assoc, append-nil}
-use Rattle.agent_ask.specs.ClientParts.{Writes, Inquires, AsksClient}
-use Rattle.agent_ask.specs.ClientParts as client
-use Rattle.agent_ask.specs.Events.{Called, Shut}
-use Rattle.agent_ask.specs.Further.{Listed, Replaced, Dice, Draw, Prompt}
-use Rattle.agent_ask.specs.Interrupts.{Interrupts}
-use Rattle.agent_ask.specs.Interrupts as turns
-use Rattle.agent_ask.specs.Parts.{◌>>=◌, Returns, Refuses, needed, or_else, unless, wanted}
-use Rattle.agent_ask.proofs.Within.{Within, Joins, OfNothing}
-use Rattle.agent_ask.proofs.Within as within
-use Rattle.agent_ask.specs.SessionEvents.{Received, Sent, Cut, Inquiry, CacheTurn, Further, cache_turn}
-use Rattle.agent_ask.specs.TurnParts.{Asks, Seats, Changes, Peeks, Closes}
-use Rattle.agent_ask.specs.TurnParts as taken
-use Rattle.agent_ports.specs.declared.grip.Grip.{Grip}
-use Rattle.agent_ports.specs.declared.keys.KeyDone.{KeyDone}
-use Rattle.agent_ports.specs.declared.keys.KeyDone.TheVariants as key_done
-use Rattle.agent_ports.specs.declared.keys.KeyNames.{KeyNames}
-use Rattle.agent_ports.specs.declared.keys.KeyNames.TheVariants as key_names
-use Rattle.agent_ports.specs.declared.keys.KeyRead.{KeyRead}
-use Rattle.agent_ports.specs.declared.keys.KeyRead.TheVariants as key_read
-use Rattle.assuan_server.specs.Clients.{session_lines}
-use Rattle.assuan_server.specs.Inquiries.{Outcome, IsAtEnd}
-use Rattle.assuan_server.specs.Inquiries as outcomes
-use Rattle.cache_policy.specs.Turns.{Turn, closes}
-use Rattle.cache_policy.specs.declared.mark.MarkStep.{MarkStep}
-use Rattle.cache_policy.specs.declared.mark.MarkStep.TheVariants.{Peek, Close}
-use Rattle.cache_policy.specs.declared.mode.Mode.{Mode}
-use Rattle.secret_file.specs.Opens.{LockedKey}
-use Rattle.session_client.specs.Asking.{Asked, said_by}
-use Rattle.session_client.specs.declared.code.Code.{Code}
-use Rattle.session_client.specs.declared.code.Code.TheVariants as code
-use Rattle.session_client.specs.declared.refusal.Refusal.{Refusal}
-use Rattle.session_client.specs.declared.refusal.Refusal.TheVariants.{Agent, Client}
-use Rattle.session_client.specs.declared.unheard.Gone.TheVariants as gone
-use Rattle.session_client.specs.declared.unheard.Unheard.{Unheard}
-use Rattle.session_client.specs.declared.unheard.Unheard.TheVariants as unheard
-use Rattle.sexp_keys.specs.Key.{Key}
-use Rattle.key_commands.specs.Lines.{max_key_data}
-use Rattle.key_commands.specs.Events.{Event, called, read, out_of_memory}
-use Rattle.key_commands.specs.Files.{Rewrites}
-use Rattle.key_commands.specs.Files as files
-use Rattle.key_commands.specs.KeyParts.{Tells, tells, ReadsFile, Replaces, KeepsNew, Protects, IsShort, ListsGrips, ReadsListed, AsksKeyData, Unwraps, NamesKey, LooksOver, WrapsKey, file_in, grips_in, change_fault}
-use Rattle.key_commands.specs.KeyParts as parts
-use Rattle.key_commands.specs.Parts.{Part, Finds, Draws, read_fault}
-use Rattle.key_commands.specs.Parts as small
-use Rattle.key_commands.specs.Passphrases.{LooksForNonce, TakesSeat, Locks, TriesPassphrase, TriesFound, ask_nonce, put_key, seat_for}
-use Rattle.key_commands.specs.Passphrases as passphrases
-use Rattle.key_commands.proofs.EachEvent.{each_append}
+use Rattle.std.{specs.List.AllByRecursion, proofs.Common.{codes, ◌≡◌, ◌≢◌, ℕ, Bool, List, [], ◌∷◌, ◌++◌, Option, Some, None, Result, Ok, Err, refl, sym, ap, ◌∙◌, subst, append_assoc, append-nil}}
+use Rattle.agent_ask.specs.{ClientParts.{Writes, Inquires, AsksClient}, Events.{Called, Shut}, Further.{Listed, Replaced, Dice, Draw, Prompt}, Interrupts.Interrupts, Parts.{◌>>=◌, Returns, Refuses, needed, or_else, unless, wanted}}
+use Rattle.agent_ask.{specs.{SessionEvents.{Received, Sent, Cut, Inquiry, CacheTurn, Further, cache_turn}, TurnParts.{Asks, Seats, Changes, Peeks, Closes}}, proofs.Within.{Within, Joins, OfNothing}}
+use Rattle.{agent_ports.specs.declared.{grip.Grip.Grip, keys.{KeyDone.KeyDone, KeyNames.KeyNames, KeyRead.KeyRead}}, assuan_server.specs.{Clients.session_lines, Inquiries.{Outcome, IsAtEnd}}, cache_policy.specs.Turns.{Turn, closes}}
+use Rattle.{cache_policy.specs.declared.{mark.MarkStep.{MarkStep, TheVariants.{Peek, Close}}, mode.Mode.Mode}, secret_file.specs.Opens.LockedKey, session_client.specs.{Asking.{Asked, said_by}, declared.code.Code.Code}}
+use Rattle.{session_client.specs.declared.{refusal.Refusal.{Refusal, TheVariants.{Agent, Client}}, unheard.Unheard.Unheard}, sexp_keys.specs.Key.Key, key_commands.specs.{Lines.max_key_data, Events.{Event, called, read, out_of_memory}}}
+use Rattle.key_commands.specs.{Files.Rewrites, KeyParts.{Tells, tells, ReadsFile, Replaces, KeepsNew, Protects, IsShort, ListsGrips, ReadsListed, AsksKeyData, Unwraps, NamesKey, LooksOver, WrapsKey, file_in, grips_in, change_fault}}
+use Rattle.key_commands.{specs.{Parts.{Part, Finds, Draws, read_fault}, Passphrases.{LooksForNonce, TakesSeat, Locks, TriesPassphrase, TriesFound, ask_nonce, put_key, seat_for}}, proofs.EachEvent.each_append}
 use Rattle.agent_session.specs.Refusals.{turn_refuses, change_refuses, refuses, shuts}
+use Rattle.agent_ask.specs.ClientParts as client
+use Rattle.agent_ask.specs.Interrupts as turns
+use Rattle.agent_ask.proofs.Within as within
+use Rattle.agent_ask.specs.TurnParts as taken
+use Rattle.agent_ports.specs.declared.keys.KeyDone.TheVariants as key_done
+use Rattle.agent_ports.specs.declared.keys.KeyNames.TheVariants as key_names
+use Rattle.agent_ports.specs.declared.keys.KeyRead.TheVariants as key_read
+use Rattle.assuan_server.specs.Inquiries as outcomes
+use Rattle.session_client.specs.declared.code.Code.TheVariants as code
+use Rattle.session_client.specs.declared.unheard.Gone.TheVariants as gone
+use Rattle.session_client.specs.declared.unheard.Unheard.TheVariants as unheard
+use Rattle.key_commands.specs.Files as files
+use Rattle.key_commands.specs.KeyParts as parts
+use Rattle.key_commands.specs.Parts as small
+use Rattle.key_commands.specs.Passphrases as passphrases
 
 -- ---- single events
 

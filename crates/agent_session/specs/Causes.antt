@@ -1,77 +1,34 @@
 -- Why a request is answered by an error line: what must have happened in its exchange, for each code. The codes and their causes are this project's
 -- own.
 use Rattle.std.specs.Prelude.{◌≡◌, ◌<◌, ◌⊎◌, ◌++◌, ℕ, Bool, true, false, List, [], ◌∷◌, length, map, take, drop, codes, Option, Some, None, Result, Ok, Err, ⊤}
-use Rattle.arrayvec.specs.ArrayVec.{ArrayVec}
-use Rattle.agent_ask.specs.Events.{Call, GetPin, Confirm, Start, Called, OutOfMemory, PromptEvent}
-use Rattle.agent_ask.specs.Further.{FurtherEvent, KeyCall, Read, Listed, Replaced, Removed, Drew, NotDrawn, Prompt, Keys, Dice, Trust, NoMemory}
-use Rattle.agent_ask.specs.Prompters.{is_failed}
-use Rattle.agent_ask.specs.Plans.{plan_of}
+use Rattle.{arrayvec.specs.ArrayVec.ArrayVec, agent_ask.specs.Events.{Call, GetPin, Confirm, Start, Called, OutOfMemory, PromptEvent}}
+use Rattle.agent_ask.specs.{Further.{FurtherEvent, KeyCall, Read, Listed, Replaced, Removed, Drew, NotDrawn, Prompt, Keys, Dice, Trust, NoMemory}, Prompters.is_failed, Plans.plan_of, Prompts.AsksPin}
+use Rattle.agent_ask.specs.{SessionEvents.{Inquiry, CacheTurn, Further, cache_turn}, TrustCalls.TrustCall, SessionPrompts.AnyInSession, declared.{ask.Asked.Asked, spec.{AskPlan.AskPlan, PromptSpec.PromptSpec}}}
+use Rattle.{agent_ports.specs.declared.{grip.Grip.Grip, keys.KeyRead.KeyRead}, assuan_server.specs.{Clients.session_lines, declared.errors.Origin.{Origin, TheVariants.{Agent, Pinentry}}}, session_client.specs.declared.code.Code.Code}
+use Rattle.{session_client.specs.{declared.unheard.Unheard.Unheard, Asking.said_by}, cache_policy.specs.{Turns.{Turn, Given, Empty, Stopping, Late, Refused, closes}, declared.{grant.Grant.Grant, mark.{MarkStep.MarkStep, Way.Way}}}}
+use Rattle.{cache_policy.specs.declared.secret.TheConstants.MAX_SECRET_LEN, secret_file.specs.{Answers.IsLockedFault, Opens.{LockedKey, IsLocked, OpensTo}, Protects.{ocb_protection, protected_file}}, key_lines.specs.Canon.is_canonical}
+use Rattle.{session_options.specs.{OptionValues.{OptionValues, applied}, declared.{options.OptionAnswer.OptionAnswer, rules.Rules.Rules}}, sexp_canonical.specs.Spelling.most_bytes, sexp_keys.specs.{Key.Key, Lists.{grip_of, key_list_of}}}
+use Rattle.{sexp_keys.specs.declared.fault.KeyFault.KeyFault, agent_commands.specs.{Events.{EventWith, Inquired}, Exchanges.is_quiet, Passphrases.ask, Requests.{GetFields, get_passphrase}}}
+use Rattle.{agent_commands.specs.declared.request.{CacheCommand.TheVariants.{SetOption, PresetPassphrase, GetConfirmation}, Request.{Request, TheVariants.{Cache, Key as OnKeys, Bad}}, Texts.Texts}, key_commands.specs.Lines.max_key_data}
+use Rattle.key_commands.specs.{Faults.fault_code, Files.{FileSays, IsWithList}, KeyParts.file_in, Passphrases.{OpensBy, ask_nonce, ask_key}, Requests.key_request_of, Wrapping.WrappedSays, declared.request.KeyRequest.KeyRequest}
+use Rattle.{key_commands.specs.declared.wrapping.TheConstants.MAX_LIST_LEN, agent_origin.specs.declared.kept.Kept.Kept}
 use Rattle.agent_ask.specs.Plans as plans
-use Rattle.agent_ask.specs.Prompts.{AsksPin}
-use Rattle.agent_ask.specs.SessionEvents.{Inquiry, CacheTurn, Further, cache_turn}
-use Rattle.agent_ask.specs.TrustCalls.{TrustCall}
 use Rattle.agent_ask.specs.TrustCalls as trust_call
-use Rattle.agent_ask.specs.SessionPrompts.{AnyInSession}
-use Rattle.agent_ask.specs.declared.ask.Asked.{Asked}
 use Rattle.agent_ask.specs.declared.ask.Asked.TheVariants as asked
 use Rattle.agent_ask.specs.declared.prompter.Consent.TheVariants as consent
 use Rattle.agent_ask.specs.declared.prompter.Opened.TheVariants as opened
 use Rattle.agent_ask.specs.declared.prompter.Outcome.TheVariants as outcome
-use Rattle.agent_ask.specs.declared.spec.AskPlan.{AskPlan}
-use Rattle.agent_ask.specs.declared.spec.PromptSpec.{PromptSpec}
-use Rattle.agent_ports.specs.declared.grip.Grip.{Grip}
 use Rattle.agent_ports.specs.declared.keys.KeyDone.TheVariants as key_done
 use Rattle.agent_ports.specs.declared.keys.KeyNames.TheVariants as key_names
-use Rattle.agent_ports.specs.declared.keys.KeyRead.{KeyRead}
 use Rattle.agent_ports.specs.declared.keys.KeyRead.TheVariants as key_read
 use Rattle.agent_ports.specs.declared.trust.TrustDone.TheVariants as trust_done
 use Rattle.agent_ports.specs.declared.trust.TrustRead.TheVariants as trust_read
-use Rattle.assuan_server.specs.Clients.{session_lines}
-use Rattle.session_client.specs.declared.code.Code.{Code}
 use Rattle.session_client.specs.declared.code.Code.TheVariants as code
-use Rattle.assuan_server.specs.declared.errors.Origin.{Origin}
-use Rattle.assuan_server.specs.declared.errors.Origin.TheVariants.{Agent, Pinentry}
-use Rattle.cache_policy.specs.Turns.{Turn, Given, Empty, Stopping, Late, Refused, closes}
-use Rattle.cache_policy.specs.declared.grant.Grant.{Grant}
-use Rattle.cache_policy.specs.declared.mark.MarkStep.{MarkStep}
-use Rattle.cache_policy.specs.declared.mark.Way.{Way}
-use Rattle.cache_policy.specs.declared.secret.TheConstants.{MAX_SECRET_LEN}
-use Rattle.secret_file.specs.Answers.{IsLockedFault}
-use Rattle.key_lines.specs.Canon.{is_canonical}
-use Rattle.secret_file.specs.Opens.{LockedKey, IsLocked, OpensTo}
-use Rattle.secret_file.specs.Protects.{ocb_protection, protected_file}
-use Rattle.session_client.specs.Asking.{said_by}
 use Rattle.session_client.specs.declared.unheard.Gone.TheVariants as gone
-use Rattle.session_client.specs.declared.unheard.Unheard.{Unheard}
 use Rattle.session_client.specs.declared.unheard.Unheard.TheVariants as unheard
-use Rattle.session_options.specs.OptionValues.{OptionValues, applied}
-use Rattle.session_options.specs.declared.options.OptionAnswer.{OptionAnswer}
 use Rattle.session_options.specs.declared.options.OptionAnswer.TheVariants as option_answer
 use Rattle.session_options.specs.declared.options.PinMode.TheVariants as mode
-use Rattle.session_options.specs.declared.rules.Rules.{Rules}
-use Rattle.sexp_canonical.specs.Spelling.{most_bytes}
-use Rattle.sexp_keys.specs.Key.{Key}
-use Rattle.sexp_keys.specs.Lists.{grip_of, key_list_of}
-use Rattle.sexp_keys.specs.declared.fault.KeyFault.{KeyFault}
-use Rattle.agent_commands.specs.Events.{EventWith, Inquired}
-use Rattle.agent_commands.specs.Exchanges.{is_quiet}
-use Rattle.agent_commands.specs.Passphrases.{ask}
-use Rattle.agent_commands.specs.Requests.{GetFields, get_passphrase}
-use Rattle.agent_commands.specs.declared.request.CacheCommand.TheVariants.{SetOption, PresetPassphrase, GetConfirmation}
-use Rattle.agent_commands.specs.declared.request.Request.{Request}
-use Rattle.agent_commands.specs.declared.request.Request.TheVariants.{Cache, Key as OnKeys, Bad}
-use Rattle.agent_commands.specs.declared.request.Texts.{Texts}
-use Rattle.key_commands.specs.Lines.{max_key_data}
-use Rattle.key_commands.specs.Faults.{fault_code}
-use Rattle.key_commands.specs.Files.{FileSays, IsWithList}
-use Rattle.key_commands.specs.KeyParts.{file_in}
-use Rattle.key_commands.specs.Passphrases.{OpensBy, ask_nonce, ask_key}
-use Rattle.key_commands.specs.Requests.{key_request_of}
-use Rattle.key_commands.specs.Wrapping.{WrappedSays}
-use Rattle.key_commands.specs.declared.request.KeyRequest.{KeyRequest}
 use Rattle.key_commands.specs.declared.request.KeyRequest.TheVariants as on
-use Rattle.key_commands.specs.declared.wrapping.TheConstants.{MAX_LIST_LEN}
-use Rattle.agent_origin.specs.declared.kept.Kept.{Kept}
 
 -- ---- events among others
 

@@ -1,50 +1,17 @@
 -- Sessions whose requests are all answered. This is the project's own.
-use Rattle.std.specs.List.{AllByRecursion}
-use Rattle.std.specs.Prelude.{◌≡◌, ◌⊎◌, ◌++◌, ℕ, Bool, true, List, [], ◌∷◌, codes, Option, Some, None, ⊤, false}
-use Rattle.agent_ask.specs.Events.{Call}
-use Rattle.agent_ask.specs.Further.{FurtherEnds}
-use Rattle.agent_ask.specs.Prompters.{AtPrompter, is_failed}
-use Rattle.agent_ask.specs.SessionEvents.{Received, Sent, CacheTurn, cache_turn}
-use Rattle.agent_ports.specs.Counts.{Rose}
+use Rattle.std.specs.{List.AllByRecursion, Prelude.{◌≡◌, ◌⊎◌, ◌++◌, ℕ, Bool, true, List, [], ◌∷◌, codes, Option, Some, None, ⊤, false}}
+use Rattle.{agent_ask.specs.{Events.Call, Further.FurtherEnds, Prompters.{AtPrompter, is_failed}, SessionEvents.{Received, Sent, CacheTurn, cache_turn}}, agent_ports.specs.Counts.Rose, assuan_server.specs.Errors.error_text}
+use Rattle.{assuan_server.specs.{Written.{greeting, failed, ok}, declared.errors.Origin.{Origin, TheVariants.Agent}}, session_client.specs.declared.code.Code.Code, assuan_text.specs.LineEnds.{line_of, has_lf}}
+use Rattle.{cache_policy.specs.{Turns.{Turn, Given, Empty, Done, Stopping}, declared.{grant.Grant.Grant, mark.MarkStep.{MarkStep, TheVariants.{Clear, Flush}}}}, key_commands.specs.Events.Event}
+use Rattle.{session_options.specs.declared.rules.Rules.Rules, agent_commands.specs.{Answers.IsPassphrase, Events.EventWith as SessionEvent, Exchanges.{put, is_quiet}, Passphrases.ask, Requests.request_of}}
+use Rattle.agent_commands.specs.declared.{request.{CacheCommand.TheVariants.{GetPassphrase, PresetPassphrase, ClearPassphrase, ReloadAgent}, Request.{Request, TheVariants.Cache}}, went.SessionEnd.SessionEnd}
+use Rattle.{agent_commands.specs.declared.went.{SessionEnd.TheVariants.{Bye, Killed, Ended, TooLong, Spent, ReadFault, WriteFault}, Went.{Went, TheVariants.{On, End}}}, agent_origin.specs.{DoorSessions.DoorExchange, Doors.allowed}}
+use Rattle.agent_origin.specs.{FurtherStates.FurtherWorld, SessionExchanges.{SessionExchange, kept_at_start}, Sessions.Surroundings, TrustRequests.trust_request_of, declared.{door.Door.Door, kept.Kept.Kept}}
+use Rattle.agent_session.specs.{DoorCauses.{IsMarkUnprompted, IsNotTrusted, IsCausedAtDoor}, Causes.{Has, IsCaused, HasOne, HasCall, HasTrustCall, WantsMemory, FailsAtKeysOrDice, FailsAtTrust, is_broken, IsUnprompted, IsSaid}}
 use Rattle.assuan_line.specs.declared.reader.Took.TheVariants as took
-use Rattle.assuan_server.specs.Errors.{error_text}
-use Rattle.assuan_server.specs.Written.{greeting, failed}
-use Rattle.session_client.specs.declared.code.Code.{Code}
 use Rattle.session_client.specs.declared.code.Code.TheVariants as code
-use Rattle.assuan_server.specs.declared.errors.Origin.{Origin}
-use Rattle.assuan_server.specs.declared.errors.Origin.TheVariants.{Agent}
-use Rattle.assuan_text.specs.LineEnds.{line_of, has_lf}
-use Rattle.cache_policy.specs.Turns.{Turn, Given, Empty, Done, Stopping}
-use Rattle.cache_policy.specs.declared.grant.Grant.{Grant}
-use Rattle.cache_policy.specs.declared.mark.MarkStep.{MarkStep}
-use Rattle.cache_policy.specs.declared.mark.MarkStep.TheVariants.{Clear, Flush}
-use Rattle.key_commands.specs.Events.{Event}
 use Rattle.session_client.specs.declared.unheard.Gone.TheVariants as gone
 use Rattle.session_client.specs.declared.unheard.Unheard.TheVariants as unheard
-use Rattle.session_options.specs.declared.rules.Rules.{Rules}
-use Rattle.agent_commands.specs.Answers.{IsPassphrase}
-use Rattle.assuan_server.specs.Written.{ok}
-use Rattle.agent_commands.specs.Events.{EventWith as SessionEvent}
-use Rattle.agent_commands.specs.Exchanges.{put, is_quiet}
-use Rattle.agent_commands.specs.Passphrases.{ask}
-use Rattle.agent_commands.specs.Requests.{request_of}
-use Rattle.agent_commands.specs.declared.request.CacheCommand.TheVariants.{GetPassphrase, PresetPassphrase, ClearPassphrase, ReloadAgent}
-use Rattle.agent_commands.specs.declared.request.Request.{Request}
-use Rattle.agent_commands.specs.declared.request.Request.TheVariants.{Cache}
-use Rattle.agent_commands.specs.declared.went.SessionEnd.{SessionEnd}
-use Rattle.agent_commands.specs.declared.went.SessionEnd.TheVariants.{Bye, Killed, Ended, TooLong, Spent, ReadFault, WriteFault}
-use Rattle.agent_commands.specs.declared.went.Went.{Went}
-use Rattle.agent_commands.specs.declared.went.Went.TheVariants.{On, End}
-use Rattle.agent_session.specs.DoorCauses.{IsMarkUnprompted, IsNotTrusted, IsCausedAtDoor}
-use Rattle.agent_session.specs.Causes.{Has, IsCaused, HasOne, HasCall, HasTrustCall, WantsMemory, FailsAtKeysOrDice, FailsAtTrust, is_broken, IsUnprompted, IsSaid}
-use Rattle.agent_origin.specs.DoorSessions.{DoorExchange}
-use Rattle.agent_origin.specs.Doors.{allowed}
-use Rattle.agent_origin.specs.FurtherStates.{FurtherWorld}
-use Rattle.agent_origin.specs.SessionExchanges.{SessionExchange, kept_at_start}
-use Rattle.agent_origin.specs.Sessions.{Surroundings}
-use Rattle.agent_origin.specs.TrustRequests.{trust_request_of}
-use Rattle.agent_origin.specs.declared.door.Door.{Door}
-use Rattle.agent_origin.specs.declared.kept.Kept.{Kept}
 
 -- ---- answers
 

@@ -1,23 +1,14 @@
 -- How many events of a session failed, on each of its further ends and at its link. This is the project's own.
-use Rattle.std.specs.List.{count_by}
-use Rattle.std.specs.Prelude.{Bool, true, false, List}
-use Rattle.agent_ask.specs.Events.{Called}
-use Rattle.agent_ask.specs.Further.{FurtherEnds, Read, Listed, Replaced, Removed, NotDrawn, Prompt, Keys, Dice, Trust}
-use Rattle.agent_ask.specs.LinkFaults.{fails_at_input, fails_at_output, CountsFailed}
-use Rattle.agent_ask.specs.Prompters.{AtPrompter, is_failed}
-use Rattle.agent_ask.specs.SessionEvents.{Further}
+use Rattle.std.specs.{List.count_by, Prelude.{Bool, true, false, List}}
+use Rattle.agent_ask.specs.{Events.Called, Further.{FurtherEnds, Read, Listed, Replaced, Removed, NotDrawn, Prompt, Keys, Dice, Trust}, LinkFaults.{fails_at_input, fails_at_output, CountsFailed}, Prompters.{AtPrompter, is_failed}}
+use Rattle.{agent_ask.specs.SessionEvents.Further, agent_ports.specs.Counts.RoseBy, assuan_server.specs.Clients.session_lines, agent_commands.specs.{Events.EventWith as EventIn, Outside.World}, key_commands.specs.Events.Event}
+use Rattle.agent_origin.specs.Sessions.{Surroundings}
 use Rattle.agent_ask.specs.TrustCalls as trust_call
-use Rattle.agent_ports.specs.Counts.{RoseBy}
 use Rattle.agent_ports.specs.declared.keys.KeyDone.TheVariants as key_done
 use Rattle.agent_ports.specs.declared.keys.KeyNames.TheVariants as key_names
 use Rattle.agent_ports.specs.declared.keys.KeyRead.TheVariants as key_read
 use Rattle.agent_ports.specs.declared.trust.TrustDone.TheVariants as trust_done
 use Rattle.agent_ports.specs.declared.trust.TrustRead.TheVariants as trust_read
-use Rattle.assuan_server.specs.Clients.{session_lines}
-use Rattle.agent_commands.specs.Events.{EventWith as EventIn}
-use Rattle.agent_commands.specs.Outside.{World}
-use Rattle.key_commands.specs.Events.{Event}
-use Rattle.agent_origin.specs.Sessions.{Surroundings}
 
 -- whether an event is a call that failed: of the prompter, of the keys, of the dice, or of the trust file
 abbrev pub fails_at_prompter : Event → Bool

@@ -1,38 +1,16 @@
 -- Why a request is answered by an error line in a session that came in by a door: that it isn't allowed there, or what must have happened in its
 -- exchange, for each code of a request on the trust list. The codes and their causes are this project's own.
 use Rattle.std.specs.Prelude.{◌≡◌, ◌<◌, ◌⊎◌, ℕ, Bool, true, false, List, ◌∷◌, length, Option, Some, None}
-use Rattle.agent_ask.specs.Prompters.{is_failed}
-use Rattle.agent_ask.specs.TrustCalls.{Read}
-use Rattle.agent_commands.specs.Requests.{request_of}
-use Rattle.agent_ports.specs.declared.grip.Grip.{Grip}
-use Rattle.agent_ports.specs.declared.trust.TrustRead.{TrustRead}
-use Rattle.arrayvec.specs.ArrayVec.{ArrayVec}
-use Rattle.session_client.specs.declared.code.Code.{Code}
+use Rattle.{agent_ask.specs.{Prompters.is_failed, TrustCalls.Read}, agent_commands.specs.Requests.request_of, agent_ports.specs.declared.{grip.Grip.Grip, trust.TrustRead.TrustRead}, arrayvec.specs.ArrayVec.ArrayVec}
+use Rattle.{session_client.specs.declared.code.Code.Code, assuan_server.specs.declared.errors.Origin.{Origin, TheVariants.{Agent, Pinentry}}, assuan_text.specs.Words.command_of, cache_policy.specs.Turns.{Stopping, Late}}
+use Rattle.{key_commands.specs.Events.Event, session_options.specs.{OptionValues.OptionValues, declared.rules.Rules.Rules}, trust_list.specs.{Trust.{trust, with_entry}, declared.TheConstants.MAX_TRUST_FILE_LEN}}
+use Rattle.agent_origin.specs.{Doors.allowed, TrustExchanges.flag_of, TrustNames.trust_command_named, TrustParts.{file_in, trust_called}, TrustRequests.trust_request_of, declared.{door.Door.Door, kept.Kept.Kept}}
+use Rattle.agent_origin.specs.declared.trust.{names.TrustCommandName.TrustCommandName, request.{TrustPurpose.TrustPurpose, TrustRequest.{TrustRequest, TheVariants.{IsTrusted, MarkTrusted, Bad}}}}
+use Rattle.agent_session.specs.Causes.{Has, HasOne, HasCall, HasTrustCall, HasTurn, IsSaid, WantsMemory, FailsAtTrust, IsCaused, is_broken, is_cancelled, is_disagreed, is_timed_out}
 use Rattle.session_client.specs.declared.code.Code.TheVariants as code
-use Rattle.assuan_server.specs.declared.errors.Origin.{Origin}
-use Rattle.assuan_server.specs.declared.errors.Origin.TheVariants.{Agent, Pinentry}
-use Rattle.assuan_text.specs.Words.{command_of}
-use Rattle.cache_policy.specs.Turns.{Stopping, Late}
-use Rattle.key_commands.specs.Events.{Event}
 use Rattle.session_client.specs.declared.unheard.Gone.TheVariants as gone
 use Rattle.session_client.specs.declared.unheard.Unheard.TheVariants as unheard
-use Rattle.session_options.specs.OptionValues.{OptionValues}
 use Rattle.session_options.specs.declared.options.PinMode.TheVariants as mode
-use Rattle.session_options.specs.declared.rules.Rules.{Rules}
-use Rattle.trust_list.specs.Trust.{trust, with_entry}
-use Rattle.trust_list.specs.declared.TheConstants.{MAX_TRUST_FILE_LEN}
-use Rattle.agent_origin.specs.Doors.{allowed}
-use Rattle.agent_origin.specs.TrustExchanges.{flag_of}
-use Rattle.agent_origin.specs.TrustNames.{trust_command_named}
-use Rattle.agent_origin.specs.TrustParts.{file_in, trust_called}
-use Rattle.agent_origin.specs.TrustRequests.{trust_request_of}
-use Rattle.agent_origin.specs.declared.door.Door.{Door}
-use Rattle.agent_origin.specs.declared.kept.Kept.{Kept}
-use Rattle.agent_origin.specs.declared.trust.names.TrustCommandName.{TrustCommandName}
-use Rattle.agent_origin.specs.declared.trust.request.TrustPurpose.{TrustPurpose}
-use Rattle.agent_origin.specs.declared.trust.request.TrustRequest.{TrustRequest}
-use Rattle.agent_origin.specs.declared.trust.request.TrustRequest.TheVariants.{IsTrusted, MarkTrusted, Bad}
-use Rattle.agent_session.specs.Causes.{Has, HasOne, HasCall, HasTrustCall, HasTurn, IsSaid, WantsMemory, FailsAtTrust, IsCaused, is_broken, is_cancelled, is_disagreed, is_timed_out}
 
 module _ (events : List Event) where
   -- ---- what happened in an exchange with these events

@@ -1,47 +1,17 @@
 -- The codes that a request is answered by exactly where their cause stands. The codes and their causes are this project's own.
 use Rattle.std.specs.Prelude.{◌≡◌, ◌<◌, ◌⊎◌, ℕ, true, false, List, length, Option, Some, None, Ok}
-use Rattle.agent_ask.specs.Events.{Called, GetPin}
-use Rattle.agent_ask.specs.Further.{Prompt}
-use Rattle.agent_ask.specs.declared.prompter.Outcome.TheVariants.{Pin}
-use Rattle.agent_ask.specs.SessionEvents.{Received, Further, cache_turn}
-use Rattle.agent_commands.specs.Requests.{request_of}
-use Rattle.agent_commands.specs.declared.request.Request.{Request}
-use Rattle.agent_commands.specs.declared.went.SessionEnd.{SessionEnd}
-use Rattle.agent_commands.specs.declared.went.SessionEnd.TheVariants.{TooLong, WriteFault}
-use Rattle.agent_ports.specs.declared.grip.Grip.{Grip}
-use Rattle.session_client.specs.declared.code.Code.{Code}
+use Rattle.{agent_ask.specs.{Events.{Called, GetPin}, Further.Prompt, declared.prompter.Outcome.TheVariants.Pin, SessionEvents.{Received, Further, cache_turn}}, agent_commands.specs.{Requests.request_of, declared.request.Request.Request}}
+use Rattle.{agent_commands.specs.declared.went.SessionEnd.{SessionEnd, TheVariants.{TooLong, WriteFault}}, agent_ports.specs.declared.grip.Grip.Grip, session_client.specs.declared.code.Code.Code}
+use Rattle.{assuan_server.specs.declared.errors.Origin.TheVariants.Agent, assuan_text.specs.Words.command_of, cache_policy.specs.{Turns.{Given, Done}, declared.{grant.Grant.Grant, mark.Way.Way}}, key_commands.specs.Events.Event}
+use Rattle.{key_commands.specs.{Files.IsWithList, Passphrases.{OpensBy, ask_nonce, ask_key, put_key}, declared.wrapping.TheConstants.MAX_LIST_LEN}, key_lines.specs.Canon.is_canonical, secret_file.specs.Opens.LockedKey}
+use Rattle.{sexp_canonical.specs.Spelling.most_bytes, sexp_keys.specs.{Key.Key, Lists.key_list_of}, session_options.specs.declared.rules.Rules.Rules, agent_origin.specs.{Doors.allowed, TrustNames.trust_command_named}}
+use Rattle.agent_origin.specs.{DoorSessions.door_command, TrustRequests.trust_request_of, declared.{door.Door.Door, kept.Kept.Kept, trust.{names.TrustCommandName.TrustCommandName, request.TrustRequest.{TrustRequest, TheVariants.Bad}}}}
+use Rattle.agent_session.specs.{Causes.{Has, IsCaused, IsFaulty, IsSaid, IsRead, IsReadOf, IsReadLocked, IsDrawn, IsListOf, OpensRead, on_keys}, Completeness.HasError, DoorCauses.{IsNotTrusted, IsTooMuch}}
 use Rattle.session_client.specs.declared.code.Code.TheVariants as code
 use Rattle.assuan_line.specs.declared.reader.Took.TheVariants as took
-use Rattle.assuan_server.specs.declared.errors.Origin.TheVariants.{Agent}
-use Rattle.assuan_text.specs.Words.{command_of}
-use Rattle.cache_policy.specs.Turns.{Given, Done}
-use Rattle.cache_policy.specs.declared.grant.Grant.{Grant}
-use Rattle.cache_policy.specs.declared.mark.Way.{Way}
-use Rattle.key_commands.specs.Events.{Event}
-use Rattle.key_commands.specs.Files.{IsWithList}
-use Rattle.key_commands.specs.Passphrases.{OpensBy, ask_nonce, ask_key, put_key}
 use Rattle.key_commands.specs.declared.request.KeyRequest.TheVariants as on
-use Rattle.key_commands.specs.declared.wrapping.TheConstants.{MAX_LIST_LEN}
-use Rattle.key_lines.specs.Canon.{is_canonical}
-use Rattle.secret_file.specs.Opens.{LockedKey}
-use Rattle.sexp_canonical.specs.Spelling.{most_bytes}
-use Rattle.sexp_keys.specs.Key.{Key}
-use Rattle.sexp_keys.specs.Lists.{key_list_of}
 use Rattle.session_client.specs.declared.unheard.Gone.TheVariants as gone
 use Rattle.session_client.specs.declared.unheard.Unheard.TheVariants as unheard
-use Rattle.session_options.specs.declared.rules.Rules.{Rules}
-use Rattle.agent_origin.specs.Doors.{allowed}
-use Rattle.agent_origin.specs.TrustNames.{trust_command_named}
-use Rattle.agent_origin.specs.DoorSessions.{door_command}
-use Rattle.agent_origin.specs.TrustRequests.{trust_request_of}
-use Rattle.agent_origin.specs.declared.door.Door.{Door}
-use Rattle.agent_origin.specs.declared.kept.Kept.{Kept}
-use Rattle.agent_origin.specs.declared.trust.names.TrustCommandName.{TrustCommandName}
-use Rattle.agent_origin.specs.declared.trust.request.TrustRequest.{TrustRequest}
-use Rattle.agent_origin.specs.declared.trust.request.TrustRequest.TheVariants.{Bad}
-use Rattle.agent_session.specs.Causes.{Has, IsCaused, IsFaulty, IsSaid, IsRead, IsReadOf, IsReadLocked, IsDrawn, IsListOf, OpensRead, on_keys}
-use Rattle.agent_session.specs.Completeness.{HasError}
-use Rattle.agent_session.specs.DoorCauses.{IsNotTrusted, IsTooMuch}
 
 -- ---- a request of any session
 

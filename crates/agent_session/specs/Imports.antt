@@ -1,23 +1,10 @@
 -- What an IMPORT_KEY hands to the cache, and where among the rest that is done for it. This is the project's own.
-use Rattle.std.specs.List.{AllByRecursion}
-use Rattle.std.specs.Prelude.{◌≡◌, ◌≢◌, ℕ, List, ◌∷◌, ◌++◌, drop, length, Some, ⊤}
-use Rattle.agent_ask.specs.Further.{FurtherEvent, Replaced}
-use Rattle.agent_ask.specs.SessionEvents.{CacheTurn, cache_turn}
-use Rattle.agent_ports.specs.declared.grip.Grip.{Grip}
-use Rattle.agent_ports.specs.declared.keys.KeyDone.{KeyDone}
-use Rattle.agent_ports.specs.declared.keys.KeyDone.TheVariants as key_done
-use Rattle.assuan_escape.specs.Escapes.{hex_text}
-use Rattle.session_client.specs.declared.code.Code.{Code}
-use Rattle.cache_policy.specs.Turns.{Turn, Done}
-use Rattle.cache_policy.specs.declared.life.Life.TheVariants.{Default}
-use Rattle.cache_policy.specs.declared.mark.MarkStep.{MarkStep}
-use Rattle.cache_policy.specs.declared.mark.MarkStep.TheVariants.{Close, Put}
-use Rattle.cache_policy.specs.declared.mode.Mode.TheVariants.{Nonce}
-use Rattle.agent_commands.specs.Events.{EventWith}
-use Rattle.key_commands.specs.Events.{drew, called}
-use Rattle.agent_ask.specs.Interrupts.{Interrupts}
-use Rattle.key_commands.specs.Passphrases.{put_key}
+use Rattle.std.specs.{List.AllByRecursion, Prelude.{◌≡◌, ◌≢◌, ℕ, List, ◌∷◌, ◌++◌, drop, length, Some, ⊤}}
+use Rattle.{agent_ask.specs.{Further.{FurtherEvent, Replaced}, SessionEvents.{CacheTurn, cache_turn}, Interrupts.Interrupts}, agent_ports.specs.declared.{grip.Grip.Grip, keys.KeyDone.KeyDone}, assuan_escape.specs.Escapes.hex_text}
+use Rattle.{session_client.specs.declared.code.Code.Code, cache_policy.specs.{Turns.{Turn, Done}, declared.{life.Life.TheVariants.Default, mark.MarkStep.{MarkStep, TheVariants.{Close, Put}}, mode.Mode.TheVariants.Nonce}}}
+use Rattle.{agent_commands.specs.Events.EventWith, key_commands.specs.{Events.{drew, called}, Passphrases.put_key}}
 use Rattle.agent_session.specs.OwnPassphrases.{HandsIn}
+use Rattle.agent_ports.specs.declared.keys.KeyDone.TheVariants as key_done
 
 -- by this event no passphrase is handed to the cache
 abbrev pub HandsNothing : EventWith FurtherEvent → Type 0

@@ -2,38 +2,13 @@
 -- asked for: what the cache gave to its own question, what its own prompt accepted, or what its own client gave. No line of a request on keys has one. This is the
 -- project's own.
 use Rattle.std.specs.Prelude.{◌≡◌, ℕ, Bool, List, ◌∷◌, ◌++◌, drop, codes, Option, Some}
-use Rattle.agent_ask.specs.Further.{FurtherEvent}
-use Rattle.agent_ask.specs.SessionEvents.{Sent, cache_turn}
-use Rattle.assuan_server.specs.Errors.{error_text}
-use Rattle.session_client.specs.declared.code.Code.{Code}
-use Rattle.assuan_server.specs.declared.errors.Origin.{Origin}
-use Rattle.assuan_text.specs.LineEnds.{line_of}
-use Rattle.cache_policy.specs.Turns.{Given}
-use Rattle.cache_policy.specs.declared.grant.Grant.{Grant}
-use Rattle.cache_policy.specs.declared.secret.TheConstants.{MAX_SECRET_LEN}
-use Rattle.agent_commands.specs.Answers.{closing, help, IsInfo, IsPassphrase}
-use Rattle.assuan_server.specs.Written.{ok}
-use Rattle.agent_commands.specs.Events.{EventWith}
-use Rattle.agent_commands.specs.Passphrases.{ask, ask_or_open}
-use Rattle.agent_commands.specs.Requests.{GetFields, get_passphrase}
-use Rattle.agent_commands.specs.declared.request.Info.{Info}
-use Rattle.agent_commands.specs.declared.request.Request.{Request}
-use Rattle.agent_commands.specs.declared.request.Request.TheVariants.{Cache}
-use Rattle.agent_ports.specs.declared.grip.Grip.{Grip}
-use Rattle.assuan_escape.specs.Escapes.{hex_text}
-use Rattle.assuan_server.specs.Written.{IsDataAnswer}
-use Rattle.sexp_keys.specs.Key.{Key}
-use Rattle.key_commands.specs.Exchanges.{wrap_key}
-use Rattle.key_commands.specs.Lines.{info_line, nonce_line}
-use Rattle.key_commands.specs.Wrapping.{wrapped_key}
-use Rattle.key_commands.specs.declared.request.Direction.{Direction}
+use Rattle.{agent_ask.specs.{Further.FurtherEvent, SessionEvents.{Sent, cache_turn}}, assuan_server.specs.{Errors.error_text, declared.errors.Origin.Origin, Written.{ok, IsDataAnswer}}, session_client.specs.declared.code.Code.Code}
+use Rattle.{assuan_text.specs.LineEnds.line_of, cache_policy.specs.{Turns.Given, declared.{grant.Grant.Grant, secret.TheConstants.MAX_SECRET_LEN}}, agent_commands.specs.{Answers.{closing, help, IsInfo, IsPassphrase}, Events.EventWith}}
+use Rattle.{agent_commands.specs.{Passphrases.{ask, ask_or_open}, Requests.{GetFields, get_passphrase}, declared.request.{Info.Info, Request.{Request, TheVariants.Cache}}}, agent_ports.specs.declared.grip.Grip.Grip}
+use Rattle.{assuan_escape.specs.Escapes.hex_text, sexp_keys.specs.Key.Key, key_commands.specs.{Exchanges.wrap_key, Lines.{info_line, nonce_line, IsNotice}, Wrapping.wrapped_key, declared.request.Direction.Direction}}
+use Rattle.{session_options.specs.{OptionValues.OptionValues, declared.rules.Rules.Rules}, agent_origin.specs.declared.kept.Kept.Kept}
+use Rattle.agent_session.specs.{Causes.{Has, IsSent, IsDrawn, OpensRead, on_keys}, OwnPassphrases.IsAccepted}
 use Rattle.key_commands.specs.declared.request.KeyRequest.TheVariants as on
-use Rattle.session_options.specs.OptionValues.{OptionValues}
-use Rattle.session_options.specs.declared.rules.Rules.{Rules}
-use Rattle.agent_origin.specs.declared.kept.Kept.{Kept}
-use Rattle.agent_session.specs.Causes.{Has, IsSent, IsDrawn, OpensRead, on_keys}
-use Rattle.agent_session.specs.OwnPassphrases.{IsAccepted}
-use Rattle.key_commands.specs.Lines.{IsNotice}
 
 -- a line that has no passphrase in it
 pub data IsPublic (rules : Rules) : List ℕ → Type 0 where

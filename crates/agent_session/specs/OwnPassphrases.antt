@@ -1,43 +1,15 @@
 -- Whose a passphrase is: what a request stores comes from what was done for this request alone, before it was stored. A prompt's answer enters the
 -- cache by the return of the prompt's own ticket, or by an IMPORT_KEY under the nonce that it drew, and by no other turn. This is the project's own.
-use Rattle.std.specs.List.{AllByRecursion}
-use Rattle.std.specs.Prelude.{◌≡◌, ℕ, true, false, List, [], ◌∷◌, ◌++◌, codes, Option, Some, None, Ok, ⊤}
-use Rattle.agent_ask.specs.Further.{FurtherEvent}
-use Rattle.agent_ask.specs.SessionEvents.{Received, Sent, cache_turn}
+use Rattle.std.specs.{List.AllByRecursion, Prelude.{◌≡◌, ℕ, true, false, List, [], ◌∷◌, ◌++◌, codes, Option, Some, None, Ok, ⊤}}
+use Rattle.{agent_ask.specs.{Further.FurtherEvent, SessionEvents.{Received, Sent, cache_turn}, declared.spec.AskPlan.AskPlan}, agent_ports.specs.declared.grip.Grip.Grip, assuan_line.specs.declared.reader.Took.TheVariants.Line}
+use Rattle.{assuan_server.specs.Written.greeting, assuan_text.specs.LineEnds.line_of, cache_policy.specs.{Turns.{Turn, Given, Open}, declared.{grant.Grant.Grant, life.Life.Life, mark.MarkStep.{MarkStep, TheVariants.{Seat, Put, Close}}}}}
+use Rattle.{cache_policy.specs.declared.{mark.Way.TheVariants.Prompt, mode.Mode.{Mode, TheVariants.{Any, Normal, Nonce}}, secret.TheConstants.MAX_SECRET_LEN}, secret_file.specs.Opens.LockedKey}
+use Rattle.{session_options.specs.{OptionValues.OptionValues, declared.rules.Rules.Rules}, sexp_keys.specs.{Key.Key, Lists.grip_of}, agent_commands.specs.{Events.EventWith, Passphrases.ask_or_open}}
+use Rattle.agent_commands.specs.{Requests.{GetFields, get_passphrase, request_of}, declared.{request.{CacheCommand.TheVariants.PresetPassphrase, Request.{Request, TheVariants.Cache}}, went.Went.TheVariants.On}}
+use Rattle.{key_commands.specs.{Lines.grip_text, Passphrases.{OpensBy, ask_nonce, ask_key, put_key, seat_for}}, agent_origin.specs.declared.kept.Kept.Kept}
+use Rattle.agent_session.specs.{Causes.{Has, HasPrompt, KeyDataSays, on_keys, old_plan, AsksAny, Unlocks, IsSent, IsReadLocked}, Completeness.Exchanges, Refusals.{IsNonceOf, MayStore}}
 use Rattle.agent_ask.specs.declared.ask.Asked.TheVariants as asked
-use Rattle.agent_ask.specs.declared.spec.AskPlan.{AskPlan}
-use Rattle.agent_ports.specs.declared.grip.Grip.{Grip}
-use Rattle.assuan_line.specs.declared.reader.Took.TheVariants.{Line}
-use Rattle.assuan_server.specs.Written.{greeting}
-use Rattle.assuan_text.specs.LineEnds.{line_of}
-use Rattle.cache_policy.specs.Turns.{Turn, Given, Open}
-use Rattle.cache_policy.specs.declared.grant.Grant.{Grant}
-use Rattle.cache_policy.specs.declared.life.Life.{Life}
-use Rattle.cache_policy.specs.declared.mark.MarkStep.{MarkStep}
-use Rattle.cache_policy.specs.declared.mark.MarkStep.TheVariants.{Seat, Put, Close}
-use Rattle.cache_policy.specs.declared.mark.Way.TheVariants.{Prompt}
-use Rattle.cache_policy.specs.declared.mode.Mode.{Mode}
-use Rattle.cache_policy.specs.declared.mode.Mode.TheVariants.{Any, Normal, Nonce}
-use Rattle.cache_policy.specs.declared.secret.TheConstants.{MAX_SECRET_LEN}
-use Rattle.secret_file.specs.Opens.{LockedKey}
-use Rattle.session_options.specs.OptionValues.{OptionValues}
-use Rattle.session_options.specs.declared.rules.Rules.{Rules}
-use Rattle.sexp_keys.specs.Key.{Key}
-use Rattle.sexp_keys.specs.Lists.{grip_of}
-use Rattle.agent_commands.specs.Events.{EventWith}
-use Rattle.agent_commands.specs.Passphrases.{ask_or_open}
-use Rattle.agent_commands.specs.Requests.{GetFields, get_passphrase, request_of}
-use Rattle.agent_commands.specs.declared.request.CacheCommand.TheVariants.{PresetPassphrase}
-use Rattle.agent_commands.specs.declared.request.Request.{Request}
-use Rattle.agent_commands.specs.declared.request.Request.TheVariants.{Cache}
-use Rattle.agent_commands.specs.declared.went.Went.TheVariants.{On}
-use Rattle.key_commands.specs.Lines.{grip_text}
-use Rattle.key_commands.specs.Passphrases.{OpensBy, ask_nonce, ask_key, put_key, seat_for}
 use Rattle.key_commands.specs.declared.request.KeyRequest.TheVariants as on
-use Rattle.agent_origin.specs.declared.kept.Kept.{Kept}
-use Rattle.agent_session.specs.Causes.{Has, HasPrompt, KeyDataSays, on_keys, old_plan, AsksAny, Unlocks, IsSent, IsReadLocked}
-use Rattle.agent_session.specs.Completeness.{Exchanges}
-use Rattle.agent_session.specs.Refusals.{IsNonceOf, MayStore}
 
 -- ---- what a request names
 

@@ -1,50 +1,25 @@
 -- What stands after a refusal: how each request is carried out, as far as what it stores, clears, replaces and gives back goes, and what an event that refuses
 -- it leaves to be done. This is the project's own.
-use Rattle.std.specs.List.{AllByRecursion}
-use Rattle.std.specs.Prelude.{◌≡◌, ◌≢◌, ◌⊎◌, ◌++◌, ℕ, Bool, true, false, List, [], ◌∷◌, drop, Option, Some, None, ⊤}
-use Rattle.agent_ask.specs.Events.{Call, GetPin, Confirm, Start, Shut, Called, OutOfMemory}
-use Rattle.agent_ask.specs.Further.{FurtherEvent, KeyCall, Read, Listed, Replaced, Removed, NotDrawn, Prompt, Keys, Dice, NoMemory, Trust}
-use Rattle.agent_ask.specs.SessionEvents.{Received, Sent, CacheTurn, Further, cache_turn}
-use Rattle.agent_ask.specs.TrustCalls.{TrustCall}
+use Rattle.std.specs.{List.AllByRecursion, Prelude.{◌≡◌, ◌≢◌, ◌⊎◌, ◌++◌, ℕ, Bool, true, false, List, [], ◌∷◌, drop, Option, Some, None, ⊤}}
+use Rattle.agent_ask.specs.{Events.{Call, GetPin, Confirm, Start, Shut, Called, OutOfMemory}, Further.{FurtherEvent, KeyCall, Read, Listed, Replaced, Removed, NotDrawn, Prompt, Keys, Dice, NoMemory, Trust}}
+use Rattle.{agent_ask.specs.{SessionEvents.{Received, Sent, CacheTurn, Further, cache_turn}, TrustCalls.TrustCall, Interrupts.Interrupts}, agent_ports.specs.declared.{grip.Grip.Grip, keys.{KeyDone.KeyDone, KeyRead.KeyRead}}}
+use Rattle.{assuan_escape.specs.Escapes.hex_text, assuan_server.specs.Written.failed, session_client.specs.declared.code.Code.Code, cache_policy.specs.{Desks.{AtDesk, is_of}, Histories.History, Runs.joined}}
+use Rattle.cache_policy.specs.{Turns.{Turn, Done, Refused, closes, opens}, declared.{life.Life.Life, mark.{Mark.Mark, MarkStep.{MarkStep, TheVariants.{Put, Clear, Flush, Stop, Close}}}, mode.Mode.Mode}}
+use Rattle.{cache_policy.specs.declared.mode.Mode.TheVariants.{Any, User, Normal, Nonce}, agent_commands.specs.{Events.EventWith, Exchanges.is_quiet, Requests.{GetFields, get_passphrase}}}
+use Rattle.{agent_commands.specs.declared.request.{CacheCommand.TheVariants.{GetPassphrase, PresetPassphrase, ClearPassphrase, ReloadAgent, KillAgent}, Request.{Request, TheVariants.Cache}}, key_commands.specs.Events.IsUncalled}
+use Rattle.key_commands.specs.{Lines.{IsNotice, grip_text}, Passphrases.put_key}
+use Rattle.agent_session.specs.{Causes.{on_keys, IsDrawn}, Completeness.{AnswersFromCache, AnswersDone, EndsInOk, IsAnswer}}
 use Rattle.agent_ask.specs.TrustCalls as trust_call
 use Rattle.agent_ask.specs.declared.prompter.Consent.TheVariants as consent
 use Rattle.agent_ask.specs.declared.prompter.Opened.TheVariants as opened
 use Rattle.agent_ask.specs.declared.prompter.Outcome.TheVariants as outcome
-use Rattle.agent_ports.specs.declared.grip.Grip.{Grip}
-use Rattle.agent_ports.specs.declared.keys.KeyDone.{KeyDone}
 use Rattle.agent_ports.specs.declared.keys.KeyDone.TheVariants as key_done
 use Rattle.agent_ports.specs.declared.keys.KeyNames.TheVariants as key_names
-use Rattle.agent_ports.specs.declared.keys.KeyRead.{KeyRead}
 use Rattle.agent_ports.specs.declared.keys.KeyRead.TheVariants as key_read
 use Rattle.agent_ports.specs.declared.trust.TrustDone.TheVariants as trust_done
 use Rattle.agent_ports.specs.declared.trust.TrustRead.TheVariants as trust_read
-use Rattle.assuan_escape.specs.Escapes.{hex_text}
-use Rattle.assuan_server.specs.Written.{failed}
-use Rattle.session_client.specs.declared.code.Code.{Code}
 use Rattle.session_client.specs.declared.code.Code.TheVariants as code
-use Rattle.cache_policy.specs.Desks.{AtDesk, is_of}
-use Rattle.cache_policy.specs.Histories.{History}
-use Rattle.cache_policy.specs.Runs.{joined}
-use Rattle.cache_policy.specs.Turns.{Turn, Done, Refused, closes, opens}
-use Rattle.cache_policy.specs.declared.life.Life.{Life}
-use Rattle.cache_policy.specs.declared.mark.Mark.{Mark}
-use Rattle.cache_policy.specs.declared.mark.MarkStep.{MarkStep}
-use Rattle.cache_policy.specs.declared.mark.MarkStep.TheVariants.{Put, Clear, Flush, Stop, Close}
-use Rattle.cache_policy.specs.declared.mode.Mode.{Mode}
-use Rattle.cache_policy.specs.declared.mode.Mode.TheVariants.{Any, User, Normal, Nonce}
-use Rattle.agent_commands.specs.Events.{EventWith}
-use Rattle.agent_commands.specs.Exchanges.{is_quiet}
-use Rattle.agent_commands.specs.Requests.{GetFields, get_passphrase}
-use Rattle.agent_commands.specs.declared.request.CacheCommand.TheVariants.{GetPassphrase, PresetPassphrase, ClearPassphrase, ReloadAgent, KillAgent}
-use Rattle.agent_commands.specs.declared.request.Request.{Request}
-use Rattle.agent_commands.specs.declared.request.Request.TheVariants.{Cache}
-use Rattle.key_commands.specs.Events.{IsUncalled}
-use Rattle.key_commands.specs.Lines.{IsNotice, grip_text}
-use Rattle.agent_ask.specs.Interrupts.{Interrupts}
-use Rattle.key_commands.specs.Passphrases.{put_key}
 use Rattle.key_commands.specs.declared.request.KeyRequest.TheVariants as on
-use Rattle.agent_session.specs.Causes.{on_keys, IsDrawn}
-use Rattle.agent_session.specs.Completeness.{AnswersFromCache, AnswersDone, EndsInOk, IsAnswer}
 
 -- ---- events that refuse their request
 

@@ -1,38 +1,12 @@
 -- Exchanges of a session between the states of its desk and of its further ends, and what the laws on single requests say of each. This is the project's
 -- own.
-use Rattle.std.specs.List.{AllByRecursion}
-use Rattle.std.specs.Prelude.{◌≡◌, ◌≢◌, ℕ, List, Option, Some, None}
-use Rattle.agent_ask.specs.Events.{Call}
-use Rattle.agent_ask.specs.Further.{FurtherEnds}
-use Rattle.agent_ask.specs.Prompters.{AtPrompter}
-use Rattle.agent_ask.specs.Worlds.{Outside, Does}
-use Rattle.agent_commands.specs.Events.{EventWith}
-use Rattle.agent_commands.specs.Outside.{World}
-use Rattle.agent_commands.specs.Requests.{request_of}
-use Rattle.agent_commands.specs.declared.went.SessionEnd.{SessionEnd}
-use Rattle.agent_commands.specs.declared.went.Went.{Went}
-use Rattle.agent_commands.specs.declared.went.Went.TheVariants.{On}
-use Rattle.agent_origin.specs.FurtherStates.{FurtherWorld}
-use Rattle.agent_origin.specs.Sessions.{LineRelation}
-use Rattle.agent_origin.specs.declared.kept.Kept.{Kept}
-use Rattle.agent_ports.specs.Leads.{Leads}
-use Rattle.assuan_server.specs.Reading.{Supply}
-use Rattle.session_client.specs.declared.code.Code.{Code}
-use Rattle.session_client.specs.declared.code.Code.TheVariants.{LineTooLong}
-use Rattle.assuan_server.specs.declared.errors.Origin.{Origin}
-use Rattle.assuan_server.specs.declared.errors.Origin.TheVariants.{Agent}
-use Rattle.cache_policy.specs.Turns.{Turn}
-use Rattle.cache_policy.specs.declared.mark.MarkStep.{MarkStep}
-use Rattle.key_commands.specs.Events.{Event as SessionEvent}
-use Rattle.session_options.specs.declared.rules.Rules.{Rules}
-use Rattle.key_commands.specs.declared.request.KeyRequest.{KeyRequest}
-use Rattle.agent_session.specs.Causes.{on_keys}
-use Rattle.agent_session.specs.Completeness.{Causes, Remembers, IsStopped, HasError, AnswersAtOnce, FailuresRise, IsUncaused, IsAnsweredOk}
-use Rattle.agent_session.specs.Counting.{CountsFailures}
-use Rattle.agent_session.specs.Exactly.{EndsTooLong}
-use Rattle.agent_session.specs.OwnAnswers.{SaysOwnAlone, TellsOfKeysAlone}
-use Rattle.agent_session.specs.OwnPassphrases.{StoresOwnAlone}
-use Rattle.agent_session.specs.Refusals.{AnswersAlone, IsOwnCode, RefusedCourse}
+use Rattle.std.specs.{List.AllByRecursion, Prelude.{◌≡◌, ◌≢◌, ℕ, List, Option, Some, None}}
+use Rattle.{agent_ask.specs.{Events.Call, Further.FurtherEnds, Prompters.AtPrompter, Worlds.{Outside, Does}}, agent_commands.specs.{Events.EventWith, Outside.World, Requests.request_of, declared.went.{SessionEnd.SessionEnd, Went.Went}}}
+use Rattle.{agent_commands.specs.declared.went.Went.TheVariants.On, agent_origin.specs.{FurtherStates.FurtherWorld, Sessions.LineRelation, declared.kept.Kept.Kept}, agent_ports.specs.Leads.Leads, assuan_server.specs.Reading.Supply}
+use Rattle.{assuan_server.specs.declared.errors.Origin.{Origin, TheVariants.Agent}, session_client.specs.declared.code.Code.{Code, TheVariants.LineTooLong}, cache_policy.specs.{Turns.Turn, declared.mark.MarkStep.MarkStep}}
+use Rattle.{key_commands.specs.{Events.Event as SessionEvent, declared.request.KeyRequest.KeyRequest}, session_options.specs.declared.rules.Rules.Rules}
+use Rattle.agent_session.specs.{Causes.on_keys, Completeness.{Causes, Remembers, IsStopped, HasError, AnswersAtOnce, FailuresRise, IsUncaused, IsAnsweredOk}, Counting.CountsFailures, Exactly.EndsTooLong}
+use Rattle.agent_session.specs.{OwnAnswers.{SaysOwnAlone, TellsOfKeysAlone}, OwnPassphrases.StoresOwnAlone, Refusals.{AnswersAlone, IsOwnCode, RefusedCourse}}
 
 -- ---- exchanges between two states
 

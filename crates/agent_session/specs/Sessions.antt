@@ -1,16 +1,7 @@
 -- The sessions of `serve_session`: what each has to do with, and what it does. None of their requests is on the trust list: no trust file is called.
 use Rattle.std.specs.Prelude.{None}
-use Rattle.agent_ask.specs.Events.{Call}
-use Rattle.agent_ports.specs.KeyFiles.{KeyFiles}
-use Rattle.agent_ports.specs.Sides.{Side}
-use Rattle.agent_ports.specs.TrustFiles.{TrustState}
-use Rattle.cache_policy.specs.declared.mark.MarkStep.{MarkStep}
-use Rattle.cache_policy.specs.Turns.{Turn}
-use Rattle.session_options.specs.declared.rules.Rules.{Rules}
-use Rattle.agent_commands.specs.declared.went.SessionEnd.{SessionEnd}
-use Rattle.agent_origin.specs.FurtherStates.{FurtherWorld, surroundings}
-use Rattle.agent_origin.specs.SessionExchanges.{SessionExchange, kept_at_start}
-use Rattle.agent_origin.specs.Sessions.{Surroundings, ServesSession}
+use Rattle.{agent_ask.specs.Events.Call, agent_ports.specs.{KeyFiles.KeyFiles, Sides.Side, TrustFiles.TrustState}, cache_policy.specs.{declared.mark.MarkStep.MarkStep, Turns.Turn}, session_options.specs.declared.rules.Rules.Rules}
+use Rattle.{agent_commands.specs.declared.went.SessionEnd.SessionEnd, agent_origin.specs.{FurtherStates.{FurtherWorld, surroundings}, SessionExchanges.{SessionExchange, kept_at_start}, Sessions.{Surroundings, ServesSession}}}
 
 -- the trust file where there is none: nothing is known of it, and it has no faults
 abbrev pub no_trust : TrustState

@@ -1,17 +1,11 @@
 -- What is done for a request behind a call of the trust file that decides it: one that failed or found no memory, or by which a new file took the old
 -- one's place. This is the project's own.
 use Rattle.std.specs.Prelude.{◌≡◌, ℕ, List, [], ◌∷◌, Option, Some, None, ⊤}
-use Rattle.agent_ask.specs.Further.{Trust}
-use Rattle.agent_ask.specs.SessionEvents.{Sent, Further, cache_turn}
-use Rattle.agent_ask.specs.TrustCalls.{TrustCall, Read, Replaced}
-use Rattle.assuan_server.specs.Written.{ok}
+use Rattle.{agent_ask.specs.{Further.Trust, SessionEvents.{Sent, Further, cache_turn}, TrustCalls.{TrustCall, Read, Replaced}}, assuan_server.specs.Written.{ok, failed}, cache_policy.specs.Turns.Turn}
+use Rattle.{cache_policy.specs.declared.mark.MarkStep.TheVariants.Close, key_commands.specs.Events.Event}
 use Rattle.agent_ports.specs.declared.trust.TrustDone.TheVariants as done
 use Rattle.agent_ports.specs.declared.trust.TrustRead.TheVariants as read
-use Rattle.assuan_server.specs.Written.{failed}
 use Rattle.session_client.specs.declared.code.Code.TheVariants as code
-use Rattle.cache_policy.specs.Turns.{Turn}
-use Rattle.cache_policy.specs.declared.mark.MarkStep.TheVariants.{Close}
-use Rattle.key_commands.specs.Events.{Event}
 
 -- the line that answers a request which such a call decides
 abbrev pub line_after : TrustCall → Option (List ℕ)

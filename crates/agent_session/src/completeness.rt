@@ -2,31 +2,23 @@
 //! answer. Nothing runs; each contract is a fact about the definitions. Begin with
 //! `each_error_has_its_cause`; definitions are in `specs/Causes` and `specs/Completeness`.
 
-ghost use Rattle.std.specs.List.{AllByRecursion};
-ghost use Rattle.std.specs.Prelude.{List, ℕ};
-ghost use Rattle.agent_ask.specs.Worlds.{Outside, Does};
-ghost use Rattle.agent_ports.specs.Leads.{Leads};
-ghost use Rattle.assuan_server.specs.Reading.{Supply};
-ghost use Rattle.agent_commands.specs.Requests.{request_of};
-ghost use Rattle.agent_commands.specs.Talks.{Session};
-ghost use Rattle.agent_commands.specs.declared.went.SessionEnd.{SessionEnd as Ends};
-ghost use Rattle.agent_commands.specs.declared.went.Went.{Went};
-ghost use Rattle.key_commands.specs.Events.{Event};
+ghost use Rattle.std.specs.{List.AllByRecursion, Prelude.{List, ℕ}};
+ghost use Rattle.{agent_ask.specs.Worlds.{Outside, Does}, agent_ports.specs.Leads.Leads};
+ghost use Rattle.{assuan_server.specs.Reading.Supply, agent_commands.specs.Requests.request_of};
+ghost use Rattle.agent_commands.specs.{Talks.Session, declared.went.SessionEnd.SessionEnd as Ends};
+ghost use Rattle.{agent_commands.specs.declared.went.Went.Went, key_commands.specs.Events.Event};
 ghost use Rattle.session_options.specs.declared.rules.Rules.{Rules};
+ghost use Rattle.agent_origin.specs.{DoorSessions.ServesDoor, FurtherStates.FurtherWorld};
+ghost use Rattle.agent_origin.specs.SessionExchanges.{kept_at_start, SessionExchange};
+ghost use Rattle.agent_origin.specs.{Sessions.Surroundings, declared.door.Door.Door};
+ghost use Rattle.agent_origin.specs.declared.kept.Kept.{Kept};
 ghost use Rattle.agent_session.specs.Counting.{CountsFailures, CountsLink};
 ghost use Rattle.agent_session.specs.Completeness.{SessionCauses, CausedInSession};
 ghost use Rattle.agent_session.specs.Completeness.{FaultlessInSession, IsUncaused, IsAnsweredOk};
-ghost use Rattle.agent_session.specs.Completeness.{CausedAtDoor, FaultlessAtDoor};
-ghost use Rattle.agent_session.specs.Completeness.{FailuresRise, IsStopped, AnswersAtOnce};
-ghost use Rattle.agent_session.specs.Completeness.{Remembers, NoCountRose, AnswersAll};
-ghost use Rattle.agent_origin.specs.DoorSessions.{ServesDoor};
-ghost use Rattle.agent_origin.specs.FurtherStates.{FurtherWorld};
-ghost use Rattle.agent_origin.specs.SessionExchanges.{kept_at_start, SessionExchange};
-ghost use Rattle.agent_origin.specs.Sessions.{Surroundings};
-ghost use Rattle.agent_session.specs.DoorCauses.{IsCausedAtDoor};
-ghost use Rattle.agent_session.specs.Sessions.{ServesRules};
-ghost use Rattle.agent_origin.specs.declared.door.Door.{Door};
-ghost use Rattle.agent_origin.specs.declared.kept.Kept.{Kept};
+ghost use Rattle.agent_session.specs.Completeness.{CausedAtDoor, FaultlessAtDoor, FailuresRise};
+ghost use Rattle.agent_session.specs.Completeness.{IsStopped, AnswersAtOnce, Remembers};
+ghost use Rattle.agent_session.specs.Completeness.{NoCountRose, AnswersAll};
+ghost use Rattle.agent_session.specs.{DoorCauses.IsCausedAtDoor, Sessions.ServesRules};
 
 use agent_ask::Prompter;
 use cache_policy::Desk;

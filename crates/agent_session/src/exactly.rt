@@ -2,27 +2,21 @@
 //! error line. Nothing runs; each contract is a fact about the definitions. Begin with
 //! `each_cause_has_its_error`; the causes are `ExactCause` (`specs/Exactly`).
 
-ghost use Rattle.std.specs.List.{AllByRecursion};
-ghost use Rattle.std.specs.Prelude.{List, ℕ};
-ghost use Rattle.session_client.specs.declared.code.Code.{Code};
-ghost use Rattle.session_client.specs.declared.code.Code.TheVariants.{LineTooLong};
+ghost use Rattle.std.specs.{List.AllByRecursion, Prelude.{List, ℕ}};
+ghost use Rattle.session_client.specs.declared.code.Code.{Code, TheVariants.LineTooLong};
 ghost use Rattle.assuan_server.specs.declared.errors.Origin.TheVariants.{Agent};
 ghost use Rattle.agent_commands.specs.Requests.{request_of};
 ghost use Rattle.agent_commands.specs.declared.went.SessionEnd.{SessionEnd as Ends};
-ghost use Rattle.agent_commands.specs.declared.went.SessionEnd.TheVariants.{TooLong};
-ghost use Rattle.agent_commands.specs.declared.went.Went.{Went};
+ghost use Rattle.agent_commands.specs.declared.went.{SessionEnd.TheVariants.TooLong, Went.Went};
 ghost use Rattle.agent_commands.specs.declared.went.Went.TheVariants.{End};
 ghost use Rattle.agent_origin.specs.DoorSessions.{DoorExchange, ServesDoor};
-ghost use Rattle.agent_origin.specs.FurtherStates.{FurtherWorld};
-ghost use Rattle.agent_origin.specs.SessionExchanges.{SessionExchange};
-ghost use Rattle.agent_origin.specs.Sessions.{Surroundings};
-ghost use Rattle.agent_origin.specs.declared.door.Door.{Door};
-ghost use Rattle.agent_origin.specs.declared.kept.Kept.{Kept};
+ghost use Rattle.agent_origin.specs.{FurtherStates.FurtherWorld, SessionExchanges.SessionExchange};
+ghost use Rattle.agent_origin.specs.{Sessions.Surroundings, declared.door.Door.Door};
+ghost use Rattle.{agent_origin.specs.declared.kept.Kept.Kept, key_commands.specs.Events.Event};
+ghost use Rattle.session_options.specs.declared.rules.Rules.{Rules};
 ghost use Rattle.agent_session.specs.Completeness.{HasError, Remembers};
 ghost use Rattle.agent_session.specs.Exactly.{EndsTooLong, ExactCause, ExactCauseAtDoor};
 ghost use Rattle.agent_session.specs.Sessions.{ServesRules};
-ghost use Rattle.key_commands.specs.Events.{Event};
-ghost use Rattle.session_options.specs.declared.rules.Rules.{Rules};
 
 use agent_ask::Prompter;
 use cache_policy::Desk;

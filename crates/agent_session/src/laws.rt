@@ -3,22 +3,16 @@
 //! Begin with `a_session_extends_a_run`.
 
 ghost use Rattle.std.specs.Prelude.{◌≡◌, List, ℕ, None, map, true};
-ghost use Rattle.cache_policy.specs.Extending.{ExtendsDesk};
-ghost use Rattle.agent_ask.specs.SessionEvents.{turns_in};
+ghost use Rattle.{cache_policy.specs.Extending.ExtendsDesk, agent_ask.specs.SessionEvents.turns_in};
 ghost use Rattle.agent_commands.specs.Names.{key_commands};
-ghost use Rattle.agent_commands.specs.declared.went.SessionEnd.{SessionEnd as Ends};
-ghost use Rattle.agent_commands.specs.declared.went.Went.{Went};
-ghost use Rattle.assuan_text.specs.Words.{command_of};
-ghost use Rattle.key_commands.specs.Events.{Event};
+ghost use Rattle.agent_commands.specs.declared.went.{SessionEnd.SessionEnd as Ends, Went.Went};
+ghost use Rattle.{assuan_text.specs.Words.command_of, key_commands.specs.Events.Event};
 ghost use Rattle.key_commands.specs.Names.{commands_on_keys as read_commands};
 ghost use Rattle.session_options.specs.declared.rules.Rules.{Rules};
 ghost use Rattle.agent_origin.specs.DoorSessions.{DoorExchange, ServesDoor, door_command};
-ghost use Rattle.agent_origin.specs.Doors.{allowed};
-ghost use Rattle.agent_origin.specs.FurtherStates.{FurtherWorld};
-ghost use Rattle.agent_origin.specs.SessionExchanges.{SessionExchange};
-ghost use Rattle.agent_origin.specs.Sessions.{Surroundings};
-ghost use Rattle.agent_origin.specs.declared.door.Door.{Door};
-ghost use Rattle.agent_origin.specs.declared.kept.Kept.{Kept};
+ghost use Rattle.agent_origin.specs.{Doors.allowed, FurtherStates.FurtherWorld};
+ghost use Rattle.agent_origin.specs.{SessionExchanges.SessionExchange, Sessions.Surroundings};
+ghost use Rattle.agent_origin.specs.declared.{door.Door.Door, kept.Kept.Kept};
 ghost use Rattle.agent_session.specs.Sessions.{ServesRules};
 
 use agent_ask::Prompter;

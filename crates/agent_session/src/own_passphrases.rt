@@ -3,25 +3,18 @@
 //! are in `specs/OwnPassphrases` and `specs/OwnAnswers`.
 
 ghost use Rattle.std.specs.Prelude.{◌≡◌, List, ℕ, Some};
-ghost use Rattle.agent_ask.specs.Worlds.{Outside, Does};
-ghost use Rattle.agent_ports.specs.Leads.{Leads};
-ghost use Rattle.assuan_server.specs.Reading.{Supply};
-ghost use Rattle.agent_commands.specs.Exchanges.{LineExchange};
+ghost use Rattle.{agent_ask.specs.Worlds.{Outside, Does}, agent_ports.specs.Leads.Leads};
+ghost use Rattle.{assuan_server.specs.Reading.Supply, agent_commands.specs.Exchanges.LineExchange};
 ghost use Rattle.agent_commands.specs.Requests.{request_of};
-ghost use Rattle.agent_commands.specs.declared.went.SessionEnd.{SessionEnd as Ends};
-ghost use Rattle.agent_commands.specs.declared.went.Went.{Went};
-ghost use Rattle.key_commands.specs.Events.{Event};
-ghost use Rattle.key_commands.specs.declared.request.KeyRequest.{KeyRequest};
-ghost use Rattle.session_options.specs.OptionValues.{OptionValues};
-ghost use Rattle.session_options.specs.declared.rules.Rules.{Rules};
+ghost use Rattle.agent_commands.specs.declared.went.{SessionEnd.SessionEnd as Ends, Went.Went};
+ghost use Rattle.key_commands.specs.{Events.Event, declared.request.KeyRequest.KeyRequest};
+ghost use Rattle.session_options.specs.{OptionValues.OptionValues, declared.rules.Rules.Rules};
 ghost use Rattle.agent_origin.specs.DoorSessions.{DoorExchange, ServesDoor};
 ghost use Rattle.agent_origin.specs.FurtherStates.{FurtherWorld};
 ghost use Rattle.agent_origin.specs.SessionExchanges.{SessionExchange, kept_at_start};
-ghost use Rattle.agent_origin.specs.Sessions.{Surroundings};
-ghost use Rattle.agent_origin.specs.declared.door.Door.{Door};
+ghost use Rattle.agent_origin.specs.{Sessions.Surroundings, declared.door.Door.Door};
 ghost use Rattle.agent_origin.specs.declared.kept.Kept.{Kept};
-ghost use Rattle.agent_session.specs.Causes.{on_keys};
-ghost use Rattle.agent_session.specs.OwnAnswers.{SaysOwnAlone, TellsOfKeysAlone};
+ghost use Rattle.agent_session.specs.{Causes.on_keys, OwnAnswers.{SaysOwnAlone, TellsOfKeysAlone}};
 ghost use Rattle.agent_session.specs.OwnPassphrases.{StoresOwnAlone, StoresOwnThroughout};
 ghost use Rattle.agent_session.specs.Sessions.{ServesRules};
 

@@ -3,35 +3,25 @@
 //! runs; each contract is a fact about the definitions. Begin with `each_request_takes_its_course`;
 //! definitions are in `specs/Refusals`, `specs/Imports` and `specs/TrustCalls`.
 
-ghost use Rattle.std.specs.List.{AllByRecursion};
-ghost use Rattle.std.specs.Prelude.{◌≡◌, ◌≢◌, Bool, List, Option, ℕ, Some};
-ghost use Rattle.agent_ask.specs.Worlds.{Outside, Does};
-ghost use Rattle.agent_ports.specs.Leads.{Leads};
-ghost use Rattle.assuan_server.specs.Reading.{Supply};
-ghost use Rattle.session_client.specs.declared.code.Code.{Code};
-ghost use Rattle.session_client.specs.declared.code.Code.TheVariants.{LineTooLong};
-ghost use Rattle.assuan_server.specs.declared.errors.Origin.{Origin};
-ghost use Rattle.session_client.specs.declared.code.Code.{Code};
+ghost use Rattle.std.specs.{List.AllByRecursion, Prelude.{◌≡◌, ◌≢◌, Bool, List, Option, ℕ, Some}};
+ghost use Rattle.{agent_ask.specs.Worlds.{Outside, Does}, agent_ports.specs.Leads.Leads};
+ghost use Rattle.assuan_server.specs.{Reading.Supply, declared.errors.Origin.Origin};
 ghost use Rattle.assuan_server.specs.declared.errors.Origin.TheVariants.{Agent};
-ghost use Rattle.agent_commands.specs.Requests.{request_of};
-ghost use Rattle.agent_commands.specs.declared.went.Went.{Went};
+ghost use Rattle.session_client.specs.declared.code.Code.{Code, TheVariants.LineTooLong};
+ghost use Rattle.agent_commands.specs.{Requests.request_of, declared.went.Went.Went};
 ghost use Rattle.agent_commands.specs.declared.went.Went.TheVariants.{On};
 ghost use Rattle.cache_policy.specs.Turns.{MayWantMemory, Refused};
 ghost use Rattle.cache_policy.specs.declared.mark.MarkStep.{MarkStep};
 ghost use Rattle.key_commands.specs.Events.{Event};
-ghost use Rattle.session_options.specs.declared.rules.Rules.{Rules};
 ghost use Rattle.key_commands.specs.declared.request.KeyRequest.TheVariants.{ImportKey};
-ghost use Rattle.agent_session.specs.Causes.{on_keys};
-ghost use Rattle.agent_session.specs.Completeness.{HasError, IsStopped};
-ghost use Rattle.agent_session.specs.Imports.{ImportCourse};
-ghost use Rattle.agent_origin.specs.SessionExchanges.{SessionExchange};
-ghost use Rattle.agent_session.specs.Refusals.{AnswersAlone, Course, IsOwnCode, LeavesDesk};
-ghost use Rattle.agent_session.specs.Refusals.{OpensFirst, RefusedCourse};
-ghost use Rattle.agent_session.specs.TrustCalls.{EndsAtCalls};
-ghost use Rattle.agent_origin.specs.DoorSessions.{DoorExchange};
-ghost use Rattle.agent_origin.specs.FurtherStates.{FurtherWorld};
-ghost use Rattle.agent_origin.specs.declared.door.Door.{Door};
+ghost use Rattle.session_options.specs.declared.rules.Rules.{Rules};
+ghost use Rattle.agent_origin.specs.{SessionExchanges.SessionExchange, DoorSessions.DoorExchange};
+ghost use Rattle.agent_origin.specs.{FurtherStates.FurtherWorld, declared.door.Door.Door};
 ghost use Rattle.agent_origin.specs.declared.kept.Kept.{Kept};
+ghost use Rattle.agent_session.specs.{Causes.on_keys, Completeness.{HasError, IsStopped}};
+ghost use Rattle.agent_session.specs.Imports.{ImportCourse};
+ghost use Rattle.agent_session.specs.Refusals.{AnswersAlone, Course, IsOwnCode, LeavesDesk};
+ghost use Rattle.agent_session.specs.{Refusals.{OpensFirst, RefusedCourse}, TrustCalls.EndsAtCalls};
 
 use agent_ask::Prompter;
 use cache_policy::Desk;

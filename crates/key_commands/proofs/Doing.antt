@@ -1,30 +1,11 @@
 -- Parts of a request in which the keys are called, dice are thrown or memory is wanted, and such calls one after another.
 use Rattle.std.proofs.Common.{◌≡◌, ℕ, List, [], ◌∷◌, ◌++◌, Option, Some, None, Result, Ok, Err, refl, subst}
-use Rattle.agent_ask.specs.Events.{Call}
-use Rattle.agent_ask.specs.Further.{FurtherEvent, KeyCall, DoesKeys, Keys, Dice, NoMemory, world_with}
-use Rattle.agent_ask.specs.Parts.{◌>>=◌, goes_on, stops}
-use Rattle.agent_ask.specs.PartStates.{gone_in, DoesPart, part_state}
-use Rattle.agent_ask.specs.SessionEvents.{Further}
-use Rattle.agent_ask.specs.States.{AnyLead}
-use Rattle.agent_ask.proofs.Doing.{done_none, done_then, done_further}
-use Rattle.agent_ask.proofs.PartsDone.{part_still, still_open, no_fault}
-use Rattle.agent_ports.specs.KeyFiles.{KeyFiles}
-use Rattle.agent_ports.specs.Sides.{Side}
-use Rattle.agent_ports.specs.declared.keys.KeyDone.{KeyDone}
-use Rattle.agent_ports.specs.declared.keys.KeyDone.TheVariants.{Done}
-use Rattle.assuan_server.specs.Clients.{connection_views, session_lines}
-use Rattle.assuan_server.specs.Connections.{Connection, IsOpen}
-use Rattle.cache_policy.specs.declared.mark.MarkStep.{MarkStep}
-use Rattle.cache_policy.specs.Turns.{Turn}
-use Rattle.session_client.specs.declared.code.Code.{Code}
-use Rattle.session_client.specs.declared.refusal.Refusal.{Refusal}
-use Rattle.session_client.specs.declared.refusal.Refusal.TheVariants.{Agent}
-use Rattle.key_commands.specs.Events.{Event, called, out_of_memory}
-use Rattle.key_commands.specs.KeyEnds.{KeyEnds, DoesAtKeys, keys as does_keys, dice as does_dice, no_memory}
-use Rattle.key_commands.specs.KeyParts.{change_fault}
-use Rattle.key_commands.specs.Partial.{DoesKeyPart, DoesBesideKeys, no_memory as no_memory_beside, LeavesKeys}
-use Rattle.key_commands.specs.Parts.{Part}
-use Rattle.key_commands.specs.States.{KeyWorld, key_state}
+use Rattle.agent_ask.specs.{Events.Call, Further.{FurtherEvent, KeyCall, DoesKeys, Keys, Dice, NoMemory, world_with}, Parts.{◌>>=◌, goes_on, stops}, PartStates.{gone_in, DoesPart, part_state}, SessionEvents.Further, States.AnyLead}
+use Rattle.{agent_ask.proofs.{Doing.{done_none, done_then, done_further}, PartsDone.{part_still, still_open, no_fault}}, agent_ports.specs.{KeyFiles.KeyFiles, Sides.Side, declared.keys.KeyDone.{KeyDone, TheVariants.Done}}}
+use Rattle.{assuan_server.specs.{Clients.{connection_views, session_lines}, Connections.{Connection, IsOpen}}, cache_policy.specs.{declared.mark.MarkStep.MarkStep, Turns.Turn}, session_client.specs.declared.code.Code.Code}
+use Rattle.session_client.specs.declared.refusal.Refusal.{Refusal, TheVariants.Agent}
+use Rattle.key_commands.specs.{Events.{Event, called, out_of_memory}, KeyEnds.{KeyEnds, DoesAtKeys, keys as does_keys, dice as does_dice, no_memory}, KeyParts.change_fault}
+use Rattle.key_commands.specs.{Partial.{DoesKeyPart, DoesBesideKeys, no_memory as no_memory_beside, LeavesKeys}, Parts.Part, States.{KeyWorld, key_state}}
 use Rattle.key_commands.specs.Steps.{DoesAlone, nothing, memory, KeysLead, none, calls, wants_memory, DoesKeyCalls, DoesDrawing, DoesDrawings, no_draw, one_draw, IsChanged}
 
 -- ---- calls of the keys, one after another

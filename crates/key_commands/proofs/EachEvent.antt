@@ -1,50 +1,24 @@
 -- Parts of a request on keys each of whose events is so.
-use Rattle.std.specs.List.{AllByRecursion}
-use Rattle.std.proofs.Common.{◌==◌, ◌++◌, ℕ, Bool, true, false, List, [], ◌∷◌, length, codes, Option, Some, None, Result, Ok}
-use Rattle.std.specs.Prelude.{⊤, not, take, drop}
-use Rattle.agent_ask.specs.Events.{PromptEvent}
-use Rattle.agent_ask.specs.Further.{Keys, Dice, NoMemory, Prompt, Trust}
-use Rattle.agent_ask.specs.SessionEvents.{Received, Sent, Cut, Inquiry, CacheTurn, Further, cache_turn, said_last}
-use Rattle.agent_ask.specs.SessionPrompts.{AnyInSession}
+use Rattle.std.{specs.{List.AllByRecursion, Prelude.{⊤, not, take, drop}}, proofs.Common.{◌==◌, ◌++◌, ℕ, Bool, true, false, List, [], ◌∷◌, length, codes, Option, Some, None, Result, Ok}}
+use Rattle.agent_ask.specs.{Events.PromptEvent, Further.{Keys, Dice, NoMemory, Prompt, Trust}, SessionEvents.{Received, Sent, Cut, Inquiry, CacheTurn, Further, cache_turn, said_last}, SessionPrompts.AnyInSession}
+use Rattle.agent_ask.specs.{Parts.{◌>>=◌, goes_on, stops, Returns, returns, Refuses, needed, or_else, unless, wanted}, TurnParts.{Asks, Seats, Changes, Peeks, Closes}, ClientParts.{Writes, Inquires}, ConsentParts.AgreesTo}
+use Rattle.{agent_ask.proofs.Within.{Within, Joins, OfNothing, Does, does_join, bind, returned, refused, is_needed, or_otherwise, is_unless, is_wanted}, agent_ports.specs.declared.grip.Grip.Grip, assuan_server.specs.Clients.session_lines}
+use Rattle.{assuan_server.specs.Written.limit_line, session_client.specs.declared.{code.Code.Code, refusal.Refusal.{Refusal, TheVariants.Agent}}, cache_policy.specs.{Turns.Turn, declared.life.Life.TheVariants.Default}}
+use Rattle.{cache_policy.specs.declared.{mark.MarkStep.{MarkStep, TheVariants.{Close, Put, Peek}}, mode.Mode.TheVariants.{Normal, Nonce}, secret.TheConstants.MAX_SECRET_LEN}, assuan_escape.specs.Escapes.hex_text}
+use Rattle.{secret_file.specs.Opens.LockedKey, session_options.specs.{OptionValues.OptionValues, declared.rules.Rules.Rules}, sexp_keys.specs.Key.Key}
+use Rattle.key_commands.specs.{Events.{Event, IsUncalled}, Exchanges.{StoresKey, RewritesFile}, Files.Rewrites}
+use Rattle.key_commands.specs.KeyParts.{Tells, tells, ReadsFile, Replaces, Removes, KeepsNew, Protects, IsShort, HasOne, TellsKeyInfo, ListsGrips, ReadsListed, WritesInfo, WritesInfos, AsksKeyData, Unwraps, ReceivesKey, NamesKey, IsFree}
+use Rattle.key_commands.specs.{KeyParts.{LooksOver, WrapsKey}, Lines.{max_key_data, grip_text, IsNotice, of_passphrase, of_key_data, of_key}, Parts.{Part, Finds, Draws}}
+use Rattle.key_commands.specs.Passphrases.{AsksSecret, PromptsOld, PromptsNew, ClientOld, ClientNew, LooksForNonce, TakesSeat, Locks, TriesPassphrase, TriesFound, ask_nonce, seat_for, put_key}
 use Rattle.agent_ask.specs.SessionPrompts as session
-use Rattle.agent_ask.proofs.Within.{Within, Joins, OfNothing, Does, does_join, bind, returned, refused, is_needed, or_otherwise, is_unless, is_wanted}
-use Rattle.agent_ports.specs.declared.grip.Grip.{Grip}
-use Rattle.assuan_server.specs.Clients.{session_lines}
-use Rattle.session_client.specs.declared.code.Code.{Code}
 use Rattle.session_client.specs.declared.code.Code.TheVariants as code
-use Rattle.cache_policy.specs.Turns.{Turn}
-use Rattle.cache_policy.specs.declared.life.Life.TheVariants.{Default}
-use Rattle.cache_policy.specs.declared.mark.MarkStep.{MarkStep}
-use Rattle.cache_policy.specs.declared.mark.MarkStep.TheVariants.{Close, Put, Peek}
-use Rattle.cache_policy.specs.declared.mode.Mode.TheVariants.{Normal, Nonce}
-use Rattle.cache_policy.specs.declared.secret.TheConstants.{MAX_SECRET_LEN}
-use Rattle.assuan_escape.specs.Escapes.{hex_text}
-use Rattle.secret_file.specs.Opens.{LockedKey}
-use Rattle.session_options.specs.OptionValues.{OptionValues}
-use Rattle.session_options.specs.declared.rules.Rules.{Rules}
-use Rattle.sexp_keys.specs.Key.{Key}
-use Rattle.key_commands.specs.Events.{Event, IsUncalled}
-use Rattle.key_commands.specs.Exchanges.{StoresKey, RewritesFile}
-use Rattle.key_commands.specs.Files.{Rewrites}
 use Rattle.key_commands.specs.Files as files
-use Rattle.key_commands.specs.KeyParts.{Tells, tells, ReadsFile, Replaces, Removes, KeepsNew, Protects, IsShort, HasOne, TellsKeyInfo, ListsGrips, ReadsListed, WritesInfo, WritesInfos}
-use Rattle.key_commands.specs.KeyParts.{AsksKeyData, Unwraps, ReceivesKey, NamesKey, IsFree, LooksOver, WrapsKey}
 use Rattle.key_commands.specs.KeyParts as parts
-use Rattle.key_commands.specs.Lines.{max_key_data, grip_text, IsNotice, of_passphrase, of_key_data, of_key}
-use Rattle.assuan_server.specs.Written.{limit_line}
-use Rattle.key_commands.specs.Parts.{Part, Finds, Draws}
-use Rattle.agent_ask.specs.Parts.{◌>>=◌, goes_on, stops, Returns, returns, Refuses, needed, or_else, unless, wanted}
-use Rattle.agent_ask.specs.TurnParts.{Asks, Seats, Changes, Peeks, Closes}
-use Rattle.agent_ask.specs.ClientParts.{Writes, Inquires}
 use Rattle.agent_ask.specs.ClientParts as client
-use Rattle.agent_ask.specs.ConsentParts.{AgreesTo}
 use Rattle.agent_ask.specs.ConsentParts as consent
 use Rattle.agent_ask.specs.TurnParts as taken
 use Rattle.key_commands.specs.Parts as small
-use Rattle.key_commands.specs.Passphrases.{AsksSecret, PromptsOld, PromptsNew, ClientOld, ClientNew, LooksForNonce, TakesSeat, Locks, TriesPassphrase, TriesFound, ask_nonce, seat_for, put_key}
 use Rattle.key_commands.specs.Passphrases as passphrases
-use Rattle.session_client.specs.declared.refusal.Refusal.{Refusal}
-use Rattle.session_client.specs.declared.refusal.Refusal.TheVariants.{Agent}
 
 -- a list, and what comes behind it
 pub each_append : {E : Type 0} (Is : E → Type 0) (first more : List E) → AllByRecursion Is first → AllByRecursion Is more → AllByRecursion Is (first ++ more)

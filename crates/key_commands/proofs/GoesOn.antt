@@ -1,19 +1,9 @@
 -- A session goes on after each request on keys that is answered.
 use Rattle.std.proofs.Common.{◌≡◌, ℕ, Bool, true, false, List, Option, Ok, refl}
-use Rattle.agent_ask.specs.Parts.{◌>>=◌, Returns}
-use Rattle.agent_ask.proofs.Within.{Within, Yields, yields_then, returned_so}
-use Rattle.agent_ports.specs.declared.grip.Grip.{Grip}
-use Rattle.session_options.specs.OptionValues.{OptionValues}
-use Rattle.session_options.specs.declared.rules.Rules.{Rules}
-use Rattle.key_commands.specs.Events.{Event}
-use Rattle.key_commands.specs.Exchanges.{KeyReply, key_reply, HaveKeyReplies, KeyInfoReplies, ListKeysReplies, KeyWrapReplies, ImportKeyReplies, ExportKeyReplies, PasswdReplies, VerifyReplies}
-use Rattle.key_commands.specs.Exchanges.{DeleteKeyReplies, KeyReplies}
-use Rattle.key_commands.specs.Parts.{Part}
-use Rattle.key_commands.specs.declared.request.Direction.{Direction}
-use Rattle.key_commands.specs.declared.request.KeyRequest.{KeyRequest}
+use Rattle.{agent_ask.{specs.Parts.{◌>>=◌, Returns}, proofs.Within.{Within, Yields, yields_then, returned_so}}, agent_ports.specs.declared.grip.Grip.Grip, session_options.specs.{OptionValues.OptionValues, declared.rules.Rules.Rules}}
+use Rattle.key_commands.specs.{Events.Event, Exchanges.{KeyReply, key_reply, HaveKeyReplies, KeyInfoReplies, ListKeysReplies, KeyWrapReplies, ImportKeyReplies, ExportKeyReplies, PasswdReplies, VerifyReplies, DeleteKeyReplies, KeyReplies}}
+use Rattle.key_commands.specs.{Parts.Part, declared.{request.{Direction.Direction, KeyRequest.KeyRequest}, went.KeyWent.TheVariants.On, wrap_keys.WrapKeys.WrapKeys}}
 use Rattle.key_commands.specs.declared.request.KeyRequest.TheVariants as on
-use Rattle.key_commands.specs.declared.went.KeyWent.TheVariants.{On}
-use Rattle.key_commands.specs.declared.wrap_keys.WrapKeys.{WrapKeys}
 
 abbrev IsOn : KeyReply → Type 0
 IsOn reply = reply.went ≡ On

@@ -1,39 +1,15 @@
 -- Keys that come in.
-use Rattle.std.proofs.Common.{◌≡◌, ◌≢◌, ◌≤◌, ◌⊎◌, inl, inr, ℕ, List, [], ◌∷◌, ◌++◌, length, Option, Some, None, Result, Ok, Err, refl, subst}
-use Rattle.std.specs.Prelude.{codes}
-use Rattle.agent_ask.specs.ClientParts.{Inquires}
-use Rattle.agent_ask.specs.Further.{NoMemory, world_with}
-use Rattle.agent_ask.specs.PartStates.{NoTurn, DoesWithClient}
-use Rattle.agent_ask.specs.SessionEvents.{Inquiry}
-use Rattle.agent_ask.proofs.Doing.{done_then, done_further, done_inquired}
-use Rattle.agent_ask.proofs.PartsAtClient.{gave, gave_none}
-use Rattle.agent_ask.proofs.PartsDone.{beside_client}
-use Rattle.agent_ports.specs.Sides.{WhereKnown}
-use Rattle.agent_ports.specs.declared.grip.Grip.{Grip}
-use Rattle.assuan_server.specs.Asking.{Inquire, IsNotAsked}
-use Rattle.assuan_server.specs.Clients.{connection_views, session_lines, outcome_says}
-use Rattle.assuan_server.specs.Connections.{Connection, IsOpen}
+use Rattle.std.{proofs.Common.{◌≡◌, ◌≢◌, ◌≤◌, ◌⊎◌, inl, inr, ℕ, List, [], ◌∷◌, ◌++◌, length, Option, Some, None, Result, Ok, Err, refl, subst}, specs.Prelude.codes}
+use Rattle.agent_ask.{specs.{ClientParts.Inquires, Further.{NoMemory, world_with}, PartStates.{NoTurn, DoesWithClient}, SessionEvents.Inquiry}, proofs.{Doing.{done_then, done_further, done_inquired}, PartsAtClient.{gave, gave_none}}}
+use Rattle.{agent_ask.proofs.PartsDone.beside_client, agent_ports.specs.{Sides.WhereKnown, declared.grip.Grip.Grip}, assuan_server.specs.{Asking.{Inquire, IsNotAsked}, Clients.{connection_views, session_lines, outcome_says}}}
+use Rattle.assuan_server.{specs.{Connections.{Connection, IsOpen}, Inquiries.{Outcome, Inquiry as Comes, IsAtEnd, Answers, outcome_of, inquire_text}, declared.inquiry.Inquired.Inquired}, proofs.Clients.{inquiry_is_done, not_inquired}}
+use Rattle.{session_client.specs.{declared.{code.Code.Code, refusal.Refusal.{Refusal, TheVariants.Agent}}, Asking.{Asked, AsksClient, LeftBy}}, secret_file.proofs.Within.file_fits, sexp_keys.specs.{Key.Key, Lists.{key_list_of, grip_of}}}
+use Rattle.key_commands.specs.{Lines.max_key_data, Events.out_of_memory, KeyParts.{AsksKeyData, asked, no_memory, Unwraps, is_key, refused, no_memory as no_key_memory, NamesKey, named as grip_named, no_memory as no_name_memory}}
+use Rattle.key_commands.specs.{Partial.{NoCall, DoesBesideKeys, no_memory as wants_memory, LeavesKeys, DoesAtClient}, Steps.{key_data_of, DoesAlone, nothing, memory as memory_wanted}, Trials.IsUsable}
+use Rattle.key_commands.specs.{Wrapping.{PlainSays, key as plain_key, WrappedSays, checked}, declared.wrapping.TheConstants.MAX_LIST_LEN}
 use Rattle.assuan_server.specs.Inquiries as outcome
-use Rattle.assuan_server.specs.Inquiries.{Outcome, Inquiry as Comes, IsAtEnd, Answers, outcome_of, inquire_text}
-use Rattle.session_client.specs.declared.code.Code.{Code}
 use Rattle.session_client.specs.declared.code.Code.TheVariants as code
-use Rattle.assuan_server.specs.declared.inquiry.Inquired.{Inquired}
 use Rattle.assuan_server.specs.declared.inquiry.Inquired.TheVariants as inquired
-use Rattle.assuan_server.proofs.Clients.{inquiry_is_done, not_inquired}
-use Rattle.secret_file.proofs.Within.{file_fits}
-use Rattle.session_client.specs.Asking.{Asked, AsksClient, LeftBy}
-use Rattle.sexp_keys.specs.Key.{Key}
-use Rattle.sexp_keys.specs.Lists.{key_list_of, grip_of}
-use Rattle.key_commands.specs.Lines.{max_key_data}
-use Rattle.key_commands.specs.Events.{out_of_memory}
-use Rattle.key_commands.specs.KeyParts.{AsksKeyData, asked, no_memory, Unwraps, is_key, refused, no_memory as no_key_memory, NamesKey, named as grip_named, no_memory as no_name_memory}
-use Rattle.key_commands.specs.Partial.{NoCall, DoesBesideKeys, no_memory as wants_memory, LeavesKeys, DoesAtClient}
-use Rattle.key_commands.specs.Steps.{key_data_of, DoesAlone, nothing, memory as memory_wanted}
-use Rattle.key_commands.specs.Trials.{IsUsable}
-use Rattle.key_commands.specs.Wrapping.{PlainSays, key as plain_key, WrappedSays, checked}
-use Rattle.session_client.specs.declared.refusal.Refusal.{Refusal}
-use Rattle.session_client.specs.declared.refusal.Refusal.TheVariants.{Agent}
-use Rattle.key_commands.specs.declared.wrapping.TheConstants.{MAX_LIST_LEN}
 
 abbrev word : List ℕ
 word = codes "KEYDATA"

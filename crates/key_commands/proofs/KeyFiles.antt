@@ -1,23 +1,11 @@
 -- What key files say, and how they are written over.
-use Rattle.std.proofs.Common.{◌≡◌, ◌≢◌, ◌⊎◌, ◌≤◌, ℕ, true, false, List, [], ◌++◌, length, Some, Result, Ok, Err, IfOk, IfErr, inl, inr, refl, ap, sym, subst, ◌∙◌}
-use Rattle.std.proofs.lemmas.List.{append-nil}
-use Rattle.key_lines.specs.Canon.{is_canonical, Canon}
-use Rattle.key_lines.specs.KeyFile.{KeyFile, IsKeyFile, IsFault}
-use Rattle.key_lines.specs.declared.fault.LinesFault.{LinesFault}
-use Rattle.key_lines.specs.declared.fault.LinesFault.TheVariants as lines_fault
-use Rattle.sexp_canonical.specs.Spelling.{IsReadable, most_bytes, most_depth, depth, spelling, spelling_of}
-use Rattle.sexp_canonical.specs.Tree.{Tree}
-use Rattle.sexp_canonical.specs.View.{tree_of}
-use Rattle.sexp_canonical.specs.declared.fault.SexpFault.{SexpFault}
-use Rattle.sexp_canonical.specs.declared.fault.SexpFault.TheVariants as sexp_fault
-use Rattle.sexp_canonical.specs.declared.tree.Sexp.{Sexp}
-use Rattle.sexp_keys.specs.Faults.{IsFirstKeyFault}
-use Rattle.sexp_keys.specs.Key.{Key, IsKey}
-use Rattle.sexp_keys.specs.declared.fault.KeyFault.{KeyFault}
-use Rattle.sexp_keys.specs.declared.fault.KeyFault.TheVariants.{InvSexp, NoMemory}
-use Rattle.secret_file.specs.Answers.{IsFileFault}
-use Rattle.secret_file.specs.Opens.{FitsFile, IsFile}
+use Rattle.std.proofs.{Common.{◌≡◌, ◌≢◌, ◌⊎◌, ◌≤◌, ℕ, true, false, List, [], ◌++◌, length, Some, Result, Ok, Err, IfOk, IfErr, inl, inr, refl, ap, sym, subst, ◌∙◌}, lemmas.List.append-nil}
+use Rattle.{key_lines.specs.{Canon.{is_canonical, Canon}, KeyFile.{KeyFile, IsKeyFile, IsFault}, declared.fault.LinesFault.LinesFault}, sexp_canonical.specs.Spelling.{IsReadable, most_bytes, most_depth, depth, spelling, spelling_of}}
+use Rattle.{sexp_canonical.specs.{Tree.Tree, View.tree_of, declared.{fault.SexpFault.SexpFault, tree.Sexp.Sexp}}, sexp_keys.specs.{Faults.IsFirstKeyFault, Key.{Key, IsKey}, declared.fault.KeyFault.KeyFault}}
+use Rattle.{sexp_keys.specs.declared.fault.KeyFault.TheVariants.{InvSexp, NoMemory}, secret_file.specs.{Answers.IsFileFault, Opens.{FitsFile, IsFile}}}
 use Rattle.key_commands.specs.Files.{FileSays, canonical, no_canonical}
+use Rattle.key_lines.specs.declared.fault.LinesFault.TheVariants as lines_fault
+use Rattle.sexp_canonical.specs.declared.fault.SexpFault.TheVariants as sexp_fault
 
 -- ---- canonical files
 

@@ -1,27 +1,9 @@
 -- Keys that are listed.
-use Rattle.std.proofs.Common.{◌≡◌, ◌⊎◌, ◌≤◌, ◌<◌, ◌+◌, ℕ, true, false, List, [], ◌∷◌, length, drop, get_or, map, Option, Some, Result, Ok, Err, inl, inr, refl, ap, sym, ◌∙◌, subst, add-one}
-use Rattle.std.proofs.Math.Seq.{drop-cons}
-use Rattle.std.proofs.lemmas.List.{drop_all}
-use Rattle.agent_ask.specs.Events.{Call}
-use Rattle.agent_ask.specs.Further.{Read, DoesKeys}
-use Rattle.agent_ports.specs.KeyFiles.{KeyFiles}
-use Rattle.agent_ports.specs.declared.grip.Grip.{Grip}
-use Rattle.agent_ports.specs.declared.keys.KeyRead.{KeyRead}
-use Rattle.session_client.specs.declared.code.Code.TheVariants.{NoSecKey}
-use Rattle.cache_policy.specs.declared.mark.MarkStep.{MarkStep}
-use Rattle.cache_policy.specs.Turns.{Turn}
-use Rattle.sexp_keys.specs.declared.fault.KeyFault.{KeyFault}
+use Rattle.std.proofs.{Common.{◌≡◌, ◌⊎◌, ◌≤◌, ◌<◌, ◌+◌, ℕ, true, false, List, [], ◌∷◌, length, drop, get_or, map, Option, Some, Result, Ok, Err, inl, inr, refl, ap, sym, ◌∙◌, subst, add-one}, Math.Seq.drop-cons, lemmas.List.drop_all}
+use Rattle.{agent_ask.{specs.{Events.Call, Further.{Read, DoesKeys}, Parts.{returns, refuses}}, proofs.PartsDone.{part_then, part_stops}}, agent_ports.specs.{KeyFiles.KeyFiles, declared.{grip.Grip.Grip, keys.KeyRead.KeyRead}}}
+use Rattle.{session_client.specs.declared.{code.Code.TheVariants.NoSecKey, refusal.Refusal.{Refusal, TheVariants.Agent}}, cache_policy.specs.{declared.mark.MarkStep.MarkStep, Turns.Turn}, sexp_keys.specs.declared.fault.KeyFault.KeyFault}
 use Rattle.sexp_keys.specs.declared.fault.KeyFault.TheVariants.{InvSexp, BadSecKey, Shadowed, NotSupported, NoMemory}
-use Rattle.key_commands.specs.Files.{FileSays}
-use Rattle.key_commands.specs.KeyParts.{file_in, ReadsListed, faulty, no_memory, HasOne, TellsListed, WritesInfos}
-use Rattle.key_commands.specs.Parts.{Finds}
-use Rattle.agent_ask.specs.Parts.{returns, refuses}
-use Rattle.agent_ask.proofs.PartsDone.{part_then, part_stops}
-use Rattle.key_commands.specs.Partial.{DoesKeyPart}
-use Rattle.key_commands.specs.States.{KeyState}
-use Rattle.key_commands.specs.Steps.{DoesKeyCalls, unlisted}
-use Rattle.session_client.specs.declared.refusal.Refusal.{Refusal}
-use Rattle.session_client.specs.declared.refusal.Refusal.TheVariants.{Agent}
+use Rattle.key_commands.specs.{Files.FileSays, KeyParts.{file_in, ReadsListed, faulty, no_memory, HasOne, TellsListed, WritesInfos}, Parts.Finds, Partial.DoesKeyPart, States.KeyState, Steps.{DoesKeyCalls, unlisted}}
 use Rattle.key_commands.proofs.Doing.{one_call, one_call_of_memory, calls_then, calls_stop, no_calls}
 
 -- a listed key's file was read, and has this fault

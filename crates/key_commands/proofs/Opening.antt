@@ -1,11 +1,7 @@
 -- Locked keys that a passphrase opens, or doesn't.
 use Rattle.std.proofs.Common.{◌≡◌, ◌⊎◌, ℕ, List, inl, inr, refl}
-use Rattle.secret_file.specs.Answers.{AnswersOpening}
-use Rattle.secret_file.specs.Opens.{LockedKey, OpensTo, FitsFile}
-use Rattle.secret_file.specs.declared.locked.Opened.TheVariants.{Key as Opens, BadPassphrase, NoMemory}
-use Rattle.sexp_keys.specs.Key.{Key}
-use Rattle.key_commands.specs.Passphrases.{OpensBy}
-use Rattle.key_commands.specs.Trials.{IsUsable}
+use Rattle.{secret_file.specs.{Answers.AnswersOpening, Opens.{LockedKey, OpensTo, FitsFile}, declared.locked.Opened.TheVariants.{Key as Opens, BadPassphrase, NoMemory}}, sexp_keys.specs.Key.Key}
+use Rattle.key_commands.specs.{Passphrases.OpensBy, Trials.IsUsable}
 
 module _ (locked : LockedKey) (pass : List ℕ) where
   pub opens_to_its_key : (key : Key) → (Opens key ≡ NoMemory) ⊎ AnswersOpening locked pass (Opens key) → OpensTo locked pass key

@@ -1,26 +1,10 @@
 -- Parts that have nothing to do with some ends of a session, with these beside.
 use Rattle.std.proofs.Common.{ℕ, Option, Result}
-use Rattle.agent_ask.specs.Doing.{DoesCall, called, out_of_memory}
-use Rattle.agent_ask.specs.Events.{Call, PromptEvent}
-use Rattle.agent_ask.specs.Further.{FurtherEvent, Prompt}
-use Rattle.agent_ask.specs.PartStates.{NoTurn}
-use Rattle.agent_ask.proofs.PartsDone.{part_in}
-use Rattle.agent_ask.proofs.Replying.{carries_in}
-use Rattle.agent_ports.specs.KeyFiles.{KeyFiles}
-use Rattle.agent_ports.specs.Sides.{Side}
-use Rattle.assuan_server.specs.Clients.{connection_views}
-use Rattle.assuan_server.specs.Connections.{Connection}
-use Rattle.cache_policy.specs.declared.mark.MarkStep.{MarkStep}
-use Rattle.cache_policy.specs.Turns.{Turn}
-use Rattle.session_client.specs.declared.refusal.Refusal.{Refusal}
-use Rattle.key_commands.specs.Exchanges.{KeyReply}
-use Rattle.key_commands.specs.KeyEnds.{KeyEnds, DoesAtKeys, prompt, keys, dice, no_memory}
-use Rattle.key_commands.specs.Parts.{Part}
-use Rattle.key_commands.specs.Partial.{DoesKeyPart, NoCall, DoesBesideKeys, prompt as prompt_beside, no_memory as no_memory_beside, LeavesKeys, DoesAtPrompter, DoesAtDesk, DoesAtClient}
-use Rattle.key_commands.specs.Replies.{CarriesOut}
-use Rattle.key_commands.specs.States.{KeyState, key_state}
-use Rattle.key_commands.specs.declared.reply.Reply.{Reply}
-use Rattle.key_commands.specs.declared.wrap_keys.WrapKeys.{WrapKeys}
+use Rattle.{agent_ask.{specs.{Doing.{DoesCall, called, out_of_memory}, Events.{Call, PromptEvent}, Further.{FurtherEvent, Prompt}, PartStates.NoTurn}, proofs.{PartsDone.part_in, Replying.carries_in}}, agent_ports.specs.KeyFiles.KeyFiles}
+use Rattle.{agent_ports.specs.Sides.Side, assuan_server.specs.{Clients.connection_views, Connections.Connection}, cache_policy.specs.{declared.mark.MarkStep.MarkStep, Turns.Turn}, session_client.specs.declared.refusal.Refusal.Refusal}
+use Rattle.key_commands.specs.{Exchanges.KeyReply, KeyEnds.{KeyEnds, DoesAtKeys, prompt, keys, dice, no_memory}, Parts.Part}
+use Rattle.key_commands.specs.{Partial.{DoesKeyPart, NoCall, DoesBesideKeys, prompt as prompt_beside, no_memory as no_memory_beside, LeavesKeys, DoesAtPrompter, DoesAtDesk, DoesAtClient}, Replies.CarriesOut, States.{KeyState, key_state}}
+use Rattle.key_commands.specs.declared.{reply.Reply.Reply, wrap_keys.WrapKeys.WrapKeys}
 
 module _ {P : Type 0} {prompted : P → Call → P → Type 0} where
   -- what a prompt does to a prompter

@@ -1,14 +1,7 @@
 -- The fields of a line with a command on keys.
-use Rattle.std.proofs.Common.{◌≡◌, ◌==◌, ◌↔◌, ℕ, Bool, true, false, cond, List, ◌++◌, length, Option, Some, None, Result, Ok, Err, IsSome, IfSome, refl}
-use Rattle.std.specs.List.{AllPass}
-use Rattle.agent_ports.specs.declared.grip.Grip.{Grip}
-use Rattle.session_client.specs.declared.code.Code.{Code}
-use Rattle.hex.specs.Hex.{decode_of, is_hex_digit}
-use Rattle.hex.specs.declared.error.FromHexError.{FromHexError}
-use Rattle.std.proofs.lemmas.Bool.{eq-eqb, eqb-true}
-use Rattle.hex.proofs.HexLemmas.{decode_of-ok}
+use Rattle.std.{proofs.{Common.{◌≡◌, ◌==◌, ◌↔◌, ℕ, Bool, true, false, cond, List, ◌++◌, length, Option, Some, None, Result, Ok, Err, IsSome, IfSome, refl}, lemmas.Bool.{eq-eqb, eqb-true}}, specs.List.AllPass}
+use Rattle.{agent_ports.specs.declared.grip.Grip.Grip, session_client.specs.{declared.code.Code.Code, Fields.◌>>=◌}, hex.{specs.{Hex.{decode_of, is_hex_digit}, declared.error.FromHexError.FromHexError}, proofs.HexLemmas.decode_of-ok}}
 use Rattle.key_commands.specs.Requests.{grip, grip_of_bytes}
-use Rattle.session_client.specs.Fields.{◌>>=◌}
 
 -- these grips, and then those
 abbrev pub onto : List Grip → Result (List Grip) Code → Result (List Grip) Code

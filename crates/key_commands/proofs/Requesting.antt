@@ -1,31 +1,11 @@
 -- Requests for whose reply all was done, new passphrases that are kept, and clear keys, which need no passphrase.
 use Rattle.std.proofs.Common.{◌≡◌, ℕ, Bool, true, false, List, [], Option, Some, None, Result, Ok, is_some, refl}
-use Rattle.agent_ask.specs.Events.{Call}
-use Rattle.agent_ask.specs.PartReplies.{comes_to}
-use Rattle.agent_ask.specs.Parts.{returns}
-use Rattle.agent_ask.specs.PartStates.{still, one}
-use Rattle.agent_ask.specs.Seats.{GivesTicket}
-use Rattle.agent_ask.specs.TurnParts.{Changes, Closes}
-use Rattle.agent_ask.proofs.PartsDone.{ticket_given}
-use Rattle.agent_ports.specs.declared.grip.Grip.{Grip}
-use Rattle.cache_policy.specs.declared.mark.MarkStep.{MarkStep}
-use Rattle.cache_policy.specs.Turns.{Turn}
-use Rattle.session_client.specs.declared.refusal.Refusal.{Refusal}
-use Rattle.session_client.specs.declared.unheard.Gone.{Gone}
-use Rattle.session_options.specs.OptionValues.{OptionValues}
-use Rattle.session_options.specs.declared.rules.Rules.{Rules}
-use Rattle.sexp_keys.specs.Key.{Key}
-use Rattle.key_commands.specs.Exchanges.{KeyReply, key_reply}
-use Rattle.key_commands.specs.KeyParts.{KeepsNew}
-use Rattle.assuan_server.specs.Written.{ok}
-use Rattle.key_commands.specs.Parts.{Part, key_went_after, key_gone}
-use Rattle.key_commands.specs.Passphrases.{put_key, old_by, verified_by}
-use Rattle.key_commands.specs.Replies.{CarriesOut}
-use Rattle.key_commands.specs.Partial.{DoesKeyPart}
-use Rattle.key_commands.specs.States.{KeyState}
-use Rattle.key_commands.specs.Steps.{TakesTurn, TakesTurns}
+use Rattle.{agent_ask.{specs.{Events.Call, PartReplies.comes_to, Parts.returns, PartStates.{still, one}, Seats.GivesTicket, TurnParts.{Changes, Closes}}, proofs.PartsDone.ticket_given}, agent_ports.specs.declared.grip.Grip.Grip}
+use Rattle.{cache_policy.specs.{declared.mark.MarkStep.MarkStep, Turns.Turn}, session_client.specs.declared.{refusal.Refusal.Refusal, unheard.Gone.Gone}, session_options.specs.{OptionValues.OptionValues, declared.rules.Rules.Rules}}
+use Rattle.{sexp_keys.specs.Key.Key, assuan_server.specs.Written.ok}
+use Rattle.key_commands.specs.{Exchanges.{KeyReply, key_reply}, KeyParts.KeepsNew, Parts.{Part, key_went_after, key_gone}, Passphrases.{put_key, old_by, verified_by}, Replies.CarriesOut, Partial.DoesKeyPart, States.KeyState}
+use Rattle.key_commands.specs.{Steps.{TakesTurn, TakesTurns}, declared.wrap_keys.WrapKeys.WrapKeys}
 use Rattle.key_commands.specs.declared.reply.Reply.TheVariants as replies
-use Rattle.key_commands.specs.declared.wrap_keys.WrapKeys.{WrapKeys}
 
 -- a session whose client is gone so goes on as one
 pub gone_as_it_went : (how : Option Gone) → key_gone (key_went_after how) ≡ how

@@ -1,17 +1,8 @@
 -- Tickets that requests hold, and the turns that give them.
 use Rattle.std.proofs.Common.{◌≡◌, ℕ, List, [], true, false, Option, Some, None, Result, Ok, is_some, refl}
-use Rattle.agent_ports.specs.declared.grip.Grip.{Grip}
-use Rattle.cache_policy.specs.declared.mark.MarkStep.{MarkStep}
-use Rattle.cache_policy.specs.Turns.{Turn}
-use Rattle.agent_ask.specs.Seats.{TakesTicket}
-use Rattle.agent_ask.proofs.PartsDone.{ticket_taken}
-use Rattle.agent_ask.specs.Parts.{returns}
-use Rattle.key_commands.specs.Events.{Event}
-use Rattle.key_commands.specs.Passphrases.{TakesSeat, seat_for}
-use Rattle.agent_ask.specs.PartStates.{still, one}
-use Rattle.agent_ask.specs.TurnParts.{Seats, opened}
-use Rattle.key_commands.specs.Steps.{TakesTurn, TakesTurns}
-use Rattle.session_client.specs.declared.refusal.Refusal.{Refusal}
+use Rattle.{agent_ports.specs.declared.grip.Grip.Grip, cache_policy.specs.{declared.mark.MarkStep.MarkStep, Turns.Turn}, agent_ask.specs.{Seats.TakesTicket, Parts.returns, PartStates.{still, one}, TurnParts.{Seats, opened}}}
+use Rattle.{agent_ask.proofs.PartsDone.ticket_taken, session_client.specs.declared.refusal.Refusal.Refusal}
+use Rattle.key_commands.specs.{Events.Event, Passphrases.{TakesSeat, seat_for}, Steps.{TakesTurn, TakesTurns}}
 
 pub none_held : (held : Option ℕ) → is_some held ≡ false → held ≡ None
 none_held None is = refl

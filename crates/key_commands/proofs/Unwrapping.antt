@@ -1,19 +1,9 @@
 -- Keys that come in: the expression, and the zero bytes behind it.
 use Rattle.std.proofs.Common.{◌≡◌, ◌≢◌, ◌==◌, ◌&&◌, ◌⊎◌, ◌≤◌, ℕ, zero, suc, Bool, true, false, List, [], ◌∷◌, ◌++◌, length, take, drop, replicate, Result, Ok, Err, IfOk, IfErr, inl, inr, refl, sym, ap, ◌∙◌, subst, arith, length-append}
-use Rattle.std.specs.List.{list_all}
-use Rattle.std.proofs.lemmas.Bool.{and_parts, and_from, eqb-true, ltb-true, lt-ltb}
-use Rattle.std.proofs.lemmas.List.{take-append-drop}
-use Rattle.std.proofs.Math.Seq.{take-append_seam, drop-append_seam}
-use Rattle.sexp_canonical.specs.Reading.{ReadsCanonical}
-use Rattle.sexp_canonical.specs.Spelling.{IsReadable}
-use Rattle.sexp_canonical.specs.declared.tree.Sexp.{Sexp}
-use Rattle.sexp_canonical.specs.declared.fault.SexpFault.{SexpFault}
-use Rattle.sexp_canonical.specs.declared.fault.SexpFault.TheVariants.{NoMemory}
-use Rattle.session_client.specs.declared.code.Code.{Code}
-use Rattle.session_client.specs.declared.code.Code.TheVariants.{NoMemory as OutOfMemory}
-use Rattle.sexp_keys.specs.Key.{Key}
-use Rattle.key_commands.specs.Wrapping.{ArePadded, AreWrapped, unwrapped, PlainSays, WrappedSays, checked}
-use Rattle.key_commands.specs.Steps.{are_padding}
+use Rattle.std.{proofs.{lemmas.{Bool.{and_parts, and_from, eqb-true, ltb-true, lt-ltb}, List.take-append-drop}, Math.Seq.{take-append_seam, drop-append_seam}}, specs.List.list_all}
+use Rattle.{sexp_canonical.specs.{Reading.ReadsCanonical, Spelling.IsReadable, declared.{tree.Sexp.Sexp, fault.SexpFault.{SexpFault, TheVariants.NoMemory}}}, session_client.specs.declared.code.Code.Code}
+use Rattle.{session_client.specs.declared.code.Code.TheVariants.NoMemory as OutOfMemory, sexp_keys.specs.Key.Key}
+use Rattle.key_commands.specs.{Wrapping.{ArePadded, AreWrapped, unwrapped, PlainSays, WrappedSays, checked}, Steps.are_padding}
 
 zeros_more : (byte : ℕ) (more : List ℕ) (z : Bool) → (byte == 0) ≡ z → (z && list_all (λ b. b == 0) more) ≡ true
     → (list_all (λ b. b == 0) more ≡ true → more ≡ replicate (length more) 0) → byte ∷ more ≡ replicate (length (byte ∷ more)) 0

@@ -1,14 +1,8 @@
 -- The definition of requests on worked examples, each by computation.
-use Rattle.std.specs.Prelude.{◌≡◌, ℕ, List, [], ◌∷◌, ◌++◌, replicate, map, codes, true, false, Some, None, refl}
-use Rattle.std.proofs.Common.{◌≤◌, length, arith}
-use Rattle.hex.proofs.OnLiterals.{hex_on_literals}
-use Rattle.agent_ports.specs.declared.grip.Grip.{Grip}
-use Rattle.session_client.specs.declared.code.Code.TheVariants.{NotSupported, UnknownCommand, Parameter}
-use Rattle.key_commands.specs.Names.{key_command_named}
-use Rattle.key_commands.specs.Requests.{key_request_of, ends_description}
-use Rattle.key_commands.specs.declared.request.Direction.TheVariants.{Import, Export}
-use Rattle.key_commands.specs.declared.wrapping.TheConstants.{MAX_LIST_LEN}
-use Rattle.key_commands.specs.declared.request.KeyRequest.TheVariants.{HaveKey, KeyInfo, ListKeys, KeyWrap, ImportKey, ExportKey, Passwd, DeleteKey, Bad}
+use Rattle.std.{specs.Prelude.{◌≡◌, ℕ, List, [], ◌∷◌, ◌++◌, replicate, map, codes, true, false, Some, None, refl}, proofs.Common.{◌≤◌, length, arith}}
+use Rattle.{hex.proofs.OnLiterals.hex_on_literals, agent_ports.specs.declared.grip.Grip.Grip, session_client.specs.declared.code.Code.TheVariants.{NotSupported, UnknownCommand, Parameter}}
+use Rattle.key_commands.specs.{Names.key_command_named, Requests.{key_request_of, ends_description}, declared.request.Direction.TheVariants.{Import, Export}}
+use Rattle.key_commands.specs.declared.{request.KeyRequest.TheVariants.{HaveKey, KeyInfo, ListKeys, KeyWrap, ImportKey, ExportKey, Passwd, DeleteKey, Bad}, wrapping.TheConstants.MAX_LIST_LEN}
 
 -- a key, and its name with digits of both cases
 abbrev the_key : Grip

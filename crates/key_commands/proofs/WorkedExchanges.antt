@@ -1,55 +1,19 @@
 -- A row of each request on keys that prompts nobody: what is done and written for it.
-use Rattle.std.specs.Prelude.{◌≡◌, ◌≤◌, ◌==◌, not, ℕ, true, false, List, [], ◌∷◌, ◌++◌, length, take, drop, replicate, codes, Some, None, Ok, refl}
-use Rattle.std.proofs.Common.{sym, subst}
-use Rattle.agent_ask.specs.ClientParts.{written, given as sent}
-use Rattle.agent_ask.specs.Further.{Listed, Replaced, Removed}
-use Rattle.agent_ask.specs.SessionEvents.{Sent, Inquiry, cache_turn}
-use Rattle.agent_ports.specs.declared.grip.Grip.{Grip}
-use Rattle.agent_ports.specs.declared.keys.KeyDone.TheVariants.{Done as IsDone}
-use Rattle.agent_ports.specs.declared.keys.KeyRead.{KeyRead}
-use Rattle.agent_ports.specs.declared.keys.KeyRead.TheVariants.{Found, Absent}
-use Rattle.agent_ports.specs.declared.keys.KeyNames.{KeyNames}
-use Rattle.assuan_server.specs.Inquiries.{Data}
-use Rattle.assuan_server.specs.Written.{failed}
-use Rattle.session_client.specs.declared.code.Code.TheVariants.{NoSecKey, Parameter, General, FileExists, BadPass}
-use Rattle.cache_policy.specs.declared.grant.Grant.{Grant}
-use Rattle.cache_policy.specs.declared.mark.MarkStep.TheVariants.{Peek, Put, Clear}
-use Rattle.cache_policy.specs.declared.mark.Way.TheVariants.{Quiet}
-use Rattle.cache_policy.specs.declared.mode.Mode.TheVariants.{Normal, Nonce}
-use Rattle.cache_policy.specs.declared.life.Life.TheVariants.{Default}
-use Rattle.cache_policy.specs.declared.secret.TheConstants.{MAX_SECRET_LEN}
-use Rattle.cache_policy.specs.Turns.{Given, Empty, Held, Done, FitsStep}
-use Rattle.assuan_escape.specs.Escapes.{hex_text}
-use Rattle.key_commands.specs.Wrapping.{wrapped_key, WrappedSays}
-use Rattle.session_client.specs.Asking.{Asked}
-use Rattle.secret_file.specs.Opens.{LockedKey, IsLocked, OpensTo}
-use Rattle.secret_file.specs.Protects.{ocb_protection, protected_file}
-use Rattle.session_options.specs.OptionValues.{OptionValues}
-use Rattle.session_options.specs.declared.options.PinMode.TheVariants as mode
-use Rattle.session_options.specs.declared.rules.Rules.{Rules}
-use Rattle.key_lines.specs.Canon.{is_canonical}
-use Rattle.sexp_canonical.specs.Tree.{Tree}
-use Rattle.sexp_keys.specs.Key.{Key}
-use Rattle.sexp_keys.specs.Lists.{key_list_of, grip_of}
-use Rattle.sexp_keys.specs.declared.algorithm.Algorithm.{Algorithm}
-use Rattle.agent_ask.specs.PartExchanges.{answered, refused}
-use Rattle.key_commands.specs.Events.{Event, called, read, drew, not_drawn}
+use Rattle.std.{specs.Prelude.{◌≡◌, ◌≤◌, ◌==◌, not, ℕ, true, false, List, [], ◌∷◌, ◌++◌, length, take, drop, replicate, codes, Some, None, Ok, refl}, proofs.Common.{sym, subst}}
+use Rattle.agent_ask.specs.{ClientParts.{written, given as sent}, Further.{Listed, Replaced, Removed}, SessionEvents.{Sent, Inquiry, cache_turn}, PartExchanges.{answered, refused}, Parts.{goes_on, stops, returns, refuses, wanted}}
+use Rattle.{agent_ask.specs.TurnParts.{given, empty, peeked, unheld, done}, agent_ports.specs.declared.{grip.Grip.Grip, keys.{KeyDone.TheVariants.Done as IsDone, KeyRead.{KeyRead, TheVariants.{Found, Absent}}, KeyNames.KeyNames}}}
+use Rattle.{assuan_server.specs.{Inquiries.Data, Written.{failed, ok, limit_line, IsDataAnswer}}, session_client.specs.declared.{code.Code.TheVariants.{NoSecKey, Parameter, General, FileExists, BadPass}, refusal.Refusal.TheVariants.Agent}}
+use Rattle.{session_client.specs.Asking.Asked, cache_policy.specs.declared.{grant.Grant.Grant, mark.{MarkStep.TheVariants.{Peek, Put, Clear}, Way.TheVariants.Quiet}, mode.Mode.TheVariants.{Normal, Nonce}, life.Life.TheVariants.Default}}
+use Rattle.{cache_policy.specs.{declared.secret.TheConstants.MAX_SECRET_LEN, Turns.{Given, Empty, Held, Done, FitsStep}}, assuan_escape.specs.Escapes.hex_text, secret_file.specs.Opens.{LockedKey, IsLocked, OpensTo}}
+use Rattle.{secret_file.specs.Protects.{ocb_protection, protected_file}, session_options.specs.{OptionValues.OptionValues, declared.rules.Rules.Rules}, key_lines.specs.Canon.is_canonical, sexp_canonical.specs.Tree.Tree}
+use Rattle.sexp_keys.specs.{Key.Key, Lists.{key_list_of, grip_of}, declared.algorithm.Algorithm.Algorithm}
+use Rattle.key_commands.specs.{Wrapping.{wrapped_key, WrappedSays}, Events.{Event, called, read, drew, not_drawn}}
 use Rattle.key_commands.specs.Exchanges.{KeyExchange, key_reply, with_wrap_key, HaveKeyReplies, KeyInfoReplies, ListKeysReplies, KeyWrapReplies, ImportKeyReplies, ExportKeyReplies, PasswdReplies, RewritesFile, DeleteKeyReplies}
-use Rattle.key_commands.specs.Files.{FileSays, canonical_file}
-use Rattle.key_commands.specs.KeyParts.{is_key, file_in, grips_in, tells, short, made, done as replaced, listed, named, asked, is_wrapped}
-use Rattle.key_commands.specs.KeyParts.{ReadsListed, LooksOver, Unwraps, Removes}
-use Rattle.key_commands.specs.Lines.{info_line, grip_text, nonce_line, max_key_data}
-use Rattle.assuan_server.specs.Written.{ok, limit_line, IsDataAnswer}
-use Rattle.agent_ask.specs.Parts.{goes_on, stops, returns, refuses, wanted}
-use Rattle.agent_ask.specs.TurnParts.{given, empty, peeked, unheld, done}
-use Rattle.key_commands.specs.Parts.{found, absent, drawn, faulted}
-use Rattle.key_commands.specs.Passphrases.{ask_nonce, ask_key, put_key, is_locked, opens, OpensLocked, ClientOld, ClientNew}
-use Rattle.session_client.specs.declared.refusal.Refusal.TheVariants.{Agent}
-use Rattle.key_commands.specs.declared.request.Direction.TheVariants.{Import}
-use Rattle.key_commands.specs.declared.request.KeyRequest.TheVariants.{HaveKey, KeyInfo, ListKeys, KeyWrap, ImportKey, ExportKey, Passwd, DeleteKey}
-use Rattle.key_commands.specs.declared.wrapping.TheConstants.{MAX_LIST_LEN}
-use Rattle.key_commands.specs.declared.went.KeyWent.TheVariants.{On}
-use Rattle.key_commands.specs.declared.wrap_keys.WrapKeys.{WrapKeys}
+use Rattle.key_commands.specs.{Files.{FileSays, canonical_file}, KeyParts.{is_key, file_in, grips_in, tells, short, made, done as replaced, listed, named, asked, is_wrapped, ReadsListed, LooksOver, Unwraps, Removes}}
+use Rattle.key_commands.specs.{Lines.{info_line, grip_text, nonce_line, max_key_data}, Parts.{found, absent, drawn, faulted}, Passphrases.{ask_nonce, ask_key, put_key, is_locked, opens, OpensLocked, ClientOld, ClientNew}}
+use Rattle.key_commands.specs.declared.{request.{Direction.TheVariants.Import, KeyRequest.TheVariants.{HaveKey, KeyInfo, ListKeys, KeyWrap, ImportKey, ExportKey, Passwd, DeleteKey}}, wrapping.TheConstants.MAX_LIST_LEN}
+use Rattle.key_commands.specs.declared.{went.KeyWent.TheVariants.On, wrap_keys.WrapKeys.WrapKeys}
+use Rattle.session_options.specs.declared.options.PinMode.TheVariants as mode
 
 -- the line of a clear key that isn't cached
 clear_line : info_line (record { 0 = 0 ∷ replicate 18 170 ++ 255 ∷ [] }) false true ≡ codes "S KEYINFO 00" ++ replicate 36 65 ++ codes "FF D - - - C - - -" ++ 10 ∷ []

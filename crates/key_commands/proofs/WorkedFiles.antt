@@ -1,15 +1,7 @@
 -- What key files say, and how they are written over, on worked examples.
-use Rattle.std.proofs.Common.{inr, sym, lit≤}
-use Rattle.std.specs.Prelude.{◌≡◌, ℕ, List, [], ◌∷◌, ◌++◌, codes, true, Option, Ok, Err, refl}
-use Rattle.sexp_advanced.specs.Bytes.{is_token_byte, is_token_start, is_token_mark}
-use Rattle.sexp_canonical.specs.Tree.{Tree, leaf, list_of}
-use Rattle.sexp_canonical.specs.Spelling.{numeral, spelling_of}
-use Rattle.sexp_canonical.specs.declared.tree.Sexp.{Sexp}
-use Rattle.sexp_keys.specs.declared.algorithm.Algorithm.TheVariants.{Ecc}
-use Rattle.sexp_keys.specs.declared.fault.KeyFault.TheVariants.{InvSexp}
-use Rattle.key_lines.specs.Codes.{sexp_of}
-use Rattle.key_lines.specs.KeyFile.{KeyFile, IsKeyFile}
-use Rattle.key_lines.specs.declared.fault.LinesFault.TheVariants.{NoKey}
+use Rattle.std.{proofs.Common.{inr, sym, lit≤}, specs.Prelude.{◌≡◌, ℕ, List, [], ◌∷◌, ◌++◌, codes, true, Option, Ok, Err, refl}}
+use Rattle.{sexp_advanced.specs.Bytes.{is_token_byte, is_token_start, is_token_mark}, sexp_canonical.specs.{Tree.{Tree, leaf, list_of}, Spelling.{numeral, spelling_of}, declared.tree.Sexp.Sexp}}
+use Rattle.{sexp_keys.specs.declared.{algorithm.Algorithm.TheVariants.Ecc, fault.KeyFault.TheVariants.InvSexp}, key_lines.specs.{Codes.sexp_of, KeyFile.{KeyFile, IsKeyFile}, declared.fault.LinesFault.TheVariants.NoKey}}
 use Rattle.key_commands.specs.Files.{FileSays, canonical, no_canonical, Rewrites, canonical_file, extended_file}
 
 abbrev lf : List ℕ

@@ -1,63 +1,25 @@
 -- A row of each request on keys that prompts the user: what is done and written for it, in order.
-use Rattle.std.specs.Prelude.{◌≡◌, ◌≤◌, ◌++◌, ℕ, true, false, List, [], ◌∷◌, length, take, drop, codes, Some, None, Ok, refl}
-use Rattle.std.proofs.Common.{arith}
-use Rattle.agent_ask.specs.ClientParts.{written, given as sent}
+use Rattle.std.{specs.Prelude.{◌≡◌, ◌≤◌, ◌++◌, ℕ, true, false, List, [], ◌∷◌, length, take, drop, codes, Some, None, Ok, refl}, proofs.Common.arith}
+use Rattle.agent_ask.specs.{ClientParts.{written, given as sent}, Events.{Call, Start, GetPin, Confirm, Shut}, Further.{Replaced, Removed}, PartExchanges.{answered, refused}, Parts.{goes_on, stops, returns}, Plans.{IsSpec, text}}
+use Rattle.agent_ask.specs.{Prompts.{MeetsCheck, typed, Tries, IsTry, Repeats}, SessionEvents.{Sent, Inquiry, cache_turn}, Tests.test_of, TurnParts.{Asks, Seats, done, unheld, closed}, declared.prompter.Outcome.TheVariants.Pin}
+use Rattle.{agent_ask.{specs.declared.{spec.PromptSpec.PromptSpec, test.Tested.TheVariants.{Yes, No}}, proofs.WorkedPrompts.{shown_by, prompts, asks_consent, first_try, second_try, third_try}}, agent_ports.specs.declared.grip.Grip.Grip}
+use Rattle.{agent_ports.specs.declared.keys.{KeyDone.TheVariants.Done as IsDone, KeyRead.{KeyRead, TheVariants.{Found, Absent}}}, assuan_escape.specs.Escapes.hex_text, assuan_server.specs.{Clients.session_lines, Inquiries.Data}}
+use Rattle.{assuan_server.specs.Written.{ok, limit_line, failed, failed_at_pinentry, IsDataAnswer}, cache_policy.specs.{Turns.{Given, Open, Done, FitsStep}, declared.{grant.Grant.Grant, life.Life.TheVariants.Default}}}
+use Rattle.{cache_policy.specs.declared.{mark.MarkStep.TheVariants.{Seat, Close, Put, Clear}, mode.Mode.TheVariants.{Normal, Nonce}}, key_lines.specs.Canon.is_canonical, secret_file.specs.Opens.{LockedKey, IsLocked, OpensTo}}
+use Rattle.{secret_file.specs.Protects.{ocb_protection, protected_file}, session_client.specs.{Asking.Asked, declared.refusal.Refusal.TheVariants.{Agent, Pinentry}}, session_options.specs.OptionValues.OptionValues}
+use Rattle.{session_options.specs.declared.rules.Rules.Rules, sexp_canonical.specs.Tree.Tree, sexp_keys.specs.{Key.Key, Lists.{key_list_of, grip_of}, declared.algorithm.Algorithm.Algorithm}}
+use Rattle.key_commands.specs.{Events.{Event, called, read, drew}, Exchanges.{KeyExchange, key_reply, ImportKeyReplies, ExportKeyReplies, PasswdReplies, VerifyReplies, RewritesFile, DeleteKeyReplies}, Files.{FileSays, canonical_file}}
+use Rattle.key_commands.specs.KeyParts.{file_in, tells, short, made, named, asked, is_wrapped, ReadsFile, Unwraps, LooksOver, Replaces, Removes}
+use Rattle.key_commands.specs.{Lines.{grip_text, described, old_description, new_description, delete_description, field_text, nonce_line, max_key_data}, Parts.{found, absent, drawn}}
+use Rattle.key_commands.specs.{Passphrases.{ask_key, seat_for, is_locked, opens, OpensBy, OpensLocked, PromptsOld, PromptsNew}, Wrapping.{wrapped_key, WrappedSays}}
+use Rattle.key_commands.specs.declared.{request.KeyRequest.TheVariants.{ImportKey, ExportKey, Passwd, DeleteKey}, went.KeyWent.TheVariants.On, wrap_keys.WrapKeys.WrapKeys, wrapping.TheConstants.MAX_LIST_LEN}
 use Rattle.agent_ask.specs.ConsentParts as consent
-use Rattle.agent_ask.specs.Events.{Call, Start, GetPin, Confirm, Shut}
-use Rattle.agent_ask.specs.Further.{Replaced, Removed}
-use Rattle.agent_ask.specs.PartExchanges.{answered, refused}
-use Rattle.agent_ask.specs.Parts.{goes_on, stops, returns}
-use Rattle.agent_ask.specs.Plans.{IsSpec, text}
-use Rattle.agent_ask.specs.Prompts.{MeetsCheck, typed, Tries, IsTry, Repeats}
-use Rattle.agent_ask.specs.SessionEvents.{Sent, Inquiry, cache_turn}
-use Rattle.agent_ask.specs.Tests.{test_of}
-use Rattle.agent_ask.specs.TurnParts.{Asks, Seats, done, unheld, closed}
 use Rattle.agent_ask.specs.declared.consent.Agreed.TheVariants as agreed
 use Rattle.agent_ask.specs.declared.prompter.Consent.TheVariants as consented
 use Rattle.agent_ask.specs.declared.prompter.Opened.TheVariants as opening
-use Rattle.agent_ask.specs.declared.prompter.Outcome.TheVariants.{Pin}
-use Rattle.agent_ask.specs.declared.spec.PromptSpec.{PromptSpec}
-use Rattle.agent_ask.specs.declared.test.Tested.TheVariants.{Yes, No}
-use Rattle.agent_ask.proofs.WorkedPrompts.{shown_by, prompts, asks_consent, first_try, second_try, third_try}
-use Rattle.agent_ports.specs.declared.grip.Grip.{Grip}
-use Rattle.agent_ports.specs.declared.keys.KeyDone.TheVariants.{Done as IsDone}
-use Rattle.agent_ports.specs.declared.keys.KeyRead.{KeyRead}
-use Rattle.agent_ports.specs.declared.keys.KeyRead.TheVariants.{Found, Absent}
-use Rattle.assuan_escape.specs.Escapes.{hex_text}
-use Rattle.assuan_server.specs.Clients.{session_lines}
-use Rattle.assuan_server.specs.Inquiries.{Data}
-use Rattle.assuan_server.specs.Written.{ok, limit_line, failed, failed_at_pinentry, IsDataAnswer}
-use Rattle.cache_policy.specs.Turns.{Given, Open, Done, FitsStep}
-use Rattle.cache_policy.specs.declared.grant.Grant.{Grant}
-use Rattle.cache_policy.specs.declared.life.Life.TheVariants.{Default}
-use Rattle.cache_policy.specs.declared.mark.MarkStep.TheVariants.{Seat, Close, Put, Clear}
 use Rattle.cache_policy.specs.declared.mark.Way.TheVariants as way
-use Rattle.cache_policy.specs.declared.mode.Mode.TheVariants.{Normal, Nonce}
-use Rattle.key_lines.specs.Canon.{is_canonical}
-use Rattle.secret_file.specs.Opens.{LockedKey, IsLocked, OpensTo}
-use Rattle.secret_file.specs.Protects.{ocb_protection, protected_file}
-use Rattle.session_client.specs.Asking.{Asked}
 use Rattle.session_client.specs.declared.code.Code.TheVariants as code
-use Rattle.session_client.specs.declared.refusal.Refusal.TheVariants.{Agent, Pinentry}
-use Rattle.session_options.specs.OptionValues.{OptionValues}
 use Rattle.session_options.specs.declared.options.PinMode.TheVariants as mode
-use Rattle.session_options.specs.declared.rules.Rules.{Rules}
-use Rattle.sexp_canonical.specs.Tree.{Tree}
-use Rattle.sexp_keys.specs.Key.{Key}
-use Rattle.sexp_keys.specs.Lists.{key_list_of, grip_of}
-use Rattle.sexp_keys.specs.declared.algorithm.Algorithm.{Algorithm}
-use Rattle.key_commands.specs.Events.{Event, called, read, drew}
-use Rattle.key_commands.specs.Exchanges.{KeyExchange, key_reply, ImportKeyReplies, ExportKeyReplies, PasswdReplies, VerifyReplies, RewritesFile, DeleteKeyReplies}
-use Rattle.key_commands.specs.Files.{FileSays, canonical_file}
-use Rattle.key_commands.specs.KeyParts.{file_in, tells, short, made, named, asked, is_wrapped, ReadsFile, Unwraps, LooksOver, Replaces, Removes}
-use Rattle.key_commands.specs.Lines.{grip_text, described, old_description, new_description, delete_description, field_text, nonce_line, max_key_data}
-use Rattle.key_commands.specs.Parts.{found, absent, drawn}
-use Rattle.key_commands.specs.Passphrases.{ask_key, seat_for, is_locked, opens, OpensBy, OpensLocked, PromptsOld, PromptsNew}
-use Rattle.key_commands.specs.Wrapping.{wrapped_key, WrappedSays}
-use Rattle.key_commands.specs.declared.request.KeyRequest.TheVariants.{ImportKey, ExportKey, Passwd, DeleteKey}
-use Rattle.key_commands.specs.declared.went.KeyWent.TheVariants.{On}
-use Rattle.key_commands.specs.declared.wrap_keys.WrapKeys.{WrapKeys}
-use Rattle.key_commands.specs.declared.wrapping.TheConstants.{MAX_LIST_LEN}
 
 -- a new passphrase has eight bytes at least, one of which is no letter
 weak_is : ¬ MeetsCheck (Some (8, 1)) (codes "abcdefgh")

@@ -1,10 +1,6 @@
 -- What a session does for its requests on keys, over the lines that this project's server reads.
 use Rattle.std.specs.Prelude.{ℕ, List, ⊤}
-use Rattle.agent_ask.specs.Events.{Called}
-use Rattle.agent_ask.specs.Further.{EventOf, KeyCall, Read, Keys, Dice, Drew, NotDrawn, NoMemory, Prompt}
-use Rattle.agent_ask.specs.SessionEvents.{Further}
-use Rattle.agent_ports.specs.declared.grip.Grip.{Grip}
-use Rattle.agent_ports.specs.declared.keys.KeyRead.{KeyRead}
+use Rattle.{agent_ask.specs.{Events.Called, Further.{EventOf, KeyCall, Read, Keys, Dice, Drew, NotDrawn, NoMemory, Prompt}, SessionEvents.Further}, agent_ports.specs.declared.{grip.Grip.Grip, keys.KeyRead.KeyRead}}
 use Rattle.assuan_server.specs.Clients.{session_lines}
 
 abbrev pub Event : Type 0

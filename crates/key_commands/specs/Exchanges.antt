@@ -1,34 +1,14 @@
 -- Requests on keys and what is done for them, as the GnuPG manual has them ("Agent's Assuan protocol"). The codes, the texts and the order of
 -- what is done are this project's own. A row of each stands in proofs/WorkedExchanges, or where it prompts in proofs/WorkedPrompts.
 use Rattle.std.specs.Prelude.{◌++◌, ℕ, Bool, true, false, List, take, drop, Option, Some}
-use Rattle.agent_ask.specs.PartExchanges.{AnyReply, AnyExchange}
-use Rattle.agent_ports.specs.declared.grip.Grip.{Grip}
-use Rattle.session_client.specs.declared.code.Code.TheVariants as code
-use Rattle.cache_policy.specs.declared.life.Life.TheVariants.{Default}
-use Rattle.cache_policy.specs.declared.mark.MarkStep.TheVariants.{Put, Clear}
-use Rattle.cache_policy.specs.declared.mode.Mode.TheVariants.{Normal, Nonce}
-use Rattle.assuan_escape.specs.Escapes.{hex_text}
-use Rattle.assuan_server.specs.Written.{refusal_line}
-use Rattle.session_options.specs.OptionValues.{OptionValues}
-use Rattle.session_options.specs.declared.rules.Rules.{Rules}
-use Rattle.sexp_keys.specs.Key.{Key}
-use Rattle.key_commands.specs.Events.{Event}
-use Rattle.key_commands.specs.Files.{Rewrites}
-use Rattle.key_commands.specs.Lines.{grip_text, nonce_line}
-use Rattle.assuan_server.specs.Written.{ok}
-use Rattle.key_commands.specs.Parts.{Part, Finds, Draws, key_went_after}
-use Rattle.agent_ask.specs.Parts.{◌>>=◌, Returns, Refuses, needed, wanted, or_else}
-use Rattle.agent_ask.specs.TurnParts.{Changes, Closes}
-use Rattle.key_commands.specs.Passphrases.{OldPassphrase, NewPassphrase, VerifiesPassphrase, LooksForNonce}
-use Rattle.session_client.specs.declared.refusal.Refusal.TheVariants.{Agent}
-use Rattle.key_commands.specs.declared.request.Direction.{Direction}
-use Rattle.key_commands.specs.declared.request.Direction.TheVariants.{Import, Export}
-use Rattle.key_commands.specs.declared.request.KeyRequest.{KeyRequest}
-use Rattle.key_commands.specs.declared.request.KeyRequest.TheVariants.{HaveKey, KeyInfo, ListKeys, KeyWrap, ImportKey, ExportKey, Passwd, DeleteKey, Bad}
-use Rattle.key_commands.specs.declared.went.KeyWent.{KeyWent}
-use Rattle.key_commands.specs.declared.went.KeyWent.TheVariants.{On}
-use Rattle.key_commands.specs.declared.wrap_keys.WrapKeys.{WrapKeys}
+use Rattle.{agent_ask.specs.{PartExchanges.{AnyReply, AnyExchange}, Parts.{◌>>=◌, Returns, Refuses, needed, wanted, or_else}, TurnParts.{Changes, Closes}}, agent_ports.specs.declared.grip.Grip.Grip}
+use Rattle.{cache_policy.specs.declared.{life.Life.TheVariants.Default, mark.MarkStep.TheVariants.{Put, Clear}, mode.Mode.TheVariants.{Normal, Nonce}}, assuan_escape.specs.Escapes.hex_text, assuan_server.specs.Written.{refusal_line, ok}}
+use Rattle.{session_options.specs.{OptionValues.OptionValues, declared.rules.Rules.Rules}, sexp_keys.specs.Key.Key, session_client.specs.declared.refusal.Refusal.TheVariants.Agent}
+use Rattle.key_commands.specs.{Events.Event, Files.Rewrites, Lines.{grip_text, nonce_line}, Parts.{Part, Finds, Draws, key_went_after}, Passphrases.{OldPassphrase, NewPassphrase, VerifiesPassphrase, LooksForNonce}}
+use Rattle.key_commands.specs.declared.request.{Direction.{Direction, TheVariants.{Import, Export}}, KeyRequest.{KeyRequest, TheVariants.{HaveKey, KeyInfo, ListKeys, KeyWrap, ImportKey, ExportKey, Passwd, DeleteKey, Bad}}}
+use Rattle.key_commands.specs.declared.{went.KeyWent.{KeyWent, TheVariants.On}, wrap_keys.WrapKeys.WrapKeys}
 use Rattle.key_commands.specs.KeyParts.{Tells, ReadsFile, Replaces, Removes, Protects, IsShort, KeepsNew, HasOne, TellsKeyInfo, ListsGrips, WritesInfos, ReceivesKey, NamesKey, IsFree, LooksOver, WrapsKey, Consents}
+use Rattle.session_client.specs.declared.code.Code.TheVariants as code
 
 -- what a request is answered where it isn't refused, the wrapping keys after it, and how the session goes on
 abbrev pub KeyReply : Type 0

@@ -1,7 +1,6 @@
 -- How requests are refused whose key can't be used. The codes are this project's own.
-use Rattle.session_client.specs.declared.code.Code.{Code}
+use Rattle.{session_client.specs.declared.code.Code.Code, sexp_keys.specs.declared.fault.KeyFault.KeyFault}
 use Rattle.session_client.specs.declared.code.Code.TheVariants as code
-use Rattle.sexp_keys.specs.declared.fault.KeyFault.{KeyFault}
 use Rattle.sexp_keys.specs.declared.fault.KeyFault.TheVariants as faults
 
 -- how a request is refused whose key has this fault

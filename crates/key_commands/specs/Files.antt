@@ -1,19 +1,10 @@
 -- What the bytes of a key's file say, and what is written over one: the one place that knows in which formats files are (GnuPG's notes on the
 -- format of private keys, agent/keyformat.txt).
 use Rattle.std.specs.Prelude.{◌≡◌, ◌≤◌, ◌<◌, ℕ, true, false, List, [], ◌∷◌, length, Option, Some, None, Result, Ok, Err}
-use Rattle.session_client.specs.declared.code.Code.TheVariants as code
-use Rattle.key_lines.specs.Canon.{is_canonical, Canon}
-use Rattle.key_lines.specs.KeyFile.{KeyFile, IsKeyFile, with_key}
-use Rattle.sexp_canonical.specs.Spelling.{most_bytes, spelling_of}
-use Rattle.sexp_canonical.specs.declared.tree.Sexp.{Sexp}
-use Rattle.sexp_keys.specs.Key.{Key}
-use Rattle.sexp_keys.specs.declared.fault.KeyFault.{KeyFault}
-use Rattle.sexp_keys.specs.declared.fault.KeyFault.TheVariants.{InvSexp}
-use Rattle.secret_file.specs.Answers.{IsFileFault}
-use Rattle.secret_file.specs.Opens.{IsFile}
+use Rattle.{key_lines.specs.{Canon.{is_canonical, Canon}, KeyFile.{KeyFile, IsKeyFile, with_key}}, sexp_canonical.specs.{Spelling.{most_bytes, spelling_of}, declared.tree.Sexp.Sexp}, sexp_keys.specs.Key.Key}
+use Rattle.{sexp_keys.specs.declared.fault.KeyFault.{KeyFault, TheVariants.InvSexp}, secret_file.specs.{Answers.IsFileFault, Opens.IsFile}, session_client.specs.declared.refusal.Refusal.{Refusal, TheVariants.Agent}}
 use Rattle.key_commands.specs.Events.{Event, out_of_memory}
-use Rattle.session_client.specs.declared.refusal.Refusal.{Refusal}
-use Rattle.session_client.specs.declared.refusal.Refusal.TheVariants.{Agent}
+use Rattle.session_client.specs.declared.code.Code.TheVariants as code
 
 -- the bytes of a canonical file are this key, or they have this fault
 abbrev pub CanonicalSays : List ℕ → Result Key KeyFault → Type 0

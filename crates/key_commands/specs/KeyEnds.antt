@@ -1,9 +1,5 @@
 -- What a request on keys has to do with beside its link and its desk: the further ends of a session without the trust file. This is the project's own.
-use Rattle.agent_ask.specs.Doing.{DoesCall}
-use Rattle.agent_ask.specs.Events.{Call, PromptEvent}
-use Rattle.agent_ask.specs.Further.{KeyCall, Draw, FurtherEvent, Prompt, Keys, Dice, NoMemory, DoesKeys, DoesDraw}
-use Rattle.agent_ports.specs.KeyFiles.{KeyFiles}
-use Rattle.agent_ports.specs.Sides.{Side}
+use Rattle.{agent_ask.specs.{Doing.DoesCall, Events.{Call, PromptEvent}, Further.{KeyCall, Draw, FurtherEvent, Prompt, Keys, Dice, NoMemory, DoesKeys, DoesDraw}}, agent_ports.specs.{KeyFiles.KeyFiles, Sides.Side}}
 
 pub record KeyEnds (P : Type 0) : Type 0 where
   pub prompter : P

@@ -1,48 +1,18 @@
 -- The parts of requests on keys that are no passphrase's: what is done with key files and with wrapped keys, and how consent is asked for (GnuPG
 -- manual, "Agent's Assuan protocol"). The codes, the texts and the order of what is done are this project's own.
 use Rattle.std.specs.Prelude.{◌≡◌, ◌≢◌, ◌≤◌, ◌<◌, length, ℕ, Bool, true, false, List, [], ◌∷◌, codes, not, Option, Some, None, Result, Ok, Err}
-use Rattle.agent_ask.specs.ClientParts.{Writes, Inquires}
-use Rattle.agent_ask.specs.Further.{Listed, Replaced, Removed}
-use Rattle.agent_ask.specs.SessionEvents.{Inquiry, cache_turn}
-use Rattle.agent_ports.specs.declared.grip.Grip.{Grip}
-use Rattle.agent_ports.specs.declared.keys.KeyDone.{KeyDone}
+use Rattle.agent_ask.specs.{ClientParts.{Writes, Inquires}, Further.{Listed, Replaced, Removed}, SessionEvents.{Inquiry, cache_turn}, ConsentParts.AgreesTo, Parts.{◌>>=◌, Returns, Refuses, wanted, unless}}
+use Rattle.{agent_ask.specs.TurnParts.{Seats, Changes, Peeks, Closes}, agent_ports.specs.declared.{grip.Grip.Grip, keys.{KeyDone.KeyDone, KeyRead.KeyRead, KeyNames.KeyNames}}, assuan_server.specs.Clients.session_lines}
+use Rattle.{assuan_server.specs.{Inquiries.{Outcome, IsAtEnd}, Written.{IsDataAnswer, limit_line}}, session_client.specs.{declared.{code.Code.Code, refusal.Refusal.{Refusal, TheVariants.Agent}}, Asking.Asked}}
+use Rattle.{cache_policy.specs.{declared.{grant.Grant.Grant, mark.MarkStep.TheVariants.Seat, mode.Mode.TheVariants.Normal}, Turns.{Given, Empty, Stopping, Refused, FitsStep}}, secret_file.specs.Protects.{ocb_protection, protected_file}}
+use Rattle.{session_options.specs.{OptionValues.OptionValues, declared.{options.PinMode.PinMode, rules.Rules.Rules}}, sexp_keys.specs.{Key.Key, Lists.{grip_of, key_list_of}, declared.fault.KeyFault.KeyFault}}
+use Rattle.key_commands.specs.{Events.{Event, called, read, out_of_memory}, Files.FileSays, Lines.{grip_text, info_line, max_key_data, described, delete_description}, Parts.{Part, Finds, read_fault}, Passphrases.{ask_nonce, put_key}}
+use Rattle.key_commands.specs.{Faults.fault_code, Wrapping.{wrapped_key, WrappedSays}, declared.{key_calls.KeyFile.KeyFile, wrapping.TheConstants.MAX_LIST_LEN}}
 use Rattle.agent_ports.specs.declared.keys.KeyDone.TheVariants as key_done
 use Rattle.agent_ports.specs.declared.keys.KeyNames.TheVariants as key_names
-use Rattle.agent_ports.specs.declared.keys.KeyRead.{KeyRead}
 use Rattle.agent_ports.specs.declared.keys.KeyRead.TheVariants as key_read
-use Rattle.assuan_server.specs.Clients.{session_lines}
-use Rattle.assuan_server.specs.Inquiries.{Outcome, IsAtEnd}
-use Rattle.session_client.specs.declared.code.Code.{Code}
 use Rattle.session_client.specs.declared.code.Code.TheVariants as code
-use Rattle.cache_policy.specs.declared.grant.Grant.{Grant}
-use Rattle.cache_policy.specs.declared.mark.MarkStep.TheVariants.{Seat}
-use Rattle.cache_policy.specs.declared.mode.Mode.TheVariants.{Normal}
-use Rattle.cache_policy.specs.Turns.{Given, Empty, Stopping, Refused, FitsStep}
-use Rattle.secret_file.specs.Protects.{ocb_protection, protected_file}
-use Rattle.session_client.specs.Asking.{Asked}
-use Rattle.session_options.specs.OptionValues.{OptionValues}
-use Rattle.session_options.specs.declared.options.PinMode.{PinMode}
 use Rattle.session_options.specs.declared.options.PinMode.TheVariants as mode
-use Rattle.session_options.specs.declared.rules.Rules.{Rules}
-use Rattle.sexp_keys.specs.Key.{Key}
-use Rattle.sexp_keys.specs.Lists.{grip_of, key_list_of}
-use Rattle.sexp_keys.specs.declared.fault.KeyFault.{KeyFault}
-use Rattle.key_commands.specs.Events.{Event, called, read, out_of_memory}
-use Rattle.key_commands.specs.Files.{FileSays}
-use Rattle.key_commands.specs.Lines.{grip_text, info_line, max_key_data, described, delete_description}
-use Rattle.assuan_server.specs.Written.{IsDataAnswer, limit_line}
-use Rattle.agent_ask.specs.ConsentParts.{AgreesTo}
-use Rattle.key_commands.specs.Parts.{Part, Finds, read_fault}
-use Rattle.agent_ask.specs.Parts.{◌>>=◌, Returns, Refuses, wanted, unless}
-use Rattle.agent_ask.specs.TurnParts.{Seats, Changes, Peeks, Closes}
-use Rattle.key_commands.specs.Passphrases.{ask_nonce, put_key}
-use Rattle.key_commands.specs.Faults.{fault_code}
-use Rattle.key_commands.specs.Wrapping.{wrapped_key, WrappedSays}
-use Rattle.key_commands.specs.declared.key_calls.KeyFile.{KeyFile}
-use Rattle.session_client.specs.declared.refusal.Refusal.{Refusal}
-use Rattle.session_client.specs.declared.refusal.Refusal.TheVariants.{Agent}
-use Rattle.key_commands.specs.declared.wrapping.TheConstants.{MAX_LIST_LEN}
-use Rattle.agent_ports.specs.declared.keys.KeyNames.{KeyNames}
 
 -- bytes are answered by data lines
 pub data Tells (bytes : List ℕ) (held : Option ℕ) : List Event → Result (List ℕ) Refusal → Option ℕ → Type 0 where

@@ -1,10 +1,7 @@
 -- The lines that requests on keys are answered by (GnuPG manual, "Agent HAVEKEY", "Agent EXPORT"). The forms of the status lines are this
 -- project's own.
 use Rattle.std.specs.Prelude.{ℕ, Bool, List, ◌++◌, codes, Option, Some, None, if◌then◌else◌}
-use Rattle.assuan_escape.specs.Escapes.{hex_text}
-use Rattle.agent_ports.specs.declared.grip.Grip.{Grip}
-use Rattle.assuan_server.specs.Written.{limit_line, status_text}
-use Rattle.assuan_text.specs.LineEnds.{line_of}
+use Rattle.{assuan_escape.specs.Escapes.hex_text, agent_ports.specs.declared.grip.Grip.Grip, assuan_server.specs.Written.{limit_line, status_text}, assuan_text.specs.LineEnds.line_of}
 use Rattle.cache_policy.specs.declared.secret.TheConstants.{MAX_SECRET_LEN}
 
 -- a key's grip in uppercase hexadecimal digits: its name in lines, texts and the cache

@@ -1,8 +1,7 @@
 -- The names that requests on keys have (GnuPG manual, "Agent's Assuan protocol").
 use Rattle.std.specs.Prelude.{ℕ, List, [], ◌∷◌, codes, Option}
 use Rattle.assuan_text.specs.Rows.{found_in_any_case}
-use Rattle.key_commands.specs.declared.names.KeyCommandName.{KeyCommandName}
-use Rattle.key_commands.specs.declared.names.KeyCommandName.TheVariants.{HaveKey, KeyInfo, KeyWrap, ImportKey, ExportKey, Passwd, DeleteKey}
+use Rattle.key_commands.specs.declared.names.KeyCommandName.{KeyCommandName, TheVariants.{HaveKey, KeyInfo, KeyWrap, ImportKey, ExportKey, Passwd, DeleteKey}}
 
 abbrev pub commands_on_keys : List (List ℕ × KeyCommandName)
 commands_on_keys =

@@ -1,17 +1,8 @@
 -- Private: parts of a request on keys that were done, and those that have nothing to do with some ends of its session.
 use Rattle.std.specs.Prelude.{ℕ, Option, Result}
-use Rattle.agent_ask.specs.Doing.{DoesCall}
-use Rattle.agent_ask.specs.Events.{Call, PromptEvent}
-use Rattle.agent_ask.specs.Further.{FurtherEvent, Prompt, NoMemory}
-use Rattle.agent_ask.specs.PartStates.{DoesPart, part_state, NoTurn}
-use Rattle.assuan_server.specs.Clients.{connection_views}
-use Rattle.assuan_server.specs.Connections.{Connection}
-use Rattle.cache_policy.specs.declared.mark.MarkStep.{MarkStep}
-use Rattle.cache_policy.specs.Turns.{Turn}
-use Rattle.session_client.specs.declared.refusal.Refusal.{Refusal}
-use Rattle.key_commands.specs.KeyEnds.{DoesAtKeys}
-use Rattle.key_commands.specs.Parts.{Part}
-use Rattle.key_commands.specs.States.{KeyState}
+use Rattle.{agent_ask.specs.{Doing.DoesCall, Events.{Call, PromptEvent}, Further.{FurtherEvent, Prompt, NoMemory}, PartStates.{DoesPart, part_state, NoTurn}}, assuan_server.specs.{Clients.connection_views, Connections.Connection}}
+use Rattle.{cache_policy.specs.{declared.mark.MarkStep.MarkStep, Turns.Turn}, session_client.specs.declared.refusal.Refusal.Refusal}
+use Rattle.key_commands.specs.{KeyEnds.DoesAtKeys, Parts.Part, States.KeyState}
 
 -- a part of a request was done
 abbrev pub DoesKeyPart : {D P : Type 0} (turned : D → MarkStep → Turn → D → Type 0) (prompted : P → Call → P → Type 0) {A : Type 0} → Part A → Option ℕ → KeyState turned prompted → Result A Refusal → Option ℕ

@@ -1,40 +1,15 @@
 -- How a request comes by the passphrase of a key, old or new (GnuPG manual, "Agent EXPORT", "Agent PASSWD"). Where it is looked for, in which order, and what
 -- is kept of it, is this project's own.
 use Rattle.std.specs.Prelude.{◌≡◌, ◌≢◌, ◌==◌, ℕ, Bool, true, false, List, [], ◌∷◌, length, codes, Option, Some, None, Result, Ok, Err, not, ⊤}
-use Rattle.agent_ask.specs.ClientParts.{AsksClient}
-use Rattle.agent_ask.specs.PinParts.{PromptsPin, pin_refusal}
-use Rattle.agent_ask.specs.Plans.{IsSpec, plan_of, text}
-use Rattle.agent_ask.specs.declared.ask.Asked.{Asked}
+use Rattle.agent_ask.specs.{ClientParts.AsksClient, PinParts.{PromptsPin, pin_refusal}, Plans.{IsSpec, plan_of, text}, declared.{ask.Asked.Asked, spec.PromptSpec.PromptSpec}, Parts.{◌>>=◌, Returns, Refuses, needed, wanted, or_else}}
+use Rattle.{agent_ask.specs.TurnParts.{Asks, Seats, Changes}, agent_ports.specs.declared.grip.Grip.Grip, assuan_server.specs.{Clients.session_lines, Written.limit_line}, cache_policy.specs.declared.life.Life.TheVariants.Default}
+use Rattle.cache_policy.specs.declared.{mark.{MarkStep.{MarkStep, TheVariants.{Ask, Seat, Put}}, Way.{Way, TheVariants.{Quiet, Prompt}}}, mode.Mode.TheVariants.{Normal, Nonce}, secret.TheConstants.MAX_SECRET_LEN}
+use Rattle.{secret_file.specs.{Answers.IsLockedFault, Opens.{LockedKey, IsLocked, OpensTo}}, session_options.specs.{OptionValues.OptionValues, declared.{options.PinMode.PinMode, rules.Rules.Rules}}, sexp_keys.specs.Key.Key}
+use Rattle.{sexp_keys.specs.declared.fault.KeyFault.KeyFault, session_client.specs.declared.refusal.Refusal.{Refusal, TheVariants.Agent}}
+use Rattle.key_commands.specs.{Events.{Event, out_of_memory}, Lines.{grip_text, described, old_description, new_description, field_text}, Parts.Part, Faults.fault_code, declared.opened.OpenedKey.OpenedKey}
 use Rattle.agent_ask.specs.declared.ask.Asked.TheVariants as asked
-use Rattle.agent_ask.specs.declared.spec.PromptSpec.{PromptSpec}
-use Rattle.agent_ports.specs.declared.grip.Grip.{Grip}
-use Rattle.assuan_server.specs.Clients.{session_lines}
 use Rattle.session_client.specs.declared.code.Code.TheVariants as code
-use Rattle.cache_policy.specs.declared.life.Life.TheVariants.{Default}
-use Rattle.cache_policy.specs.declared.mark.MarkStep.{MarkStep}
-use Rattle.cache_policy.specs.declared.mark.MarkStep.TheVariants.{Ask, Seat, Put}
-use Rattle.cache_policy.specs.declared.mark.Way.{Way}
-use Rattle.cache_policy.specs.declared.mark.Way.TheVariants.{Quiet, Prompt}
-use Rattle.cache_policy.specs.declared.mode.Mode.TheVariants.{Normal, Nonce}
-use Rattle.cache_policy.specs.declared.secret.TheConstants.{MAX_SECRET_LEN}
-use Rattle.secret_file.specs.Answers.{IsLockedFault}
-use Rattle.secret_file.specs.Opens.{LockedKey, IsLocked, OpensTo}
-use Rattle.session_options.specs.OptionValues.{OptionValues}
-use Rattle.session_options.specs.declared.options.PinMode.{PinMode}
 use Rattle.session_options.specs.declared.options.PinMode.TheVariants as mode
-use Rattle.session_options.specs.declared.rules.Rules.{Rules}
-use Rattle.sexp_keys.specs.Key.{Key}
-use Rattle.sexp_keys.specs.declared.fault.KeyFault.{KeyFault}
-use Rattle.key_commands.specs.Events.{Event, out_of_memory}
-use Rattle.key_commands.specs.Lines.{grip_text, described, old_description, new_description, field_text}
-use Rattle.assuan_server.specs.Written.{limit_line}
-use Rattle.key_commands.specs.Parts.{Part}
-use Rattle.agent_ask.specs.Parts.{◌>>=◌, Returns, Refuses, needed, wanted, or_else}
-use Rattle.agent_ask.specs.TurnParts.{Asks, Seats, Changes}
-use Rattle.key_commands.specs.Faults.{fault_code}
-use Rattle.key_commands.specs.declared.opened.OpenedKey.{OpenedKey}
-use Rattle.session_client.specs.declared.refusal.Refusal.{Refusal}
-use Rattle.session_client.specs.declared.refusal.Refusal.TheVariants.{Agent}
 
 -- ---- the cache
 

@@ -1,25 +1,10 @@
 -- Private: what is written for a request, once all else is done for it.
 use Rattle.std.specs.Prelude.{◌≡◌, ◌++◌, ℕ, List, Option, Result}
-use Rattle.agent_ask.specs.Events.{Call}
-use Rattle.agent_ask.specs.PartReplies.{RespondsBy, CarriesBy}
-use Rattle.assuan_escape.specs.Escapes.{hex_text}
-use Rattle.assuan_server.specs.Clients.{connection_views}
-use Rattle.assuan_server.specs.Connections.{Connection}
-use Rattle.assuan_server.specs.Written.{refusal_line}
-use Rattle.cache_policy.specs.declared.mark.MarkStep.{MarkStep}
-use Rattle.cache_policy.specs.Turns.{Turn}
-use Rattle.session_client.specs.declared.refusal.Refusal.{Refusal}
-use Rattle.key_commands.specs.Exchanges.{KeyReply}
-use Rattle.key_commands.specs.KeyEnds.{DoesAtKeys}
-use Rattle.key_commands.specs.Lines.{info_line, nonce_line}
-use Rattle.assuan_server.specs.Written.{ok, IsDataAnswer}
-use Rattle.key_commands.specs.Parts.{Part, key_went_after}
-use Rattle.key_commands.specs.States.{KeyState}
-use Rattle.key_commands.specs.declared.reply.Reply.{Reply}
-use Rattle.key_commands.specs.declared.reply.Reply.TheVariants as replies
-use Rattle.key_commands.specs.declared.went.KeyWent.{KeyWent}
-use Rattle.key_commands.specs.declared.went.KeyWent.TheVariants.{On}
+use Rattle.{agent_ask.specs.{Events.Call, PartReplies.{RespondsBy, CarriesBy}}, assuan_escape.specs.Escapes.hex_text, assuan_server.specs.{Clients.connection_views, Connections.Connection, Written.{refusal_line, ok, IsDataAnswer}}}
+use Rattle.{cache_policy.specs.{declared.mark.MarkStep.MarkStep, Turns.Turn}, session_client.specs.declared.refusal.Refusal.Refusal}
+use Rattle.key_commands.specs.{Exchanges.KeyReply, KeyEnds.DoesAtKeys, Lines.{info_line, nonce_line}, Parts.{Part, key_went_after}, States.KeyState, declared.{reply.Reply.Reply, went.KeyWent.{KeyWent, TheVariants.On}}}
 use Rattle.key_commands.specs.declared.wrap_keys.WrapKeys.{WrapKeys}
+use Rattle.key_commands.specs.declared.reply.Reply.TheVariants as replies
 
 -- the text of a reply
 abbrev pub IsReply : Reply → List ℕ → Type 0

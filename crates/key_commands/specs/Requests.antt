@@ -1,23 +1,12 @@
 -- What a line with a command on keys asks for, or the fault for which it is refused (GnuPG manual, "Agent's Assuan protocol"). Which fault a
 -- refusal has, and which words are passed over, is this project's own.
 use Rattle.std.specs.Prelude.{ℕ, ◌==◌, nat_le, nat_lt, ◌&&◌, Bool, true, false, List, [], ◌∷◌, length, codes, Option, Some, None, Result, Ok, Err, if◌then◌else◌}
-use Rattle.agent_ports.specs.declared.grip.Grip.{Grip}
-use Rattle.session_client.specs.Fields.{◌>>=◌, in_form}
-use Rattle.session_client.specs.declared.code.Code.{Code}
-use Rattle.session_client.specs.declared.code.Code.TheVariants.{NotSupported, UnknownCommand, Parameter}
-use Rattle.assuan_text.specs.Options.{options_of, arguments_of, has_option, last_value}
-use Rattle.assuan_text.specs.Words.{command_of, rest_of, words}
-use Rattle.cache_policy.specs.declared.id.TheConstants.{MAX_ID_LEN}
-use Rattle.hex.specs.Hex.{decode_of}
+use Rattle.{agent_ports.specs.declared.grip.Grip.Grip, session_client.specs.{Fields.{◌>>=◌, in_form}, declared.code.Code.{Code, TheVariants.{NotSupported, UnknownCommand, Parameter}}}}
+use Rattle.{assuan_text.specs.{Options.{options_of, arguments_of, has_option, last_value}, Words.{command_of, rest_of, words}}, cache_policy.specs.declared.id.TheConstants.MAX_ID_LEN, hex.specs.Hex.decode_of}
 use Rattle.hex.specs.declared.error.FromHexError.{FromHexError}
-use Rattle.key_commands.specs.Names.{key_command_named}
-use Rattle.key_commands.specs.declared.grips.TheConstants.{MAX_GRIPS}
-use Rattle.key_commands.specs.declared.names.KeyCommandName.{KeyCommandName}
-use Rattle.key_commands.specs.declared.names.KeyCommandName.TheVariants as name
-use Rattle.key_commands.specs.declared.request.Direction.{Direction}
-use Rattle.key_commands.specs.declared.request.Direction.TheVariants.{Import, Export}
-use Rattle.key_commands.specs.declared.request.KeyRequest.{KeyRequest}
+use Rattle.key_commands.specs.{Names.key_command_named, declared.{grips.TheConstants.MAX_GRIPS, names.KeyCommandName.KeyCommandName, request.{Direction.{Direction, TheVariants.{Import, Export}}, KeyRequest.KeyRequest}}}
 use Rattle.key_commands.specs.declared.request.KeyRequest.TheVariants.{HaveKey, KeyInfo, ListKeys, KeyWrap, ImportKey, ExportKey, Passwd, DeleteKey, Bad}
+use Rattle.key_commands.specs.declared.names.KeyCommandName.TheVariants as name
 
 abbrev pub grip_of_bytes : Result (List ℕ) FromHexError → Option Grip
 grip_of_bytes (Ok bytes) = Some (record { 0 = bytes })

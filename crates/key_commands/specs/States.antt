@@ -1,21 +1,8 @@
 -- How a session stands at some state of its code before and after a request on keys, and how events lead from one to the other.
 use Rattle.std.specs.Prelude.{List}
-use Rattle.agent_ask.specs.Answering.{AnswersBy}
-use Rattle.agent_ask.specs.Events.{Call}
-use Rattle.agent_ask.specs.Further.{world_with}
-use Rattle.agent_ask.specs.States.{AnyState}
-use Rattle.agent_ask.specs.Worlds.{AnyWorld}
-use Rattle.agent_ports.specs.KeyFiles.{KeyFiles}
-use Rattle.agent_ports.specs.Sides.{Side}
-use Rattle.assuan_server.specs.Clients.{connection_views, session_lines}
-use Rattle.assuan_server.specs.Connections.{Connection}
-use Rattle.cache_policy.specs.declared.mark.MarkStep.{MarkStep}
-use Rattle.cache_policy.specs.Turns.{Turn}
-use Rattle.key_commands.specs.Events.{Event}
-use Rattle.key_commands.specs.KeyEnds.{DoesAtKeys}
-use Rattle.key_commands.specs.Parts.{key_went_after, key_gone}
-use Rattle.key_commands.specs.declared.went.KeyWent.{KeyWent}
-use Rattle.key_commands.specs.declared.wrap_keys.WrapKeys.{WrapKeys}
+use Rattle.{agent_ask.specs.{Answering.AnswersBy, Events.Call, Further.world_with, States.AnyState, Worlds.AnyWorld}, agent_ports.specs.{KeyFiles.KeyFiles, Sides.Side}, assuan_server.specs.Clients.{connection_views, session_lines}}
+use Rattle.{assuan_server.specs.Connections.Connection, cache_policy.specs.{declared.mark.MarkStep.MarkStep, Turns.Turn}}
+use Rattle.key_commands.specs.{Events.Event, KeyEnds.DoesAtKeys, Parts.{key_went_after, key_gone}, declared.{went.KeyWent.KeyWent, wrap_keys.WrapKeys.WrapKeys}}
 
 module _ {D P : Type 0} (turned : D → MarkStep → Turn → D → Type 0) (prompted : P → Call → P → Type 0) where
   -- a desk, and a prompter, keys and dice, that show their calls so

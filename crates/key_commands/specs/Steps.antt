@@ -1,29 +1,14 @@
 -- Private: what the steps of a request know.
-use Rattle.std.specs.Prelude.{◌≡◌, ℕ, ◌==◌, ◌&&◌, nat_lt, Bool, List, [], ◌∷◌, length, Option, Some, None, Result, Ok, Err}
-use Rattle.std.specs.List.{list_all}
-use Rattle.agent_ask.specs.Further.{KeyCall, Draw, Dice, DoesKeys, DoesDraw}
-use Rattle.agent_ask.specs.PartStates.{gone_in, DoesTurn, DoesTurns}
-use Rattle.agent_ask.specs.SessionEvents.{Further}
-use Rattle.agent_ports.specs.KeyFiles.{KeyFiles}
-use Rattle.agent_ports.specs.Sides.{Side}
-use Rattle.agent_ports.specs.declared.keys.KeyDone.{KeyDone}
-use Rattle.agent_ports.specs.declared.keys.KeyDone.TheVariants.{Done}
-use Rattle.session_client.specs.declared.code.Code.{Code}
+use Rattle.std.specs.{Prelude.{◌≡◌, ℕ, ◌==◌, ◌&&◌, nat_lt, Bool, List, [], ◌∷◌, length, Option, Some, None, Result, Ok, Err}, List.list_all}
+use Rattle.{agent_ask.specs.{Further.{KeyCall, Draw, Dice, DoesKeys, DoesDraw}, PartStates.{gone_in, DoesTurn, DoesTurns}, SessionEvents.Further}, agent_ports.specs.{KeyFiles.KeyFiles, Sides.Side, declared.keys.KeyDone.KeyDone}}
+use Rattle.{agent_ports.specs.declared.keys.KeyDone.TheVariants.Done, session_client.specs.declared.{code.Code.Code, refusal.Refusal.{Refusal, TheVariants.{Agent, Client}}}, assuan_server.specs.declared.inquiry.Inquired.Inquired}
+use Rattle.{cache_policy.specs.{declared.mark.MarkStep.MarkStep, Turns.Turn}, sexp_keys.specs.{Key.Key, declared.fault.KeyFault.KeyFault}}
+use Rattle.key_commands.specs.{Events.{Event, called, out_of_memory}, KeyParts.change_fault, Parts.Part}
 use Rattle.session_client.specs.declared.code.Code.TheVariants as code
-use Rattle.assuan_server.specs.declared.inquiry.Inquired.{Inquired}
 use Rattle.assuan_server.specs.declared.inquiry.Inquired.TheVariants as inquired
-use Rattle.cache_policy.specs.declared.mark.MarkStep.{MarkStep}
-use Rattle.cache_policy.specs.Turns.{Turn}
 use Rattle.session_client.specs.declared.unheard.Gone.TheVariants as gone
 use Rattle.session_client.specs.declared.unheard.Unheard.TheVariants as unheard
-use Rattle.sexp_keys.specs.Key.{Key}
-use Rattle.sexp_keys.specs.declared.fault.KeyFault.{KeyFault}
 use Rattle.sexp_keys.specs.declared.fault.KeyFault.TheVariants as fault
-use Rattle.key_commands.specs.Events.{Event, called, out_of_memory}
-use Rattle.key_commands.specs.KeyParts.{change_fault}
-use Rattle.key_commands.specs.Parts.{Part}
-use Rattle.session_client.specs.declared.refusal.Refusal.{Refusal}
-use Rattle.session_client.specs.declared.refusal.Refusal.TheVariants.{Agent, Client}
 
 -- these are zero bytes, and fewer than a block of the wrapping
 abbrev pub are_padding : List ℕ → Bool

@@ -1,19 +1,10 @@
 -- Keys that are wrapped under a session's wrapping key (RFC 3394), as EXPORT_KEY sends them and IMPORT_KEY takes them. That zero bytes fill the
 -- last block, the limits, and which fault comes first, are this project's own.
-use Rattle.std.specs.Prelude.{◌≡◌, ◌≤◌, ◌<◌, ◌-◌, ◌%◌, ℕ, true, false, List, ◌++◌, length, replicate, Result, Ok, Err, IsTrue}
-use Rattle.std.specs.List.{concat}
-use Rattle.session_client.specs.declared.code.Code.{Code}
+use Rattle.std.specs.{Prelude.{◌≡◌, ◌≤◌, ◌<◌, ◌-◌, ◌%◌, ℕ, true, false, List, ◌++◌, length, replicate, Result, Ok, Err, IsTrue}, List.concat}
+use Rattle.{session_client.specs.declared.code.Code.Code, key_wrap.specs.KeyWrap.{initial_value, is_wrapped_length, unwrapped_of, wrapped_of}, sexp_canonical.specs.{Spelling.IsReadable, View.tree_of, declared.tree.Sexp.Sexp}}
+use Rattle.sexp_keys.specs.{Faults.IsFirstKeyFault, Key.{Key, IsKey}, Lists.key_list_of, declared.fault.KeyFault.KeyFault}
+use Rattle.key_commands.specs.{Faults.fault_code, declared.wrapping.TheConstants.MAX_LIST_LEN}
 use Rattle.session_client.specs.declared.code.Code.TheVariants as code
-use Rattle.key_wrap.specs.KeyWrap.{initial_value, is_wrapped_length, unwrapped_of, wrapped_of}
-use Rattle.sexp_canonical.specs.Spelling.{IsReadable}
-use Rattle.sexp_canonical.specs.View.{tree_of}
-use Rattle.sexp_canonical.specs.declared.tree.Sexp.{Sexp}
-use Rattle.sexp_keys.specs.Faults.{IsFirstKeyFault}
-use Rattle.sexp_keys.specs.Key.{Key, IsKey}
-use Rattle.sexp_keys.specs.Lists.{key_list_of}
-use Rattle.sexp_keys.specs.declared.fault.KeyFault.{KeyFault}
-use Rattle.key_commands.specs.Faults.{fault_code}
-use Rattle.key_commands.specs.declared.wrapping.TheConstants.{MAX_LIST_LEN}
 
 -- with the fewest zero bytes that fill its last block of 8
 abbrev pub zero_padded : List ℕ → List ℕ

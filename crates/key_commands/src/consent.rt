@@ -3,8 +3,7 @@
 //! prompter and the client. Begin with `consent`; it is `Consents` (`specs/KeyParts`).
 
 ghost use Rattle.std.specs.Prelude.{◌≡◌, None, Some};
-ghost use Rattle.agent_ask.specs.Prompters.{IsShut};
-ghost use Rattle.agent_ask.specs.Seats.{IsReady};
+ghost use Rattle.agent_ask.specs.{Prompters.IsShut, Seats.IsReady};
 ghost use Rattle.assuan_server.specs.Connections.{IsOpen};
 ghost use Rattle.key_commands.specs.KeyParts.{Agrees, Consents};
 ghost use Rattle.key_commands.specs.Partial.{LeavesKeys, DoesAtPrompter};

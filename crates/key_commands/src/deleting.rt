@@ -3,11 +3,9 @@
 //! with `delete_key`; its events are `DeleteKeyReplies` (`specs/Exchanges`).
 
 ghost use Rattle.std.specs.Prelude.{◌≡◌, None, Ok};
-ghost use Rattle.agent_ask.specs.Seats.{IsReady};
-ghost use Rattle.agent_ports.specs.Sides.{Side};
+ghost use Rattle.{agent_ask.specs.Seats.IsReady, agent_ports.specs.Sides.Side};
 ghost use Rattle.assuan_server.specs.Connections.{IsOpen};
-ghost use Rattle.key_commands.specs.Exchanges.{DeleteKeyReplies};
-ghost use Rattle.key_commands.specs.Replies.{CarriesOut};
+ghost use Rattle.key_commands.specs.{Exchanges.DeleteKeyReplies, Replies.CarriesOut};
 ghost use Rattle.key_commands.specs.States.{key_state};
 ghost use Rattle.key_commands.specs.declared.wrap_keys.WrapKeys.{WrapKeys as Wraps};
 

@@ -3,8 +3,7 @@
 //! (`specs/Parts`).
 
 ghost use Rattle.std.specs.Prelude.{◌≡◌, replicate};
-ghost use Rattle.key_commands.specs.Parts.{Draws};
-ghost use Rattle.key_commands.specs.Steps.{DoesDrawing};
+ghost use Rattle.key_commands.specs.{Parts.Draws, Steps.DoesDrawing};
 
 use agent_ports::Dice;
 use assuan_server::Code;

@@ -3,14 +3,10 @@
 //! `export_key`; its events are `ExportKeyReplies` (`specs/Exchanges`).
 
 ghost use Rattle.std.specs.Prelude.{◌≡◌, None};
-ghost use Rattle.agent_ask.specs.Seats.{IsReady};
-ghost use Rattle.agent_ports.specs.Sides.{Side};
+ghost use Rattle.{agent_ask.specs.Seats.IsReady, agent_ports.specs.Sides.Side};
 ghost use Rattle.assuan_server.specs.Connections.{IsOpen};
-ghost use Rattle.key_commands.specs.Exchanges.{ExportKeyReplies};
-ghost use Rattle.key_commands.specs.KeyParts.{WrapsKey};
-ghost use Rattle.key_commands.specs.Replies.{CarriesOut};
-ghost use Rattle.key_commands.specs.States.{key_state};
-ghost use Rattle.key_commands.specs.Steps.{DoesAlone};
+ghost use Rattle.key_commands.specs.{Exchanges.ExportKeyReplies, KeyParts.WrapsKey};
+ghost use Rattle.key_commands.specs.{Replies.CarriesOut, States.key_state, Steps.DoesAlone};
 ghost use Rattle.key_commands.specs.Trials.{IsUsable};
 
 use crate::asking::Asking;

@@ -4,8 +4,7 @@
 
 ghost use Rattle.std.specs.Prelude.{◌≡◌, ◌≤◌, ◌⊎◌, false, length, Some, Ok, Err, IfOk, IfErr};
 ghost use Rattle.std.specs.Prelude.{IfSome};
-ghost use Rattle.key_lines.specs.Canon.{is_canonical, Canon};
-ghost use Rattle.key_lines.specs.KeyFile.{IsKeyFile};
+ghost use Rattle.key_lines.specs.{Canon.{is_canonical, Canon}, KeyFile.IsKeyFile};
 ghost use Rattle.secret_file.specs.Opens.{FitsFile};
 ghost use Rattle.sexp_canonical.specs.Spelling.{IsReadable, most_bytes};
 ghost use Rattle.sexp_keys.specs.declared.fault.KeyFault.{KeyFault};

@@ -8,10 +8,8 @@ ghost use Rattle.agent_ask.specs.Seats.{IsReady};
 ghost use Rattle.assuan_server.specs.Connections.{Connection, IsOpen};
 ghost use Rattle.sexp_keys.specs.Lists.{key_list_of};
 ghost use Rattle.key_commands.specs.Exchanges.{FoundOrNew, ImportKeyReplies, StoresKey};
-ghost use Rattle.key_commands.specs.Partial.{DoesKeyPart, NoCall, LeavesKeys};
-ghost use Rattle.key_commands.specs.Replies.{CarriesOut};
-ghost use Rattle.key_commands.specs.States.{key_state};
-ghost use Rattle.key_commands.specs.Trials.{IsUsable};
+ghost use Rattle.key_commands.specs.{Partial.{DoesKeyPart, NoCall, LeavesKeys}, Replies.CarriesOut};
+ghost use Rattle.key_commands.specs.{States.key_state, Trials.IsUsable};
 ghost use Rattle.key_commands.specs.declared.wrapping.TheConstants.{MAX_LIST_LEN};
 
 use crate::asking::Asking;

@@ -7,8 +7,7 @@ ghost use Rattle.agent_ports.specs.declared.keys.TheConstants.{MAX_KEY_FILE_LEN}
 ghost use Rattle.secret_file.specs.Opens.{FitsFile};
 ghost use Rattle.key_commands.specs.Files.{IsSomeKey};
 ghost use Rattle.key_commands.specs.KeyParts.{ReadsFile, ReadsListed, Replaces, Removes};
-ghost use Rattle.key_commands.specs.KeyParts.{ListsGrips};
-ghost use Rattle.key_commands.specs.Parts.{Finds};
+ghost use Rattle.key_commands.specs.{KeyParts.ListsGrips, Parts.Finds};
 ghost use Rattle.key_commands.specs.Steps.{DoesKeyCalls, IsChanged, unlisted};
 
 use crate::faults::fault_code;

@@ -4,21 +4,16 @@
 //! and `ListKeysReplies` (`specs/Exchanges`).
 
 ghost use Rattle.std.specs.Prelude.{◌≡◌, None, Some};
-ghost use Rattle.agent_ports.specs.Sides.{Side};
-ghost use Rattle.assuan_server.specs.Clients.{connection_views};
+ghost use Rattle.{agent_ports.specs.Sides.Side, assuan_server.specs.Clients.connection_views};
 ghost use Rattle.assuan_server.specs.Connections.{Connection, IsOpen};
-ghost use Rattle.key_commands.specs.Exchanges.{KeyInfoReplies, ListKeysReplies};
-ghost use Rattle.key_commands.specs.KeyParts.{HasOne, TellsListed, WritesInfo, WritesInfos};
-ghost use Rattle.key_commands.specs.Lines.{info_line};
-ghost use Rattle.agent_ask.specs.ClientParts.{Writes};
-ghost use Rattle.agent_ask.specs.PartStates.{DoesWithClient};
-ghost use Rattle.key_commands.specs.Partial.{DoesKeyPart, NoCall, DoesAtDesk};
-ghost use Rattle.key_commands.specs.Replies.{CarriesOut};
-ghost use Rattle.key_commands.specs.States.{key_state};
-ghost use Rattle.key_commands.specs.Steps.{DoesKeyCalls};
-ghost use Rattle.key_commands.specs.declared.wrap_keys.WrapKeys.{WrapKeys};
+ghost use Rattle.agent_ask.specs.{ClientParts.Writes, PartStates.DoesWithClient};
 ghost use Rattle.session_options.specs.OptionValues.{OptionValues};
 ghost use Rattle.session_options.specs.declared.rules.Rules.{Rules as TheRules};
+ghost use Rattle.key_commands.specs.Exchanges.{KeyInfoReplies, ListKeysReplies};
+ghost use Rattle.key_commands.specs.KeyParts.{HasOne, TellsListed, WritesInfo, WritesInfos};
+ghost use Rattle.key_commands.specs.{Lines.info_line, Partial.{DoesKeyPart, NoCall, DoesAtDesk}};
+ghost use Rattle.key_commands.specs.{Replies.CarriesOut, States.key_state, Steps.DoesKeyCalls};
+ghost use Rattle.key_commands.specs.declared.wrap_keys.WrapKeys.{WrapKeys};
 
 use crate::grips::Grips;
 use crate::key_calls::{has_file, list_grips, read_file, read_listed};

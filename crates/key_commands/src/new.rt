@@ -3,14 +3,11 @@
 //! `NewPassphrase` (`specs/Passphrases`), and `renewed_passphrase`, which PASSWD wants.
 
 ghost use Rattle.std.specs.Prelude.{◌≡◌};
-ghost use Rattle.agent_ask.specs.PartStates.{DoesWithClient};
-ghost use Rattle.agent_ask.specs.Seats.{IsReady};
-ghost use Rattle.assuan_server.specs.Clients.{connection_views};
-ghost use Rattle.assuan_server.specs.Connections.{IsOpen};
-ghost use Rattle.session_options.specs.declared.options.PinMode.TheVariants as pin_mode;
-ghost use Rattle.key_commands.specs.Exchanges.{RenewsPassphrase};
-ghost use Rattle.key_commands.specs.Partial.{LeavesKeys};
+ghost use Rattle.agent_ask.specs.{PartStates.DoesWithClient, Seats.IsReady};
+ghost use Rattle.assuan_server.specs.{Clients.connection_views, Connections.IsOpen};
+ghost use Rattle.key_commands.specs.{Exchanges.RenewsPassphrase, Partial.LeavesKeys};
 ghost use Rattle.key_commands.specs.Passphrases.{ClientNew, NewPassphrase, new_by};
+ghost use Rattle.session_options.specs.declared.options.PinMode.TheVariants as pin_mode;
 
 use crate::asking::Asking;
 use crate::inquiries::ask_client;

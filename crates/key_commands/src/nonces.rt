@@ -3,8 +3,7 @@
 //! which is `LooksForNonce` (`specs/Passphrases`).
 
 ghost use Rattle.std.specs.Prelude.{◌≡◌};
-ghost use Rattle.key_commands.specs.Passphrases.{LooksForNonce};
-ghost use Rattle.key_commands.specs.Steps.{TakesTurns};
+ghost use Rattle.key_commands.specs.{Passphrases.LooksForNonce, Steps.TakesTurns};
 
 use agent_ask::{Held, ask_cache};
 use cache_policy::{CacheId, Desk, Mode, Secret, Way};

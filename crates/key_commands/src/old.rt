@@ -4,14 +4,13 @@
 //! `specs/Passphrases` defines both.
 
 ghost use Rattle.std.specs.Prelude.{◌≡◌, IfOk, None};
-ghost use Rattle.agent_ask.specs.Seats.{IsReady};
-ghost use Rattle.assuan_server.specs.Connections.{IsOpen};
+ghost use Rattle.{agent_ask.specs.Seats.IsReady, assuan_server.specs.Connections.IsOpen};
 ghost use Rattle.secret_file.specs.Opens.{FitsFile};
-ghost use Rattle.session_options.specs.declared.options.PinMode.TheVariants as pin_mode;
 ghost use Rattle.key_commands.specs.Partial.{DoesAtDesk, LeavesKeys};
 ghost use Rattle.key_commands.specs.Passphrases.{ClientOld, UncachedOld, CachedOld, OpensLocked};
 ghost use Rattle.key_commands.specs.Passphrases.{OldPassphrase, VerifiesPassphrase, way_of};
 ghost use Rattle.key_commands.specs.Trials.{IsUsable};
+ghost use Rattle.session_options.specs.declared.options.PinMode.TheVariants as pin_mode;
 
 use crate::asking::Asking;
 use crate::inquiries::ask_client;

@@ -6,8 +6,7 @@
 ghost use Rattle.std.specs.Prelude.{◌≡◌, IfOk, IfSome};
 ghost use Rattle.secret_file.specs.Opens.{FitsFile};
 ghost use Rattle.key_commands.specs.Passphrases.{Locks, TriesPassphrase, TriesFound};
-ghost use Rattle.key_commands.specs.Steps.{DoesAlone};
-ghost use Rattle.key_commands.specs.Trials.{IsUsable};
+ghost use Rattle.key_commands.specs.{Steps.DoesAlone, Trials.IsUsable};
 
 use crate::faults::fault_code;
 use agent_ask::{Test, Tested};
@@ -91,8 +90,7 @@ impl<'l> OpensKey<'l> {
 }
 
 impl<'l> Test for OpensKey<'l> {
-    ghost use Rattle.key_commands.specs.Passphrases.{OpensBy};
-    ghost use Rattle.key_commands.specs.Trials.{IsTrial, trial_means};
+    ghost use Rattle.key_commands.specs.{Passphrases.OpensBy, Trials.{IsTrial, trial_means}};
 
     ghost rule = { λ test pin. OpensBy test.locked.now pin };
 

@@ -4,17 +4,13 @@
 //! (`specs/Exchanges`).
 
 ghost use Rattle.std.specs.Prelude.{◌≡◌, ◌≤◌, None, length};
-ghost use Rattle.agent_ask.specs.Seats.{IsReady};
-ghost use Rattle.agent_ports.specs.Sides.{Side};
+ghost use Rattle.{agent_ask.specs.Seats.IsReady, agent_ports.specs.Sides.Side};
 ghost use Rattle.assuan_server.specs.Connections.{Connection, IsOpen};
 ghost use Rattle.sexp_keys.specs.Lists.{key_list_of};
 ghost use Rattle.key_commands.specs.Exchanges.{VerifyReplies, PasswdReplies, ChangesOpened};
-ghost use Rattle.key_commands.specs.Exchanges.{RewritesFile};
-ghost use Rattle.key_commands.specs.Files.{IsSomeKey};
-ghost use Rattle.key_commands.specs.Partial.{DoesKeyPart, NoCall};
-ghost use Rattle.key_commands.specs.Replies.{CarriesOut};
-ghost use Rattle.key_commands.specs.States.{key_state};
-ghost use Rattle.key_commands.specs.Trials.{IsUsable};
+ghost use Rattle.key_commands.specs.{Exchanges.RewritesFile, Files.IsSomeKey};
+ghost use Rattle.key_commands.specs.{Partial.{DoesKeyPart, NoCall}, Replies.CarriesOut};
+ghost use Rattle.key_commands.specs.{States.key_state, Trials.IsUsable};
 ghost use Rattle.key_commands.specs.declared.wrap_keys.WrapKeys.{WrapKeys as Wraps};
 ghost use Rattle.key_commands.specs.declared.wrapping.TheConstants.{MAX_LIST_LEN};
 

@@ -3,12 +3,9 @@
 //! events are `PromptsOld` and `PromptsNew` (`specs/Passphrases`).
 
 ghost use Rattle.std.specs.Prelude.{◌≡◌, IfOk, is_some, true};
-ghost use Rattle.agent_ask.specs.Prompters.{IsShut};
-ghost use Rattle.assuan_server.specs.Connections.{IsOpen};
-ghost use Rattle.key_commands.specs.Lines.{field_text};
-ghost use Rattle.key_commands.specs.Partial.{DoesAtPrompter};
-ghost use Rattle.key_commands.specs.Passphrases.{PromptsOld, PromptsNew};
-ghost use Rattle.key_commands.specs.Trials.{IsUsable};
+ghost use Rattle.{agent_ask.specs.Prompters.IsShut, assuan_server.specs.Connections.IsOpen};
+ghost use Rattle.key_commands.specs.{Lines.field_text, Partial.DoesAtPrompter};
+ghost use Rattle.key_commands.specs.{Passphrases.{PromptsOld, PromptsNew}, Trials.IsUsable};
 
 use crate::asking::Asking;
 use crate::opened::{OpenedKey, OpensKey};

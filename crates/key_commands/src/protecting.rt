@@ -5,13 +5,10 @@
 ghost use Rattle.std.specs.Prelude.{◌≡◌, ◌≤◌, length, take, drop, IfOk, OnOk};
 ghost use Rattle.agent_ports.specs.declared.keys.TheConstants.{MAX_KEY_FILE_LEN};
 ghost use Rattle.session_options.specs.Counts.{IsS2kCount};
-ghost use Rattle.sexp_canonical.specs.Spelling.{most_depth, depth};
-ghost use Rattle.sexp_keys.specs.Key.{key_tree};
+ghost use Rattle.{sexp_canonical.specs.Spelling.{most_depth, depth}, sexp_keys.specs.Key.key_tree};
 ghost use Rattle.sexp_keys.specs.Lists.{key_list_of};
-ghost use Rattle.key_commands.specs.Files.{IsSomeList};
-ghost use Rattle.key_commands.specs.KeyParts.{IsShort, Protects, KeepsNew};
-ghost use Rattle.key_commands.specs.Steps.{DoesAlone, TakesTurns};
-ghost use Rattle.key_commands.specs.Trials.{IsUsable};
+ghost use Rattle.key_commands.specs.{Files.IsSomeList, KeyParts.{IsShort, Protects, KeepsNew}};
+ghost use Rattle.key_commands.specs.{Steps.{DoesAlone, TakesTurns}, Trials.IsUsable};
 ghost use Rattle.key_commands.specs.declared.wrapping.TheConstants.{MAX_LIST_LEN};
 
 use crate::turns::keep_pass;

@@ -2,15 +2,14 @@
 //! "Agent's Assuan protocol"). Pure. Begin with `read_key`, or with `read_key_cut` for a line that
 //! is cut already; both give `key_request_of` the line (`specs/Requests`).
 
-ghost use Rattle.std.specs.Prelude.{◌≡◌, ℕ, List};
-ghost use Rattle.std.specs.Option.{option_map};
+ghost use Rattle.std.specs.{Prelude.{◌≡◌, ℕ, List}, Option.option_map};
 ghost use Rattle.assuan_text.specs.Options.{options_of, arguments_of};
 ghost use Rattle.assuan_text.specs.Words.{command_of, rest_of, words};
+ghost use Rattle.session_client.specs.Fields.{in_form};
 ghost use Rattle.key_commands.specs.Names.{key_command_named};
 ghost use Rattle.key_commands.specs.Requests.{grip, first_grip, some_grips, nonce, have_of};
-ghost use Rattle.session_client.specs.Fields.{in_form};
-ghost use Rattle.key_commands.specs.Requests.{key_info_of, wrap_of, import_of, export_of, passwd_of};
-ghost use Rattle.key_commands.specs.Requests.{delete_of, key_asked_by, key_request_of};
+ghost use Rattle.key_commands.specs.Requests.{key_info_of, wrap_of, import_of, export_of};
+ghost use Rattle.key_commands.specs.Requests.{passwd_of, delete_of, key_asked_by, key_request_of};
 ghost use Rattle.key_commands.specs.Requests.{may_prompt};
 
 use crate::names::{KeyCommandName, command_named};

@@ -4,14 +4,11 @@
 //! `IsFree`.
 
 ghost use Rattle.std.specs.Prelude.{◌≡◌, ◌≤◌, length, IfOk};
-ghost use Rattle.assuan_server.specs.Connections.{IsOpen};
-ghost use Rattle.sexp_keys.specs.Lists.{key_list_of};
+ghost use Rattle.{assuan_server.specs.Connections.IsOpen, sexp_keys.specs.Lists.key_list_of};
 ghost use Rattle.key_commands.specs.KeyParts.{AsksKeyData, ReceivesKey, Unwraps, NamesKey, IsFree};
-ghost use Rattle.key_commands.specs.KeyParts.{LooksOver};
-ghost use Rattle.key_commands.specs.Partial.{DoesAtClient};
+ghost use Rattle.key_commands.specs.{KeyParts.LooksOver, Partial.DoesAtClient};
 ghost use Rattle.key_commands.specs.Steps.{DoesAlone, DoesKeyCalls, TakesTurns, key_data_of};
-ghost use Rattle.key_commands.specs.Trials.{IsUsable};
-ghost use Rattle.key_commands.specs.declared.wrapping.TheConstants.{MAX_LIST_LEN};
+ghost use Rattle.key_commands.specs.{Trials.IsUsable, declared.wrapping.TheConstants.MAX_LIST_LEN};
 
 use crate::inquiries::tell_limit;
 use crate::key_calls::has_file;

@@ -3,12 +3,10 @@
 //! (`specs/Replies`).
 
 ghost use Rattle.std.specs.Prelude.{◌≡◌, ℕ, List};
-ghost use Rattle.assuan_escape.specs.Escapes.{hex_text};
-ghost use Rattle.assuan_server.specs.Written.{WritesText};
-ghost use Rattle.key_commands.specs.Lines.{nonce_line};
-ghost use Rattle.key_commands.specs.Parts.{key_went_after};
-ghost use Rattle.key_commands.specs.Replies.{IsReply, RespondsTo};
+ghost use Rattle.{assuan_escape.specs.Escapes.hex_text, assuan_server.specs.Written.WritesText};
 ghost use Rattle.session_client.specs.Refusals.{gone_by};
+ghost use Rattle.key_commands.specs.{Lines.nonce_line, Parts.key_went_after};
+ghost use Rattle.key_commands.specs.Replies.{IsReply, RespondsTo};
 
 use crate::drawing::Drawn;
 use crate::texts::write_info;

@@ -4,11 +4,9 @@
 //! (`specs/Exchanges`).
 
 ghost use Rattle.std.specs.Prelude.{◌≡◌, None};
-ghost use Rattle.agent_ask.specs.Prompters.{IsShut};
-ghost use Rattle.agent_ask.specs.Seats.{IsReady};
+ghost use Rattle.agent_ask.specs.{Prompters.IsShut, Seats.IsReady};
 ghost use Rattle.assuan_server.specs.Connections.{IsOpen};
-ghost use Rattle.key_commands.specs.Exchanges.{KeyExchange, KeyReplies};
-ghost use Rattle.key_commands.specs.Replies.{CarriesOut};
+ghost use Rattle.key_commands.specs.{Exchanges.{KeyExchange, KeyReplies}, Replies.CarriesOut};
 ghost use Rattle.key_commands.specs.States.{AnswersKey, key_state};
 
 use crate::asking::Asking;

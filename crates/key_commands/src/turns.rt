@@ -9,8 +9,7 @@ ghost use Rattle.cache_policy.specs.declared.mark.MarkStep.TheVariants.{Put, Cle
 ghost use Rattle.cache_policy.specs.declared.mode.Mode.TheVariants.{Normal, Nonce};
 ghost use Rattle.cache_policy.specs.Turns.{asked_step, closes};
 ghost use Rattle.agent_ask.specs.TurnParts.{Changes, Peeks};
-ghost use Rattle.key_commands.specs.Passphrases.{TakesSeat, put_key};
-ghost use Rattle.key_commands.specs.Lines.{grip_text};
+ghost use Rattle.key_commands.specs.{Passphrases.{TakesSeat, put_key}, Lines.grip_text};
 ghost use Rattle.key_commands.specs.Steps.{TakesTurn, TakesTurns};
 
 use crate::texts::{key_id, nonce_id};

@@ -3,20 +3,14 @@
 //! for the session. Begin with `WrapKeys` and `wrapping_key`; what that does is `KeyWrapReplies`
 //! (`specs/Exchanges`).
 
-ghost use Rattle.std.specs.Prelude.{◌≡◌, None, Some};
-ghost use Rattle.std.specs.Option.{option_copied};
+ghost use Rattle.std.specs.{Prelude.{◌≡◌, None, Some}, Option.option_copied};
 ghost use Rattle.agent_ports.specs.KeyFiles.{KeyFiles as Files};
 ghost use Rattle.assuan_server.specs.Connections.{Connection, IsOpen};
+ghost use Rattle.agent_ask.specs.{Parts.or_else, PartStates.NoTurn};
+ghost use Rattle.session_options.specs.{OptionValues.OptionValues, declared.rules.Rules.Rules};
 ghost use Rattle.key_commands.specs.Exchanges.{KeyWrapReplies, wrap_key, with_wrap_key};
-ghost use Rattle.key_commands.specs.Parts.{Draws};
-ghost use Rattle.agent_ask.specs.Parts.{or_else};
-ghost use Rattle.agent_ask.specs.PartStates.{NoTurn};
-ghost use Rattle.key_commands.specs.Partial.{NoCall};
-ghost use Rattle.key_commands.specs.Replies.{CarriesOut};
-ghost use Rattle.key_commands.specs.States.{key_state};
-ghost use Rattle.key_commands.specs.Steps.{DoesDrawings};
-ghost use Rattle.session_options.specs.OptionValues.{OptionValues};
-ghost use Rattle.session_options.specs.declared.rules.Rules.{Rules};
+ghost use Rattle.key_commands.specs.{Parts.Draws, Partial.NoCall, Replies.CarriesOut};
+ghost use Rattle.key_commands.specs.{States.key_state, Steps.DoesDrawings};
 
 use crate::drawing::{Drawn, draw};
 use crate::reply::Reply;

@@ -3,15 +3,12 @@
 //! `specs/Wrapping` says what they give.
 
 ghost use Rattle.std.specs.Prelude.{◌≡◌, ◌==◌, ◌≤◌, ◌⊎◌, ◌↔◌, length, IfOk, IfErr, IfSome, IfNone};
-ghost use Rattle.std.specs.Prelude.{IsTrue, OnOk};
-ghost use Rattle.std.specs.List.{list_all};
+ghost use Rattle.std.specs.{Prelude.{IsTrue, OnOk}, List.list_all};
 ghost use Rattle.sexp_canonical.specs.Spelling.{most_bytes, most_depth, depth};
 ghost use Rattle.sexp_canonical.specs.declared.tree.Sexp.{Sexp as Expression};
-ghost use Rattle.sexp_keys.specs.Key.{key_tree};
-ghost use Rattle.sexp_keys.specs.Lists.{key_list_of};
+ghost use Rattle.sexp_keys.specs.{Key.key_tree, Lists.key_list_of};
 ghost use Rattle.key_commands.specs.Wrapping.{zero_padded, wrapped_key, ArePadded, PlainSays};
-ghost use Rattle.key_commands.specs.Wrapping.{WrappedSays};
-ghost use Rattle.key_commands.specs.Steps.{are_padding};
+ghost use Rattle.key_commands.specs.{Wrapping.WrappedSays, Steps.are_padding};
 ghost use Rattle.key_commands.specs.declared.wrapping.TheConstants.{MAX_LIST_LEN};
 
 use crate::faults::fault_code;

@@ -4,8 +4,7 @@
 
 ghost use Rattle.std.specs.Prelude.{◌≡◌, IfOk, IfErr};
 ghost use Rattle.agent_origin.specs.TrustExchanges.{Stores, StoresUnsaid, TrustedNow};
-ghost use Rattle.agent_origin.specs.TrustParts.{ReadsFile, Replaces};
-ghost use Rattle.agent_origin.specs.TrustStates.{DoesAtFile};
+ghost use Rattle.agent_origin.specs.{TrustParts.{ReadsFile, Replaces}, TrustStates.DoesAtFile};
 
 use super::TrustPurpose;
 use agent_ports::{Grip, TrustDone, TrustFile, TrustRead};

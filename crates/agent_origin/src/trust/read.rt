@@ -3,11 +3,9 @@
 //! give `trust_request_of` the line (`specs/TrustRequests`).
 
 ghost use Rattle.std.specs.Prelude.{◌≡◌, ◌≤◌, length};
-ghost use Rattle.assuan_text.specs.Options.{arguments_of};
-ghost use Rattle.assuan_text.specs.Words.{words};
+ghost use Rattle.assuan_text.specs.{Options.arguments_of, Words.words};
 ghost use Rattle.assuan_text.specs.declared.TheConstants.{MAX_LINE_LEN};
-ghost use Rattle.key_commands.specs.Requests.{grip};
-ghost use Rattle.session_client.specs.Fields.{in_form};
+ghost use Rattle.{key_commands.specs.Requests.grip, session_client.specs.Fields.in_form};
 ghost use Rattle.agent_origin.specs.TrustRequests.{purpose, owner, is_trusted_of, mark_trusted_of};
 ghost use Rattle.agent_origin.specs.TrustRequests.{trust_asked_by, trust_request_of};
 

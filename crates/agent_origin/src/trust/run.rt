@@ -3,8 +3,7 @@
 //! `run_trust`; what it does is `AnswersTrust` (`specs/TrustExchanges`).
 
 ghost use Rattle.std.specs.Prelude.{◌≡◌, None};
-ghost use Rattle.agent_ask.specs.Prompters.{IsShut};
-ghost use Rattle.agent_ask.specs.Seats.{IsReady};
+ghost use Rattle.agent_ask.specs.{Prompters.IsShut, Seats.IsReady};
 ghost use Rattle.assuan_server.specs.Connections.{IsOpen};
 ghost use Rattle.agent_origin.specs.TrustExchanges.{AnswersTrust, Carried};
 ghost use Rattle.agent_origin.specs.TrustStates.{LeavesKeys};

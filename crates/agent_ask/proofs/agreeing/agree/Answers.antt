@@ -1,6 +1,5 @@
 use Rattle.std.proofs.Common.{ap, ◌∙◌}
-use Rattle.agent_ask.specs.ConsentParts.{IsQuestion}
-use Rattle.agent_ask.proofs.ConsentParts.{is_agreed, left_by_consent}
+use Rattle.agent_ask.{specs.ConsentParts.IsQuestion, proofs.ConsentParts.{is_agreed, left_by_consent}}
 use Rattle.agent_ask.proofs.agreeing.agree.Goals as goal
 
 pub consented-requires : goal.consented-requires

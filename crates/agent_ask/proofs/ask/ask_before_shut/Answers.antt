@@ -1,7 +1,6 @@
 use Rattle.std.proofs.Common.{[]}
 use Rattle.agent_ports.specs.Leads.{none}
-use Rattle.agent_ask.specs.Prompts.{unopened, unheard, tried}
-use Rattle.agent_ask.proofs.Making.{made_as, made_then, made_beside}
+use Rattle.agent_ask.{specs.Prompts.{unopened, unheard, tried}, proofs.Making.{made_as, made_then, made_beside}}
 use Rattle.agent_ask.proofs.ask.ask_before_shut.Goals as goal
 
 pub returns-in-Ready-clause-asked : goal.returns-in-Ready-clause-asked

@@ -1,10 +1,5 @@
 use Rattle.std.proofs.Common.{◌≡◌, [], ◌∷◌, refl, subst}
-use Rattle.agent_ask.specs.Events.{Shut, Called}
-use Rattle.agent_ask.specs.Prompts.{AsksBefore}
-use Rattle.agent_ask.specs.Tests.{Tests}
-use Rattle.agent_ask.specs.declared.ask.Asked.{Asked}
-use Rattle.agent_ask.proofs.Making.{called_once, made_then, made_beside}
-use Rattle.agent_ask.proofs.Trying.{ends_by, pin_last, memory_last}
+use Rattle.agent_ask.{specs.{Events.{Shut, Called}, Prompts.AsksBefore, Tests.Tests, declared.ask.Asked.Asked}, proofs.{Making.{called_once, made_then, made_beside}, Trying.{ends_by, pin_last, memory_last}}}
 use Rattle.agent_ask.proofs.ask.ask_pin.Goals as goal
 
 pub returns-clause-asked : goal.returns-clause-asked

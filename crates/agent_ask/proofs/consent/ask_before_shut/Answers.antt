@@ -1,7 +1,5 @@
 use Rattle.std.proofs.Common.{◌≡◌, [], ◌∷◌, refl}
-use Rattle.agent_ask.specs.Consents.{unopened, unheard, asked}
-use Rattle.agent_ask.specs.Events.{Confirm, Called}
-use Rattle.agent_ask.proofs.Making.{called_once, made_as, made_then, made_beside}
+use Rattle.agent_ask.{specs.{Consents.{unopened, unheard, asked}, Events.{Confirm, Called}}, proofs.Making.{called_once, made_as, made_then, made_beside}}
 use Rattle.agent_ask.proofs.consent.ask_before_shut.Goals as goal
 
 pub returns-in-Ready-clause-asked : goal.returns-in-Ready-clause-asked

@@ -1,6 +1,5 @@
 use Rattle.std.proofs.Common.{◌≡◌, [], ◌∷◌, refl}
-use Rattle.agent_ask.specs.Events.{Shut, Called}
-use Rattle.agent_ask.proofs.Making.{called_once, made_then, made_beside}
+use Rattle.agent_ask.{specs.Events.{Shut, Called}, proofs.Making.{called_once, made_then, made_beside}}
 use Rattle.agent_ask.proofs.consent.ask_consent.Goals as goal
 
 pub returns-clause-asked : goal.returns-clause-asked

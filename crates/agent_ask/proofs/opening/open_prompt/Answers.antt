@@ -1,12 +1,7 @@
 use Rattle.std.proofs.Common.{rules, [], ◌∷◌}
 use Rattle.agent_ports.specs.Leads.{none, one}
-use Rattle.agent_ask.specs.Doing.{called, calls, notified}
-use Rattle.agent_ask.specs.Events.{Start, Called, Notified}
-use Rattle.agent_ask.specs.Prompts.{Opens, quiet, told, unheard}
-use Rattle.agent_ask.specs.declared.caller.Heard.TheVariants.{Fine}
-use Rattle.agent_ask.specs.declared.opening.Opening.TheVariants.{NoPinentry}
-use Rattle.agent_ask.specs.declared.prompter.Opened.TheVariants.{Pid}
-use Rattle.agent_ask.proofs.Making.{unopened, called_once, made_beside}
+use Rattle.agent_ask.specs.{Doing.{called, calls, notified}, Events.{Start, Called, Notified}, Prompts.{Opens, quiet, told, unheard}, declared.{caller.Heard.TheVariants.Fine, opening.Opening.TheVariants.NoPinentry}}
+use Rattle.agent_ask.{specs.declared.prompter.Opened.TheVariants.Pid, proofs.Making.{unopened, called_once, made_beside}}
 use Rattle.agent_ask.proofs.opening.open_prompt.Goals as goal
 
 pub returns-in_default : goal.returns-in_default

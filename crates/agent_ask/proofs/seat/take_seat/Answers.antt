@@ -1,7 +1,6 @@
 use Rattle.std.proofs.Common.{refl}
 use Rattle.cache_policy.specs.Turns.{Open, Stopping, Late, Refused}
-use Rattle.agent_ask.specs.Interrupts.{stopping, late, refused}
-use Rattle.agent_ask.specs.Seats.{opened, interrupted}
+use Rattle.agent_ask.specs.{Interrupts.{stopping, late, refused}, Seats.{opened, interrupted}}
 use Rattle.agent_ask.proofs.seat.take_seat.Goals as goal
 
 pub returns-in-Ok-Open-clause-taken : goal.returns-in-Ok-Open-clause-taken

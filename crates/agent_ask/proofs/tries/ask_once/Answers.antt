@@ -1,10 +1,6 @@
-use Rattle.std.proofs.Common.{rules, ◌≡◌, [], ◌∷◌, Err, refl, sym}
-use Rattle.std.proofs.lemmas.Result.{err_from_is_err_and}
+use Rattle.std.proofs.{Common.{rules, ◌≡◌, [], ◌∷◌, Err, refl, sym}, lemmas.Result.err_from_is_err_and}
 use Rattle.agent_ports.specs.Leads.{none, one}
-use Rattle.agent_ask.specs.Doing.{called, out_of_memory}
-use Rattle.agent_ask.specs.Events.{GetPin, Called, OutOfMemory}
-use Rattle.agent_ask.specs.Prompts.{MeetsCheck, typed, ended, weak, bad, untested, accepted}
-use Rattle.agent_ask.proofs.Making.{called_once, made_then, typed_is}
+use Rattle.agent_ask.{specs.{Doing.{called, out_of_memory}, Events.{GetPin, Called, OutOfMemory}, Prompts.{MeetsCheck, typed, ended, weak, bad, untested, accepted}}, proofs.Making.{called_once, made_then, typed_is}}
 use Rattle.agent_ask.proofs.tries.ask_once.Goals as goal
 
 pub returns-in_err-pin-clause-tried : goal.returns-in_err-pin-clause-tried

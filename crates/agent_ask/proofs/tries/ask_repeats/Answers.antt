@@ -1,12 +1,7 @@
-use Rattle.std.proofs.Common.{rules, ◌≡◌, Err, sym, arith}
-use Rattle.std.proofs.lemmas.Result.{err_from_is_err_and}
-use Rattle.agent_ports.specs.Leads.{none, one}
-use Rattle.agent_ports.proofs.Leading.{leads_then}
-use Rattle.agent_ask.specs.Doing.{called}
-use Rattle.agent_ask.specs.Events.{GetPin}
-use Rattle.agent_ask.specs.Prompts.{repeated, repeat_text, same, differs, ended}
+use Rattle.std.proofs.{Common.{rules, ◌≡◌, Err, sym, arith}, lemmas.Result.err_from_is_err_and}
+use Rattle.agent_ports.{specs.Leads.{none, one}, proofs.Leading.leads_then}
+use Rattle.agent_ask.{specs.{Doing.called, Events.GetPin, Prompts.{repeated, repeat_text, same, differs, ended}}, proofs.Making.{called_later, typed_is, repeated_more}}
 use Rattle.agent_ask.specs.declared.prompter.Outcome.TheVariants as outcome
-use Rattle.agent_ask.proofs.Making.{called_later, typed_is, repeated_more}
 use Rattle.agent_ask.proofs.tries.ask_repeats.Goals as goal
 
 pub loop-init : goal.loop-init

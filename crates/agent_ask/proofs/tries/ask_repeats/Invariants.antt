@@ -1,8 +1,7 @@
 -- so far all repeats were the same
 use Rattle.std.proofs.Common.{◌≡◌, true}
 use Rattle.agent_ports.specs.Leads.{Leads}
-use Rattle.agent_ask.specs.Doing.{DoesCall}
-use Rattle.agent_ask.specs.Prompts.{repeated}
+use Rattle.agent_ask.specs.{Doing.DoesCall, Prompts.repeated}
 use Rattle.agent_ask.proofs.tries.ask_repeats.Given as goal
 
 abbrev pub invariant-loop : goal.invariant-loop

@@ -1,7 +1,6 @@
 use Rattle.std.proofs.Common.{rules, ◌≡◌, [], ◌++◌, Ok, Err, append_assoc, append-nil, sym, arith}
 use Rattle.agent_ports.specs.Leads.{none}
-use Rattle.agent_ask.specs.Prompts.{IsTry, try_text, good, over, again, bad}
-use Rattle.agent_ask.proofs.Trying.{tested_then, same_rule, try_as}
+use Rattle.agent_ask.{specs.Prompts.{IsTry, try_text, good, over, again, bad}, proofs.Trying.{tested_then, same_rule, try_as}}
 use Rattle.agent_ask.proofs.tries.ask_tries.Goals as goal
 
 pub loop-number-init : goal.loop-number-init

@@ -1,10 +1,6 @@
 -- what the tries so far leave to the later ones
 use Rattle.std.proofs.Common.{◌≡◌, true, List, ◌++◌, None}
-use Rattle.agent_ask.specs.Doing.{HasEvents, DoesCall}
-use Rattle.agent_ask.specs.Events.{PromptEvent}
-use Rattle.agent_ask.specs.Prompts.{Tries}
-use Rattle.agent_ask.specs.Tests.{PinTest, WithTests}
-use Rattle.agent_ask.specs.declared.ask.Asked.{Asked}
+use Rattle.agent_ask.specs.{Doing.{HasEvents, DoesCall}, Events.PromptEvent, Prompts.Tries, Tests.{PinTest, WithTests}, declared.ask.Asked.Asked}
 use Rattle.agent_ask.proofs.tries.ask_tries.Given as goal
 
 abbrev pub invariant-loop-number : goal.invariant-loop-number

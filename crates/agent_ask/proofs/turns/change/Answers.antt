@@ -1,6 +1,5 @@
-use Rattle.agent_ask.specs.Interrupts.{stopping, refused}
-use Rattle.agent_ask.specs.Seats.{changed, unchanged}
 use Rattle.cache_policy.specs.Turns.{Done, Stopping, Refused}
+use Rattle.agent_ask.specs.{Interrupts.{stopping, refused}, Seats.{changed, unchanged}}
 use Rattle.agent_ask.proofs.turns.change.Goals as goal
 
 pub returns-in-Ok-Done-clause-turn : goal.returns-in-Ok-Done-clause-turn

@@ -1,12 +1,6 @@
-use Rattle.std.proofs.Common.{refl}
-use Rattle.std.proofs.lemmas.Result.{err_from_is_err_and}
-use Rattle.agent_ask.specs.Parts.{returns, goes_on}
-use Rattle.agent_ask.proofs.PartsDone.{part_then, part_stops, part_still}
-use Rattle.agent_commands.specs.Exchanges.{tells}
-use Rattle.agent_commands.specs.Outside.{DoesPrompts}
-use Rattle.agent_ask.specs.PartReplies.{comes_to, stops_at}
-use Rattle.agent_commands.proofs.Asking.{asks_nobody}
-use Rattle.agent_commands.proofs.Carrying.{beside_desk, carries_beside, replies_ok}
+use Rattle.std.proofs.{Common.refl, lemmas.Result.err_from_is_err_and}
+use Rattle.agent_ask.{specs.{Parts.{returns, goes_on}, PartReplies.{comes_to, stops_at}}, proofs.PartsDone.{part_then, part_stops, part_still}}
+use Rattle.agent_commands.{specs.{Exchanges.tells, Outside.DoesPrompts}, proofs.{Asking.asks_nobody, Carrying.{beside_desk, carries_beside, replies_ok}}}
 use Rattle.agent_commands.proofs.command.carry_out.Goals as goal
 
 pub get_passphrase-requires-clause-get : goal.get_passphrase-requires-clause-get

@@ -1,6 +1,5 @@
 use Rattle.std.proofs.Common.{refl}
-use Rattle.agent_ask.specs.Parts.{returns}
-use Rattle.agent_ask.proofs.PartsDone.{part_still}
+use Rattle.agent_ask.{specs.Parts.returns, proofs.PartsDone.part_still}
 use Rattle.agent_commands.proofs.command.given_or_asked.Goals as goal
 
 pub returns-in-Some : goal.returns-in-Some

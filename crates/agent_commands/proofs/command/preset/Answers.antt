@@ -1,7 +1,5 @@
-use Rattle.std.proofs.Common.{refl}
-use Rattle.std.proofs.lemmas.Result.{err_from_is_err_and}
-use Rattle.agent_ask.specs.Parts.{returns, refuses}
-use Rattle.agent_ask.proofs.PartsDone.{part_then, part_stops, part_still, part_turned, beside_client, open_after, cache_changed}
+use Rattle.std.proofs.{Common.refl, lemmas.Result.err_from_is_err_and}
+use Rattle.agent_ask.{specs.Parts.{returns, refuses}, proofs.PartsDone.{part_then, part_stops, part_still, part_turned, beside_client, open_after, cache_changed}}
 use Rattle.agent_commands.proofs.command.preset.Goals as goal
 
 pub returns-then-not-rules-clause-presets : goal.returns-then-not-rules-clause-presets

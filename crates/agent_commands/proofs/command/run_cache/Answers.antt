@@ -1,5 +1,4 @@
-use Rattle.agent_commands.specs.Exchanges.{CacheReplies}
-use Rattle.agent_commands.proofs.Replying.{answers}
+use Rattle.agent_commands.{specs.Exchanges.CacheReplies, proofs.Replying.answers}
 use Rattle.agent_commands.proofs.command.run_cache.Goals as goal
 
 pub returns-clause-answers : goal.returns-clause-answers

@@ -1,13 +1,6 @@
 use Rattle.std.proofs.Common.{None}
-use Rattle.agent_ask.specs.PartStates.{NoEnd}
-use Rattle.agent_ask.specs.Seats.{unheld}
-use Rattle.agent_commands.specs.Exchanges.{CacheExchange, GetReplies}
-use Rattle.agent_commands.specs.Outside.{world}
-use Rattle.agent_commands.specs.Requests.{request_of}
-use Rattle.agent_commands.specs.States.{session_state, AnswersRequest}
-use Rattle.agent_commands.specs.declared.request.Request.{Request}
-use Rattle.agent_commands.proofs.Carrying.{quiet_carried}
-use Rattle.agent_commands.proofs.Quieting.{of_quiet}
+use Rattle.agent_ask.specs.{PartStates.NoEnd, Seats.unheld}
+use Rattle.agent_commands.{specs.{Exchanges.{CacheExchange, GetReplies}, Outside.world, Requests.request_of, States.{session_state, AnswersRequest}, declared.request.Request.Request}, proofs.{Carrying.quiet_carried, Quieting.of_quiet}}
 use Rattle.agent_commands.proofs.Replying.{answers}
 use Rattle.agent_commands.proofs.command.run_quiet.Goals as goal
 

@@ -1,8 +1,5 @@
-use Rattle.agent_ask.proofs.ConsentParts.{agrees}
-use Rattle.agent_ask.proofs.PartsAtClient.{part_prompted}
-use Rattle.assuan_server.specs.Clients.{connection_views}
-use Rattle.agent_commands.specs.Outside.{DoesPrompts}
-use Rattle.agent_commands.proofs.Carrying.{each_prompted}
+use Rattle.{agent_ask.proofs.{ConsentParts.agrees, PartsAtClient.part_prompted}, assuan_server.specs.Clients.connection_views}
+use Rattle.agent_commands.{specs.Outside.DoesPrompts, proofs.Carrying.each_prompted}
 use Rattle.agent_commands.proofs.confirmation.ask_consent.Goals as goal
 
 pub returns-clause-agrees : goal.returns-clause-agrees

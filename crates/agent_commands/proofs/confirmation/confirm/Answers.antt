@@ -1,7 +1,5 @@
-use Rattle.std.proofs.Common.{sym, ◌∙◌, inl, inr, refl}
-use Rattle.std.proofs.lemmas.Result.{err_from_is_err_and}
-use Rattle.agent_ask.specs.Parts.{refuses}
-use Rattle.agent_ask.proofs.PartsDone.{part_then, part_stops, part_still, part_turned}
+use Rattle.std.proofs.{Common.{sym, ◌∙◌, inl, inr, refl}, lemmas.Result.err_from_is_err_and}
+use Rattle.agent_ask.{specs.Parts.refuses, proofs.PartsDone.{part_then, part_stops, part_still, part_turned}}
 use Rattle.agent_commands.proofs.Carrying.{beside_prompter, seat_turn}
 use Rattle.agent_commands.proofs.confirmation.confirm.Goals as goal
 

@@ -1,9 +1,5 @@
-use Rattle.std.proofs.Common.{◌≡◌, ◌<◌, ℕ, List, length, Result, Ok, Err, None, cond, refl, sym, ap, arith}
-use Rattle.std.specs.Prelude.{Some}
-use Rattle.std.proofs.lemmas.Bool.{lt-leb}
-use Rattle.hex.specs.Hex.{decode_of}
-use Rattle.hex.specs.declared.error.FromHexError.{FromHexError}
-use Rattle.hex.proofs.HexLemmas.{decode_of-ok}
+use Rattle.std.{proofs.{Common.{◌≡◌, ◌<◌, ℕ, List, length, Result, Ok, Err, None, cond, refl, sym, ap, arith}, lemmas.Bool.lt-leb}, specs.Prelude.Some}
+use Rattle.hex.{specs.{Hex.decode_of, declared.error.FromHexError.FromHexError}, proofs.HexLemmas.decode_of-ok}
 use Rattle.agent_commands.specs.Fields.{passphrase}
 use Rattle.agent_commands.proofs.fields.passphrase.Goals as goal
 

@@ -1,7 +1,5 @@
-use Rattle.std.proofs.Common.{refl}
-use Rattle.std.proofs.lemmas.Result.{err_from_is_err_and}
-use Rattle.agent_ask.specs.Parts.{returns}
-use Rattle.agent_ask.proofs.PartsDone.{part_then, part_stops, part_still, part_turned, part_turns, ticket_given}
+use Rattle.std.proofs.{Common.refl, lemmas.Result.err_from_is_err_and}
+use Rattle.agent_ask.{specs.Parts.returns, proofs.PartsDone.{part_then, part_stops, part_still, part_turned, part_turns, ticket_given}}
 use Rattle.agent_commands.proofs.Carrying.{beside_prompter}
 use Rattle.agent_commands.proofs.passphrase.by_user.Goals as goal
 

@@ -1,11 +1,8 @@
 use Rattle.std.proofs.Common.{◌≡◌, ℕ, Bool, true, false, List, Option, Some, sym, ◌∙◌, refl}
 use Rattle.agent_ask.proofs.PartsDone.{part_turns}
-use Rattle.agent_commands.specs.Exchanges.{is_quiet}
-use Rattle.agent_commands.specs.Requests.{GetFields}
-use Rattle.agent_commands.specs.declared.request.Texts.{Texts}
-use Rattle.agent_commands.proofs.Carrying.{beside_desk, asked_cache, wanted_else}
-use Rattle.agent_commands.proofs.passphrase.get_passphrase.Goals as goal
+use Rattle.agent_commands.{specs.{Exchanges.is_quiet, Requests.GetFields, declared.request.Texts.Texts}, proofs.Carrying.{beside_desk, asked_cache, wanted_else}}
 use Rattle.agent_commands.proofs.passphrase.get_passphrase.Goals.{in_default-texts-via-in-Some+else-not-no_ask, in_default-texts-via-in_default-texts}
+use Rattle.agent_commands.proofs.passphrase.get_passphrase.Goals as goal
 
 abbrev fields : Bool → Bool → Bool → ℕ → Bool → Option (List ℕ) → Option Texts → GetFields
 fields plain check no_ask repeat quality id texts = record {

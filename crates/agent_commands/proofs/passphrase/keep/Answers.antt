@@ -1,7 +1,5 @@
 use Rattle.std.proofs.Common.{refl}
-use Rattle.agent_ask.specs.Parts.{returns}
-use Rattle.agent_ask.specs.PartStates.{still, one}
-use Rattle.agent_ask.proofs.PartsDone.{cache_changed}
+use Rattle.agent_ask.{specs.{Parts.returns, PartStates.{still, one}}, proofs.PartsDone.cache_changed}
 use Rattle.agent_commands.proofs.passphrase.keep.Goals as goal
 
 pub returns-in_default-clause-turn : goal.returns-in_default-clause-turn

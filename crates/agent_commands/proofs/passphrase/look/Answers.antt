@@ -1,9 +1,5 @@
 use Rattle.std.proofs.Common.{refl}
-use Rattle.agent_ask.specs.Interrupts.{stopping, refused}
-use Rattle.agent_ask.specs.Parts.{returns}
-use Rattle.agent_ask.specs.PartStates.{still, one}
-use Rattle.agent_ask.specs.TurnParts.{given, empty, interrupted}
-use Rattle.cache_policy.specs.Turns.{Given, Empty, Stopping, Refused}
+use Rattle.{agent_ask.specs.{Interrupts.{stopping, refused}, Parts.returns, PartStates.{still, one}, TurnParts.{given, empty, interrupted}}, cache_policy.specs.Turns.{Given, Empty, Stopping, Refused}}
 use Rattle.agent_commands.specs.Passphrases.{ask}
 use Rattle.agent_commands.proofs.passphrase.look.Goals as goal
 

@@ -1,8 +1,5 @@
-use Rattle.agent_ask.proofs.PartsAtClient.{prompt_gave, prompt_refused, pin_refuses, planned}
-use Rattle.assuan_server.specs.Clients.{connection_views}
-use Rattle.agent_commands.specs.Outside.{DoesPrompts}
-use Rattle.agent_commands.specs.Passphrases.{given, refused}
-use Rattle.agent_commands.proofs.Carrying.{each_prompted}
+use Rattle.{agent_ask.proofs.PartsAtClient.{prompt_gave, prompt_refused, pin_refuses, planned}, assuan_server.specs.Clients.connection_views}
+use Rattle.agent_commands.{specs.{Outside.DoesPrompts, Passphrases.{given, refused}}, proofs.Carrying.each_prompted}
 use Rattle.agent_commands.proofs.passphrase.prompt.Goals as goal
 
 pub pin_refusal-requires : goal.pin_refusal-requires

@@ -1,6 +1,5 @@
 use Rattle.std.proofs.Common.{refl}
-use Rattle.agent_ask.specs.Parts.{refuses}
-use Rattle.agent_ask.proofs.PartsDone.{part_still}
+use Rattle.agent_ask.{specs.Parts.refuses, proofs.PartsDone.part_still}
 use Rattle.agent_commands.proofs.passphrase.uncached.Goals as goal
 
 pub returns-in-Cancel-clause-comes : goal.returns-in-Cancel-clause-comes

@@ -1,8 +1,6 @@
-use Rattle.std.proofs.lemmas.Result.{err_from_is_err_and}
-use Rattle.std.proofs.Common.{ℕ, List, map}
-use Rattle.agent_commands.specs.Answers.{comments}
-use Rattle.agent_commands.specs.declared.names.TheConstants.{COMMANDS, KEY_COMMANDS}
+use Rattle.std.proofs.{lemmas.Result.err_from_is_err_and, Common.{ℕ, List, map}}
 use Rattle.assuan_server.proofs.Saying.{said_then, said_first}
+use Rattle.agent_commands.specs.{Answers.comments, declared.names.TheConstants.{COMMANDS, KEY_COMMANDS}}
 use Rattle.agent_commands.proofs.response.write_commands.Goals as goal
 
 abbrev cache_lines : List ℕ

@@ -1,9 +1,6 @@
-use Rattle.std.proofs.lemmas.Result.{err_from_is_err_and}
-use Rattle.std.proofs.Common.{◌++◌, map}
-use Rattle.agent_commands.specs.Answers.{comments}
-use Rattle.assuan_server.specs.Written.{ok}
-use Rattle.agent_commands.specs.Names.{command_names}
-use Rattle.assuan_server.proofs.Saying.{said, said_then, said_first}
+use Rattle.std.proofs.{lemmas.Result.err_from_is_err_and, Common.{◌++◌, map}}
+use Rattle.assuan_server.{specs.Written.ok, proofs.Saying.{said, said_then, said_first}}
+use Rattle.agent_commands.specs.{Answers.comments, Names.command_names}
 use Rattle.agent_commands.proofs.response.write_help.Goals as goal
 
 pub returns-in_err-write_commands : goal.returns-in_err-write_commands

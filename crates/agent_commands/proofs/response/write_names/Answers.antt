@@ -1,9 +1,5 @@
-use Rattle.std.proofs.Common.{◌≡◌, length, Ok, Err, subst, arith}
-use Rattle.std.proofs.Math.Seq.{take-length}
-use Rattle.std.proofs.lemmas.Result.{err_from_is_err_and}
-use Rattle.assuan_server.proofs.Saying.{said, said_nothing}
-use Rattle.assuan_server.specs.Written.{comment_text, WritesText}
-use Rattle.assuan_text.specs.LineEnds.{line_of}
+use Rattle.std.proofs.{Common.{◌≡◌, length, Ok, Err, subst, arith}, Math.Seq.take-length, lemmas.Result.err_from_is_err_and}
+use Rattle.{assuan_server.{proofs.Saying.{said, said_nothing}, specs.Written.{comment_text, WritesText}}, assuan_text.specs.LineEnds.line_of}
 use Rattle.agent_commands.proofs.Helping.{lines, one_more, stopped}
 use Rattle.agent_commands.proofs.response.write_names.Goals as goal
 

@@ -1,7 +1,6 @@
 use Rattle.std.proofs.Common.{refl, inl, inr}
+use Rattle.assuan_server.{specs.Written.ok, proofs.Saying.said}
 use Rattle.agent_commands.specs.Answers.{closing}
-use Rattle.assuan_server.specs.Written.{ok}
-use Rattle.assuan_server.proofs.Saying.{said}
 use Rattle.agent_commands.proofs.response.write_response.Goals as goal
 
 pub returns-in-Ok : goal.returns-in-Ok

@@ -1,17 +1,7 @@
 use Rattle.std.proofs.Common.{◌≡◌, ◌∙◌, sym, ap, subst, [], None}
-use Rattle.agent_ask.specs.PartExchanges.{refused}
-use Rattle.agent_ask.specs.Parts.{refuses}
-use Rattle.agent_ask.specs.TurnParts.{unheld}
-use Rattle.assuan_text.specs.Words.{command_of, rest_of}
-use Rattle.agent_commands.specs.Requests.{request_of}
-use Rattle.agent_commands.specs.States.{AnswersRequest}
-use Rattle.agent_commands.specs.declared.request.Request.TheVariants.{Key}
-use Rattle.key_commands.specs.States.{KeyWorld, key_state}
-use Rattle.session_client.specs.declared.refusal.Refusal.TheVariants.{Agent}
-use Rattle.agent_origin.specs.SessionExchanges.{RequestExchange, cache}
-use Rattle.agent_origin.proofs.Beside.{cached_beside, keyed_beside}
-use Rattle.agent_origin.proofs.OuterKeys.{handed_line}
-use Rattle.agent_origin.proofs.Serving.{text_answers}
+use Rattle.{agent_ask.specs.{PartExchanges.refused, Parts.refuses, TurnParts.unheld}, assuan_text.specs.Words.{command_of, rest_of}, agent_commands.specs.{Requests.request_of, States.AnswersRequest}}
+use Rattle.{agent_commands.specs.declared.request.Request.TheVariants.Key, key_commands.specs.States.{KeyWorld, key_state}, session_client.specs.declared.refusal.Refusal.TheVariants.Agent}
+use Rattle.agent_origin.{specs.SessionExchanges.{RequestExchange, cache}, proofs.{Beside.{cached_beside, keyed_beside}, OuterKeys.handed_line, Serving.text_answers}}
 use Rattle.agent_origin.proofs.answering.answer_whole.Goals as goal
 
 pub returns-in-Cache-clause-answers : goal.returns-in-Cache-clause-answers

@@ -1,6 +1,5 @@
 use Rattle.std.proofs.Common.{refl}
-use Rattle.agent_origin.specs.SessionExchanges.{kept_at_start}
-use Rattle.agent_origin.proofs.OuterPrompts.{line_unnamed, session_unnamed}
+use Rattle.agent_origin.{specs.SessionExchanges.kept_at_start, proofs.OuterPrompts.{line_unnamed, session_unnamed}}
 use Rattle.agent_origin.proofs.laws.a_prompt_at_the_outer_door_names_no_terminal.Goals as goal
 
 pub returns-clause-exchange : goal.returns-clause-exchange

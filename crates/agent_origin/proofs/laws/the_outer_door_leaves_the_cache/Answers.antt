@@ -1,6 +1,4 @@
-use Rattle.agent_origin.proofs.Outer.{line_leaves}
-use Rattle.agent_origin.proofs.OuterKeys.{key_leaves}
-use Rattle.agent_origin.proofs.OuterTrust.{trust_leaves}
+use Rattle.agent_origin.proofs.{Outer.line_leaves, OuterKeys.key_leaves, OuterTrust.trust_leaves}
 use Rattle.agent_origin.proofs.laws.the_outer_door_leaves_the_cache.Goals as goal
 
 pub returns-clause-cache : goal.returns-clause-cache

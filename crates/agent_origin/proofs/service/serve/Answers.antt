@@ -1,6 +1,5 @@
 use Rattle.std.proofs.Common.{rules}
-use Rattle.agent_origin.specs.FurtherStates.{FurtherWorld}
-use Rattle.agent_origin.proofs.Served.{on_link}
+use Rattle.agent_origin.{specs.FurtherStates.FurtherWorld, proofs.Served.on_link}
 use Rattle.agent_origin.proofs.service.serve.Goals as goal
 
 pub returns-clause-serves : goal.returns-clause-serves

@@ -1,6 +1,5 @@
-use Rattle.agent_origin.specs.FurtherStates.{FurtherWorld}
-use Rattle.agent_origin.proofs.Meeting.{met, met_cut}
 use Rattle.assuan_server.proofs.Saying.{said}
+use Rattle.agent_origin.{specs.FurtherStates.FurtherWorld, proofs.Meeting.{met, met_cut}}
 use Rattle.agent_origin.proofs.service.serve_conn.Goals as goal
 
 pub returns-in-Ok-clause-serves : goal.returns-in-Ok-clause-serves

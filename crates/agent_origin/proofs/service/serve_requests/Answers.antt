@@ -1,8 +1,6 @@
 use Rattle.std.proofs.Common.{◌<◌, arith}
-use Rattle.assuan_line.specs.Next.{held}
-use Rattle.agent_origin.specs.FurtherStates.{FurtherWorld}
-use Rattle.agent_origin.proofs.Serving.{serves_none, stands_on, is_over, at_end, at_spent, at_read_fault, at_too_long, cut_at_too_long}
-use Rattle.assuan_server.proofs.Saying.{said}
+use Rattle.{assuan_line.specs.Next.held, assuan_server.proofs.Saying.said}
+use Rattle.agent_origin.{specs.FurtherStates.FurtherWorld, proofs.Serving.{serves_none, stands_on, is_over, at_end, at_spent, at_read_fault, at_too_long, cut_at_too_long}}
 use Rattle.agent_origin.proofs.service.serve_requests.Goals as goal
 
 pub loop-line-init : goal.loop-line-init

@@ -1,8 +1,6 @@
 use Rattle.std.proofs.Common.{◌≡◌, None}
-use Rattle.assuan_line.specs.Next.{held}
-use Rattle.agent_ask.specs.Prompters.{IsShut}
-use Rattle.agent_origin.specs.FurtherStates.{FurtherWorld, further_state}
-use Rattle.agent_origin.proofs.Serving.{IsServing}
+use Rattle.{assuan_line.specs.Next.held, agent_ask.specs.Prompters.IsShut}
+use Rattle.agent_origin.{specs.FurtherStates.{FurtherWorld, further_state}, proofs.Serving.IsServing}
 use Rattle.agent_origin.proofs.service.serve_requests.Given as goal
 
 abbrev pub invariant-loop-line : goal.invariant-loop-line

@@ -1,5 +1,4 @@
-use Rattle.agent_session.proofs.Answering.{in_session, all_answered}
-use Rattle.agent_session.proofs.DoorAnswering.{at_door}
+use Rattle.agent_session.proofs.{Answering.{in_session, all_answered}, DoorAnswering.at_door}
 use Rattle.agent_session.proofs.completeness.a_session_without_faults_is_answered.Goals as goal
 
 pub returns-clause-session : goal.returns-clause-session

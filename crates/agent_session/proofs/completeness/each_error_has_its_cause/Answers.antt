@@ -1,5 +1,4 @@
-use Rattle.agent_session.proofs.Answering.{in_session, each_caused}
-use Rattle.agent_session.proofs.DoorAnswering.{at_door}
+use Rattle.agent_session.proofs.{Answering.{in_session, each_caused}, DoorAnswering.at_door}
 use Rattle.agent_session.proofs.completeness.each_error_has_its_cause.Goals as goal
 
 pub returns-clause-session : goal.returns-clause-session

@@ -1,6 +1,4 @@
-use Rattle.agent_session.proofs.Answering.{in_session, each_caused}
-use Rattle.agent_session.proofs.DoorAnswering.{at_door}
-use Rattle.agent_session.proofs.LongLines.{session_long, door_long, long_session}
+use Rattle.agent_session.proofs.{Answering.{in_session, each_caused}, DoorAnswering.at_door, LongLines.{session_long, door_long, long_session}}
 use Rattle.agent_session.proofs.exactly.a_line_that_is_too_long_ends_its_session.Goals as goal
 
 pub returns-clause-session : goal.returns-clause-session

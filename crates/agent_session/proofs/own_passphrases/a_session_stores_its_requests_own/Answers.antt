@@ -1,7 +1,5 @@
-use Rattle.agent_origin.specs.DoorSessions.{DoorExchange}
-use Rattle.agent_origin.specs.SessionExchanges.{SessionExchange}
-use Rattle.agent_session.proofs.AtOnce.{all_fit}
-use Rattle.agent_session.proofs.OwnSessions.{exchange_own, door_own, session_own}
+use Rattle.agent_origin.specs.{DoorSessions.DoorExchange, SessionExchanges.SessionExchange}
+use Rattle.agent_session.proofs.{AtOnce.all_fit, OwnSessions.{exchange_own, door_own, session_own}}
 use Rattle.agent_session.proofs.own_passphrases.a_session_stores_its_requests_own.Goals as goal
 
 pub returns-clause-session : goal.returns-clause-session

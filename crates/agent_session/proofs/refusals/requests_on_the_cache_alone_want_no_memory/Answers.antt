@@ -1,6 +1,5 @@
 use Rattle.agent_commands.specs.Requests.{request_of}
-use Rattle.agent_session.proofs.AtOnce.{all_fit}
-use Rattle.agent_session.proofs.Fair.{all_fair, alone}
+use Rattle.agent_session.proofs.{AtOnce.all_fit, Fair.{all_fair, alone}}
 use Rattle.agent_session.proofs.refusals.requests_on_the_cache_alone_want_no_memory.Goals as goal
 
 pub returns : goal.returns

@@ -1,11 +1,6 @@
 use Rattle.std.proofs.Common.{List, ℕ, subst, ◌≡◌}
-use Rattle.agent_ask.specs.ConsentParts.{AsksQuestion}
-use Rattle.agent_ask.proofs.ConsentParts.{agrees}
-use Rattle.agent_ask.proofs.PartsAtClient.{part_prompted}
-use Rattle.assuan_server.specs.Clients.{connection_views}
-use Rattle.key_commands.proofs.Partial.{each_prompted}
-use Rattle.key_commands.specs.Partial.{DoesBesideKeys}
-use Rattle.key_commands.specs.Lines.{described, delete_description}
+use Rattle.{agent_ask.{specs.ConsentParts.AsksQuestion, proofs.{ConsentParts.agrees, PartsAtClient.part_prompted}}, assuan_server.specs.Clients.connection_views}
+use Rattle.key_commands.{proofs.Partial.each_prompted, specs.{Partial.DoesBesideKeys, Lines.{described, delete_description}}}
 use Rattle.key_commands.proofs.consent.ask_consent.Goals as goal
 
 pub returns-clause-agrees : goal.returns-clause-agrees

@@ -1,9 +1,6 @@
-use Rattle.std.proofs.Common.{sym, ◌∙◌, inl, inr, refl}
-use Rattle.std.proofs.lemmas.Result.{err_from_is_err_and}
-use Rattle.agent_ask.specs.Parts.{returns, refuses}
-use Rattle.agent_ask.proofs.PartsDone.{part_then, part_stops, part_turned, part_still}
-use Rattle.key_commands.proofs.Partial.{beside_prompter}
-use Rattle.key_commands.proofs.Seating.{seat_turn}
+use Rattle.std.proofs.{Common.{sym, ◌∙◌, inl, inr, refl}, lemmas.Result.err_from_is_err_and}
+use Rattle.agent_ask.{specs.Parts.{returns, refuses}, proofs.PartsDone.{part_then, part_stops, part_turned, part_still}}
+use Rattle.key_commands.proofs.{Partial.beside_prompter, Seating.seat_turn}
 use Rattle.key_commands.proofs.consent.consent.Goals as goal
 
 pub returns-then-force-clause-consents : goal.returns-then-force-clause-consents

@@ -1,12 +1,6 @@
-use Rattle.std.proofs.Common.{refl}
-use Rattle.std.proofs.lemmas.Result.{err_from_is_err_and}
-use Rattle.agent_ask.specs.Parts.{returns as is_returned, refuses}
-use Rattle.agent_ask.proofs.PartsDone.{part_then, part_stops, part_turned, part_still}
-use Rattle.agent_ask.specs.PartReplies.{stops_at}
-use Rattle.key_commands.proofs.Doing.{part_called}
-use Rattle.key_commands.proofs.Partial.{beside_keys}
-use Rattle.key_commands.proofs.Requesting.{replies_ok}
-use Rattle.key_commands.specs.Exchanges.{DeleteKeyReplies}
+use Rattle.std.proofs.{Common.refl, lemmas.Result.err_from_is_err_and}
+use Rattle.agent_ask.{specs.{Parts.{returns as is_returned, refuses}, PartReplies.stops_at}, proofs.PartsDone.{part_then, part_stops, part_turned, part_still}}
+use Rattle.key_commands.{proofs.{Doing.part_called, Partial.beside_keys, Requesting.replies_ok}, specs.Exchanges.DeleteKeyReplies}
 use Rattle.key_commands.proofs.deleting.delete_key.Goals as goal
 
 pub returns-in_err-has_file-clause-carries : goal.returns-in_err-has_file-clause-carries

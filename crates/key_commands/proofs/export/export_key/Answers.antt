@@ -1,15 +1,7 @@
-use Rattle.std.proofs.Common.{None, refl, sym}
-use Rattle.std.proofs.lemmas.Result.{err_from_is_err_and}
-use Rattle.session_client.specs.declared.code.Code.TheVariants.{Parameter}
-use Rattle.agent_ask.proofs.PartsDone.{ticket_given, part_then, part_stops, part_still, part_turns}
-use Rattle.agent_ask.proofs.PartValues.{needed_there, needed_missing}
-use Rattle.key_commands.proofs.Partial.{beside_keys}
-use Rattle.key_commands.specs.Exchanges.{ExportKeyReplies}
-use Rattle.key_commands.specs.KeyParts.{tells}
-use Rattle.agent_ask.specs.Parts.{returns as is_returned}
-use Rattle.agent_ask.specs.PartReplies.{comes_to, stops_at}
-use Rattle.key_commands.specs.declared.reply.Reply.TheVariants.{Data}
-use Rattle.key_commands.proofs.Doing.{part_called, part_alone}
+use Rattle.std.proofs.{Common.{None, refl, sym}, lemmas.Result.err_from_is_err_and}
+use Rattle.{session_client.specs.declared.code.Code.TheVariants.Parameter, agent_ask.proofs.{PartsDone.{ticket_given, part_then, part_stops, part_still, part_turns}, PartValues.{needed_there, needed_missing}}}
+use Rattle.agent_ask.specs.{Parts.returns as is_returned, PartReplies.{comes_to, stops_at}}
+use Rattle.key_commands.{proofs.{Partial.beside_keys, Doing.{part_called, part_alone}}, specs.{Exchanges.ExportKeyReplies, KeyParts.tells, declared.reply.Reply.TheVariants.Data}}
 use Rattle.key_commands.proofs.export.export_key.Goals as goal
 
 pub returns-in_default-clause-carries : goal.returns-in_default-clause-carries

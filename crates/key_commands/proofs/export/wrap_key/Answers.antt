@@ -1,7 +1,6 @@
 use Rattle.std.proofs.Common.{refl}
-use Rattle.key_commands.specs.KeyParts.{is_wrapped}
+use Rattle.key_commands.specs.{KeyParts.is_wrapped, Steps.{nothing, memory}}
 use Rattle.key_commands.specs.KeyParts as part
-use Rattle.key_commands.specs.Steps.{nothing, memory}
 use Rattle.key_commands.proofs.export.wrap_key.Goals as goal
 
 pub returns-in-Ok : goal.returns-in-Ok

@@ -1,7 +1,6 @@
 use Rattle.std.proofs.Common.{Ok, inl, inr}
-use Rattle.key_commands.proofs.KeyFiles.{has_lines}
+use Rattle.key_commands.proofs.{KeyFiles.has_lines, files.lines_of.Goals.{in-NoMemory, in_default}}
 use Rattle.key_commands.proofs.files.lines_of.Goals as goal
-use Rattle.key_commands.proofs.files.lines_of.Goals.{in-NoMemory, in_default}
 
 pub prove-unreachable-requires : goal.prove-unreachable-requires
 prove-unreachable-requires c =

@@ -1,6 +1,5 @@
-use Rattle.key_commands.proofs.KeyFiles.{list_fault, list_read}
+use Rattle.key_commands.proofs.{KeyFiles.{list_fault, list_read}, files.list_tree.Goals.{in-NoMemory, in_default}}
 use Rattle.key_commands.proofs.files.list_tree.Goals as goal
-use Rattle.key_commands.proofs.files.list_tree.Goals.{in-NoMemory, in_default}
 
 pub prove-unreachable-requires : goal.prove-unreachable-requires
 prove-unreachable-requires c =

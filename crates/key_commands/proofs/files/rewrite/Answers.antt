@@ -1,6 +1,5 @@
 use Rattle.std.proofs.Common.{sym, ◌∙◌, refl}
-use Rattle.key_commands.specs.Files.{canonical_file, extended_file, too_long, no_memory}
-use Rattle.key_commands.specs.Steps.{nothing, memory}
+use Rattle.key_commands.specs.{Files.{canonical_file, extended_file, too_long, no_memory}, Steps.{nothing, memory}}
 use Rattle.key_commands.proofs.files.rewrite.Goals as goal
 
 pub returns-then-is_canonical-clause-rewrites : goal.returns-then-is_canonical-clause-rewrites

@@ -1,5 +1,4 @@
-use Rattle.std.proofs.Common.{◌≡◌, ◌≤◌, ℕ, List, length, Some, Result, Ok, Err, IfOk, subst}
-use Rattle.std.specs.Result.{result_ok}
+use Rattle.std.{proofs.Common.{◌≡◌, ◌≤◌, ℕ, List, length, Some, Result, Ok, Err, IfOk, subst}, specs.Result.result_ok}
 use Rattle.sexp_canonical.specs.Spelling.{most_bytes}
 use Rattle.key_commands.proofs.files.with_list.Goals as goal
 

@@ -1,7 +1,5 @@
-use Rattle.std.proofs.Common.{refl}
-use Rattle.std.proofs.lemmas.Result.{err_from_is_err_and}
-use Rattle.agent_ask.specs.Parts.{returns as is_returned}
-use Rattle.agent_ask.proofs.PartsDone.{part_then, part_stops, part_still, part_turns}
+use Rattle.std.proofs.{Common.refl, lemmas.Result.err_from_is_err_and}
+use Rattle.agent_ask.{specs.Parts.returns as is_returned, proofs.PartsDone.{part_then, part_stops, part_still, part_turns}}
 use Rattle.key_commands.proofs.importing.found_or_new.Goals as goal
 
 pub returns-in_err-pass-clause-does : goal.returns-in_err-pass-clause-does

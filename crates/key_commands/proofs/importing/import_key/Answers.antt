@@ -1,14 +1,7 @@
-use Rattle.std.proofs.Common.{None, refl}
-use Rattle.std.proofs.lemmas.Result.{err_from_is_err_and}
-use Rattle.session_client.specs.declared.code.Code.TheVariants.{Parameter}
-use Rattle.agent_ask.specs.Parts.{returns as is_returned}
-use Rattle.agent_ask.proofs.PartsDone.{part_then, part_stops, part_still}
+use Rattle.std.proofs.{Common.{None, refl}, lemmas.Result.err_from_is_err_and}
+use Rattle.{session_client.specs.declared.code.Code.TheVariants.Parameter, agent_ask.{specs.{Parts.returns as is_returned, PartReplies.{comes_to, stops_at}}, proofs.PartsDone.{part_then, part_stops, part_still}}}
 use Rattle.agent_ask.proofs.PartValues.{needed_there, needed_missing}
-use Rattle.agent_ask.specs.PartReplies.{comes_to, stops_at}
-use Rattle.key_commands.proofs.Doing.{part_alone, part_called}
-use Rattle.key_commands.proofs.Partial.{beside_memory, beside_keys, with_prompter}
-use Rattle.key_commands.specs.Exchanges.{ImportKeyReplies}
-use Rattle.key_commands.specs.declared.reply.Reply.TheVariants.{Nonce}
+use Rattle.key_commands.{proofs.{Doing.{part_alone, part_called}, Partial.{beside_memory, beside_keys, with_prompter}}, specs.{Exchanges.ImportKeyReplies, declared.reply.Reply.TheVariants.Nonce}}
 use Rattle.key_commands.proofs.importing.import_key.Goals as goal
 
 pub found_or_new-requires-clause-open : goal.found_or_new-requires-clause-open

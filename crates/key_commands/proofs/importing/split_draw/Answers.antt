@@ -1,5 +1,4 @@
-use Rattle.std.proofs.Common.{◌≡◌, take, drop, arith, ◌∙◌}
-use Rattle.std.proofs.lemmas.Grind.{common_steps}
+use Rattle.std.proofs.{Common.{◌≡◌, take, drop, arith, ◌∙◌}, lemmas.Grind.common_steps}
 use Rattle.key_commands.proofs.importing.split_draw.Goals as goal
 
 pub returns-clause-nonce : goal.returns-clause-nonce

@@ -1,8 +1,6 @@
 use Rattle.std.proofs.Common.{refl}
-use Rattle.agent_ask.specs.Further.{Read}
-use Rattle.agent_ports.specs.declared.keys.KeyRead.TheVariants.{Found, Absent, Failed, NoMemory}
-use Rattle.key_commands.specs.Parts.{found, absent, faulted, no_memory}
-use Rattle.key_commands.proofs.Doing.{one_call}
+use Rattle.{agent_ask.specs.Further.Read, agent_ports.specs.declared.keys.KeyRead.TheVariants.{Found, Absent, Failed, NoMemory}}
+use Rattle.key_commands.{specs.Parts.{found, absent, faulted, no_memory}, proofs.Doing.one_call}
 use Rattle.key_commands.proofs.key_calls.has_file.Goals as goal
 
 pub returns-in-Found : goal.returns-in-Found

@@ -1,6 +1,5 @@
 use Rattle.agent_ask.specs.Further.{Removed}
-use Rattle.key_commands.specs.KeyParts.{done, not_done}
-use Rattle.key_commands.proofs.Doing.{change_made}
+use Rattle.key_commands.{specs.KeyParts.{done, not_done}, proofs.Doing.change_made}
 use Rattle.key_commands.proofs.key_calls.remove_file.Goals as goal
 
 pub returns : goal.returns

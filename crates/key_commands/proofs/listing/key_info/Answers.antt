@@ -1,11 +1,6 @@
-use Rattle.std.proofs.Common.{refl}
-use Rattle.std.proofs.lemmas.Result.{err_from_is_err_and}
-use Rattle.agent_ask.specs.Parts.{returns as is_returned}
-use Rattle.agent_ask.proofs.PartsDone.{part_then, part_stops, part_turned, part_still}
-use Rattle.agent_ask.specs.PartReplies.{comes_to, stops_at}
-use Rattle.key_commands.proofs.Doing.{part_called}
-use Rattle.key_commands.specs.Exchanges.{KeyInfoReplies}
-use Rattle.key_commands.specs.declared.reply.Reply.TheVariants.{Info}
+use Rattle.std.proofs.{Common.refl, lemmas.Result.err_from_is_err_and}
+use Rattle.agent_ask.{specs.{Parts.returns as is_returned, PartReplies.{comes_to, stops_at}}, proofs.PartsDone.{part_then, part_stops, part_turned, part_still}}
+use Rattle.key_commands.{proofs.Doing.part_called, specs.{Exchanges.KeyInfoReplies, declared.reply.Reply.TheVariants.Info}}
 use Rattle.key_commands.proofs.listing.key_info.Goals as goal
 
 pub returns-in_err-file-clause-tells : goal.returns-in_err-file-clause-tells

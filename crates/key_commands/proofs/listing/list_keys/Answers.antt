@@ -1,11 +1,6 @@
-use Rattle.std.proofs.Common.{refl}
-use Rattle.std.proofs.lemmas.Result.{err_from_is_err_and}
-use Rattle.agent_ask.specs.Parts.{returns as is_returned}
-use Rattle.agent_ask.proofs.PartsDone.{part_then, part_stops, part_still}
-use Rattle.agent_ask.specs.PartReplies.{stops_at}
-use Rattle.key_commands.proofs.Doing.{part_called}
-use Rattle.key_commands.proofs.Requesting.{replies_ok}
-use Rattle.key_commands.specs.Exchanges.{ListKeysReplies}
+use Rattle.std.proofs.{Common.refl, lemmas.Result.err_from_is_err_and}
+use Rattle.agent_ask.{specs.{Parts.returns as is_returned, PartReplies.stops_at}, proofs.PartsDone.{part_then, part_stops, part_still}}
+use Rattle.key_commands.{proofs.{Doing.part_called, Requesting.replies_ok}, specs.Exchanges.ListKeysReplies}
 use Rattle.key_commands.proofs.listing.list_keys.Goals as goal
 
 pub returns-in_err-grips-clause-tells : goal.returns-in_err-grips-clause-tells

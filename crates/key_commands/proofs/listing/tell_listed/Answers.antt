@@ -1,9 +1,6 @@
-use Rattle.std.proofs.Common.{refl}
-use Rattle.std.proofs.lemmas.Result.{err_from_is_err_and}
-use Rattle.agent_ask.specs.Parts.{returns}
-use Rattle.agent_ask.proofs.PartsDone.{part_then, part_stops, part_still}
-use Rattle.key_commands.proofs.Partial.{beside_keys}
-use Rattle.key_commands.proofs.Doing.{part_called}
+use Rattle.std.proofs.{Common.refl, lemmas.Result.err_from_is_err_and}
+use Rattle.agent_ask.{specs.Parts.returns, proofs.PartsDone.{part_then, part_stops, part_still}}
+use Rattle.key_commands.proofs.{Partial.beside_keys, Doing.part_called}
 use Rattle.key_commands.proofs.listing.tell_listed.Goals as goal
 
 pub returns-in_err-key-clause-tells : goal.returns-in_err-key-clause-tells

@@ -1,7 +1,5 @@
-use Rattle.std.proofs.Common.{refl, None}
-use Rattle.std.proofs.lemmas.Result.{err_from_is_err_and}
-use Rattle.agent_ask.specs.Parts.{returns}
-use Rattle.agent_ask.proofs.PartsDone.{part_still}
+use Rattle.std.proofs.{Common.{refl, None}, lemmas.Result.err_from_is_err_and}
+use Rattle.agent_ask.{specs.Parts.returns, proofs.PartsDone.part_still}
 use Rattle.key_commands.proofs.ListedKeys.{tells_on, tells_in_vain, tells_none}
 use Rattle.key_commands.proofs.listing.write_infos.Goals as goal
 

@@ -1,10 +1,6 @@
 use Rattle.std.proofs.Common.{◌≡◌, ℕ, Option, Result, drop}
-use Rattle.agent_ports.specs.Sides.{Side}
-use Rattle.assuan_server.specs.Connections.{IsOpen}
-use Rattle.key_commands.specs.KeyParts.{WritesInfos}
-use Rattle.key_commands.specs.Partial.{DoesKeyPart, NoCall}
-use Rattle.key_commands.specs.States.{KeyState, key_state}
-use Rattle.session_client.specs.declared.refusal.Refusal.{Refusal}
+use Rattle.{agent_ports.specs.Sides.Side, assuan_server.specs.Connections.IsOpen, session_client.specs.declared.refusal.Refusal.Refusal}
+use Rattle.key_commands.specs.{KeyParts.WritesInfos, Partial.{DoesKeyPart, NoCall}, States.{KeyState, key_state}}
 use Rattle.key_commands.proofs.listing.write_infos.Given as goal
 
 -- what is done for the keys that are left completes what is done for all

@@ -1,7 +1,5 @@
-use Rattle.std.proofs.Common.{refl}
-use Rattle.std.proofs.lemmas.Result.{err_from_is_err_and}
-use Rattle.agent_ask.specs.Parts.{returns}
-use Rattle.agent_ask.proofs.PartsDone.{part_then, part_stops, part_turned, part_still, beside_client}
+use Rattle.std.proofs.{Common.refl, lemmas.Result.err_from_is_err_and}
+use Rattle.agent_ask.{specs.Parts.returns, proofs.PartsDone.{part_then, part_stops, part_turned, part_still, beside_client}}
 use Rattle.key_commands.proofs.listing.write_listed.Goals as goal
 
 pub returns-in_err-cached-clause-writes : goal.returns-in_err-cached-clause-writes

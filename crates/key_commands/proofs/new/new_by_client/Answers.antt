@@ -1,10 +1,5 @@
-use Rattle.std.proofs.Common.{◌≡◌, ◌==◌, true, false, length, refl, ap}
-use Rattle.std.specs.Prelude.{not}
-use Rattle.std.proofs.lemmas.Result.{err_from_is_err_and}
-use Rattle.session_client.specs.declared.code.Code.TheVariants.{BadPass}
-use Rattle.agent_ask.specs.Parts.{returns as is_returned}
-use Rattle.agent_ask.proofs.PartsDone.{part_then, part_stops, part_still, open_after}
-use Rattle.agent_ask.proofs.PartValues.{wanted_there, wanted_missing}
+use Rattle.std.{proofs.{Common.{◌≡◌, ◌==◌, true, false, length, refl, ap}, lemmas.Result.err_from_is_err_and}, specs.Prelude.not}
+use Rattle.{session_client.specs.declared.code.Code.TheVariants.BadPass, agent_ask.{specs.Parts.returns as is_returned, proofs.{PartsDone.{part_then, part_stops, part_still, open_after}, PartValues.{wanted_there, wanted_missing}}}}
 use Rattle.key_commands.specs.Passphrases.{ClientNew}
 use Rattle.key_commands.proofs.new.new_by_client.Goals as goal
 

@@ -1,7 +1,5 @@
 use Rattle.std.proofs.Common.{refl}
-use Rattle.agent_ask.specs.Parts.{returns}
-use Rattle.agent_ask.specs.PartStates.{still, one}
-use Rattle.agent_ask.proofs.PartsDone.{cache_asked}
+use Rattle.agent_ask.{specs.{Parts.returns, PartStates.{still, one}}, proofs.PartsDone.cache_asked}
 use Rattle.key_commands.proofs.nonces.look_for_nonce.Goals as goal
 
 pub returns-in-None-clause-turn : goal.returns-in-None-clause-turn

@@ -1,8 +1,6 @@
-use Rattle.std.proofs.Common.{sym, refl, ◌∙◌}
-use Rattle.std.proofs.lemmas.Result.{err_from_is_err_and}
+use Rattle.std.proofs.{Common.{sym, refl, ◌∙◌}, lemmas.Result.err_from_is_err_and}
 use Rattle.agent_ask.proofs.PartsDone.{part_then, part_stops, part_still}
-use Rattle.key_commands.proofs.Doing.{leaves_alone}
-use Rattle.key_commands.proofs.Requesting.{clear_old}
+use Rattle.key_commands.proofs.{Doing.leaves_alone, Requesting.clear_old}
 use Rattle.key_commands.proofs.old.old_passphrase.Goals as goal
 
 pub returns-then-is_clear-clause-does : goal.returns-then-is_clear-clause-does

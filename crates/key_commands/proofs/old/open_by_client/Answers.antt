@@ -1,9 +1,6 @@
-use Rattle.std.proofs.Common.{refl}
-use Rattle.std.proofs.lemmas.Result.{err_from_is_err_and}
-use Rattle.agent_ask.specs.Parts.{returns as is_returned, refuses}
-use Rattle.agent_ask.proofs.PartsDone.{part_then, part_stops, part_turned, part_still, beside_client, open_after}
-use Rattle.key_commands.proofs.Doing.{leaves_alone}
-use Rattle.key_commands.specs.Passphrases.{ClientOld}
+use Rattle.std.proofs.{Common.refl, lemmas.Result.err_from_is_err_and}
+use Rattle.agent_ask.{specs.Parts.{returns as is_returned, refuses}, proofs.PartsDone.{part_then, part_stops, part_turned, part_still, beside_client, open_after}}
+use Rattle.key_commands.{proofs.Doing.leaves_alone, specs.Passphrases.ClientOld}
 use Rattle.key_commands.proofs.old.open_by_client.Goals as goal
 
 pub returns-in_err-pass-clause-does : goal.returns-in_err-pass-clause-does

@@ -1,7 +1,6 @@
 use Rattle.std.proofs.lemmas.Result.{err_from_is_err_and}
 use Rattle.agent_ask.proofs.PartsDone.{part_then, part_stops, part_turns}
-use Rattle.key_commands.proofs.Seating.{seated}
-use Rattle.key_commands.proofs.Partial.{beside_prompter}
+use Rattle.key_commands.proofs.{Seating.seated, Partial.beside_prompter}
 use Rattle.key_commands.proofs.old.open_by_user.Goals as goal
 
 pub returns-in_err-take_seat-clause-does : goal.returns-in_err-take_seat-clause-does

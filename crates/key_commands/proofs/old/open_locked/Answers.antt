@@ -1,9 +1,6 @@
-use Rattle.std.proofs.Common.{refl}
-use Rattle.std.proofs.lemmas.Result.{err_from_is_err_and}
-use Rattle.agent_ask.specs.Parts.{returns as is_returned}
-use Rattle.agent_ask.proofs.PartsDone.{part_then, part_stops, part_still, part_turns}
-use Rattle.key_commands.proofs.Doing.{leaves_alone}
-use Rattle.key_commands.specs.Passphrases.{OpensLocked}
+use Rattle.std.proofs.{Common.refl, lemmas.Result.err_from_is_err_and}
+use Rattle.agent_ask.{specs.Parts.returns as is_returned, proofs.PartsDone.{part_then, part_stops, part_still, part_turns}}
+use Rattle.key_commands.{proofs.Doing.leaves_alone, specs.Passphrases.OpensLocked}
 use Rattle.key_commands.proofs.old.open_locked.Goals as goal
 
 pub returns-in_err-found-clause-does : goal.returns-in_err-found-clause-does

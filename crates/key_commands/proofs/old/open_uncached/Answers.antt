@@ -1,6 +1,5 @@
 use Rattle.std.proofs.Common.{refl, sym, ◌∙◌}
-use Rattle.agent_ask.specs.Parts.{refuses}
-use Rattle.agent_ask.proofs.PartsDone.{part_still}
+use Rattle.agent_ask.{specs.Parts.refuses, proofs.PartsDone.part_still}
 use Rattle.key_commands.proofs.Partial.{beside_desk}
 use Rattle.key_commands.proofs.old.open_uncached.Goals as goal
 

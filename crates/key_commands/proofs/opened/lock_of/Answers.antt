@@ -1,6 +1,5 @@
 use Rattle.std.proofs.Common.{inl, inr, refl}
-use Rattle.key_commands.specs.Passphrases.{is_locked, has_fault, no_memory}
-use Rattle.key_commands.specs.Steps.{nothing, memory}
+use Rattle.key_commands.specs.{Passphrases.{is_locked, has_fault, no_memory}, Steps.{nothing, memory}}
 use Rattle.key_commands.proofs.opened.lock_of.Goals as goal
 
 pub returns-in-Ok : goal.returns-in-Ok

@@ -1,7 +1,5 @@
 use Rattle.std.proofs.Common.{refl}
-use Rattle.key_commands.specs.Passphrases.{opens, stays, no_memory}
-use Rattle.key_commands.specs.Steps.{nothing, memory}
-use Rattle.key_commands.proofs.Opening.{opens_to_its_key, stays_locked, opened_is_usable}
+use Rattle.key_commands.{specs.{Passphrases.{opens, stays, no_memory}, Steps.{nothing, memory}}, proofs.Opening.{opens_to_its_key, stays_locked, opened_is_usable}}
 use Rattle.key_commands.proofs.opened.try_pass.Goals as goal
 
 pub returns-in-Key-clause-tries : goal.returns-in-Key-clause-tries

@@ -1,7 +1,6 @@
 use Rattle.std.proofs.lemmas.Result.{err_from_is_err_and}
 use Rattle.agent_ask.proofs.PartsDone.{part_then, part_stops}
-use Rattle.key_commands.proofs.Doing.{part_alone}
-use Rattle.key_commands.proofs.Partial.{with_prompter, beside_keys}
+use Rattle.key_commands.proofs.{Doing.part_alone, Partial.{with_prompter, beside_keys}}
 use Rattle.key_commands.proofs.passwd.change_opened.Goals as goal
 
 pub returns-in_err-check_len-clause-does : goal.returns-in_err-check_len-clause-does

@@ -1,12 +1,6 @@
-use Rattle.std.proofs.Common.{refl}
-use Rattle.std.proofs.lemmas.Result.{err_from_is_err_and}
-use Rattle.agent_ask.proofs.PartsDone.{part_then, part_stops, part_still}
-use Rattle.key_commands.proofs.Partial.{beside_keys}
-use Rattle.key_commands.specs.Exchanges.{PasswdReplies}
-use Rattle.agent_ask.specs.Parts.{returns as is_returned}
-use Rattle.agent_ask.specs.PartReplies.{stops_at}
-use Rattle.key_commands.proofs.Doing.{part_called}
-use Rattle.key_commands.proofs.Requesting.{replies_ok}
+use Rattle.std.proofs.{Common.refl, lemmas.Result.err_from_is_err_and}
+use Rattle.agent_ask.{proofs.PartsDone.{part_then, part_stops, part_still}, specs.{Parts.returns as is_returned, PartReplies.stops_at}}
+use Rattle.key_commands.{proofs.{Partial.beside_keys, Doing.part_called, Requesting.replies_ok}, specs.Exchanges.PasswdReplies}
 use Rattle.key_commands.proofs.passwd.change_passphrase.Goals as goal
 
 pub change_opened-requires-clause-open : goal.change_opened-requires-clause-open

@@ -1,7 +1,6 @@
 use Rattle.std.proofs.lemmas.Result.{err_from_is_err_and}
 use Rattle.agent_ask.proofs.PartsDone.{part_then, part_stops, part_turns}
-use Rattle.key_commands.specs.Exchanges.{RewritesFile}
-use Rattle.key_commands.proofs.Doing.{part_called, part_drawn, part_alone}
+use Rattle.key_commands.{specs.Exchanges.RewritesFile, proofs.Doing.{part_called, part_drawn, part_alone}}
 use Rattle.key_commands.proofs.passwd.rewrite_file.Goals as goal
 
 pub returns-in_err-drawn-clause-does : goal.returns-in_err-drawn-clause-does

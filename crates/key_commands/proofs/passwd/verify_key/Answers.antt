@@ -1,12 +1,6 @@
-use Rattle.std.proofs.Common.{refl}
-use Rattle.std.proofs.lemmas.Result.{err_from_is_err_and}
-use Rattle.agent_ask.proofs.PartsDone.{ticket_given, part_then, part_stops, part_still, part_turns}
-use Rattle.key_commands.proofs.Partial.{beside_keys}
-use Rattle.key_commands.specs.Exchanges.{VerifyReplies}
-use Rattle.agent_ask.specs.Parts.{returns as is_returned}
-use Rattle.agent_ask.specs.PartReplies.{stops_at}
-use Rattle.key_commands.proofs.Doing.{part_called}
-use Rattle.key_commands.proofs.Requesting.{replies_ok}
+use Rattle.std.proofs.{Common.refl, lemmas.Result.err_from_is_err_and}
+use Rattle.agent_ask.{proofs.PartsDone.{ticket_given, part_then, part_stops, part_still, part_turns}, specs.{Parts.returns as is_returned, PartReplies.stops_at}}
+use Rattle.key_commands.{proofs.{Partial.beside_keys, Doing.part_called, Requesting.replies_ok}, specs.Exchanges.VerifyReplies}
 use Rattle.key_commands.proofs.passwd.verify_key.Goals as goal
 
 pub returns-in_err-file-clause-carries : goal.returns-in_err-file-clause-carries

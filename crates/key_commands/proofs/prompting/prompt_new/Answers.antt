@@ -1,10 +1,6 @@
 use Rattle.std.proofs.Common.{true}
-use Rattle.assuan_server.specs.Clients.{connection_views}
-use Rattle.key_commands.proofs.Partial.{each_prompted}
-use Rattle.key_commands.specs.Partial.{DoesBesideKeys}
-use Rattle.key_commands.specs.Passphrases.{given, refused}
-use Rattle.agent_ask.proofs.PartsAtClient.{pin_refuses, prompt_gave, prompt_refused, planned}
-use Rattle.key_commands.proofs.AtPrompt.{spec_says, plan_says}
+use Rattle.{assuan_server.specs.Clients.connection_views, agent_ask.proofs.PartsAtClient.{pin_refuses, prompt_gave, prompt_refused, planned}}
+use Rattle.key_commands.{proofs.{Partial.each_prompted, AtPrompt.{spec_says, plan_says}}, specs.{Partial.DoesBesideKeys, Passphrases.{given, refused}}}
 use Rattle.key_commands.proofs.prompting.prompt_new.Goals as goal
 
 pub pin_refusal-requires : goal.pin_refusal-requires

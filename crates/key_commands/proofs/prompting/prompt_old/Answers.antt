@@ -1,10 +1,6 @@
 use Rattle.std.proofs.Common.{false, refl}
-use Rattle.assuan_server.specs.Clients.{connection_views}
-use Rattle.key_commands.proofs.Partial.{each_prompted}
-use Rattle.key_commands.specs.Partial.{DoesBesideKeys}
-use Rattle.key_commands.specs.Passphrases.{opens_by, refused}
-use Rattle.agent_ask.proofs.PartsAtClient.{pin_refuses, prompt_gave, prompt_refused, planned}
-use Rattle.key_commands.proofs.AtPrompt.{opened_last, opens_last, spec_says, plan_says}
+use Rattle.{assuan_server.specs.Clients.connection_views, agent_ask.proofs.PartsAtClient.{pin_refuses, prompt_gave, prompt_refused, planned}}
+use Rattle.key_commands.{proofs.{Partial.each_prompted, AtPrompt.{opened_last, opens_last, spec_says, plan_says}}, specs.{Partial.DoesBesideKeys, Passphrases.{opens_by, refused}}}
 use Rattle.key_commands.proofs.prompting.prompt_old.Goals as goal
 
 pub pin_refusal-requires : goal.pin_refusal-requires

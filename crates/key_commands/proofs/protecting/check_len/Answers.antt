@@ -1,7 +1,6 @@
-use Rattle.std.proofs.Common.{refl}
-use Rattle.std.proofs.Math.Nat.{lt_of_not-le}
-use Rattle.key_commands.specs.KeyParts as part
+use Rattle.std.proofs.{Common.refl, Math.Nat.lt_of_not-le}
 use Rattle.key_commands.specs.Steps.{nothing}
+use Rattle.key_commands.specs.KeyParts as part
 use Rattle.key_commands.proofs.protecting.check_len.Goals as goal
 
 pub returns-then-not-has_short_list-clause-short : goal.returns-then-not-has_short_list-clause-short

@@ -1,7 +1,6 @@
 use Rattle.std.proofs.Common.{refl}
-use Rattle.key_commands.specs.KeyParts.{made}
+use Rattle.key_commands.specs.{KeyParts.made, Steps.{nothing, memory}}
 use Rattle.key_commands.specs.KeyParts as part
-use Rattle.key_commands.specs.Steps.{nothing, memory}
 use Rattle.key_commands.proofs.protecting.protected_key.Goals as goal
 
 pub returns-in-Ok-clause-protects : goal.returns-in-Ok-clause-protects

@@ -1,5 +1,4 @@
-use Rattle.std.proofs.Common.{◌≡◌, take, drop, arith, ◌∙◌}
-use Rattle.std.proofs.lemmas.Grind.{common_steps}
+use Rattle.std.proofs.{Common.{◌≡◌, take, drop, arith, ◌∙◌}, lemmas.Grind.common_steps}
 use Rattle.key_commands.proofs.protecting.salt_and_iv.Goals as goal
 
 pub returns-clause-iv : goal.returns-clause-iv

@@ -1,7 +1,6 @@
 use Rattle.std.proofs.Common.{◌≡◌, ◌+◌, length}
 use Rattle.assuan_text.specs.Words.{words}
-use Rattle.key_commands.specs.Requests.{all_grips}
-use Rattle.key_commands.proofs.Reading.{onto}
+use Rattle.key_commands.{specs.Requests.all_grips, proofs.Reading.onto}
 use Rattle.key_commands.proofs.read.read_grips.Given as goal
 
 -- the grips so far, and those of the words that are left

@@ -1,7 +1,6 @@
 use Rattle.std.proofs.Common.{◌≡◌, None, Some, Ok, Err, sym, ap, ◌∙◌}
 use Rattle.assuan_text.specs.Words.{command_of, rest_of}
-use Rattle.key_commands.specs.Names.{key_command_named}
-use Rattle.key_commands.specs.Requests.{key_asked_by, key_request_of}
+use Rattle.key_commands.specs.{Names.key_command_named, Requests.{key_asked_by, key_request_of}}
 use Rattle.key_commands.proofs.read.read_key_cut.Goals as goal
 
 pub returns-in_default : goal.returns-in_default

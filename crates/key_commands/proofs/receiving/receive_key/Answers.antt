@@ -1,5 +1,4 @@
-use Rattle.std.proofs.Common.{None}
-use Rattle.std.proofs.lemmas.Result.{err_from_is_err_and}
+use Rattle.std.proofs.{Common.None, lemmas.Result.err_from_is_err_and}
 use Rattle.agent_ask.proofs.PartsDone.{part_then, part_stops, beside_client, open_after}
 use Rattle.key_commands.proofs.Doing.{leaves_alone}
 use Rattle.key_commands.proofs.receiving.receive_key.Goals as goal

@@ -1,9 +1,6 @@
-use Rattle.std.proofs.Common.{◌++◌, refl}
-use Rattle.std.proofs.lemmas.Result.{err_from_is_err_and}
-use Rattle.assuan_escape.specs.Escapes.{hex_text}
-use Rattle.assuan_server.proofs.Saying.{said, said_then, said_first}
+use Rattle.std.proofs.{Common.{◌++◌, refl}, lemmas.Result.err_from_is_err_and}
+use Rattle.{assuan_escape.specs.Escapes.hex_text, assuan_server.{proofs.Saying.{said, said_then, said_first}, specs.Written.ok}}
 use Rattle.key_commands.specs.Lines.{info_line, nonce_line}
-use Rattle.assuan_server.specs.Written.{ok}
 use Rattle.key_commands.proofs.reply.write_reply.Goals as goal
 
 pub returns-in-Ok : goal.returns-in-Ok

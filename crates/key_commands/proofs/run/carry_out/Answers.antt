@@ -1,12 +1,6 @@
-use Rattle.std.proofs.Common.{refl}
-use Rattle.std.proofs.lemmas.Result.{err_from_is_err_and}
-use Rattle.agent_ask.specs.Parts.{returns as is_returned, refuses}
-use Rattle.agent_ask.proofs.PartsDone.{part_then, part_stops, part_still}
-use Rattle.agent_ask.specs.PartReplies.{stops_at}
-use Rattle.key_commands.proofs.Doing.{part_called}
-use Rattle.key_commands.proofs.Partial.{carries_beside, carries_beside_desk}
-use Rattle.key_commands.proofs.Requesting.{replies_ok}
-use Rattle.key_commands.specs.Exchanges.{HaveKeyReplies}
+use Rattle.std.proofs.{Common.refl, lemmas.Result.err_from_is_err_and}
+use Rattle.agent_ask.{specs.{Parts.{returns as is_returned, refuses}, PartReplies.stops_at}, proofs.PartsDone.{part_then, part_stops, part_still}}
+use Rattle.key_commands.{proofs.{Doing.part_called, Partial.{carries_beside, carries_beside_desk}, Requesting.replies_ok}, specs.Exchanges.HaveKeyReplies}
 use Rattle.key_commands.proofs.run.carry_out.Goals as goal
 
 pub returns-in_err-has_one-in-HaveKey-clause-carries : goal.returns-in_err-has_one-in-HaveKey-clause-carries

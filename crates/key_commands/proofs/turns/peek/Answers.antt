@@ -1,10 +1,6 @@
 use Rattle.std.proofs.Common.{refl}
-use Rattle.cache_policy.specs.declared.mark.MarkStep.TheVariants.{Peek}
-use Rattle.cache_policy.specs.declared.mode.Mode.TheVariants.{Normal}
-use Rattle.cache_policy.specs.Turns.{Held, Stopping, Refused}
+use Rattle.{cache_policy.specs.{declared.{mark.MarkStep.TheVariants.Peek, mode.Mode.TheVariants.Normal}, Turns.{Held, Stopping, Refused}}, agent_ask.specs.{TurnParts.{peeked, interrupted}, Interrupts.{stopping, refused}}}
 use Rattle.key_commands.specs.Lines.{grip_text}
-use Rattle.agent_ask.specs.TurnParts.{peeked, interrupted}
-use Rattle.agent_ask.specs.Interrupts.{stopping, refused}
 use Rattle.key_commands.proofs.turns.peek.Goals as goal
 
 pub returns-in-Ok-Held-clause-turn : goal.returns-in-Ok-Held-clause-turn

@@ -1,8 +1,6 @@
-use Rattle.std.proofs.Common.{◌≡◌, Some, None, sym, ap, ◌∙◌, refl}
-use Rattle.std.specs.Option.{option_copied}
-use Rattle.key_commands.specs.Exchanges.{wrap_key}
+use Rattle.std.{proofs.Common.{◌≡◌, Some, None, sym, ap, ◌∙◌, refl}, specs.Option.option_copied}
 use Rattle.agent_ask.specs.Parts.{returns}
-use Rattle.key_commands.specs.Steps.{no_draw, one_draw}
+use Rattle.key_commands.specs.{Exchanges.wrap_key, Steps.{no_draw, one_draw}}
 use Rattle.key_commands.proofs.wrap_keys.drawn_key.Goals as goal
 
 pub returns-in-Some : goal.returns-in-Some

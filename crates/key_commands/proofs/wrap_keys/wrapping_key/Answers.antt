@@ -1,12 +1,6 @@
-use Rattle.std.proofs.Common.{refl}
-use Rattle.std.proofs.lemmas.Result.{err_from_is_err_and}
-use Rattle.agent_ask.specs.Parts.{returns as is_returned}
-use Rattle.agent_ask.proofs.PartsDone.{part_then, part_stops, part_still}
-use Rattle.agent_ask.specs.PartReplies.{comes_to, stops_at}
-use Rattle.key_commands.proofs.Doing.{part_draws}
-use Rattle.key_commands.specs.Exchanges.{KeyWrapReplies}
-use Rattle.key_commands.specs.KeyParts.{tells}
-use Rattle.key_commands.specs.declared.reply.Reply.TheVariants.{WrapKey}
+use Rattle.std.proofs.{Common.refl, lemmas.Result.err_from_is_err_and}
+use Rattle.agent_ask.{specs.{Parts.returns as is_returned, PartReplies.{comes_to, stops_at}}, proofs.PartsDone.{part_then, part_stops, part_still}}
+use Rattle.key_commands.{proofs.Doing.part_draws, specs.{Exchanges.KeyWrapReplies, KeyParts.tells, declared.reply.Reply.TheVariants.WrapKey}}
 use Rattle.key_commands.proofs.wrap_keys.wrapping_key.Goals as goal
 
 pub returns-in_err-key : goal.returns-in_err-key

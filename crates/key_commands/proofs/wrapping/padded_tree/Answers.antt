@@ -1,6 +1,5 @@
 use Rattle.std.proofs.Common.{◌≡◌, true, false, drop}
-use Rattle.key_commands.specs.Steps.{are_padding}
-use Rattle.key_commands.proofs.Unwrapping.{other_read, padded_read}
+use Rattle.key_commands.{specs.Steps.are_padding, proofs.Unwrapping.{other_read, padded_read}}
 use Rattle.key_commands.proofs.wrapping.padded_tree.Goals as goal
 
 pub returns-then-are_padding-clause-found : goal.returns-then-are_padding-clause-found

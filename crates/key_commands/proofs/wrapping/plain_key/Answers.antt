@@ -1,8 +1,6 @@
-use Rattle.std.proofs.Common.{◌≤◌, inl, inr, ap, sym, ◌∙◌, subst, Err}
-use Rattle.std.proofs.Math.Nat.{lt_of_not-le}
+use Rattle.std.proofs.{Common.{◌≤◌, inl, inr, ap, sym, ◌∙◌, subst, Err}, Math.Nat.lt_of_not-le}
 use Rattle.sexp_canonical.specs.Spelling.{most_depth, depth}
-use Rattle.key_commands.specs.Faults.{fault_code}
-use Rattle.key_commands.specs.Wrapping.{PlainSays, no_expression, no_key, protected, long, key}
+use Rattle.key_commands.specs.{Faults.fault_code, Wrapping.{PlainSays, no_expression, no_key, protected, long, key}}
 use Rattle.key_commands.proofs.wrapping.plain_key.Goals as goal
 
 pub returns-in_default-clause-fault : goal.returns-in_default-clause-fault

@@ -1,6 +1,5 @@
 use Rattle.std.proofs.Common.{inr, refl, ◌∙◌}
-use Rattle.key_commands.specs.Wrapping.{unchecked}
-use Rattle.key_commands.proofs.Unwrapping.{key_checked, fault_checked}
+use Rattle.key_commands.{specs.Wrapping.unchecked, proofs.Unwrapping.{key_checked, fault_checked}}
 use Rattle.key_commands.proofs.wrapping.unwrapped_key.Goals as goal
 
 pub returns-in-Err-Length-clause-fault : goal.returns-in-Err-Length-clause-fault

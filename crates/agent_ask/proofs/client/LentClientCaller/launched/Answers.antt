@@ -1,8 +1,6 @@
 use Rattle.std.proofs.Common.{refl, sym, subst}
 use Rattle.session_client.specs.Lines.{IsOpen}
-use Rattle.agent_ask.specs.Clients.{Lent, LentHears}
-use Rattle.agent_ask.specs.Events.{Launched}
-use Rattle.agent_ask.proofs.Clients.{told_lent}
+use Rattle.agent_ask.{specs.{Clients.{Lent, LentHears}, Events.Launched}, proofs.Clients.told_lent}
 use Rattle.agent_ask.proofs.client.LentClientCaller.launched.Goals as goal
 
 pub returns : goal.returns

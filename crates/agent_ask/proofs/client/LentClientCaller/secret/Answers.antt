@@ -1,8 +1,6 @@
 use Rattle.std.proofs.Common.{refl, sym, subst}
 use Rattle.session_client.specs.Lines.{IsOpen}
-use Rattle.agent_ask.specs.Clients.{Lent, LentHears}
-use Rattle.agent_ask.specs.Events.{Wanted}
-use Rattle.agent_ask.proofs.Clients.{wished_lent}
+use Rattle.agent_ask.{specs.{Clients.{Lent, LentHears}, Events.Wanted}, proofs.Clients.wished_lent}
 use Rattle.agent_ask.proofs.client.LentClientCaller.secret.Goals as goal
 
 pub returns : goal.returns

@@ -1,8 +1,5 @@
-use Rattle.std.proofs.Common.{◌≡◌, sym, ◌∙◌}
-use Rattle.std.specs.Option.{option_and_then}
-use Rattle.agent_commands.specs.Exchanges.{quiet_of, quiet_fields}
-use Rattle.agent_commands.specs.Requests.{request_of}
-use Rattle.agent_commands.proofs.Quieting.{quiet_begun}
+use Rattle.std.{proofs.Common.{◌≡◌, sym, ◌∙◌}, specs.Option.option_and_then}
+use Rattle.agent_commands.{specs.{Exchanges.{quiet_of, quiet_fields}, Requests.request_of}, proofs.Quieting.quiet_begun}
 use Rattle.agent_commands.proofs.line_request.LineRequest.quiet.Goals as goal
 
 pub returns-in-Some : goal.returns-in-Some

@@ -1,6 +1,5 @@
 use Rattle.std.proofs.Common.{◌∙◌, sym, ap, Some}
-use Rattle.agent_origin.specs.declared.door_session.DoorCommand.{DoorCommand}
-use Rattle.agent_origin.proofs.AtDoor.{forbidden_is_answered, help_is_answered, terminal_is_unset, trust_is_answered, session_line_is_answered}
+use Rattle.agent_origin.{specs.declared.door_session.DoorCommand.DoorCommand, proofs.AtDoor.{forbidden_is_answered, help_is_answered, terminal_is_unset, trust_is_answered, session_line_is_answered}}
 use Rattle.agent_origin.proofs.door_session.DoorAnswers.answer.Goals as goal
 
 pub returns-then-not-allows-clause-answers : goal.returns-then-not-allows-clause-answers

@@ -1,10 +1,6 @@
-use Rattle.std.proofs.Common.{◌≡◌, Some, None, true, false, refl, ap, sym, ◌∙◌}
-use Rattle.std.proofs.lemmas.Result.{err_from_is_err_and}
-use Rattle.agent_ask.specs.Parts.{returns as done, refuses}
-use Rattle.agent_ask.proofs.PartsDone.{part_stops}
-use Rattle.trust_list.specs.Trust.{trust}
-use Rattle.agent_origin.specs.TrustExchanges.{Stores, StoresUnsaid}
-use Rattle.agent_origin.proofs.TrustDone.{file_left, said_done}
+use Rattle.std.proofs.{Common.{◌≡◌, Some, None, true, false, refl, ap, sym, ◌∙◌}, lemmas.Result.err_from_is_err_and}
+use Rattle.{agent_ask.{specs.Parts.{returns as done, refuses}, proofs.PartsDone.part_stops}, trust_list.specs.Trust.trust}
+use Rattle.agent_origin.{specs.TrustExchanges.{Stores, StoresUnsaid}, proofs.TrustDone.{file_left, said_done}}
 use Rattle.agent_origin.proofs.trust.calls.store_unsaid.Goals as goal
 
 pub returns-in_err-file : goal.returns-in_err-file

@@ -1,15 +1,7 @@
-use Rattle.std.proofs.Common.{◌≡◌, Bool, Option, None, Some, Ok, Err, true, false, refl, sym, ◌∙◌}
-use Rattle.std.proofs.lemmas.Result.{err_from_is_err_and}
-use Rattle.std.specs.Option.{unwrap_or}
-use Rattle.agent_ask.specs.Parts.{Refuses, returns as nothing, refuses}
-use Rattle.agent_ask.proofs.PartsDone.{part_stops}
-use Rattle.agent_ports.specs.TrustFiles.{TrustState}
-use Rattle.session_client.specs.declared.code.Code.TheVariants.{NotTrusted}
-use Rattle.session_client.specs.declared.refusal.Refusal.TheVariants.{Agent}
-use Rattle.trust_list.specs.Trust.{trust}
-use Rattle.agent_origin.specs.TrustExchanges.{unless_said, TrustedNow}
-use Rattle.agent_origin.specs.TrustStates.{DoesAtFile}
-use Rattle.agent_origin.proofs.TrustDone.{file_left, said_done}
+use Rattle.std.{proofs.{Common.{◌≡◌, Bool, Option, None, Some, Ok, Err, true, false, refl, sym, ◌∙◌}, lemmas.Result.err_from_is_err_and}, specs.Option.unwrap_or}
+use Rattle.{agent_ask.{specs.Parts.{Refuses, returns as nothing, refuses}, proofs.PartsDone.part_stops}, agent_ports.specs.TrustFiles.TrustState, session_client.specs.declared.code.Code.TheVariants.NotTrusted}
+use Rattle.{session_client.specs.declared.refusal.Refusal.TheVariants.Agent, trust_list.specs.Trust.trust}
+use Rattle.agent_origin.{specs.{TrustExchanges.{unless_said, TrustedNow}, TrustStates.DoesAtFile}, proofs.TrustDone.{file_left, said_done}}
 use Rattle.agent_origin.proofs.trust.calls.trusted_now.Goals as goal
 
 -- it says so, or it doesn't

@@ -1,8 +1,5 @@
-use Rattle.std.proofs.Common.{sym, ◌∙◌, inl, inr, refl}
-use Rattle.std.proofs.lemmas.Result.{err_from_is_err_and}
-use Rattle.agent_ask.specs.Parts.{refuses}
-use Rattle.agent_ask.proofs.PartsDone.{part_then, part_stops, part_still, part_turned}
-use Rattle.agent_commands.proofs.Carrying.{seat_turn}
+use Rattle.std.proofs.{Common.{sym, ◌∙◌, inl, inr, refl}, lemmas.Result.err_from_is_err_and}
+use Rattle.{agent_ask.{specs.Parts.refuses, proofs.PartsDone.{part_then, part_stops, part_still, part_turned}}, agent_commands.proofs.Carrying.seat_turn}
 use Rattle.agent_origin.proofs.TrustDone.{beside_desk}
 use Rattle.agent_origin.proofs.trust.marking.ask.Goals as goal
 

@@ -1,9 +1,6 @@
-use Rattle.std.proofs.Common.{Some}
-use Rattle.std.proofs.lemmas.Result.{err_from_is_err_and}
-use Rattle.agent_ask.specs.PartStates.{NoTurn}
-use Rattle.agent_ask.proofs.PartsDone.{part_then, part_stops}
-use Rattle.agent_origin.specs.TrustExchanges.{Consented}
-use Rattle.agent_origin.proofs.TrustDone.{agreed_done, beside_all}
+use Rattle.std.proofs.{Common.Some, lemmas.Result.err_from_is_err_and}
+use Rattle.agent_ask.{specs.PartStates.NoTurn, proofs.PartsDone.{part_then, part_stops}}
+use Rattle.agent_origin.{specs.TrustExchanges.Consented, proofs.TrustDone.{agreed_done, beside_all}}
 use Rattle.agent_origin.proofs.trust.marking.mark_consented.Goals as goal
 
 pub returns-in_err-agree-clause-marks : goal.returns-in_err-agree-clause-marks

@@ -1,10 +1,6 @@
-use Rattle.std.proofs.Common.{◌≡◌, Some, None, true, false, refl, ap, sym, ◌∙◌}
-use Rattle.std.proofs.lemmas.Result.{err_from_is_err_and}
-use Rattle.agent_ask.specs.Parts.{returns, refuses}
-use Rattle.agent_ask.proofs.PartsDone.{part_then, part_stops}
-use Rattle.trust_list.specs.Trust.{trust}
-use Rattle.agent_origin.specs.TrustExchanges.{asked_in, Marked}
-use Rattle.agent_origin.proofs.TrustDone.{file_left, said_done, beside_all}
+use Rattle.std.proofs.{Common.{◌≡◌, Some, None, true, false, refl, ap, sym, ◌∙◌}, lemmas.Result.err_from_is_err_and}
+use Rattle.{agent_ask.{specs.Parts.{returns, refuses}, proofs.PartsDone.{part_then, part_stops}}, trust_list.specs.Trust.trust}
+use Rattle.agent_origin.{specs.TrustExchanges.{asked_in, Marked}, proofs.TrustDone.{file_left, said_done, beside_all}}
 use Rattle.agent_origin.proofs.trust.marking.mark_trusted.Goals as goal
 
 pub returns-in_err-file-clause-marks : goal.returns-in_err-file-clause-marks

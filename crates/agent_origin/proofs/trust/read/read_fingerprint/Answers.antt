@@ -1,6 +1,5 @@
 use Rattle.std.proofs.Common.{ap, ◌∙◌}
-use Rattle.session_client.specs.Fields.{in_form}
-use Rattle.key_commands.proofs.Reading.{reads_grip}
+use Rattle.{session_client.specs.Fields.in_form, key_commands.proofs.Reading.reads_grip}
 use Rattle.agent_origin.proofs.trust.read.read_fingerprint.Goals as goal
 
 pub returns : goal.returns

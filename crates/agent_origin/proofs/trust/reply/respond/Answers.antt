@@ -1,8 +1,6 @@
 use Rattle.std.proofs.Common.{refl}
-use Rattle.agent_ask.specs.PartReplies.{replied, refused}
-use Rattle.assuan_server.proofs.Clients.{said_so, line_so}
+use Rattle.{agent_ask.specs.PartReplies.{replied, refused}, assuan_server.proofs.{Clients.{said_so, line_so}, Saying.said}}
 use Rattle.agent_origin.proofs.trust.reply.respond.Goals as goal
-use Rattle.assuan_server.proofs.Saying.{said}
 
 pub returns-in-Ok : goal.returns-in-Ok
 returns-in-Ok g c = rw (c.in-Ok.is, c.unless_cut.ensures) (replied c.whole.result refl (said_so (said c.whole.ensures c.ok.ensures)))

@@ -1,6 +1,5 @@
 use Rattle.std.proofs.Common.{refl}
-use Rattle.agent_ask.specs.Parts.{refuses}
-use Rattle.agent_ask.proofs.PartsDone.{part_still}
+use Rattle.agent_ask.{specs.Parts.refuses, proofs.PartsDone.part_still}
 use Rattle.agent_origin.proofs.TrustDone.{beside_all}
 use Rattle.agent_origin.proofs.trust.run.carry_out.Goals as goal
 

@@ -1,8 +1,5 @@
-use Rattle.agent_commands.proofs.Replying.{answers}
-use Rattle.agent_origin.specs.FurtherStates.{further_ends}
-use Rattle.agent_origin.specs.TrustExchanges.{TrustReplies}
-use Rattle.agent_commands.specs.Steps.{ok_by}
-use Rattle.agent_origin.proofs.TrustDone.{carried_out}
+use Rattle.agent_commands.{proofs.Replying.answers, specs.Steps.ok_by}
+use Rattle.agent_origin.{specs.{FurtherStates.further_ends, TrustExchanges.TrustReplies}, proofs.TrustDone.carried_out}
 use Rattle.agent_origin.proofs.trust.run.run_trust.Goals as goal
 
 pub returns-clause-answers : goal.returns-clause-answers
