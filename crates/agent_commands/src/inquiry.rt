@@ -2,8 +2,7 @@
 //! and an inquiry (Assuan manual, "server responses"). It works on the connection alone. Begin with
 //! `ask_client`; its events are `AsksPassphrase` (`specs/Parts`).
 
-ghost use Rattle.assuan_server.specs.Clients.{connection_views};
-ghost use Rattle.assuan_server.specs.Connections.{IsOpen};
+ghost use Rattle.assuan_server.specs.{Clients.connection_views, Connections.IsOpen};
 ghost use Rattle.agent_ask.specs.PartStates.{DoesWithClient};
 ghost use Rattle.agent_commands.specs.Parts.{AsksPassphrase};
 

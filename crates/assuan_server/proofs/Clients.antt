@@ -1,34 +1,16 @@
 -- A connection as that of a session's client: what is done with it, and what its client has said.
-use Rattle.std.proofs.Common.{◌≡◌, ℕ, true, List, [], ◌++◌, ◌⊎◌, inl, inr, Option, None, Some, Result, Ok, Err, refl, ap, sym, ◌∙◌, subst, arith}
-use Rattle.std.specs.Prelude.{codes, decimal}
-use Rattle.std.specs.Option.{option_map}
-use Rattle.agent_ports.specs.Counts.{Rose}
-use Rattle.agent_ports.specs.Sides.{Side, WhereKnown}
-use Rattle.agent_ports.specs.declared.link.WriteFault.{WriteFault}
-use Rattle.assuan_line.specs.Lines.{IsLine}
-use Rattle.assuan_line.specs.Next.{Reader, WereNeeded, held}
-use Rattle.assuan_line.specs.declared.reader.Took.{Took}
+use Rattle.std.{proofs.Common.{◌≡◌, ℕ, true, List, [], ◌++◌, ◌⊎◌, inl, inr, Option, None, Some, Result, Ok, Err, refl, ap, sym, ◌∙◌, subst, arith}, specs.{Prelude.{codes, decimal}, Option.option_map}}
+use Rattle.{agent_ports.specs.{Counts.Rose, Sides.{Side, WhereKnown}, declared.link.WriteFault.WriteFault}, assuan_line.specs.{Lines.IsLine, Next.{Reader, WereNeeded, held}, declared.reader.Took.Took}}
+use Rattle.{assuan_line.proofs.ReadingOn.{fewer_are_held, fault_count_rose}, assuan_text.specs.Forms.is_ignored, cache_policy.specs.declared.secret.TheConstants.MAX_SECRET_LEN}
+use Rattle.session_client.specs.{Asking.{Asked, NotAsked, LeavesInput, HasSaid, SaysLine, HasInquired, LeftBy, Inquires, TellsClient, AsksClient, without_data, is_unread}, Lines.TakesNeeded, declared.client.TheConstants.MAX_NOTE_LEN}
+use Rattle.session_client.{specs.declared.unheard.Unheard.Unheard, proofs.Received.HasReceived}
+use Rattle.assuan_server.specs.{Asking.{Gather, Inquire, IsNotAsked, Asks, not_written}, Clients.{HasSupply, connection_views, is_read_fault, outcome_says, asked, unsaid, Wishes}, Connections.{Connection, IsOpen}}
+use Rattle.assuan_server.specs.{Inquiries.{Outcome, Inquiry as Comes, IsData, Answers, AnswersDropped, drop_outcome, secret_outcome, ended_of, inquire_text, is_skipped}, Reading.{Supply, ReadsRequest, ReadsInquiry, IsSupply, unread}}
+use Rattle.assuan_server.{specs.{Requests.NextRequest, Written.{WritesText, WritesLine}}, proofs.{NoteLines.note_text, Reading.{read_known, reads_past, here_going}}}
 use Rattle.assuan_line.specs.declared.reader.Took.TheVariants as took
-use Rattle.assuan_line.proofs.ReadingOn.{fewer_are_held, fault_count_rose}
-use Rattle.assuan_text.specs.Forms.{is_ignored}
-use Rattle.cache_policy.specs.declared.secret.TheConstants.{MAX_SECRET_LEN}
-use Rattle.session_client.specs.Asking.{Asked, NotAsked, LeavesInput, HasSaid, SaysLine, HasInquired, LeftBy, Inquires, TellsClient, AsksClient, without_data, is_unread}
-use Rattle.session_client.specs.Lines.{TakesNeeded}
-use Rattle.session_client.proofs.Received.{HasReceived}
-use Rattle.session_client.specs.declared.client.TheConstants.{MAX_NOTE_LEN}
 use Rattle.session_client.specs.declared.unheard.Gone.TheVariants as gone
-use Rattle.session_client.specs.declared.unheard.Unheard.{Unheard}
 use Rattle.session_client.specs.declared.unheard.Unheard.TheVariants as unheard
-use Rattle.assuan_server.specs.Asking.{Gather, Inquire, IsNotAsked, Asks, not_written}
-use Rattle.assuan_server.specs.Clients.{HasSupply, connection_views, is_read_fault, outcome_says, asked, unsaid, Wishes}
-use Rattle.assuan_server.specs.Connections.{Connection, IsOpen}
 use Rattle.assuan_server.specs.Inquiries as outcome
-use Rattle.assuan_server.specs.Inquiries.{Outcome, Inquiry as Comes, IsData, Answers, AnswersDropped, drop_outcome, secret_outcome, ended_of, inquire_text, is_skipped}
-use Rattle.assuan_server.specs.Reading.{Supply, ReadsRequest, ReadsInquiry, IsSupply, unread}
-use Rattle.assuan_server.specs.Requests.{NextRequest}
-use Rattle.assuan_server.specs.Written.{WritesText, WritesLine}
-use Rattle.assuan_server.proofs.NoteLines.{note_text}
-use Rattle.assuan_server.proofs.Reading.{read_known, reads_past, here_going}
 
 -- a connection that was left alone but for its output has the same bytes to come
 module _ (start now : Connection) (input : now.input ≡ start.input) (reader : now.reader ≡ start.reader) (link : now.link ≡ start.link) where

@@ -1,26 +1,10 @@
 -- An inquiry: from its question to what its answer says.
-use Rattle.std.proofs.Common.{◌≡◌, ◌≢◌, ◌≤◌, ◌<◌, ℕ, List, [], length, Some, None, refl, ap, sym, ◌∙◌, subst, arith, inl, inr}
-use Rattle.std.specs.Prelude.{codes}
-use Rattle.std.proofs.lemmas.Bool.{cases_lt}
-use Rattle.std.specs.List.{flat_map}
-use Rattle.agent_ports.specs.Sides.{Side}
-use Rattle.agent_ports.specs.declared.link.Sent.TheVariants.{All}
-use Rattle.assuan_escape.specs.DataLines.{carried}
-use Rattle.assuan_line.specs.Next.{Reader, ended_by}
-use Rattle.assuan_line.specs.Reading.{HasRead}
-use Rattle.assuan_line.specs.Skipping.{IsUndecided, ReadsOn}
-use Rattle.assuan_text.specs.LineEnds.{line_of}
-use Rattle.assuan_line.specs.declared.reader.Took.{Took}
-use Rattle.assuan_line.specs.declared.reader.Took.TheVariants.{Line}
-use Rattle.assuan_line.proofs.ReadingOn.{read_says_less}
-use Rattle.assuan_server.specs.Asking.{Gather, Inquire, not_written}
-use Rattle.session_client.specs.declared.unheard.Unheard.{Unheard}
-use Rattle.assuan_server.specs.Connections.{Connection}
-use Rattle.assuan_server.specs.Ends.{IsAnswer, GivesNone}
-use Rattle.assuan_server.specs.Inquiries.{Outcome, Data, TooMuch, Cancelled, Unexpected, Ended, TooLong, Spent, ReadFault, ended_of, error_outcome}
-use Rattle.assuan_server.specs.Inquiries.{IsAtEnd, IsData, IsWord, Names, Answers, AnswersDropped, is_skipped}
-use Rattle.assuan_server.specs.Inquiries.{ComesTo, can, end, past, foreign, ended, too_long, spent, read_fault}
-use Rattle.assuan_server.specs.Written.{HasWritten}
+use Rattle.std.{proofs.{Common.{◌≡◌, ◌≢◌, ◌≤◌, ◌<◌, ℕ, List, [], length, Some, None, refl, ap, sym, ◌∙◌, subst, arith, inl, inr}, lemmas.Bool.cases_lt}, specs.{Prelude.codes, List.flat_map}}
+use Rattle.{agent_ports.specs.{Sides.Side, declared.link.Sent.TheVariants.All}, assuan_escape.specs.DataLines.carried, assuan_line.specs.{Next.{Reader, ended_by}, Reading.HasRead, Skipping.{IsUndecided, ReadsOn}, declared.reader.Took.Took}}
+use Rattle.{assuan_line.{specs.declared.reader.Took.TheVariants.Line, proofs.ReadingOn.read_says_less}, assuan_text.specs.LineEnds.line_of, session_client.specs.declared.unheard.Unheard.Unheard}
+use Rattle.assuan_server.specs.{Asking.{Gather, Inquire, not_written}, Connections.Connection, Ends.{IsAnswer, GivesNone}}
+use Rattle.assuan_server.specs.Inquiries.{Outcome, Data, TooMuch, Cancelled, Unexpected, Ended, TooLong, Spent, ReadFault, ended_of, error_outcome, IsAtEnd, IsData, IsWord, Names, Answers, AnswersDropped, is_skipped, ComesTo, can, end}
+use Rattle.assuan_server.specs.{Inquiries.{past, foreign, ended, too_long, spent, read_fault}, Written.HasWritten}
 
 abbrev Undecided : List ℕ → Type 0
 Undecided = IsUndecided (λ before line. is_skipped line) []

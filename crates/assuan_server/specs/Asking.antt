@@ -1,18 +1,8 @@
 -- What asking the client does to a connection.
 use Rattle.std.specs.Prelude.{◌≡◌, ◌≢◌, ◌≤◌, ℕ, List, []}
-use Rattle.agent_ports.specs.Sides.{with_bytes}
-use Rattle.agent_ports.specs.declared.link.Sent.TheVariants.{Failed}
-use Rattle.assuan_line.specs.Next.{Reader, ended_by}
-use Rattle.assuan_line.specs.Reading.{HasRead}
-use Rattle.assuan_line.specs.Skipping.{IsUndecided}
-use Rattle.assuan_text.specs.LineEnds.{line_of}
-use Rattle.assuan_line.specs.declared.reader.Took.{Took}
-use Rattle.session_client.specs.declared.unheard.Unheard.{Unheard}
-use Rattle.session_client.specs.declared.unheard.Unheard.TheVariants.{Gone}
-use Rattle.session_client.specs.declared.unheard.Gone.TheVariants.{WriteFault}
-use Rattle.assuan_server.specs.Connections.{Connection}
-use Rattle.assuan_server.specs.Inquiries.{Outcome, Inquiry, ended_of, is_skipped}
-use Rattle.assuan_server.specs.Written.{HasWritten}
+use Rattle.{agent_ports.specs.{Sides.with_bytes, declared.link.Sent.TheVariants.Failed}, assuan_line.specs.{Next.{Reader, ended_by}, Reading.HasRead, Skipping.IsUndecided, declared.reader.Took.Took}, assuan_text.specs.LineEnds.line_of}
+use Rattle.session_client.specs.declared.unheard.{Unheard.{Unheard, TheVariants.Gone}, Gone.TheVariants.WriteFault}
+use Rattle.assuan_server.specs.{Connections.Connection, Inquiries.{Outcome, Inquiry, ended_of, is_skipped}, Written.HasWritten}
 
 -- a line was written, and lines were read up to the first answer that an inquiry doesn't skip
 pub record Gather (Reads : List ℕ → Took → Reader → List ℕ → Type 0) (line : List ℕ) (before : Connection) (took : Took) (after : Connection) : Type 0 where

@@ -1,23 +1,12 @@
 -- A connection as that of a session's client: the lines that its server reads, what is seen of it, and what the client has said by an
 -- inquiry (Assuan manual, "server responses").
 use Rattle.std.specs.Prelude.{ℕ, Bool, true, false, List, [], Option, Some, None, Result, Ok, Err, IfSome}
-use Rattle.assuan_line.specs.Lines.{IsLine}
-use Rattle.assuan_line.specs.Next.{WereNeeded, held}
-use Rattle.assuan_line.specs.Skipping.{IsUndecided}
-use Rattle.assuan_line.specs.declared.reader.Took.{Took}
+use Rattle.{assuan_line.specs.{Lines.IsLine, Next.{WereNeeded, held}, Skipping.IsUndecided, declared.reader.Took.Took}, assuan_text.specs.{Forms.is_ignored, LineEnds.line_of}, cache_policy.specs.declared.secret.TheConstants.MAX_SECRET_LEN}
+use Rattle.session_client.specs.{Asking.{AsksClient, LeftBy}, Lines.{Lines, Views}, declared.unheard.{Gone.Gone, Unheard.Unheard}}
+use Rattle.assuan_server.specs.{Connections.Connection, Inquiries.{Outcome, Data, Cancelled, TooMuch, Unexpected, Ended, TooLong, Spent, ReadFault, inquire_text, is_skipped}, Reading.{Supply, ReadsRequest, ReadsInquiry, IsSupply, unread}}
 use Rattle.assuan_line.specs.declared.reader.Took.TheVariants as took
-use Rattle.assuan_text.specs.Forms.{is_ignored}
-use Rattle.assuan_text.specs.LineEnds.{line_of}
-use Rattle.cache_policy.specs.declared.secret.TheConstants.{MAX_SECRET_LEN}
-use Rattle.session_client.specs.Asking.{AsksClient, LeftBy}
-use Rattle.session_client.specs.Lines.{Lines, Views}
-use Rattle.session_client.specs.declared.unheard.Gone.{Gone}
 use Rattle.session_client.specs.declared.unheard.Gone.TheVariants as gone
-use Rattle.session_client.specs.declared.unheard.Unheard.{Unheard}
 use Rattle.session_client.specs.declared.unheard.Unheard.TheVariants as unheard
-use Rattle.assuan_server.specs.Connections.{Connection}
-use Rattle.assuan_server.specs.Inquiries.{Outcome, Data, Cancelled, TooMuch, Unexpected, Ended, TooLong, Spent, ReadFault, inquire_text, is_skipped}
-use Rattle.assuan_server.specs.Reading.{Supply, ReadsRequest, ReadsInquiry, IsSupply, unread}
 
 -- what the client has said by an inquiry that came to this
 abbrev pub outcome_says : Outcome → Result (List ℕ) Unheard

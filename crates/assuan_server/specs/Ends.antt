@@ -1,10 +1,7 @@
 -- Why an inquiry has no bytes for its caller, and what its answer follows from.
 use Rattle.std.specs.Prelude.{◌≡◌, ◌↔◌, ℕ, List, Option, Some}
-use Rattle.assuan_line.specs.Next.{ended_by}
-use Rattle.assuan_line.specs.declared.reader.Took.{Took}
-use Rattle.session_client.specs.declared.unheard.Unheard.{Unheard}
-use Rattle.assuan_server.specs.Asking.{not_written}
-use Rattle.assuan_server.specs.Inquiries.{Outcome, ComesTo, ended_of, error_outcome}
+use Rattle.{assuan_line.specs.{Next.ended_by, declared.reader.Took.Took}, session_client.specs.declared.unheard.Unheard.Unheard}
+use Rattle.assuan_server.specs.{Asking.not_written, Inquiries.{Outcome, ComesTo, ended_of, error_outcome}}
 
 -- the client gave nothing by this answer, whatever came before it
 pub record GivesNone (took : Took) (error : Unheard) : Type 0 where

@@ -4,23 +4,17 @@
 //! `specs/Asking` is the contract, and `ComesTo` of `specs/Inquiries` the outcome.
 
 ghost use Rattle.std.specs.Prelude.{◌≡◌, ◌≢◌, ◌≤◌, ◌∷◌, ◌++◌, [], ℕ, List, length, codes, None};
-ghost use Rattle.std.specs.Prelude.{Err, IfOk, IfErr, OnOk, MatchResult};
-ghost use Rattle.std.specs.List.{flat_map};
-ghost use Rattle.assuan_line.specs.Lines.{IsLine};
-ghost use Rattle.assuan_line.specs.Next.{Reader};
-ghost use Rattle.assuan_line.specs.Skipping.{ReadsOn};
-ghost use Rattle.assuan_text.specs.LineEnds.{line_of};
-ghost use Rattle.assuan_escape.specs.DataLines.{carried};
+ghost use Rattle.std.specs.{Prelude.{Err, IfOk, IfErr, OnOk, MatchResult}, List.flat_map};
+ghost use Rattle.assuan_line.specs.{Lines.IsLine, Next.Reader, Skipping.ReadsOn};
+ghost use Rattle.{assuan_text.specs.LineEnds.line_of, assuan_escape.specs.DataLines.carried};
 ghost use Rattle.cache_policy.specs.declared.secret.TheConstants.{MAX_SECRET_LEN};
 ghost use Rattle.assuan_server.specs.Asking.{Gather, Asks, NotWritten, not_written};
-ghost use Rattle.assuan_server.specs.Buffers.{IsVecOf, IsSecretOf, IsCountOf};
-ghost use Rattle.assuan_server.specs.Connections.{IsOpen};
+ghost use Rattle.assuan_server.specs.{Buffers.{IsVecOf, IsSecretOf, IsCountOf}, Connections.IsOpen};
 ghost use Rattle.assuan_server.specs.Inquiries.{inquire_text, Inquiry, Outcome, ComesTo, IsWord};
 ghost use Rattle.assuan_server.specs.Inquiries.{IfData, IsClosed, Answers, AnswersDropped};
 ghost use Rattle.assuan_server.specs.Inquiries.{outcome_of, outcome_of_secret, outcome_of_dropped};
 ghost use Rattle.assuan_server.specs.Inquiries.{is_skipped, secret_outcome, drop_outcome};
-ghost use Rattle.assuan_server.specs.Ends.{IsAnswer};
-ghost use Rattle.assuan_server.specs.Written.{HasWritten, WritesText, limit_line};
+ghost use Rattle.assuan_server.specs.{Ends.IsAnswer, Written.{HasWritten, WritesText, limit_line}};
 
 mod buffer;
 mod end;

@@ -3,12 +3,9 @@
 //! `ask_client`; its events are `AsksSecret` (`specs/Passphrases`).
 
 ghost use Rattle.std.specs.Prelude.{[]};
-ghost use Rattle.assuan_line.specs.Lines.{IsLine};
-ghost use Rattle.assuan_server.specs.Clients.{connection_views};
-ghost use Rattle.assuan_server.specs.Connections.{IsOpen};
-ghost use Rattle.assuan_server.specs.Inquiries.{inquire_text};
-ghost use Rattle.assuan_server.specs.Written.{limit_line};
-ghost use Rattle.agent_ask.specs.ClientParts.{Writes};
+ghost use Rattle.{assuan_line.specs.Lines.IsLine, assuan_server.specs.Clients.connection_views};
+ghost use Rattle.assuan_server.specs.{Connections.IsOpen, Inquiries.inquire_text};
+ghost use Rattle.{assuan_server.specs.Written.limit_line, agent_ask.specs.ClientParts.Writes};
 ghost use Rattle.agent_ask.specs.PartStates.{DoesWithClient};
 ghost use Rattle.key_commands.specs.Passphrases.{AsksSecret};
 

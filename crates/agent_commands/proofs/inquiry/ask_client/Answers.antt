@@ -1,7 +1,5 @@
 use Rattle.std.proofs.lemmas.Result.{err_from_is_err_and}
-use Rattle.agent_ask.proofs.PartsAtClient.{wrote, wrote_part, gave, gave_none}
-use Rattle.agent_ask.proofs.PartsDone.{part_then, part_stops, open_after}
-use Rattle.assuan_server.proofs.Clients.{said_so, wished}
+use Rattle.{agent_ask.proofs.{PartsAtClient.{wrote, wrote_part, gave, gave_none}, PartsDone.{part_then, part_stops, open_after}}, assuan_server.proofs.Clients.{said_so, wished}}
 use Rattle.agent_commands.proofs.inquiry.ask_client.Goals as goal
 
 pub returns-in_err-tell_limit : goal.returns-in_err-tell_limit

@@ -1,6 +1,5 @@
 use Rattle.std.proofs.lemmas.Result.{err_from_is_err_and}
-use Rattle.assuan_server.specs.Inquiries.{IsAtEnd}
-use Rattle.assuan_server.proofs.Inquiring.{failed, was_written, with_data, beyond}
+use Rattle.assuan_server.{specs.Inquiries.IsAtEnd, proofs.Inquiring.{failed, was_written, with_data, beyond}}
 use Rattle.assuan_server.proofs.inquiry.buffered.Goals as goal
 
 pub returns-in_err-end_of-clause-answer : goal.returns-in_err-end_of-clause-answer

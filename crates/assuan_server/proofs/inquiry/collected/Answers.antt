@@ -1,6 +1,5 @@
 use Rattle.std.proofs.Common.{◌≡◌, ◌≤◌, List, ℕ, rules, subst, length}
-use Rattle.assuan_server.specs.Inquiries.{IsAtEnd}
-use Rattle.assuan_server.proofs.Inquiring.{failed, was_written, with_data, beyond, without_memory}
+use Rattle.assuan_server.{specs.Inquiries.IsAtEnd, proofs.Inquiring.{failed, was_written, with_data, beyond, without_memory}}
 use Rattle.assuan_server.proofs.inquiry.collected.Goals as goal
 
 pub returns-in-Err-clause-answer : goal.returns-in-Err-clause-answer

@@ -1,7 +1,5 @@
-use Rattle.std.proofs.Common.{arith}
-use Rattle.std.proofs.lemmas.Result.{err_from_is_err_and}
-use Rattle.assuan_server.specs.Inquiries.{IsData}
-use Rattle.assuan_server.proofs.Inquiring.{failed, was_written, dropped, beyond}
+use Rattle.std.proofs.{Common.arith, lemmas.Result.err_from_is_err_and}
+use Rattle.assuan_server.{specs.Inquiries.IsData, proofs.Inquiring.{failed, was_written, dropped, beyond}}
 use Rattle.assuan_server.proofs.inquiry.counted.Goals as goal
 
 pub returns-in_err-end_of-clause-answer : goal.returns-in_err-end_of-clause-answer

@@ -1,7 +1,5 @@
 use Rattle.std.proofs.lemmas.Result.{err_from_is_err_and}
-use Rattle.assuan_server.proofs.Clients.{wished}
-use Rattle.agent_ask.proofs.PartsDone.{part_then, part_stops, open_after}
-use Rattle.agent_ask.proofs.PartsAtClient.{gave, gave_none}
+use Rattle.{assuan_server.proofs.Clients.wished, agent_ask.proofs.{PartsDone.{part_then, part_stops, open_after}, PartsAtClient.{gave, gave_none}}}
 use Rattle.key_commands.proofs.inquiries.ask_client.Goals as goal
 
 pub returns-in_err-tell_limit : goal.returns-in_err-tell_limit

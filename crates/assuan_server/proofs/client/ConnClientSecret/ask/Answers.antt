@@ -1,9 +1,6 @@
-use Rattle.std.proofs.Common.{sym, ◌∙◌}
-use Rattle.std.proofs.lemmas.Bool.{false≢true}
-use Rattle.assuan_server.proofs.Clients.{wishes, wishes_unsaid}
-use Rattle.assuan_server.proofs.NoteLines.{wish_no_line, wish_unfit}
+use Rattle.std.proofs.{Common.{sym, ◌∙◌}, lemmas.Bool.false≢true}
+use Rattle.assuan_server.proofs.{Clients.{wishes, wishes_unsaid}, NoteLines.{wish_no_line, wish_unfit}, client.ConnClientSecret.ask.Goals.{then-word-via-then-word, then-word-via-else-word+then-is_none}}
 use Rattle.assuan_server.proofs.client.ConnClientSecret.ask.Goals as goal
-use Rattle.assuan_server.proofs.client.ConnClientSecret.ask.Goals.{then-word-via-then-word, then-word-via-else-word+then-is_none}
 
 pub returns-then-word : goal.returns-then-word
 returns-then-word g c = wishes_unsaid c.requires (elim c.then-word.branch [

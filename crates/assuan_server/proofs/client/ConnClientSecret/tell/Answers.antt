@@ -1,10 +1,6 @@
-use Rattle.std.proofs.Common.{sym, ◌∙◌, subst, arith}
-use Rattle.std.specs.Prelude.{codes}
-use Rattle.std.proofs.lemmas.Fmt.{decimal_nonempty}
+use Rattle.std.{proofs.{Common.{sym, ◌∙◌, subst, arith}, lemmas.Fmt.decimal_nonempty}, specs.Prelude.codes}
 use Rattle.assuan_line.specs.Lines.{IsLine}
-use Rattle.assuan_server.specs.Inquiries.{inquire_text}
-use Rattle.assuan_server.proofs.Clients.{told}
-use Rattle.assuan_server.proofs.NoteLines.{note_is_line}
+use Rattle.assuan_server.{specs.Inquiries.inquire_text, proofs.{Clients.told, NoteLines.note_is_line}}
 use Rattle.assuan_server.proofs.client.ConnClientSecret.tell.Goals as goal
 
 pub ask_dropped-requires-clause-one_line : goal.ask_dropped-requires-clause-one_line

@@ -1,9 +1,5 @@
-use Rattle.std.proofs.Common.{ℕ, refl, ◌∙◌, subst, arith}
-use Rattle.std.proofs.lemmas.Result.{err_from_is_err_and}
-use Rattle.assuan_server.specs.Asking.{Inquire}
-use Rattle.assuan_server.specs.Buffers.{IsCountOf}
-use Rattle.assuan_server.specs.Inquiries.{inquire_text, drop_outcome, AnswersDropped}
-use Rattle.assuan_server.proofs.Inquiring.{inquired}
+use Rattle.std.proofs.{Common.{ℕ, refl, ◌∙◌, subst, arith}, lemmas.Result.err_from_is_err_and}
+use Rattle.assuan_server.{specs.{Asking.Inquire, Buffers.IsCountOf, Inquiries.{inquire_text, drop_outcome, AnswersDropped}}, proofs.Inquiring.inquired}
 use Rattle.assuan_server.proofs.conn.Conn.ask_dropped.Goals as goal
 
 pub returns-in_err-took : goal.returns-in_err-took

@@ -1,7 +1,5 @@
-use Rattle.std.proofs.Common.{refl}
-use Rattle.std.proofs.lemmas.Result.{err_from_is_err_and}
-use Rattle.assuan_server.specs.Buffers.{IsSecretOf}
-use Rattle.assuan_server.proofs.Inquiring.{inquired}
+use Rattle.std.proofs.{Common.refl, lemmas.Result.err_from_is_err_and}
+use Rattle.assuan_server.{specs.Buffers.IsSecretOf, proofs.Inquiring.inquired}
 use Rattle.assuan_server.proofs.conn.Conn.ask_secret.Goals as goal
 
 pub returns-in_err-took : goal.returns-in_err-took

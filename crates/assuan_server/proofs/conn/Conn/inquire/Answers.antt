@@ -1,8 +1,5 @@
 use Rattle.std.proofs.Common.{ℕ, refl, ◌∙◌, subst}
-use Rattle.assuan_server.specs.Asking.{Inquire}
-use Rattle.assuan_server.specs.Buffers.{IsVecOf}
-use Rattle.assuan_server.specs.Inquiries.{inquire_text, outcome_of, Answers}
-use Rattle.assuan_server.proofs.Inquiring.{inquired}
+use Rattle.assuan_server.{specs.{Asking.Inquire, Buffers.IsVecOf, Inquiries.{inquire_text, outcome_of, Answers}}, proofs.Inquiring.inquired}
 use Rattle.assuan_server.proofs.conn.Conn.inquire.Goals as goal
 
 pub returns-in-Ok-clause-asks : goal.returns-in-Ok-clause-asks

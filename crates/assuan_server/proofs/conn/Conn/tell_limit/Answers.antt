@@ -1,9 +1,6 @@
-use Rattle.std.proofs.Common.{sym, ◌∙◌, subst, arith}
-use Rattle.std.specs.Prelude.{codes}
+use Rattle.std.{proofs.Common.{sym, ◌∙◌, subst, arith}, specs.Prelude.codes}
 use Rattle.assuan_line.specs.Lines.{IsLine}
-use Rattle.assuan_server.specs.Written.{status_text}
-use Rattle.assuan_server.proofs.NoteLines.{limit_is_line}
-use Rattle.assuan_server.proofs.Saying.{said}
+use Rattle.assuan_server.{specs.Written.status_text, proofs.{NoteLines.limit_is_line, Saying.said}}
 use Rattle.assuan_server.proofs.conn.Conn.tell_limit.Goals as goal
 
 pub status-requires : goal.status-requires

@@ -1,5 +1,4 @@
-use Rattle.std.proofs.Common.{refl, rules}
-use Rattle.std.specs.Prelude.{codes}
+use Rattle.std.{proofs.Common.{refl, rules}, specs.Prelude.codes}
 use Rattle.assuan_server.specs.Inquiries.{Cancelled, Unexpected, IsWord, can, foreign}
 use Rattle.assuan_server.proofs.inquiry.end.end_of_line.Goals as goal
 
