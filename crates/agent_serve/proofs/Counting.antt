@@ -1,22 +1,10 @@
 -- How the marks of turns are counted.
-use Rattle.std.proofs.Common.{◌≡◌, ℕ, ◌+◌, Bool, true, false, List, [], ◌∷◌, ◌++◌, refl, ap, sym, ◌∙◌, subst, arith, append_assoc}
-use Rattle.std.proofs.lemmas.List.{append-nil}
-use Rattle.std.specs.List.{AllByRecursion}
-use Rattle.agent_ports.specs.Readings.{Readings}
-use Rattle.agent_ports.specs.declared.session.SessionId.{SessionId}
-use Rattle.cache_policy.specs.declared.life.Limits.{Limits}
-use Rattle.cache_policy.specs.declared.mark.Mark.{Mark}
-use Rattle.cache_policy.specs.declared.mark.MarkReply.{MarkReply}
-use Rattle.cache_policy.specs.declared.mark.MarkReply.TheVariants as answer
-use Rattle.cache_policy.specs.declared.mark.MarkStep.{MarkStep}
-use Rattle.cache_policy.specs.Desks.{Shows, MakesMarks, marked, refused, spent}
-use Rattle.cache_policy.specs.Extending.{Taken}
-use Rattle.cache_policy.specs.Histories.{History}
-use Rattle.cache_policy.specs.Seat.{is_open}
-use Rattle.cache_policy.specs.Tallies.{is_given, is_empty, how_many}
-use Rattle.cache_policy.specs.Turns.{Turn, Given, Empty, Open, Stand, Done, Held, Stopping, Late, Refused}
-use Rattle.counted_lock.specs.Passes.{AtPass, mine}
+use Rattle.std.{proofs.{Common.{◌≡◌, ℕ, ◌+◌, Bool, true, false, List, [], ◌∷◌, ◌++◌, refl, ap, sym, ◌∙◌, subst, arith, append_assoc}, lemmas.List.append-nil}, specs.List.AllByRecursion}
+use Rattle.{agent_ports.specs.{Readings.Readings, declared.session.SessionId.SessionId}, cache_policy.specs.declared.{life.Limits.Limits, mark.{Mark.Mark, MarkReply.MarkReply, MarkStep.MarkStep}}}
+use Rattle.cache_policy.specs.{Desks.{Shows, MakesMarks, marked, refused, spent}, Extending.Taken, Histories.History, Seat.is_open, Tallies.{is_given, is_empty, how_many}}
+use Rattle.{cache_policy.specs.Turns.{Turn, Given, Empty, Open, Stand, Done, Held, Stopping, Late, Refused}, counted_lock.specs.Passes.{AtPass, mine}}
 use Rattle.agent_serve.specs.Serves.{PassTurns, none, turned, came_given, came_empty, came_open, how_many_turns, AddsMarks}
+use Rattle.cache_policy.specs.declared.mark.MarkReply.TheVariants as answer
 
 abbrev one : Bool → ℕ
 one true = 1

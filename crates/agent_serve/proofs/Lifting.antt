@@ -1,39 +1,12 @@
 -- A session at the desk and with the pinentry is one at what they show.
-use Rattle.std.proofs.Common.{◌≡◌, ℕ, List, [], ◌++◌, Option, None, Some, ◌+◌, false, refl, ap, ◌∙◌, subst}
-use Rattle.std.specs.Prelude.{is_some}
-use Rattle.agent_ask.specs.Doing.{called, out_of_memory}
-use Rattle.agent_ask.specs.Events.{Call}
-use Rattle.agent_ask.specs.Further.{prompt, keys, dice, trust, no_memory}
-use Rattle.agent_origin.specs.FurtherStates.{FurtherWorld, surroundings}
-use Rattle.agent_origin.specs.declared.door.Door.{Door}
-use Rattle.agent_ask.specs.SessionEvents.{turns_in}
-use Rattle.agent_ask.specs.Worlds.{Outside, Does, received, sent, cut, asked, not_asked, turned, further}
-use Rattle.agent_commands.specs.Outside.{World}
-use Rattle.assuan_server.specs.Clients.{session_lines}
-use Rattle.agent_ports.specs.HostParts.{Views, IsFolder, AreNew}
-use Rattle.agent_ports.specs.KeyFiles.{KeyFiles}
-use Rattle.agent_ports.specs.Launches.{Launches}
-use Rattle.agent_ports.specs.Leads.{Leads, none, one}
-use Rattle.agent_ports.specs.Readings.{Readings}
-use Rattle.agent_ports.specs.Sides.{Side}
-use Rattle.cache_policy.specs.Extending.{Taken}
-use Rattle.cache_policy.specs.declared.mark.Mark.{Mark}
-use Rattle.key_commands.specs.Events.{Event}
-use Rattle.counted_lock.specs.Turns.{AtCountedDesk, CountedTurn}
-use Rattle.pinentry_client.specs.Dialogues.{PinentryDoes, PinentryCall}
-use Rattle.pinentry_client.specs.States.{PinentryState, AtPinentry, at_pinentry, at_prompter, idle}
-use Rattle.agent_serve.specs.Gates.{Gated}
-use Rattle.agent_ask.specs.Prompters.{IsShut}
-use Rattle.agent_commands.specs.declared.went.SessionEnd.{SessionEnd}
-use Rattle.agent_ports.specs.declared.host.Parts.{Parts}
-use Rattle.agent_ports.specs.declared.session.SessionId.{SessionId}
-use Rattle.agent_origin.specs.DoorSessions.{ServesDoor}
-use Rattle.agent_origin.specs.Sessions.{ends_with, supply_of}
-use Rattle.agent_ports.specs.TrustFiles.{TrustState}
-use Rattle.counted_lock.specs.Passes.{AtPass}
+use Rattle.std.{proofs.Common.{◌≡◌, ℕ, List, [], ◌++◌, Option, None, Some, ◌+◌, false, refl, ap, ◌∙◌, subst}, specs.Prelude.is_some}
+use Rattle.agent_ask.specs.{Doing.{called, out_of_memory}, Events.Call, Further.{prompt, keys, dice, trust, no_memory}, SessionEvents.turns_in, Worlds.{Outside, Does, received, sent, cut, asked, not_asked, turned, further}}
+use Rattle.{agent_ask.specs.Prompters.IsShut, agent_origin.specs.{FurtherStates.{FurtherWorld, surroundings}, declared.door.Door.Door, DoorSessions.ServesDoor, Sessions.{ends_with, supply_of}}, agent_commands.specs.Outside.World}
+use Rattle.{agent_commands.specs.declared.went.SessionEnd.SessionEnd, assuan_server.specs.Clients.session_lines, agent_ports.specs.{HostParts.{Views, IsFolder, AreNew}, KeyFiles.KeyFiles, Launches.Launches, Leads.{Leads, none, one}}}
+use Rattle.{agent_ports.specs.{Readings.Readings, Sides.Side, declared.{host.Parts.Parts, session.SessionId.SessionId}, TrustFiles.TrustState}, cache_policy.specs.{Extending.Taken, declared.mark.Mark.Mark}, key_commands.specs.Events.Event}
+use Rattle.{counted_lock.specs.{Turns.{AtCountedDesk, CountedTurn}, Passes.AtPass}, pinentry_client.specs.{Dialogues.{PinentryDoes, PinentryCall}, States.{PinentryState, AtPinentry, at_pinentry, at_prompter, idle}}}
 use Rattle.session_options.specs.declared.rules.Rules.{Rules}
-use Rattle.agent_serve.proofs.Counting.{added}
-use Rattle.agent_serve.specs.Serves.{PassTurns, LinkSides, desk_at, ServesOne}
+use Rattle.agent_serve.{specs.{Gates.Gated, Serves.{PassTurns, LinkSides, desk_at, ServesOne}}, proofs.Counting.added}
 use Rattle.agent_serve.specs.Serves as serves
 
 -- the calls of a pinentry behind a gate

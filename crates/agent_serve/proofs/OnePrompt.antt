@@ -1,23 +1,12 @@
 -- What is asked of a prompter by one prompt are the calls of one prompt.
-use Rattle.std.specs.List.{AllByRecursion}
-use Rattle.std.proofs.Common.{◌≡◌, ℕ, Bool, List, [], ◌∷◌, ◌++◌, refl, ap, sym, subst}
-use Rattle.agent_ask.specs.Consents.{AsksConsent, ConsentBefore}
-use Rattle.agent_ask.specs.Consents as consents
-use Rattle.agent_ask.specs.Events.{Call, Start, GetPin, Confirm, Shut, PromptEvent, Called, Notified, OutOfMemory}
-use Rattle.agent_ask.specs.Prompts.{AsksPin, AsksBefore, Opens}
-use Rattle.agent_ask.specs.Prompts as prompts
-use Rattle.agent_ask.specs.Tests.{PinTest}
-use Rattle.agent_ask.specs.SessionPrompts.{AnyInSession}
-use Rattle.agent_ask.specs.SessionPrompts as session
-use Rattle.agent_ask.specs.declared.ask.Asked.{Asked}
-use Rattle.agent_ask.specs.declared.consent.Agreed.{Agreed}
-use Rattle.agent_ask.specs.declared.spec.AskPlan.{AskPlan}
-use Rattle.agent_ask.specs.declared.spec.PromptSpec.{PromptSpec}
+use Rattle.std.{specs.List.AllByRecursion, proofs.Common.{◌≡◌, ℕ, Bool, List, [], ◌∷◌, ◌++◌, refl, ap, sym, subst}}
+use Rattle.agent_ask.specs.{Consents.{AsksConsent, ConsentBefore}, Events.{Call, Start, GetPin, Confirm, Shut, PromptEvent, Called, Notified, OutOfMemory}, Prompts.{AsksPin, AsksBefore, Opens}, Tests.PinTest, SessionPrompts.AnyInSession}
+use Rattle.{agent_ask.specs.declared.{ask.Asked.Asked, consent.Agreed.Agreed, spec.{AskPlan.AskPlan, PromptSpec.PromptSpec}}, assuan_server.specs.Clients.session_lines, agent_origin.proofs.Between.{IsBetween, tries_between}}
+use Rattle.{key_commands.specs.Events.Event, pinentry_client.specs.Whole.{AreQuestions, IsOnePrompt}}
 use Rattle.agent_serve.specs.Prompts.{calls_in}
-use Rattle.assuan_server.specs.Clients.{session_lines}
-use Rattle.agent_origin.proofs.Between.{IsBetween, tries_between}
-use Rattle.key_commands.specs.Events.{Event}
-use Rattle.pinentry_client.specs.Whole.{AreQuestions, IsOnePrompt}
+use Rattle.agent_ask.specs.Consents as consents
+use Rattle.agent_ask.specs.Prompts as prompts
+use Rattle.agent_ask.specs.SessionPrompts as session
 
 -- the calls among the events of a prompt
 abbrev pub calls_of : List PromptEvent → List Call

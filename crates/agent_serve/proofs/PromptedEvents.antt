@@ -1,19 +1,9 @@
 -- Events among which the prompter's calls are those of prompts, one after another.
-use Rattle.std.specs.List.{AllByRecursion}
-use Rattle.std.proofs.Common.{◌≡◌, List, [], ◌∷◌, ◌++◌, refl, sym, ap, subst, ◌∙◌, append_assoc, append-nil}
-use Rattle.agent_ask.specs.Events.{Call, Called, Notified, OutOfMemory, PromptEvent}
-use Rattle.agent_ask.specs.Further.{Keys, Dice, NoMemory, Prompt, Trust}
-use Rattle.agent_ask.specs.SessionEvents.{Received, Sent, Cut, Inquiry, CacheTurn, Further}
-use Rattle.agent_ask.specs.SessionPrompts.{AnyInSession}
-use Rattle.agent_serve.specs.Prompts.{calls_in, Prompted}
-use Rattle.agent_serve.proofs.OnePrompt.{calls_of, pin_is_one, consent_is_one, shown_calls}
-use Rattle.assuan_server.specs.Clients.{session_lines}
-use Rattle.key_commands.specs.Events.{Event, IsUncalled}
-use Rattle.key_commands.proofs.EachEvent.{still_uncalled}
-use Rattle.key_commands.proofs.EachRequest.{Carries}
-use Rattle.session_options.specs.OptionValues.{EnvWords}
-use Rattle.pinentry_client.specs.Children.{ArePrompts, none, next}
-use Rattle.pinentry_client.specs.Whole.{IsOnePrompt}
+use Rattle.std.{specs.List.AllByRecursion, proofs.Common.{◌≡◌, List, [], ◌∷◌, ◌++◌, refl, sym, ap, subst, ◌∙◌, append_assoc, append-nil}}
+use Rattle.agent_ask.specs.{Events.{Call, Called, Notified, OutOfMemory, PromptEvent}, Further.{Keys, Dice, NoMemory, Prompt, Trust}, SessionEvents.{Received, Sent, Cut, Inquiry, CacheTurn, Further}, SessionPrompts.AnyInSession}
+use Rattle.{assuan_server.specs.Clients.session_lines, key_commands.{specs.Events.{Event, IsUncalled}, proofs.{EachEvent.still_uncalled, EachRequest.Carries}}, session_options.specs.OptionValues.EnvWords}
+use Rattle.pinentry_client.specs.{Children.{ArePrompts, none, next}, Whole.IsOnePrompt}
+use Rattle.agent_serve.{specs.Prompts.{calls_in, Prompted}, proofs.OnePrompt.{calls_of, pin_is_one, consent_is_one, shown_calls}}
 
 -- ---- lists
 

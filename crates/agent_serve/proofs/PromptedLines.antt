@@ -1,23 +1,10 @@
 -- Lines of a session, at either door, in whose exchanges the prompter's calls are those of prompts, one after another.
 use Rattle.std.proofs.Common.{ℕ, List, Option, refl}
-use Rattle.session_options.specs.OptionValues.{OptionValues}
-use Rattle.session_options.specs.declared.rules.Rules.{Rules}
-use Rattle.agent_commands.specs.declared.request.Request.{Request}
-use Rattle.agent_commands.specs.declared.went.Went.{Went}
-use Rattle.key_commands.specs.Events.{Event, IsUncalled}
-use Rattle.key_commands.proofs.EachEvent.{each_returned}
-use Rattle.key_commands.proofs.EachRequest.{so, then, whole}
-use Rattle.agent_origin.proofs.EachLine.{request_whole}
-use Rattle.agent_origin.proofs.EachTrust.{carried_so, carried_laws}
-use Rattle.agent_origin.specs.DoorSessions.{AllowedExchange, DoorExchange}
+use Rattle.{session_options.specs.{OptionValues.OptionValues, declared.rules.Rules.Rules}, agent_commands.specs.declared.{request.Request.Request, went.Went.Went}, key_commands.specs.Events.{Event, IsUncalled}}
+use Rattle.{key_commands.proofs.{EachEvent.each_returned, EachRequest.{so, then, whole}}, agent_origin.{proofs.{EachLine.request_whole, EachTrust.{carried_so, carried_laws}}, specs.DoorSessions.{AllowedExchange, DoorExchange}}}
+use Rattle.agent_origin.specs.{TrustExchanges.TrustExchange, SessionExchanges.RequestExchange, declared.{door.Door.Door, kept.Kept.Kept, trust.request.TrustRequest.TrustRequest}}
+use Rattle.agent_serve.{specs.Prompts.Prompted, proofs.PromptedEvents.{prompted_carries, uncalled}}
 use Rattle.agent_origin.specs.DoorSessions as door
-use Rattle.agent_origin.specs.TrustExchanges.{TrustExchange}
-use Rattle.agent_origin.specs.SessionExchanges.{RequestExchange}
-use Rattle.agent_origin.specs.declared.door.Door.{Door}
-use Rattle.agent_origin.specs.declared.kept.Kept.{Kept}
-use Rattle.agent_origin.specs.declared.trust.request.TrustRequest.{TrustRequest}
-use Rattle.agent_serve.specs.Prompts.{Prompted}
-use Rattle.agent_serve.proofs.PromptedEvents.{prompted_carries, uncalled}
 
 pub request_prompted : {rules : Rules} {kept now : Kept} (request : Request) {events : List Event} {went : Went} → RequestExchange rules kept request events now went → Prompted events
 request_prompted = request_whole prompted_carries (λ text. tt) refl

@@ -1,34 +1,13 @@
 -- Sessions with a pinentry: their prompts, one after another, and the children of these.
-use Rattle.std.specs.List.{count_by}
-use Rattle.std.proofs.Common.{◌≡◌, ◌+◌, ◌-◌, ◌^◌, ℕ, List, [], ◌∷◌, ◌++◌, min, sym, ap, subst, ◌∙◌, arith}
-use Rattle.agent_ask.proofs.Counting.{failures}
-use Rattle.agent_ask.specs.Answering.{WholeOrCut, whole, cut}
-use Rattle.agent_ask.specs.Doing.{called, out_of_memory}
-use Rattle.agent_ask.specs.Events.{Call}
+use Rattle.std.{specs.List.count_by, proofs.Common.{◌≡◌, ◌+◌, ◌-◌, ◌^◌, ℕ, List, [], ◌∷◌, ◌++◌, min, sym, ap, subst, ◌∙◌, arith}}
+use Rattle.agent_ask.{proofs.Counting.failures, specs.{Answering.{WholeOrCut, whole, cut}, Doing.{called, out_of_memory}, Events.Call, Prompters.{IsCall, is_failed}, SessionEvents.{Received, Sent, Cut, CutAtLast}, Worlds.{Outside, Does}}}
+use Rattle.{agent_commands.specs.{Endings.went_after, Talks.{Session, Talk}, declared.went.{SessionEnd.SessionEnd, Went.Went}}, agent_origin.specs.FurtherStates.FurtherWorld, agent_ports.specs.{Counts.RoseBy, Launches.Launches}}
+use Rattle.{agent_ports.specs.Leads.{Leads, none, one}, assuan_server.specs.Reading.Supply, cache_policy.specs.{Turns.Turn, declared.mark.MarkStep.MarkStep}, key_commands.specs.Events.Event, pinentry_client.proofs.Children.their_children}
+use Rattle.pinentry_client.specs.{Children.ArePrompts, Dialogues.PinentryDoes, States.{AtPinentry, at_prompter, idle}}
+use Rattle.agent_serve.{specs.Prompts.{calls_in, Prompted, HavePrompts}, proofs.PromptedEvents.{calls_append, prompted_append, uncalled}}
 use Rattle.agent_ask.specs.Further as further
-use Rattle.agent_ask.specs.Prompters.{IsCall, is_failed}
-use Rattle.agent_ask.specs.SessionEvents.{Received, Sent, Cut, CutAtLast}
-use Rattle.agent_ask.specs.Worlds.{Outside, Does}
 use Rattle.agent_ask.specs.Worlds as worlds
-use Rattle.agent_commands.specs.Endings.{went_after}
-use Rattle.agent_commands.specs.Talks.{Session, Talk}
 use Rattle.agent_commands.specs.Talks as talks
-use Rattle.agent_commands.specs.declared.went.SessionEnd.{SessionEnd}
-use Rattle.agent_commands.specs.declared.went.Went.{Went}
-use Rattle.agent_origin.specs.FurtherStates.{FurtherWorld}
-use Rattle.agent_ports.specs.Counts.{RoseBy}
-use Rattle.agent_ports.specs.Launches.{Launches}
-use Rattle.agent_ports.specs.Leads.{Leads, none, one}
-use Rattle.agent_serve.specs.Prompts.{calls_in, Prompted, HavePrompts}
-use Rattle.agent_serve.proofs.PromptedEvents.{calls_append, prompted_append, uncalled}
-use Rattle.assuan_server.specs.Reading.{Supply}
-use Rattle.cache_policy.specs.Turns.{Turn}
-use Rattle.cache_policy.specs.declared.mark.MarkStep.{MarkStep}
-use Rattle.key_commands.specs.Events.{Event}
-use Rattle.pinentry_client.proofs.Children.{their_children}
-use Rattle.pinentry_client.specs.Children.{ArePrompts}
-use Rattle.pinentry_client.specs.Dialogues.{PinentryDoes}
-use Rattle.pinentry_client.specs.States.{AtPinentry, at_prompter, idle}
 
 -- ---- the prompter's calls among the events
 

@@ -1,14 +1,8 @@
 -- A worker that was stopped, worked by hand.
 use Rattle.std.proofs.Common.{◌≡◌, ◌<◌, ◌-◌, ◌^◌, ℕ, List, None, refl, arith}
-use Rattle.agent_origin.specs.declared.door.Door.TheVariants.{Home}
-use Rattle.agent_ports.specs.HostParts.{Views}
-use Rattle.agent_ports.specs.Sides.{Side}
-use Rattle.agent_ports.specs.TrustFiles.{TrustState}
-use Rattle.agent_ports.specs.declared.listener.Next.TheVariants.{Stopped}
-use Rattle.counted_lock.specs.Passes.{AtPass}
+use Rattle.{agent_origin.specs.declared.door.Door.TheVariants.Home, agent_ports.specs.{HostParts.Views, Sides.Side, TrustFiles.TrustState, declared.listener.Next.TheVariants.Stopped}, counted_lock.specs.Passes.AtPass}
 use Rattle.session_options.specs.declared.rules.Rules.{Rules}
-use Rattle.agent_serve.proofs.Works.{told_where_nothing_failed}
-use Rattle.agent_serve.specs.Working.{HostViews, Works, post_at, none, stopped}
+use Rattle.agent_serve.{proofs.Works.told_where_nothing_failed, specs.Working.{HostViews, Works, post_at, none, stopped}}
 
 module _ {Li La C R K T : Type 0} (input output : Li → Side) (parts : Views La C R K) (trust : T → TrustState) (folder : List ℕ) (rules : Rules) where
   -- Listeners are numbers here, and an ear is its count of faults. Listener 0 was told to stop, and answers so.

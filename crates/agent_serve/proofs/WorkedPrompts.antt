@@ -1,53 +1,23 @@
 -- Worked examples: a request for consent whose pinentry couldn't be started. Its prompt has no child.
-use Rattle.std.proofs.Common.{◌≡◌, ℕ, false, List, [], ◌∷◌, Some, None, Err, refl, sym, subst, arith}
-use Rattle.std.specs.Prelude.{⊤}
-use Rattle.agent_ask.specs.ConsentParts.{AgreesTo}
+use Rattle.std.{proofs.Common.{◌≡◌, ℕ, false, List, [], ◌∷◌, Some, None, Err, refl, sym, subst, arith}, specs.Prelude.⊤}
+use Rattle.agent_ask.specs.{ConsentParts.AgreesTo, Doing.called, Events.{Start, Shut, Called}, Further.Prompt, Parts.{goes_on, stops}, Plans.IsSpec, SessionEvents.{Sent, Further, cache_turn}, Worlds.{Outside, Does}}
+use Rattle.{agent_ask.specs.declared.spec.PromptSpec.PromptSpec, agent_commands.specs.{Exchanges.confirms_by, declared.{request.{CacheCommand.TheVariants.GetConfirmation, Request.TheVariants.Cache}, went.Went.TheVariants.On}}}
+use Rattle.{agent_origin.specs.{FurtherStates.FurtherWorld, SessionExchanges.{RequestExchange, cache}, declared.kept.Kept.Kept}, agent_ports.specs.{KeyFiles.KeyFiles, Launches.Launches, Leads.{Leads, none, one}, Sides.Side}}
+use Rattle.{agent_ports.specs.TrustFiles.TrustState, assuan_server.specs.{Clients.session_lines, Reading.Supply, Written.failed}, session_client.specs.declared.refusal.Refusal.TheVariants.Agent, cache_policy.specs.Turns.{Turn, Open, Done}}
+use Rattle.{cache_policy.specs.declared.mark.MarkStep.{MarkStep, TheVariants.{Seat, Close}}, key_commands.specs.Events.Event, pinentry_client.{proofs.Calling.is_call, specs.{Dialogues.{PinentryDoes, unlaunched, shut_alone}, States.idle}}}
+use Rattle.session_options.specs.declared.rules.Rules.{Rules}
+use Rattle.agent_serve.{specs.Prompts.HavePrompts, proofs.{PromptedLines.request_prompted, PromptedSessions.have_prompts}}
 use Rattle.agent_ask.specs.ConsentParts as consent
 use Rattle.agent_ask.specs.Consents as consents
-use Rattle.agent_ask.specs.Doing.{called}
-use Rattle.agent_ask.specs.Events.{Start, Shut, Called}
-use Rattle.agent_ask.specs.Further.{Prompt}
 use Rattle.agent_ask.specs.Further as further
 use Rattle.agent_ask.specs.PartExchanges as whole
-use Rattle.agent_ask.specs.Parts.{goes_on, stops}
-use Rattle.agent_ask.specs.Plans.{IsSpec}
 use Rattle.agent_ask.specs.Prompts as prompts
-use Rattle.agent_ask.specs.SessionEvents.{Sent, Further, cache_turn}
 use Rattle.agent_ask.specs.TurnParts as taken
 use Rattle.agent_ask.specs.SessionPrompts as tickets
-use Rattle.agent_ask.specs.Worlds.{Outside, Does}
 use Rattle.agent_ask.specs.Worlds as worlds
 use Rattle.agent_ask.specs.declared.prompter.Opened.TheVariants as opened
-use Rattle.agent_ask.specs.declared.spec.PromptSpec.{PromptSpec}
-use Rattle.agent_commands.specs.Exchanges.{confirms_by}
-use Rattle.agent_commands.specs.declared.request.CacheCommand.TheVariants.{GetConfirmation}
-use Rattle.agent_commands.specs.declared.request.Request.TheVariants.{Cache}
-use Rattle.agent_commands.specs.declared.went.Went.TheVariants.{On}
-use Rattle.agent_origin.specs.FurtherStates.{FurtherWorld}
-use Rattle.agent_origin.specs.SessionExchanges.{RequestExchange, cache}
-use Rattle.agent_origin.specs.declared.kept.Kept.{Kept}
-use Rattle.agent_ports.specs.KeyFiles.{KeyFiles}
-use Rattle.agent_ports.specs.Launches.{Launches}
-use Rattle.agent_ports.specs.Leads.{Leads, none, one}
-use Rattle.agent_ports.specs.Sides.{Side}
-use Rattle.agent_ports.specs.TrustFiles.{TrustState}
-use Rattle.agent_serve.specs.Prompts.{HavePrompts}
-use Rattle.agent_serve.proofs.PromptedLines.{request_prompted}
-use Rattle.agent_serve.proofs.PromptedSessions.{have_prompts}
-use Rattle.assuan_server.specs.Clients.{session_lines}
-use Rattle.assuan_server.specs.Reading.{Supply}
-use Rattle.assuan_server.specs.Written.{failed}
 use Rattle.session_client.specs.declared.code.Code.TheVariants as code
-use Rattle.session_client.specs.declared.refusal.Refusal.TheVariants.{Agent}
-use Rattle.cache_policy.specs.Turns.{Turn, Open, Done}
-use Rattle.cache_policy.specs.declared.mark.MarkStep.{MarkStep}
-use Rattle.cache_policy.specs.declared.mark.MarkStep.TheVariants.{Seat, Close}
-use Rattle.key_commands.specs.Events.{Event}
-use Rattle.pinentry_client.proofs.Calling.{is_call}
-use Rattle.pinentry_client.specs.Dialogues.{PinentryDoes, unlaunched, shut_alone}
-use Rattle.pinentry_client.specs.States.{idle}
 use Rattle.session_options.specs.declared.options.PinMode.TheVariants as mode
-use Rattle.session_options.specs.declared.rules.Rules.{Rules}
 
 -- at any desk
 abbrev any_turn : Unit {0} → MarkStep → Turn → Unit {0} → Type 0

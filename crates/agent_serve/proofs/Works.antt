@@ -1,14 +1,8 @@
 -- What a worker does, session after session.
 use Rattle.std.proofs.Common.{◌≡◌, ◌<◌, ◌≤◌, ◌-◌, ◌^◌, ◌⊎◌, inl, inr, List, [], ◌∷◌, Option, None, Some, refl, sym, subst, ap, arith, ◌∙◌}
-use Rattle.agent_ports.specs.Counts.{Rose}
-use Rattle.agent_ports.specs.declared.listener.Next.{Next}
-use Rattle.agent_ports.specs.declared.listener.Next.TheVariants.{Failed, Stopped}
-use Rattle.counted_lock.specs.Passes.{AtCounted, AtPass, AreOf}
-use Rattle.session_options.specs.declared.rules.Rules.{Rules}
-use Rattle.agent_serve.proofs.Pairs.{by_either}
+use Rattle.{agent_ports.specs.{Counts.Rose, declared.listener.Next.{Next, TheVariants.{Failed, Stopped}}}, counted_lock.specs.Passes.{AtCounted, AtPass, AreOf}, session_options.specs.declared.rules.Rules.Rules}
 use Rattle.agent_origin.specs.declared.door.Door.TheVariants.{Outer}
-use Rattle.agent_serve.specs.Pairs.{PairedTo}
-use Rattle.agent_serve.specs.Working.{HostViews, Post, post_at, home_post, last_post, ServesNext, ServesLinks, EndsWork, Works, WorkEach, none, one_more, failed, stopped, numbers_spent}
+use Rattle.agent_serve.{proofs.Pairs.by_either, specs.{Pairs.PairedTo, Working.{HostViews, Post, post_at, home_post, last_post, ServesNext, ServesLinks, EndsWork, Works, WorkEach, none, one_more, failed, stopped, numbers_spent}}}
 
 module _ {Ls E Li La C R K T : Type 0} (host : HostViews Ls E Li La C R K T) (rules : Rules) where
   -- the workers stand at these posts

@@ -1,13 +1,6 @@
 -- The prompts of a session, one after another, and their children. This is the project's own.
-use Rattle.std.specs.List.{count_by}
-use Rattle.std.specs.Prelude.{ℕ, List, [], ◌∷◌}
-use Rattle.agent_ask.specs.Events.{Call, Called}
-use Rattle.agent_ask.specs.Further.{Prompt}
-use Rattle.agent_ask.specs.Prompters.{is_failed}
-use Rattle.agent_ask.specs.SessionEvents.{Further}
-use Rattle.agent_ports.specs.Counts.{RoseBy}
-use Rattle.agent_ports.specs.Launches.{Launches}
-use Rattle.key_commands.specs.Events.{Event}
+use Rattle.std.specs.{List.count_by, Prelude.{ℕ, List, [], ◌∷◌}}
+use Rattle.{agent_ask.specs.{Events.{Call, Called}, Further.Prompt, Prompters.is_failed, SessionEvents.Further}, agent_ports.specs.{Counts.RoseBy, Launches.Launches}, key_commands.specs.Events.Event}
 use Rattle.pinentry_client.specs.Children.{ArePrompts, HaveTheirChildren}
 
 -- the calls of the prompter among the events

@@ -1,30 +1,9 @@
 -- One session at a pass of the counted lock: what it does to its link, and which marks it adds to the run. This is the project's own.
-use Rattle.std.specs.Prelude.{◌≡◌, ◌+◌, ℕ, Bool, true, false, List, [], ◌∷◌, ◌++◌, filter, length, None}
-use Rattle.std.specs.List.{AllByRecursion}
-use Rattle.agent_ask.specs.SessionEvents.{turns_in}
-use Rattle.agent_commands.specs.declared.went.SessionEnd.{SessionEnd}
-use Rattle.agent_ports.specs.HostParts.{Views, IsFolder, AreNew}
-use Rattle.agent_ports.specs.KeyFiles.{KeyFiles}
-use Rattle.agent_ports.specs.Launches.{Launches}
-use Rattle.agent_ports.specs.Readings.{Readings}
-use Rattle.agent_ports.specs.Sides.{Side}
-use Rattle.agent_ports.specs.declared.host.Parts.{Parts}
-use Rattle.agent_ports.specs.declared.session.SessionId.{SessionId}
-use Rattle.agent_ports.specs.TrustFiles.{TrustState}
-use Rattle.agent_origin.specs.declared.door.Door.{Door}
-use Rattle.agent_origin.specs.DoorSessions.{ServesDoor}
-use Rattle.agent_origin.specs.FurtherStates.{FurtherWorld, surroundings}
-use Rattle.agent_origin.specs.Sessions.{Surroundings}
-use Rattle.cache_policy.specs.declared.mark.Mark.{Mark}
-use Rattle.cache_policy.specs.Extending.{Taken}
-use Rattle.cache_policy.specs.Seat.{is_open}
-use Rattle.cache_policy.specs.Tallies.{is_given, is_empty, how_many}
-use Rattle.cache_policy.specs.Turns.{Turn, Given, Empty, Open}
-use Rattle.counted_lock.specs.Passes.{AtPass, mine}
-use Rattle.counted_lock.specs.Turns.{AtCountedDesk, TurnsPass, CountedTurn}
-use Rattle.pinentry_client.specs.Dialogues.{PinentryDoes}
-use Rattle.pinentry_client.specs.States.{idle}
-use Rattle.session_options.specs.declared.rules.Rules.{Rules}
+use Rattle.std.specs.{Prelude.{◌≡◌, ◌+◌, ℕ, Bool, true, false, List, [], ◌∷◌, ◌++◌, filter, length, None}, List.AllByRecursion}
+use Rattle.{agent_ask.specs.SessionEvents.turns_in, agent_commands.specs.declared.went.SessionEnd.SessionEnd, agent_ports.specs.{HostParts.{Views, IsFolder, AreNew}, KeyFiles.KeyFiles, Launches.Launches, Readings.Readings, Sides.Side}}
+use Rattle.{agent_ports.specs.{declared.{host.Parts.Parts, session.SessionId.SessionId}, TrustFiles.TrustState}, agent_origin.specs.{declared.door.Door.Door, DoorSessions.ServesDoor, FurtherStates.{FurtherWorld, surroundings}}}
+use Rattle.{agent_origin.specs.Sessions.Surroundings, cache_policy.specs.{declared.mark.Mark.Mark, Extending.Taken, Seat.is_open, Tallies.{is_given, is_empty, how_many}, Turns.{Turn, Given, Empty, Open}}}
+use Rattle.{counted_lock.specs.{Passes.{AtPass, mine}, Turns.{AtCountedDesk, TurnsPass, CountedTurn}}, pinentry_client.specs.{Dialogues.PinentryDoes, States.idle}, session_options.specs.declared.rules.Rules.Rules}
 
 -- both sides of a link
 pub record LinkSides : Type 0 where

@@ -1,22 +1,9 @@
 -- What a worker does with its pass. This is the project's own.
 use Rattle.std.specs.Prelude.{◌≡◌, ◌≤◌, ◌⊎◌, ◌-◌, ◌^◌, ℕ, List, true, Option, Some, None, IfSome}
-use Rattle.agent_commands.specs.declared.went.SessionEnd.{SessionEnd}
-use Rattle.agent_commands.specs.declared.went.SessionEnd.TheVariants.{Killed}
-use Rattle.agent_ports.specs.Counts.{Rose}
-use Rattle.agent_ports.specs.declared.listener.Next.{Next}
-use Rattle.agent_ports.specs.declared.listener.Next.TheVariants.{Link, Failed, Stopped}
-use Rattle.agent_ports.specs.declared.session.SessionId.{SessionId}
-use Rattle.agent_ports.specs.HostParts.{Views}
-use Rattle.agent_ports.specs.Listening.{NothingFailed}
-use Rattle.agent_ports.specs.Sides.{Side}
-use Rattle.agent_ports.specs.TrustFiles.{TrustState}
-use Rattle.agent_origin.specs.declared.door.Door.{Door}
-use Rattle.agent_origin.specs.declared.door.Door.TheVariants.{Home, Outer}
-use Rattle.counted_lock.specs.Logs.{is_stopped}
-use Rattle.counted_lock.specs.Passes.{AtPass}
+use Rattle.{agent_commands.specs.declared.went.SessionEnd.{SessionEnd, TheVariants.Killed}, agent_ports.specs.{Counts.Rose, declared.{listener.Next.{Next, TheVariants.{Link, Failed, Stopped}}, session.SessionId.SessionId}, HostParts.Views}}
+use Rattle.{agent_ports.specs.{Listening.NothingFailed, Sides.Side, TrustFiles.TrustState}, agent_origin.specs.declared.door.Door.{Door, TheVariants.{Home, Outer}}, counted_lock.specs.{Logs.is_stopped, Passes.AtPass}}
 use Rattle.session_options.specs.declared.rules.Rules.{Rules}
-use Rattle.agent_serve.specs.Pairs.{PairedTo}
-use Rattle.agent_serve.specs.Serves.{LinkSides, link_of, ServesOne}
+use Rattle.agent_serve.specs.{Pairs.PairedTo, Serves.{LinkSides, link_of, ServesOne}}
 
 -- the session that a pass has next
 abbrev pub next_session : AtPass → SessionId

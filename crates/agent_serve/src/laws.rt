@@ -6,22 +6,16 @@
 ghost use Rattle.std.specs.Prelude.{◌+◌, ◌-◌, ◌<◌, ◌^◌, ℕ, List, None};
 ghost use Rattle.agent_ask.specs.SessionEvents.{turns_in};
 ghost use Rattle.agent_commands.specs.declared.went.SessionEnd.{SessionEnd as Ends};
-ghost use Rattle.agent_origin.specs.DoorSessions.{ServesDoor};
-ghost use Rattle.agent_origin.specs.FurtherStates.{FurtherWorld};
-ghost use Rattle.agent_origin.specs.OuterPrompts.{no_words, PromptsName};
-ghost use Rattle.agent_origin.specs.OuterRuns.{LeavesDesk};
+ghost use Rattle.agent_origin.specs.{DoorSessions.ServesDoor, FurtherStates.FurtherWorld};
+ghost use Rattle.agent_origin.specs.{OuterPrompts.{no_words, PromptsName}, OuterRuns.LeavesDesk};
 ghost use Rattle.agent_origin.specs.OuterTurns.{LeavesCache};
 ghost use Rattle.agent_origin.specs.SessionExchanges.{SessionExchange, kept_at_start};
 ghost use Rattle.agent_origin.specs.Sessions.{ServesSession, Surroundings};
-ghost use Rattle.agent_origin.specs.declared.door.Door.{Door};
-ghost use Rattle.agent_origin.specs.declared.door.Door.TheVariants.{Outer};
-ghost use Rattle.agent_ports.specs.Counts.{Rose};
-ghost use Rattle.agent_ports.specs.declared.session.SessionId.{SessionId};
-ghost use Rattle.counted_lock.specs.Passes.{AtPass};
-ghost use Rattle.counted_lock.specs.Turns.{at_counted};
+ghost use Rattle.agent_origin.specs.declared.door.Door.{Door, TheVariants.Outer};
+ghost use Rattle.agent_ports.specs.{Counts.Rose, declared.session.SessionId.SessionId};
+ghost use Rattle.counted_lock.specs.{Passes.AtPass, Turns.at_counted};
 ghost use Rattle.session_options.specs.declared.rules.Rules.{Rules};
-ghost use Rattle.agent_serve.specs.Prompts.{HavePrompts, Prompted};
-ghost use Rattle.agent_serve.specs.Serves.{LinkSides, ServesOne};
+ghost use Rattle.agent_serve.specs.{Prompts.{HavePrompts, Prompted}, Serves.{LinkSides, ServesOne}};
 ghost use Rattle.agent_serve.specs.Working.{Post, Works};
 
 use crate::views::ViewedHost;

@@ -3,12 +3,10 @@
 //! and an ear (fault counter) of its own. Begin with `run_workers`; what a worker does is `Works`
 //! (`specs/Working`).
 
-ghost use Rattle.std.specs.Prelude.{◌≡◌, ◌<◌, ◌-◌, ◌^◌, vec_len};
-ghost use Rattle.std.specs.Option.{option_copied};
-ghost use Rattle.agent_ports.specs.Listening.{NothingFailed};
-ghost use Rattle.counted_lock.specs.Passes.{AreOf};
-ghost use Rattle.agent_serve.specs.Working.{ServesNext, StopsAfter, TellsToStop, Works};
-ghost use Rattle.agent_serve.specs.Working.{WorkEach, post_at};
+ghost use Rattle.std.specs.{Prelude.{◌≡◌, ◌<◌, ◌-◌, ◌^◌, vec_len}, Option.option_copied};
+ghost use Rattle.{agent_ports.specs.Listening.NothingFailed, counted_lock.specs.Passes.AreOf};
+ghost use Rattle.agent_serve.specs.Working.{ServesNext, StopsAfter, TellsToStop, Works, WorkEach};
+ghost use Rattle.agent_serve.specs.Working.{post_at};
 
 use crate::each::{Task, run_each};
 use crate::serving::serve_one;

@@ -1,22 +1,9 @@
 -- Ids and texts as parts of a line: their lengths, and that no line feed is among them.
 use Rattle.std.proofs.Common.{◌≡◌, ◌+◌, ◌*◌, ◌/◌, ◌%◌, ◌≤◌, ◌<◌, ◌^◌, ℕ, Bool, true, false, cond, List, [], ◌∷◌, ◌++◌, suc, length, slice_index, Option, Some, None, refl, sym, ap, subst, ◌∙◌, arith, length-append}
-use Rattle.std.specs.Prelude.{codes, decimal, not, ◌==◌, ◌&&◌, nat_le}
-use Rattle.std.specs.Char.{is_ascii_digit}
-use Rattle.std.specs.List.{flat_map, list_all}
-use Rattle.std.specs.Str.{all_ascii_digits, bytes_eq}
-use Rattle.std.proofs.lemmas.Bool.{and_parts, or_from, eqb-true, cond_both}
-use Rattle.std.proofs.lemmas.Bool.Decides.{nat_tests}
-use Rattle.std.proofs.lemmas.Fmt.{digits_decimal}
-use Rattle.std.proofs.lemmas.List.Folds.{list_any-append, list_all_at}
-use Rattle.std.proofs.lemmas.Str.Parse.{tells_all_ascii_digits, numerals_by_value}
-use Rattle.assuan_line.specs.Lines.{IsLine}
-use Rattle.assuan_text.specs.Blanks.{is_blank}
-use Rattle.assuan_text.specs.LineEnds.{is_lf, has_lf}
-use Rattle.hex.proofs.HexLemmas.{length-encode_with}
-use Rattle.hex.specs.Hex.{encode_with, encode_lower, lower_digits, IsBytes}
-use Rattle.passphrase_words.specs.Ids.{is_id_byte, has_id_form, is_id}
-use Rattle.passphrase_words.specs.Requests.{hex_of, hex_digit}
-use Rattle.passphrase_words.specs.Texts.{escape_of, word_of, prompt_word, description_or, texts_of, longest_line, Fits}
+use Rattle.std.proofs.lemmas.{Bool.{and_parts, or_from, eqb-true, cond_both, Decides.nat_tests}, Fmt.digits_decimal, List.Folds.{list_any-append, list_all_at}, Str.Parse.{tells_all_ascii_digits, numerals_by_value}}
+use Rattle.std.specs.{Prelude.{codes, decimal, not, ◌==◌, ◌&&◌, nat_le}, Char.is_ascii_digit, List.{flat_map, list_all}, Str.{all_ascii_digits, bytes_eq}}
+use Rattle.{assuan_line.specs.Lines.IsLine, assuan_text.specs.{Blanks.is_blank, LineEnds.{is_lf, has_lf}}, hex.{proofs.HexLemmas.length-encode_with, specs.Hex.{encode_with, encode_lower, lower_digits, IsBytes}}}
+use Rattle.passphrase_words.specs.{Ids.{is_id_byte, has_id_form, is_id}, Requests.{hex_of, hex_digit}, Texts.{escape_of, word_of, prompt_word, description_or, texts_of, longest_line, Fits}}
 
 -- a part that fails the test among these of a byte isn't a line feed
 passing_no_lf : (test : ℕ → Bool) (byte : ℕ) (feed : Bool) → test 10 ≡ false → is_lf byte ≡ feed → test byte ≡ true → feed ≡ false

@@ -1,7 +1,5 @@
 -- Bytes that a buffer takes one part after the other.
-use Rattle.std.proofs.Common.{◌≡◌, ◌<◌, ℕ, List, ◌++◌, length, take, get_or, ap, ◌∙◌, arith, length-append, append_assoc, Ok, Err, Result}
-use Rattle.std.specs.List.{flat_map}
-use Rattle.std.proofs.lemmas.List.Folds.{length-flat_map-take}
+use Rattle.std.{proofs.{Common.{◌≡◌, ◌<◌, ℕ, List, ◌++◌, length, take, get_or, ap, ◌∙◌, arith, length-append, append_assoc, Ok, Err, Result}, lemmas.List.Folds.length-flat_map-take}, specs.List.flat_map}
 use Rattle.passphrase_words.specs.Parts.{HasPushed}
 
 -- two parts are one

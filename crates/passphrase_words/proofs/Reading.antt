@@ -1,25 +1,11 @@
 -- Words are spelled by the settings that are read of them and by no other ones, and so they are read one way.
 use Rattle.std.proofs.Common.{◌≡◌, ◌<◌, ◌≤◌, ◌+◌, ℕ, Bool, true, false, cond, List, [], ◌∷◌, ◌++◌, zero, suc, length, take, drop, get_or, Option, Some, None, refl, ap, sym, ◌∙◌, subst, arith, inl, inr}
-use Rattle.std.specs.Prelude.{not, ◌||◌, codes}
-use Rattle.std.specs.Option.{option_map}
-use Rattle.std.specs.List.{list_all, list_any, position_or_len, before_first, after_first}
-use Rattle.std.specs.Str.{bytes_eq}
-use Rattle.std.proofs.lemmas.Bool.{and_parts, cases_lt, eqb-true}
-use Rattle.std.proofs.lemmas.List.{take_all, append-nil}
-use Rattle.std.proofs.lemmas.List.Sums.{prefix_len-le-length, split_at_first, passes_at_first}
-use Rattle.std.proofs.lemmas.Slice.Eq.{bytes_eq-Decides}
-use Rattle.std.proofs.Math.Seq.{take-append_seam, drop-append-add}
-use Rattle.assuan_line.proofs.Places.{place_after}
-use Rattle.assuan_text.specs.Rows.{found}
-use Rattle.passphrase_words.specs.Options.{options, form_of, takes_value}
-use Rattle.passphrase_words.specs.Parts.{is_equals, by_itself, alone, begun, left, settings_by, rest_by, settings, rest_of, front_of}
-use Rattle.passphrase_words.specs.Refusals.{AllSettings, Refuses, unread, no_task, unread_text, task_fault}
-use Rattle.passphrase_words.specs.Rules.{IsTask, task_of}
-use Rattle.passphrase_words.specs.Spelling.{Setting, Spells, none, flag, joined, apart, takes, begins_with_dash, operands_of}
-use Rattle.passphrase_words.specs.Tasks.{TaskValue, WantedValue, WantsHelp, WantsVersion, WantsTask}
-use Rattle.passphrase_words.specs.Words.{Reads, help, version, task, asks_for_help}
-use Rattle.passphrase_words.specs.declared.options.Form.{Form}
-use Rattle.passphrase_words.specs.declared.words.Front.TheVariants.{Help, Version, Other}
+use Rattle.std.proofs.{lemmas.{Bool.{and_parts, cases_lt, eqb-true}, List.{take_all, append-nil, Sums.{prefix_len-le-length, split_at_first, passes_at_first}}, Slice.Eq.bytes_eq-Decides}, Math.Seq.{take-append_seam, drop-append-add}}
+use Rattle.std.specs.{Prelude.{not, ◌||◌, codes}, Option.option_map, List.{list_all, list_any, position_or_len, before_first, after_first}, Str.bytes_eq}
+use Rattle.{assuan_line.proofs.Places.place_after, assuan_text.specs.Rows.found}
+use Rattle.passphrase_words.specs.{Options.{options, form_of, takes_value}, Parts.{is_equals, by_itself, alone, begun, left, settings_by, rest_by, settings, rest_of, front_of}}
+use Rattle.passphrase_words.specs.{Refusals.{AllSettings, Refuses, unread, no_task, unread_text, task_fault}, Rules.{IsTask, task_of}, Spelling.{Setting, Spells, none, flag, joined, apart, takes, begins_with_dash, operands_of}}
+use Rattle.passphrase_words.specs.{Tasks.{TaskValue, WantedValue, WantsHelp, WantsVersion, WantsTask}, Words.{Reads, help, version, task, asks_for_help}, declared.{options.Form.Form, words.Front.TheVariants.{Help, Version, Other}}}
 
 not_true : (b : Bool) → not b ≡ true → b ≡ false
 not_true true h = absurd (cc h)

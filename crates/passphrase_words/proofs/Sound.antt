@@ -1,17 +1,8 @@
 -- The checks of options one by one, and of an id.
-use Rattle.std.proofs.Common.{◌≡◌, ◌∷◌, [], ℕ, Bool, true, false, List, get_or, length, Option, Some, None, refl, ap, sym, ◌∙◌, arith}
-use Rattle.std.specs.Prelude.{not, ◌&&◌, ◌==◌, nat_le, codes}
-use Rattle.std.specs.List.{list_all}
-use Rattle.std.specs.Option.{option_or}
-use Rattle.std.specs.Str.{bytes_eq}
-use Rattle.std.proofs.lemmas.Bool.{and_parts}
-use Rattle.std.proofs.lemmas.Bool.Decides.{nat_tests}
-use Rattle.passphrase_words.specs.Ids.{is_id_byte, has_id_form}
-use Rattle.passphrase_words.specs.Options.{excluded}
-use Rattle.passphrase_words.specs.Refusals.{settings_fault, pairs_fault, alone_fault, operands_fault, id_fault, texts_fault, task_fault}
-use Rattle.passphrase_words.specs.Rules.{fits, are_sound}
-use Rattle.passphrase_words.specs.Spelling.{Setting, is_set, value_given, begins_with_dash}
-use Rattle.passphrase_words.specs.Texts.{texts_of}
+use Rattle.std.{proofs.{Common.{◌≡◌, ◌∷◌, [], ℕ, Bool, true, false, List, get_or, length, Option, Some, None, refl, ap, sym, ◌∙◌, arith}, lemmas.Bool.{and_parts, Decides.nat_tests}}, specs.Prelude.{not, ◌&&◌, ◌==◌, nat_le, codes}}
+use Rattle.std.specs.{List.list_all, Option.option_or, Str.bytes_eq}
+use Rattle.passphrase_words.specs.{Ids.{is_id_byte, has_id_form}, Options.excluded, Refusals.{settings_fault, pairs_fault, alone_fault, operands_fault, id_fault, texts_fault, task_fault}, Rules.{fits, are_sound}}
+use Rattle.passphrase_words.specs.{Spelling.{Setting, is_set, value_given, begins_with_dash}, Texts.texts_of}
 
 not_true : (b : Bool) → not b ≡ true → b ≡ false
 not_true true h = absurd (cc h)

@@ -1,13 +1,7 @@
 -- Command lines, and what each asks for.
-use Rattle.std.proofs.Common.{◌≡◌, ℕ, true, false, List, [], ◌∷◌, Some, None, refl, arith}
-use Rattle.std.specs.Prelude.{codes}
-use Rattle.passphrase_words.specs.Options.{form_of}
-use Rattle.passphrase_words.specs.Requests.{line_of_request, Looks, Asks, Clears, Presets}
-use Rattle.passphrase_words.specs.Spelling.{none, flag, joined, apart}
-use Rattle.passphrase_words.specs.Tasks.{TaskValue, WantedValue, WantsHelp, WantsTask}
-use Rattle.passphrase_words.specs.Words.{Reads, help, task}
-use Rattle.passphrase_words.proofs.Reading.{no_such_task, no_operands}
-use Rattle.passphrase_words.specs.declared.task.Act.TheVariants.{Give}
+use Rattle.std.{proofs.Common.{◌≡◌, ℕ, true, false, List, [], ◌∷◌, Some, None, refl, arith}, specs.Prelude.codes}
+use Rattle.passphrase_words.specs.{Options.form_of, Requests.{line_of_request, Looks, Asks, Clears, Presets}, Spelling.{none, flag, joined, apart}, Tasks.{TaskValue, WantedValue, WantsHelp, WantsTask}, Words.{Reads, help, task}}
+use Rattle.passphrase_words.{specs.declared.task.Act.TheVariants.Give, proofs.Reading.{no_such_task, no_operands}}
 
 -- nothing is read of the words
 abbrev IsRefused : List (List ℕ) → Type 0

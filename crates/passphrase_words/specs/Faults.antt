@@ -1,11 +1,6 @@
 -- What a user is told of words that aren't read.
-use Rattle.std.specs.Prelude.{ℕ, ◌^◌, ◌-◌, min, Bool, List, ◌++◌, length, codes, decimal, Option, Some, None, if◌then◌else◌}
-use Rattle.std.specs.Str.{bytes_eq}
-use Rattle.passphrase_words.specs.Options.{form_of}
-use Rattle.passphrase_words.specs.Texts.{longest_line}
-use Rattle.passphrase_words.specs.declared.fault.WordsFault.{WordsFault}
-use Rattle.passphrase_words.specs.declared.fault.WordsFault.TheVariants.{Unknown, Wants, Twice, Apart, Alone, Operands, Id, LongId, LongTexts, Askpass}
-use Rattle.passphrase_words.specs.declared.options.Form.{Form}
+use Rattle.std.specs.{Prelude.{ℕ, ◌^◌, ◌-◌, min, Bool, List, ◌++◌, length, codes, decimal, Option, Some, None, if◌then◌else◌}, Str.bytes_eq}
+use Rattle.passphrase_words.specs.{Options.form_of, Texts.longest_line, declared.{fault.WordsFault.{WordsFault, TheVariants.{Unknown, Wants, Twice, Apart, Alone, Operands, Id, LongId, LongTexts, Askpass}}, options.Form.Form}}
 use Rattle.passphrase_words.specs.declared.options.Form.TheVariants.{Seconds}
 
 -- what the option wants

@@ -1,11 +1,8 @@
 -- The names of passphrases. An agent's id has at most 50 bytes (GnuPG manual, "Agent GET_PASSPHRASE"), and X keeps nothing. Which bytes
 -- it may have is this project's own, so that none ends it, none is an escape, and it is no option of a request.
-use Rattle.std.specs.Prelude.{ℕ, ◌==◌, ◌&&◌, ◌||◌, nat_le, not, Bool, List, length, slice_index, codes, ◌++◌}
-use Rattle.std.specs.List.{list_all}
-use Rattle.std.specs.Str.{bytes_eq}
-use Rattle.hex.specs.Hex.{encode_lower}
+use Rattle.std.specs.{Prelude.{ℕ, ◌==◌, ◌&&◌, ◌||◌, nat_le, not, Bool, List, length, slice_index, codes, ◌++◌}, List.list_all, Str.bytes_eq}
+use Rattle.{hex.specs.Hex.encode_lower, sha1.specs.Sha1.sha1}
 use Rattle.passphrase_words.specs.declared.task.TheConstants.{MAX_ID_LEN}
-use Rattle.sha1.specs.Sha1.{sha1}
 
 -- between these two bytes
 abbrev pub is_from : ℕ → ℕ → ℕ → Bool

@@ -1,10 +1,7 @@
 -- The options of the command line and what each takes. But for `--homedir`, which is gpg's (GnuPG manual), they are this project's own.
-use Rattle.std.specs.Prelude.{ℕ, ◌&&◌, nat_le, Bool, true, false, List, [], ◌∷◌, length, codes, is_some, Option, Some, None, if◌then◌else◌}
-use Rattle.std.specs.Option.{option_and_then}
-use Rattle.assuan_text.specs.Rows.{found}
-use Rattle.assuan_text.specs.Numbers.{number_of}
-use Rattle.passphrase_words.specs.declared.options.Form.{Form}
-use Rattle.passphrase_words.specs.declared.options.Form.TheVariants.{Flag, Text, Seconds}
+use Rattle.std.specs.{Prelude.{ℕ, ◌&&◌, nat_le, Bool, true, false, List, [], ◌∷◌, length, codes, is_some, Option, Some, None, if◌then◌else◌}, Option.option_and_then}
+use Rattle.assuan_text.specs.{Rows.found, Numbers.number_of}
+use Rattle.passphrase_words.specs.declared.options.Form.{Form, TheVariants.{Flag, Text, Seconds}}
 
 abbrev pub options : List (List ℕ × Form)
 options =

@@ -1,14 +1,7 @@
 -- Private: words read from the left as settings, and where these end; and bytes that a buffer takes.
-use Rattle.std.specs.Prelude.{◌≡◌, ◌<◌, ◌+◌, ℕ, ◌==◌, Bool, true, false, List, [], ◌∷◌, ◌++◌, length, codes, if◌then◌else◌, Option, Some, None, Result, OnOk, OnErr}
-use Rattle.std.specs.List.{before_first, after_first}
-use Rattle.std.specs.Option.{option_map}
-use Rattle.std.specs.Str.{bytes_eq}
+use Rattle.std.specs.{Prelude.{◌≡◌, ◌<◌, ◌+◌, ℕ, ◌==◌, Bool, true, false, List, [], ◌∷◌, ◌++◌, length, codes, if◌then◌else◌, Option, Some, None, Result, OnOk, OnErr}, List.{before_first, after_first}, Option.option_map, Str.bytes_eq}
 use Rattle.assuan_text.specs.declared.TheConstants.{MAX_LINE_LEN}
-use Rattle.passphrase_words.specs.Spelling.{Setting as SettingValue, takes}
-use Rattle.passphrase_words.specs.Words.{asks_for_help}
-use Rattle.passphrase_words.specs.declared.words.Front.{Front}
-use Rattle.passphrase_words.specs.declared.words.Front.TheVariants.{Help, Version, Other}
-use Rattle.passphrase_words.specs.declared.settings.Setting.{Setting}
+use Rattle.passphrase_words.specs.{Spelling.{Setting as SettingValue, takes}, Words.asks_for_help, declared.{words.Front.{Front, TheVariants.{Help, Version, Other}}, settings.Setting.Setting}}
 
 abbrev pub setting_value : Setting → SettingValue
 setting_value setting = (setting.name.now, option_map (λ value. value.now) setting.value)

@@ -1,17 +1,10 @@
 -- Why words aren't read: the first rule that they break, and the word that breaks it. The order of the rules is this project's own: from the
 -- left what is no option; from the left each option that wants another value, or is given again; options that don't go together; one
 -- that wants an id alone; the operands; the id; and the texts.
-use Rattle.std.specs.Prelude.{◌≡◌, ℕ, Bool, true, false, not, nat_le, List, [], ◌∷◌, codes, get_or, length, is_some, Option, Some, None, if◌then◌else◌}
-use Rattle.std.specs.Option.{option_or}
-use Rattle.std.specs.Str.{bytes_eq}
+use Rattle.std.specs.{Prelude.{◌≡◌, ℕ, Bool, true, false, not, nat_le, List, [], ◌∷◌, codes, get_or, length, is_some, Option, Some, None, if◌then◌else◌}, Option.option_or, Str.bytes_eq}
 use Rattle.assuan_text.specs.declared.TheConstants.{MAX_LINE_LEN}
-use Rattle.passphrase_words.specs.Faults.{wish, unknown_text, wants_text, twice_text, apart_text, alone_text, operands_text, id_text, long_id_text, long_text, askpass_text}
-use Rattle.passphrase_words.specs.Ids.{has_id_form, askpass_id}
-use Rattle.passphrase_words.specs.Options.{excluded}
-use Rattle.passphrase_words.specs.Rules.{fits, is_apart, is_alone_or_free, are_counted}
-use Rattle.passphrase_words.specs.Spelling.{Setting, Spells, takes, is_set, value_given, operands_of}
-use Rattle.passphrase_words.specs.Texts.{texts_of, longest_line}
-use Rattle.passphrase_words.specs.Words.{asks_for_help}
+use Rattle.passphrase_words.specs.{Faults.{wish, unknown_text, wants_text, twice_text, apart_text, alone_text, operands_text, id_text, long_id_text, long_text, askpass_text}, Ids.{has_id_form, askpass_id}, Options.excluded}
+use Rattle.passphrase_words.specs.{Rules.{fits, is_apart, is_alone_or_free, are_counted}, Spelling.{Setting, Spells, takes, is_set, value_given, operands_of}, Texts.{texts_of, longest_line}, Words.asks_for_help}
 use Rattle.passphrase_words.specs.declared.task.TheConstants.{MAX_ID_LEN}
 
 -- an option that wants another value, or is given again behind it

@@ -1,11 +1,6 @@
 -- The requests of a task, as lines (GnuPG manual, "Agent GET_PASSPHRASE", "Agent CLEAR_PASSPHRASE", "Agent PRESET_PASSPHRASE").
-use Rattle.std.specs.Prelude.{ℕ, ◌+◌, ◌/◌, ◌%◌, nat_lt, Bool, true, false, List, [], ◌∷◌, ◌++◌, codes, decimal, unwrap_or, Option, Some, None, if◌then◌else◌}
-use Rattle.std.specs.List.{flat_map}
-use Rattle.passphrase_words.specs.Tasks.{TaskValue}
-use Rattle.passphrase_words.specs.declared.task.Act.{Act}
-use Rattle.passphrase_words.specs.declared.task.Act.TheVariants.{Give}
-use Rattle.passphrase_words.specs.declared.request.Request.{Request}
-use Rattle.passphrase_words.specs.declared.request.Request.TheVariants.{Look, Ask, Clear, Preset, Probe}
+use Rattle.std.specs.{Prelude.{ℕ, ◌+◌, ◌/◌, ◌%◌, nat_lt, Bool, true, false, List, [], ◌∷◌, ◌++◌, codes, decimal, unwrap_or, Option, Some, None, if◌then◌else◌}, List.flat_map}
+use Rattle.passphrase_words.specs.{Tasks.TaskValue, declared.{task.Act.{Act, TheVariants.Give}, request.Request.{Request, TheVariants.{Look, Ask, Clear, Preset, Probe}}}}
 
 -- a look-up without a prompt, one with it, an id that is forgotten, a passphrase that is stored for so many seconds, and a request
 -- that an agent which stores asks for a passphrase

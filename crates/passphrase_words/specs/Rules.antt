@@ -1,13 +1,6 @@
 -- When options and operands are a task's, and which. The rules are this project's own.
-use Rattle.std.specs.Prelude.{◌≡◌, ℕ, ◌&&◌, ◌||◌, not, Bool, true, false, List, [], ◌∷◌, codes, get_or, length, ◌==◌, Option, None, if◌then◌else◌}
-use Rattle.std.specs.List.{list_all}
-use Rattle.std.specs.Option.{option_and_then, option_map_or}
-use Rattle.passphrase_words.specs.Ids.{askpass_id}
-use Rattle.passphrase_words.specs.Options.{form_of, is_of_form, seconds_of, excluded}
-use Rattle.passphrase_words.specs.Spelling.{Setting, is_set, value_given}
-use Rattle.passphrase_words.specs.Tasks.{TaskValue}
-use Rattle.passphrase_words.specs.Texts.{Fits, texts_of}
-use Rattle.passphrase_words.specs.declared.task.Act.{Act}
+use Rattle.std.specs.{Prelude.{◌≡◌, ℕ, ◌&&◌, ◌||◌, not, Bool, true, false, List, [], ◌∷◌, codes, get_or, length, ◌==◌, Option, None, if◌then◌else◌}, List.list_all, Option.{option_and_then, option_map_or}}
+use Rattle.passphrase_words.specs.{Ids.askpass_id, Options.{form_of, is_of_form, seconds_of, excluded}, Spelling.{Setting, is_set, value_given}, Tasks.TaskValue, Texts.{Fits, texts_of}, declared.task.Act.Act}
 use Rattle.passphrase_words.specs.declared.task.Act.TheVariants.{Give, Cached, Forget, Store}
 
 -- the value has the form of its option

@@ -1,8 +1,6 @@
 -- How words spell options and operands (POSIX Utility Syntax Guidelines 9 and 10; GNU Coding Standards, long options): options come first,
 -- each as `--name`, `--name=VALUE` or `--name VALUE`, and `--` ends them.
-use Rattle.std.specs.Prelude.{◌≡◌, ℕ, ◌==◌, Bool, true, false, List, [], ◌∷◌, ◌++◌, codes, Option, Some, None, slice_index, if◌then◌else◌}
-use Rattle.std.specs.Option.{option_map, option_and_then}
-use Rattle.std.specs.Str.{bytes_eq}
+use Rattle.std.specs.{Prelude.{◌≡◌, ℕ, ◌==◌, Bool, true, false, List, [], ◌∷◌, ◌++◌, codes, Option, Some, None, slice_index, if◌then◌else◌}, Option.{option_map, option_and_then}, Str.bytes_eq}
 use Rattle.assuan_text.specs.Rows.{found}
 use Rattle.passphrase_words.specs.Options.{form_of, takes_value}
 

@@ -1,10 +1,6 @@
 -- What a command line asks for.
-use Rattle.std.specs.Prelude.{ℕ, List, Option}
-use Rattle.std.specs.Option.{option_map}
-use Rattle.passphrase_words.specs.declared.task.Act.{Act}
-use Rattle.passphrase_words.specs.declared.task.Task.{Task}
-use Rattle.passphrase_words.specs.declared.words.Wanted.{Wanted}
-use Rattle.passphrase_words.specs.declared.words.Wanted.TheVariants.{Help, Version}
+use Rattle.std.specs.{Prelude.{ℕ, List, Option}, Option.option_map}
+use Rattle.passphrase_words.specs.declared.{task.{Act.Act, Task.Task}, words.Wanted.{Wanted, TheVariants.{Help, Version}}}
 use Rattle.passphrase_words.specs.declared.words.Wanted.TheVariants as wanted
 
 -- the folder and the seconds of `--homedir` and `--timeout`, the id, what is to be done, and the words of the prompt and of the description

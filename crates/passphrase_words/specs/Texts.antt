@@ -1,10 +1,6 @@
 -- Texts as words of a request, in which the agent reads `+` as a blank and `%XX` as a byte (GnuPG manual, "Agent GET_PASSPHRASE").
-use Rattle.std.specs.Prelude.{◌≡◌, ◌≤◌, ◌==◌, ℕ, false, true, List, [], ◌∷◌, ◌++◌, length, codes, Option, Some, None, if◌then◌else◌}
-use Rattle.std.specs.List.{flat_map}
-use Rattle.std.specs.Str.{bytes_eq}
-use Rattle.assuan_text.specs.Blanks.{is_blank}
-use Rattle.assuan_text.specs.LineEnds.{has_lf}
-use Rattle.assuan_text.specs.declared.TheConstants.{MAX_LINE_LEN}
+use Rattle.std.specs.{Prelude.{◌≡◌, ◌≤◌, ◌==◌, ℕ, false, true, List, [], ◌∷◌, ◌++◌, length, codes, Option, Some, None, if◌then◌else◌}, List.flat_map, Str.bytes_eq}
+use Rattle.assuan_text.specs.{Blanks.is_blank, LineEnds.has_lf, declared.TheConstants.MAX_LINE_LEN}
 use Rattle.passphrase_words.specs.Ids.{is_id}
 
 -- a byte in a word: a blank or a tab is `+`, and `%`, `+` and the ends of lines are escaped

@@ -1,10 +1,6 @@
 -- What words of the command line ask for.
-use Rattle.std.specs.Prelude.{◌≡◌, ℕ, ◌||◌, Bool, true, List, [], ◌∷◌, codes, Some}
-use Rattle.std.specs.Str.{bytes_eq}
-use Rattle.passphrase_words.specs.Rules.{IsTask, askpass_task}
-use Rattle.passphrase_words.specs.Spelling.{Setting, Spells, operands_of}
-use Rattle.passphrase_words.specs.Tasks.{TaskValue, WantedValue, WantsHelp, WantsVersion, WantsTask}
-use Rattle.passphrase_words.specs.Texts.{Fits}
+use Rattle.std.specs.{Prelude.{◌≡◌, ℕ, ◌||◌, Bool, true, List, [], ◌∷◌, codes, Some}, Str.bytes_eq}
+use Rattle.passphrase_words.specs.{Rules.{IsTask, askpass_task}, Spelling.{Setting, Spells, operands_of}, Tasks.{TaskValue, WantedValue, WantsHelp, WantsVersion, WantsTask}, Texts.Fits}
 
 abbrev pub asks_for_help : List ℕ → Bool
 asks_for_help word = bytes_eq word (codes "--help") || bytes_eq word (codes "-h")

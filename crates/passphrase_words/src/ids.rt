@@ -1,15 +1,12 @@
 //! The names of passphrases: the id that a word is, and the one that an askpass makes of its text,
 //! by SHA-1. Pure. Begin with `id_of` and `askpass_id`; the form of an id is `is_id` (`specs/Ids`).
 
-ghost use Rattle.std.specs.Prelude.{◌≡◌, true, false, codes, ◌++◌, IfOk, IfErr, length};
-ghost use Rattle.std.specs.Prelude.{None, Some, MatchResult};
-ghost use Rattle.std.specs.List.{list_all};
-ghost use Rattle.hex.specs.Hex.{encode_lower};
+ghost use Rattle.std.specs.Prelude.{◌≡◌, true, false, codes, ◌++◌, IfOk, IfErr, length, None, Some};
+ghost use Rattle.std.specs.{Prelude.MatchResult, List.list_all};
+ghost use Rattle.{hex.specs.Hex.encode_lower, sha1.specs.Sha1.sha1};
 ghost use Rattle.passphrase_words.specs.Faults.{fault_text};
 ghost use Rattle.passphrase_words.specs.Ids.{is_from, is_id_byte, has_id_form, is_id, askpass_id};
-ghost use Rattle.passphrase_words.specs.Refusals.{id_fault};
-ghost use Rattle.passphrase_words.specs.Spelling.{begins_with_dash};
-ghost use Rattle.sha1.specs.Sha1.{sha1};
+ghost use Rattle.passphrase_words.specs.{Refusals.id_fault, Spelling.begins_with_dash};
 
 use crate::WordsFault;
 use crate::task::Id;

@@ -2,9 +2,7 @@
 //! (`specs/Words`).
 
 ghost use Rattle.std.specs.Prelude.{◌≡◌, ℕ, List};
-ghost use Rattle.passphrase_words.specs.Refusals.{Refuses};
-ghost use Rattle.passphrase_words.specs.Tasks.{WantedValue};
-ghost use Rattle.passphrase_words.specs.Words.{Reads};
+ghost use Rattle.passphrase_words.specs.{Refusals.Refuses, Tasks.WantedValue, Words.Reads};
 
 /// A law: the same words don't ask for two things.
 pub fn a_command_line_is_read_one_way()

@@ -1,8 +1,7 @@
 //! The options of `passphrase` by their names, and what each takes. Pure. Begin with the table
 //! `OPTIONS` and `form_of`; `specs/Options` defines the forms.
 
-ghost use Rattle.std.specs.Prelude.{◌≡◌, Some};
-ghost use Rattle.std.specs.Option.{option_map};
+ghost use Rattle.std.specs.{Prelude.{◌≡◌, Some}, Option.option_map};
 ghost use Rattle.assuan_text.specs.Rows.{found, rows_of};
 ghost use Rattle.passphrase_words.specs.Options.{form_of, takes_value, is_of_form, seconds_of};
 ghost use Rattle.passphrase_words.specs.Spelling.{takes};

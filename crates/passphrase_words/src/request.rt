@@ -2,13 +2,11 @@
 //! GET_PASSPHRASE, PRESET_PASSPHRASE, CLEAR_PASSPHRASE). Pure; digits of a secret are overwritten.
 //! Begin with `Task::line`; the lines are `line_of_request` (`specs/Requests`).
 
-ghost use Rattle.std.specs.Prelude.{◌≡◌, ◌≤◌, false, length, decimal};
-ghost use Rattle.std.specs.List.{flat_map};
-ghost use Rattle.assuan_line.specs.Lines.{IsLine};
-ghost use Rattle.assuan_text.specs.LineEnds.{has_lf};
+ghost use Rattle.std.specs.{Prelude.{◌≡◌, ◌≤◌, false, length, decimal}, List.flat_map};
+ghost use Rattle.{assuan_line.specs.Lines.IsLine, assuan_text.specs.LineEnds.has_lf};
 ghost use Rattle.passphrase_words.specs.Requests.{line_of_request, request_value, asking_options};
-ghost use Rattle.passphrase_words.specs.Requests.{get_line, seconds_word, hex_of, hex_digit, Clears, Presets, Probes};
-ghost use Rattle.passphrase_words.specs.Tasks.{task_value};
+ghost use Rattle.passphrase_words.specs.Requests.{get_line, seconds_word, hex_of, hex_digit};
+ghost use Rattle.passphrase_words.specs.{Requests.{Clears, Presets, Probes}, Tasks.task_value};
 
 use crate::{Act, Task};
 use arrayvec::ArrayVec;

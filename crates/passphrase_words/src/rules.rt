@@ -1,13 +1,11 @@
 //! Which options and operands go together, and the task that they make. Pure. Begin with
 //! `task_from`; which task it is says `IsTask` (`specs/Rules`).
 
-ghost use Rattle.std.specs.Prelude.{◌≡◌, ◌↔◌, true, false, get_or, [], length, map};
-ghost use Rattle.std.specs.Prelude.{string_bytes, is_some, IsOk, IfOk, IfErr, MatchOption};
-ghost use Rattle.std.specs.Prelude.{MatchResult, None, Some, IfSome};
-ghost use Rattle.std.specs.List.{list_all};
+ghost use Rattle.std.specs.Prelude.{◌≡◌, ◌↔◌, true, false, get_or, [], length, map, string_bytes};
+ghost use Rattle.std.specs.Prelude.{is_some, IsOk, IfOk, IfErr, MatchOption, MatchResult, None};
+ghost use Rattle.std.specs.{Prelude.{Some, IfSome}, List.list_all};
 ghost use Rattle.assuan_text.specs.Rows.{pairs_of};
-ghost use Rattle.passphrase_words.specs.Faults.{fault_text};
-ghost use Rattle.passphrase_words.specs.Parts.{settings};
+ghost use Rattle.passphrase_words.specs.{Faults.fault_text, Parts.settings};
 ghost use Rattle.passphrase_words.specs.Refusals.{task_fault, pairs_fault, alone_fault, alone_word};
 ghost use Rattle.passphrase_words.specs.Rules.{IsTask, is_apart, wants_id_alone, are_counted};
 ghost use Rattle.passphrase_words.specs.Rules.{is_alone_or_free, act_of};

@@ -3,13 +3,11 @@
 //! definitions are in `specs/Parts` and `specs/Spelling`.
 
 ghost use Rattle.std.specs.Prelude.{◌≡◌, ◌∷◌, [], ◌<◌, ◌↔◌, true, false, length, map, None};
-ghost use Rattle.std.specs.Prelude.{string_bytes};
-ghost use Rattle.std.specs.Prelude.{MatchOption, MatchResult, IsOk, Some};
-ghost use Rattle.std.specs.List.{before_first, after_first, position_or_len};
-ghost use Rattle.std.specs.Option.{option_map};
+ghost use Rattle.std.specs.Prelude.{string_bytes, MatchOption, MatchResult, IsOk, Some};
+ghost use Rattle.std.specs.{List.{before_first, after_first, position_or_len}, Option.option_map};
 ghost use Rattle.passphrase_words.specs.Faults.{fault_text, wish};
-ghost use Rattle.passphrase_words.specs.Parts.{setting_value, settings, rest_of, by_itself, is_equals};
-ghost use Rattle.passphrase_words.specs.Refusals.{setting_fault, settings_fault};
+ghost use Rattle.passphrase_words.specs.Parts.{setting_value, settings, rest_of, by_itself};
+ghost use Rattle.passphrase_words.specs.{Parts.is_equals, Refusals.{setting_fault, settings_fault}};
 ghost use Rattle.passphrase_words.specs.Rules.{fits, are_sound, seconds_given};
 ghost use Rattle.passphrase_words.specs.Spelling.{is_set, value_given, takes};
 

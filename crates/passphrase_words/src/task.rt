@@ -55,8 +55,7 @@ pub struct Task<'a> {
 
 impl Task<'_> {
     ghost use Rattle.std.specs.Prelude.{true};
-    ghost use Rattle.passphrase_words.specs.Ids.{is_id};
-    ghost use Rattle.passphrase_words.specs.Tasks.{task_value};
+    ghost use Rattle.passphrase_words.specs.{Ids.is_id, Tasks.task_value};
 
     /// The bytes of the id, at most 50.
     pub fn id(&self) -> &[u8]

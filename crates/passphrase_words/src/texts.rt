@@ -3,10 +3,8 @@
 //! `specs/Texts` defines.
 
 ghost use Rattle.std.specs.Prelude.{◌≡◌, ◌≤◌, ◌<◌, ◌∷◌, ◌++◌, codes, decimal, length, IfOk, IfErr};
-ghost use Rattle.std.specs.List.{flat_map};
-ghost use Rattle.std.specs.Option.{option_map};
-ghost use Rattle.passphrase_words.specs.Faults.{counted, fault_text, long_text};
-ghost use Rattle.passphrase_words.specs.Parts.{HasPushed};
+ghost use Rattle.std.specs.{List.flat_map, Option.option_map};
+ghost use Rattle.passphrase_words.specs.{Faults.{counted, fault_text, long_text}, Parts.HasPushed};
 ghost use Rattle.passphrase_words.specs.Texts.{escape_of, word_of, prompt_word, description_or};
 ghost use Rattle.passphrase_words.specs.Texts.{texts_of, longest_line};
 

@@ -1,6 +1,5 @@
 use Rattle.std.proofs.Common.{refl}
-use Rattle.agent_origin.specs.SessionExchanges.{kept_at_start}
-use Rattle.agent_origin.proofs.OuterPrompts.{session_unnamed}
+use Rattle.agent_origin.{specs.SessionExchanges.kept_at_start, proofs.OuterPrompts.session_unnamed}
 use Rattle.agent_serve.proofs.laws.a_restricted_session_names_no_terminal.Goals as goal
 
 pub returns : goal.returns

@@ -1,9 +1,6 @@
-use Rattle.agent_ports.specs.Readings.{Readings}
-use Rattle.agent_serve.proofs.PromptedLines.{door_prompted}
-use Rattle.agent_serve.proofs.PromptedSessions.{session_prompted, have_prompts}
-use Rattle.agent_origin.specs.DoorSessions.{DoorExchange}
-use Rattle.counted_lock.specs.Turns.{CountedTurn}
 use Rattle.std.proofs.Common.{refl}
+use Rattle.{agent_ports.specs.Readings.Readings, agent_origin.specs.DoorSessions.DoorExchange, counted_lock.specs.Turns.CountedTurn}
+use Rattle.agent_serve.proofs.{PromptedLines.door_prompted, PromptedSessions.{session_prompted, have_prompts}}
 use Rattle.agent_serve.proofs.laws.prompts_of_a_daemons_session_have_their_children.Goals as goal
 
 pub returns : goal.returns

@@ -1,8 +1,5 @@
-use Rattle.agent_commands.specs.Requests.{request_of}
-use Rattle.agent_origin.specs.DoorSessions.{DoorExchange}
-use Rattle.agent_origin.specs.SessionExchanges.{SessionExchange}
-use Rattle.agent_serve.proofs.PromptedLines.{request_prompted, door_prompted}
-use Rattle.agent_serve.proofs.PromptedSessions.{session_prompted}
+use Rattle.{agent_commands.specs.Requests.request_of, agent_origin.specs.{DoorSessions.DoorExchange, SessionExchanges.SessionExchange}}
+use Rattle.agent_serve.proofs.{PromptedLines.{request_prompted, door_prompted}, PromptedSessions.session_prompted}
 use Rattle.agent_serve.proofs.laws.the_calls_of_a_session_are_prompts.Goals as goal
 
 pub returns-clause-session : goal.returns-clause-session

@@ -1,7 +1,5 @@
-use Rattle.std.proofs.Common.{arith, ap}
-use Rattle.std.specs.Option.{option_copied}
-use Rattle.agent_serve.proofs.Pairs.{paired_of}
-use Rattle.agent_serve.proofs.Works.{stay_of, without_extra, with_extra}
+use Rattle.std.{proofs.Common.{arith, ap}, specs.Option.option_copied}
+use Rattle.agent_serve.proofs.{Pairs.paired_of, Works.{stay_of, without_extra, with_extra}}
 use Rattle.agent_serve.proofs.workers.run_workers.Goals as goal
 
 pub run_each-requires-after_bounds : goal.run_each-requires-after_bounds

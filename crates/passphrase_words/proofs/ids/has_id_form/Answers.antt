@@ -1,7 +1,5 @@
-use Rattle.std.proofs.Common.{sym, ap, ◌∙◌}
-use Rattle.std.specs.List.{list_all}
-use Rattle.passphrase_words.specs.Ids.{is_id_byte}
-use Rattle.passphrase_words.proofs.Sound.{id_form}
+use Rattle.std.{proofs.Common.{sym, ap, ◌∙◌}, specs.List.list_all}
+use Rattle.passphrase_words.{specs.Ids.is_id_byte, proofs.Sound.id_form}
 use Rattle.passphrase_words.proofs.ids.has_id_form.Goals as goal
 
 pub returns : goal.returns

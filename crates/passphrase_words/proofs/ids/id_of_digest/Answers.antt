@@ -1,8 +1,6 @@
-use Rattle.std.proofs.Common.{◌≡◌, ◌++◌, rules, sym, subst, true, ℕ, List}
-use Rattle.std.specs.Prelude.{codes}
+use Rattle.std.{proofs.Common.{◌≡◌, ◌++◌, rules, sym, subst, true, ℕ, List}, specs.Prelude.codes}
 use Rattle.hex.specs.Hex.{encode_lower}
-use Rattle.passphrase_words.specs.Ids.{is_id}
-use Rattle.passphrase_words.proofs.LineParts.{askpass_is_id}
+use Rattle.passphrase_words.{specs.Ids.is_id, proofs.LineParts.askpass_is_id}
 use Rattle.passphrase_words.proofs.ids.id_of_digest.Goals as goal
 
 pub returns-clause-id : goal.returns-clause-id

@@ -1,6 +1,4 @@
-use Rattle.std.proofs.Common.{◌≡◌, ap, ◌∙◌, arith, rules}
-use Rattle.std.specs.Prelude.{decimal}
-use Rattle.std.proofs.lemmas.Grind.{common_steps}
+use Rattle.std.{proofs.{Common.{◌≡◌, ap, ◌∙◌, arith, rules}, lemmas.Grind.common_steps}, specs.Prelude.decimal}
 use Rattle.assuan_text.specs.LineEnds.{has_lf}
 use Rattle.passphrase_words.proofs.LineParts.{decimal_no_lf}
 use Rattle.passphrase_words.proofs.request.decimal.Goals as goal

@@ -1,8 +1,5 @@
-use Rattle.std.proofs.Common.{◌≡◌, ◌+◌, ◌<◌, ◌≤◌, ℕ, List, [], ◌∷◌, length, take, ap, arith, lit<, length-append}
-use Rattle.std.specs.List.{flat_map}
-use Rattle.std.proofs.lemmas.List.{length-take-le}
-use Rattle.passphrase_words.specs.Requests.{hex_of}
-use Rattle.passphrase_words.proofs.LineParts.{hex_length}
+use Rattle.std.{proofs.{Common.{◌≡◌, ◌+◌, ◌<◌, ◌≤◌, ℕ, List, [], ◌∷◌, length, take, ap, arith, lit<, length-append}, lemmas.List.length-take-le}, specs.List.flat_map}
+use Rattle.passphrase_words.{specs.Requests.hex_of, proofs.LineParts.hex_length}
 use Rattle.passphrase_words.proofs.request.hex_of.Goals as goal
 
 -- there is room for two digits more

@@ -1,5 +1,4 @@
-use Rattle.std.proofs.Common.{◌≡◌, take}
-use Rattle.std.specs.List.{flat_map}
+use Rattle.std.{proofs.Common.{◌≡◌, take}, specs.List.flat_map}
 use Rattle.passphrase_words.specs.Requests.{hex_of}
 use Rattle.passphrase_words.proofs.request.hex_of.Given as goal
 

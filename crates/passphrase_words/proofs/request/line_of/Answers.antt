@@ -1,5 +1,4 @@
-use Rattle.std.proofs.Common.{List, ℕ, [], length, ap, arith}
-use Rattle.std.proofs.lemmas.List.Folds.{length-flat_map-take}
+use Rattle.std.proofs.{Common.{List, ℕ, [], length, ap, arith}, lemmas.List.Folds.length-flat_map-take}
 use Rattle.passphrase_words.proofs.request.line_of.Goals as goal
 
 pub unwrap-requires : goal.unwrap-requires

@@ -1,9 +1,6 @@
-use Rattle.std.proofs.Common.{◌≡◌, drop, map, string_bytes}
-use Rattle.std.specs.List.{list_all}
+use Rattle.std.{proofs.Common.{◌≡◌, drop, map, string_bytes}, specs.List.list_all}
 use Rattle.assuan_text.specs.Rows.{pairs_of}
-use Rattle.passphrase_words.specs.Parts.{settings}
-use Rattle.passphrase_words.specs.Rules.{is_apart}
-use Rattle.passphrase_words.specs.Refusals.{pairs_fault}
+use Rattle.passphrase_words.specs.{Parts.settings, Rules.is_apart, Refusals.pairs_fault}
 use Rattle.passphrase_words.proofs.rules.check_pairs.Given as goal
 
 -- the pairs that are left decide

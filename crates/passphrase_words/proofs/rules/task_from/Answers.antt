@@ -1,10 +1,5 @@
-use Rattle.std.proofs.Common.{map, string_bytes, sym, ap, rules, arith}
-use Rattle.std.proofs.lemmas.Grind.{common_steps}
-use Rattle.passphrase_words.specs.Faults.{fault_text}
-use Rattle.passphrase_words.specs.Parts.{settings}
-use Rattle.passphrase_words.proofs.Sound.{pairs_first, id_first}
-use Rattle.std.specs.Option.{option_map}
-use Rattle.passphrase_words.proofs.LineParts.{fits_from}
+use Rattle.std.{proofs.{Common.{map, string_bytes, sym, ap, rules, arith}, lemmas.Grind.common_steps}, specs.Option.option_map}
+use Rattle.passphrase_words.{specs.{Faults.fault_text, Parts.settings}, proofs.{Sound.{pairs_first, id_first}, LineParts.fits_from}}
 use Rattle.passphrase_words.proofs.rules.task_from.Goals as goal
 
 pub invariant_of-result : goal.invariant_of-result

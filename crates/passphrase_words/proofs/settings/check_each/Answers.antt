@@ -1,10 +1,5 @@
-use Rattle.std.proofs.Common.{◌≡◌, ◌∷◌, ℕ, List, Option, map, string_bytes, sym, ap, ◌∙◌, arith, rules}
-use Rattle.std.proofs.lemmas.Grind.{common_steps}
-use Rattle.std.specs.Option.{option_or}
-use Rattle.passphrase_words.specs.Parts.{setting_value, settings}
-use Rattle.passphrase_words.specs.Rules.{are_sound}
-use Rattle.passphrase_words.specs.Refusals.{settings_fault}
-use Rattle.passphrase_words.proofs.Sound.{sound_head}
+use Rattle.std.{proofs.{Common.{◌≡◌, ◌∷◌, ℕ, List, Option, map, string_bytes, sym, ap, ◌∙◌, arith, rules}, lemmas.Grind.common_steps}, specs.Option.option_or}
+use Rattle.passphrase_words.{specs.{Parts.{setting_value, settings}, Rules.are_sound, Refusals.settings_fault}, proofs.Sound.sound_head}
 use Rattle.passphrase_words.proofs.settings.check_each.Goals as goal
 
 pub returns-in-Err-clause-sound : goal.returns-in-Err-clause-sound

@@ -1,7 +1,5 @@
 use Rattle.std.proofs.Common.{◌≡◌, length, map, string_bytes}
-use Rattle.passphrase_words.specs.Parts.{settings}
-use Rattle.passphrase_words.specs.Refusals.{settings_fault}
-use Rattle.passphrase_words.specs.Rules.{are_sound}
+use Rattle.passphrase_words.specs.{Parts.settings, Refusals.settings_fault, Rules.are_sound}
 use Rattle.passphrase_words.proofs.settings.check_each.Given as goal
 
 -- the words that are left decide

@@ -1,6 +1,5 @@
 use Rattle.std.proofs.Common.{◌≡◌, length, map, string_bytes}
-use Rattle.passphrase_words.specs.Parts.{settings}
-use Rattle.passphrase_words.specs.Spelling.{is_set}
+use Rattle.passphrase_words.specs.{Parts.settings, Spelling.is_set}
 use Rattle.passphrase_words.proofs.settings.is_set.Given as goal
 
 -- the words that are left decide

@@ -1,5 +1,4 @@
-use Rattle.std.proofs.Common.{lit<}
-use Rattle.std.proofs.lemmas.Str.Pattern.{split_once_first}
+use Rattle.std.proofs.{Common.lit<, lemmas.Str.Pattern.split_once_first}
 use Rattle.passphrase_words.proofs.settings.split_at_equals.Goals as goal
 
 pub returns : goal.returns

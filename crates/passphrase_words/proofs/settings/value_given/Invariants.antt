@@ -1,6 +1,5 @@
 use Rattle.std.proofs.Common.{◌≡◌, length, map, string_bytes}
-use Rattle.passphrase_words.specs.Parts.{settings}
-use Rattle.passphrase_words.specs.Spelling.{value_given}
+use Rattle.passphrase_words.specs.{Parts.settings, Spelling.value_given}
 use Rattle.passphrase_words.proofs.settings.value_given.Given as goal
 
 -- the words that are left decide

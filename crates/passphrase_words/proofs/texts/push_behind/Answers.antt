@@ -1,6 +1,5 @@
 use Rattle.std.specs.Prelude.{codes}
-use Rattle.passphrase_words.specs.Texts.{word_of, description_or}
-use Rattle.passphrase_words.proofs.Pushing.{pushed_both, first_is_full}
+use Rattle.passphrase_words.{specs.Texts.{word_of, description_or}, proofs.Pushing.{pushed_both, first_is_full}}
 use Rattle.passphrase_words.proofs.texts.push_behind.Goals as goal
 
 pub returns-in-Ok : goal.returns-in-Ok

@@ -1,7 +1,5 @@
-use Rattle.std.specs.Prelude.{codes}
-use Rattle.std.specs.List.{flat_map}
-use Rattle.passphrase_words.specs.Texts.{escape_of}
-use Rattle.passphrase_words.proofs.Pushing.{pushed_both, first_is_full}
+use Rattle.std.specs.{Prelude.codes, List.flat_map}
+use Rattle.passphrase_words.{specs.Texts.escape_of, proofs.Pushing.{pushed_both, first_is_full}}
 use Rattle.passphrase_words.proofs.texts.push_default.Goals as goal
 
 pub returns-in-Ok : goal.returns-in-Ok

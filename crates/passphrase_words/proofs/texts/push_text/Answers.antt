@@ -1,5 +1,4 @@
-use Rattle.passphrase_words.specs.Texts.{escape_of}
-use Rattle.passphrase_words.proofs.Pushing.{some_is_full}
+use Rattle.passphrase_words.{specs.Texts.escape_of, proofs.Pushing.some_is_full}
 use Rattle.passphrase_words.proofs.texts.push_text.Goals as goal
 
 pub returns-in-Err : goal.returns-in-Err

@@ -1,7 +1,5 @@
-use Rattle.std.proofs.Common.{◌∷◌}
-use Rattle.std.specs.Option.{option_map}
-use Rattle.passphrase_words.specs.Texts.{word_of, prompt_word, description_or}
-use Rattle.passphrase_words.proofs.Pushing.{pushed_both, first_is_full}
+use Rattle.std.{proofs.Common.◌∷◌, specs.Option.option_map}
+use Rattle.passphrase_words.{specs.Texts.{word_of, prompt_word, description_or}, proofs.Pushing.{pushed_both, first_is_full}}
 use Rattle.passphrase_words.proofs.texts.push_texts.Goals as goal
 
 pub returns-in-Ok : goal.returns-in-Ok

@@ -1,7 +1,5 @@
-use Rattle.std.proofs.Common.{◌≡◌, take, length}
-use Rattle.std.specs.List.{flat_map}
-use Rattle.passphrase_words.specs.Faults.{counted}
-use Rattle.passphrase_words.specs.Texts.{escape_of}
+use Rattle.std.{proofs.Common.{◌≡◌, take, length}, specs.List.flat_map}
+use Rattle.passphrase_words.specs.{Faults.counted, Texts.escape_of}
 use Rattle.passphrase_words.proofs.texts.text_len.Given as goal
 
 -- how many so far

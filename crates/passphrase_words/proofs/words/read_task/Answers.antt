@@ -1,9 +1,5 @@
 use Rattle.std.proofs.Common.{map, string_bytes, sym, ap, subst, ◌∙◌}
-use Rattle.passphrase_words.specs.Faults.{fault_text}
-use Rattle.passphrase_words.specs.Refusals.{Refuses}
-use Rattle.passphrase_words.specs.Spelling.{operands_of}
-use Rattle.passphrase_words.specs.Tasks.{task_value}
-use Rattle.passphrase_words.proofs.Reading.{reads_task, no_such_task, no_operands, refuses_word, refuses_task}
+use Rattle.passphrase_words.{specs.{Faults.fault_text, Refusals.Refuses, Spelling.operands_of, Tasks.task_value}, proofs.Reading.{reads_task, no_such_task, no_operands, refuses_word, refuses_task}}
 use Rattle.passphrase_words.proofs.words.read_task.Goals as goal
 
 pub returns-in-Ok-task_from-clause-read : goal.returns-in-Ok-task_from-clause-read

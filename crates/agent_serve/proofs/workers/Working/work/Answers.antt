@@ -1,7 +1,5 @@
-use Rattle.std.proofs.Common.{refl, sym, arith, ◌∙◌}
-use Rattle.std.specs.Option.{option_copied}
-use Rattle.agent_serve.specs.Working.{none, one_more, numbers_spent, post_at}
-use Rattle.agent_serve.proofs.Works.{next_stays, ends_without_link}
+use Rattle.std.{proofs.Common.{refl, sym, arith, ◌∙◌}, specs.Option.option_copied}
+use Rattle.agent_serve.{specs.Working.{none, one_more, numbers_spent, post_at}, proofs.Works.{next_stays, ends_without_link}}
 use Rattle.agent_serve.proofs.workers.Working.work.Goals as goal
 
 pub loop-init : goal.loop-init

@@ -1,5 +1,4 @@
-use Rattle.std.proofs.Common.{◌≡◌, ◌≤◌}
-use Rattle.std.specs.Option.{option_copied}
+use Rattle.std.{proofs.Common.{◌≡◌, ◌≤◌}, specs.Option.option_copied}
 use Rattle.agent_serve.specs.Working.{ServesLinks, post_at}
 use Rattle.agent_serve.proofs.workers.Working.work.Given as goal
 

@@ -1,5 +1,4 @@
-use Rattle.std.proofs.Common.{ℕ, List, [], ◌∷◌, length, refl, ap, ◌∙◌, arith}
-use Rattle.std.specs.Prelude.{codes}
+use Rattle.std.{proofs.Common.{ℕ, List, [], ◌∷◌, length, refl, ap, ◌∙◌, arith}, specs.Prelude.codes}
 use Rattle.assuan_text.specs.LineEnds.{has_lf}
 use Rattle.passphrase_words.proofs.LineParts.{parts_line, id_no_lf, id_short, hex_no_lf}
 use Rattle.passphrase_words.proofs.task.Task.preset.Goals as goal
