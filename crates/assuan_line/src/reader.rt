@@ -182,33 +182,33 @@ fn take_line<S: Source>(ahead: &mut Ahead, left: &mut u64, source: &mut S) -> To
             Took::End => {}
             took => return took,
         }
-        if let Err(stop) = read_ahead(ahead, left, source) {
-            return stop.into();
+        if let Err(took) = read_ahead(ahead, left, source) {
+            return took;
         }
     }
 }
 
 /// Reads once, within the budget.
-fn read_ahead<S: Source>(ahead: &mut Ahead, left: &mut u64, source: &mut S) -> Result<(), Stop>
+fn read_ahead<S: Source>(ahead: &mut Ahead, left: &mut u64, source: &mut S) -> Result<(), Took>
     requires undecided { next_of (bytes_ahead ahead.old) ≡ Took.End }
     requires within { IsWithin ahead.old }
     ensures read { ReadAhead (reader_at ahead.old left.old) (S.input source.old)
         (reader_at ahead.new left.new) (S.input source.new) }
     ensures progress { OnOk result (left.new < left.old) }
-    ensures stop { IfErr result (λ stop. Decides (reader_at ahead.new left.new) (S.input source.old)
-        (took_of stop) (reader_at ahead.new left.new) (S.input source.new)) }
+    ensures stop { IfErr result (λ took. Decides (reader_at ahead.new left.new) (S.input source.old)
+        took (reader_at ahead.new left.new) (S.input source.new)) }
     ensures beside { S.beside_input source.new ≡ S.beside_input source.old }
     ensures within { IsWithin ahead.new }
 {
     if *left == 0 {
-        return Err(Stop::Spent);
+        return Err(Took::Spent);
     }
     match ahead.read(*left, source) {
         Got::Bytes(count) => {
             *left -= count as u64;
             Ok(())
         }
-        Got::End => Err(Stop::End),
-        Got::Failed => Err(Stop::ReadFault),
+        Got::End => Err(Took::End),
+        Got::Failed => Err(Took::ReadFault),
     }
 }

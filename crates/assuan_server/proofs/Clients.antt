@@ -1,38 +1,16 @@
 -- A connection as that of a session's client: what is done with it, and what its client has said.
-use Rattle.std.proofs.Common.{◌≡◌, ◌≢◌, ℕ, true, List, [], ◌++◌, ◌⊎◌, inl, inr, Option, None, Some, Result, Ok, Err, refl, ap, sym, ◌∙◌, subst, arith}
-use Rattle.std.specs.Prelude.{codes, decimal}
-use Rattle.std.specs.Option.{option_map}
-use Rattle.agent_ports.specs.Counts.{Rose}
-use Rattle.agent_ports.specs.Sides.{Side, WhereKnown}
-use Rattle.agent_ports.specs.declared.link.WriteFault.{WriteFault}
-use Rattle.assuan_line.specs.Lines.{IsLine}
-use Rattle.assuan_line.specs.Next.{Reader, WereNeeded, held}
-use Rattle.assuan_line.specs.declared.reader.Took.{Took}
+use Rattle.std.{proofs.Common.{◌≡◌, ℕ, true, List, [], ◌++◌, ◌⊎◌, inl, inr, Option, None, Some, Result, Ok, Err, refl, ap, sym, ◌∙◌, subst, arith}, specs.{Prelude.{codes, decimal}, Option.option_map}}
+use Rattle.{agent_ports.specs.{Counts.Rose, Sides.{Side, WhereKnown}, declared.link.WriteFault.WriteFault}, assuan_line.specs.{Lines.IsLine, Next.{Reader, WereNeeded, held}, declared.reader.Took.Took}}
+use Rattle.{assuan_line.proofs.ReadingOn.{fewer_are_held, fault_count_rose}, assuan_text.specs.Forms.is_ignored, cache_policy.specs.declared.secret.TheConstants.MAX_SECRET_LEN}
+use Rattle.session_client.specs.{Asking.{Asked, NotAsked, LeavesInput, HasSaid, SaysLine, HasInquired, LeftBy, Inquires, TellsClient, AsksClient, without_data, is_unread}, Lines.TakesNeeded, declared.client.TheConstants.MAX_NOTE_LEN}
+use Rattle.session_client.{specs.declared.unheard.Unheard.Unheard, proofs.Received.HasReceived}
+use Rattle.assuan_server.specs.{Asking.{Gather, Inquire, IsNotAsked, Asks, not_written}, Clients.{HasSupply, connection_views, is_read_fault, outcome_says, asked, unsaid, Wishes}, Connections.{Connection, IsOpen}}
+use Rattle.assuan_server.specs.{Inquiries.{Outcome, Inquiry as Comes, IsData, Answers, AnswersDropped, drop_outcome, secret_outcome, ended_of, inquire_text, is_skipped}, Reading.{Supply, ReadsRequest, ReadsInquiry, IsSupply, unread}}
+use Rattle.assuan_server.{specs.{Requests.NextRequest, Written.{WritesText, WritesLine}}, proofs.{NoteLines.note_text, Reading.{read_known, reads_past, here_going}}}
 use Rattle.assuan_line.specs.declared.reader.Took.TheVariants as took
-use Rattle.assuan_line.proofs.ReadingOn.{fewer_are_held, fault_count_rose}
-use Rattle.assuan_text.specs.Forms.{is_ignored}
-use Rattle.cache_policy.specs.declared.secret.TheConstants.{MAX_SECRET_LEN}
-use Rattle.session_client.specs.Asking.{Asked, NotAsked, LeavesInput, HasSaid, SaysLine, HasInquired, LeftBy, Inquires, TellsClient, AsksClient, without_data, is_unread}
-use Rattle.session_client.specs.Lines.{TakesNeeded}
-use Rattle.session_client.proofs.Received.{HasReceived}
-use Rattle.session_client.specs.declared.client.TheConstants.{MAX_NOTE_LEN}
 use Rattle.session_client.specs.declared.unheard.Gone.TheVariants as gone
-use Rattle.session_client.specs.declared.unheard.Unheard.{Unheard}
 use Rattle.session_client.specs.declared.unheard.Unheard.TheVariants as unheard
-use Rattle.assuan_server.specs.Asking.{Gather, Inquire, IsNotAsked}
-use Rattle.assuan_server.specs.Clients.{HasSupply, connection_views, is_read_fault, outcome_says, secret_said, drop_said, asked, unsaid, Wishes}
-use Rattle.assuan_server.specs.Connections.{Connection, IsOpen}
 use Rattle.assuan_server.specs.Inquiries as outcome
-use Rattle.assuan_server.specs.Inquiries.{Outcome, Inquiry as Comes, IsData, Answers, AnswersDropped, outcome_of_dropped, outcome_of_secret, ended_of, inquire_text, is_skipped}
-use Rattle.assuan_server.specs.Reading.{Supply, ReadsRequest, ReadsInquiry, IsSupply, unread}
-use Rattle.assuan_server.specs.Requests.{NextRequest}
-use Rattle.assuan_server.specs.Written.{WritesText, WritesLine}
-use Rattle.assuan_server.specs.declared.inquiry.Dropped.{Dropped}
-use Rattle.assuan_server.specs.declared.inquiry.Dropped.TheVariants as dropped
-use Rattle.assuan_server.specs.declared.inquiry.InquiredSecret.{InquiredSecret}
-use Rattle.assuan_server.specs.declared.inquiry.InquiredSecret.TheVariants as inquired
-use Rattle.assuan_server.proofs.NoteLines.{note_text}
-use Rattle.assuan_server.proofs.Reading.{read_known, reads_past, here_going}
 
 -- a connection that was left alone but for its output has the same bytes to come
 module _ (start now : Connection) (input : now.input ≡ start.input) (reader : now.reader ≡ start.reader) (link : now.link ≡ start.link) where
@@ -214,16 +192,6 @@ module _ (word params : List ℕ) (limit : ℕ) (start now : Connection) where
         },
       )
 
--- the client was told of a prompt
-pub record HearsNote (pid : ℕ) (before : Connection) (what : Dropped) (after : Connection) : Type 0 where
-  pub inquiry : what ≢ dropped.WriteFault → Inquire MAX_NOTE_LEN (note_text pid) (AnswersDropped (outcome_of_dropped what)) before after
-  pub cut : what ≡ dropped.WriteFault → IsNotAsked (note_text pid) before after
-
--- it was asked for a passphrase
-pub record HearsWish (word : List ℕ) (before : Connection) (what : InquiredSecret) (after : Connection) : Type 0 where
-  pub inquiry : what ≢ inquired.WriteFault → Inquire MAX_SECRET_LEN (inquire_text word []) (Answers (outcome_of_secret what)) before after
-  pub cut : what ≡ inquired.WriteFault → IsNotAsked (inquire_text word []) before after
-
 -- it was told of a prompt, as its session sees that
 module _ {pid : ℕ} {start now : Connection} (going : IsOpen start) where
   told_as : (what : Outcome) → Inquire MAX_NOTE_LEN (note_text pid) (λ outcome. what ≡ outcome) start now
@@ -236,21 +204,21 @@ module _ {pid : ℕ} {start now : Connection} (going : IsOpen start) where
         inquires = record { done = inquires.done; fewer = inquires.fewer; left = left_dropped start now (outcome_says what) inquires.left };
       }
 
-  pub told : (what : Dropped) → HearsNote pid start what now → TellsClient connection_views pid (drop_said what) start now
-  told dropped.Done hears =
-      let gave = inquired_data (codes "PINENTRY_LAUNCHED") (decimal pid) MAX_NOTE_LEN start now going (hears.inquiry (λ e. cc e)) in
+  pub told : (result : Result (Unit {0}) Unheard) → Asks (Err not_written) MAX_NOTE_LEN (note_text pid) result (AnswersDropped (drop_outcome result)) start now → TellsClient connection_views pid result start now
+  told (Ok noted) asks =
+      let gave = inquired_data (codes "PINENTRY_LAUNCHED") (decimal pid) MAX_NOTE_LEN start now going (asks.inquiry (λ e. cc e)) in
       record { inquired = Asked (outcome.Data gave.0); result_is = refl; inquires = gave.1 }
-  told dropped.Cancelled hears = told_as outcome.Cancelled (hears.inquiry (λ e. cc e))
-  told dropped.TooMuch hears = told_as outcome.TooMuch (hears.inquiry (λ e. cc e))
-  told dropped.Unexpected hears = told_as outcome.Unexpected (hears.inquiry (λ e. cc e))
-  told dropped.Ended hears = told_as outcome.Ended (hears.inquiry (λ e. cc e))
-  told dropped.TooLong hears = told_as outcome.TooLong (hears.inquiry (λ e. cc e))
-  told dropped.Spent hears = told_as outcome.Spent (hears.inquiry (λ e. cc e))
-  told dropped.ReadFault hears = told_as outcome.ReadFault (hears.inquiry (λ e. cc e))
-  told dropped.WriteFault hears = record {
+  told (Err unheard.Cancelled) asks = told_as outcome.Cancelled (asks.inquiry (λ e. cc e))
+  told (Err unheard.TooMuch) asks = told_as outcome.TooMuch (asks.inquiry (λ e. cc e))
+  told (Err unheard.Unexpected) asks = told_as outcome.Unexpected (asks.inquiry (λ e. cc e))
+  told (Err (unheard.Gone gone.Ended)) asks = told_as outcome.Ended (asks.inquiry (λ e. cc e))
+  told (Err (unheard.Gone gone.TooLong)) asks = told_as outcome.TooLong (asks.inquiry (λ e. cc e))
+  told (Err (unheard.Gone gone.Spent)) asks = told_as outcome.Spent (asks.inquiry (λ e. cc e))
+  told (Err (unheard.Gone gone.ReadFault)) asks = told_as outcome.ReadFault (asks.inquiry (λ e. cc e))
+  told (Err (unheard.Gone gone.WriteFault)) asks = record {
     inquired = _;
     result_is = refl;
-    inquires = not_inquired (codes "PINENTRY_LAUNCHED") (decimal pid) MAX_NOTE_LEN start now (hears.cut refl);
+    inquires = not_inquired (codes "PINENTRY_LAUNCHED") (decimal pid) MAX_NOTE_LEN start now (asks.cut refl);
   }
 
 -- and it was asked for a passphrase
@@ -259,19 +227,20 @@ module _ {word : List ℕ} {start now : Connection} (going : IsOpen start) where
       → AsksClient connection_views word MAX_SECRET_LEN (outcome_says what) start now
   wished_as what inquire = record { inquired = Asked what; result_is = refl; inquires = inquiry_is_done word [] MAX_SECRET_LEN start now going what inquire }
 
-  pub wished : (what : InquiredSecret) → HearsWish word start what now → AsksClient connection_views word MAX_SECRET_LEN (secret_said what) start now
-  wished (inquired.Secret secret) hears = wished_as (outcome.Data secret) (hears.inquiry (λ e. cc e))
-  wished inquired.Cancelled hears = wished_as outcome.Cancelled (hears.inquiry (λ e. cc e))
-  wished inquired.TooMuch hears = wished_as outcome.TooMuch (hears.inquiry (λ e. cc e))
-  wished inquired.Unexpected hears = wished_as outcome.Unexpected (hears.inquiry (λ e. cc e))
-  wished inquired.Ended hears = wished_as outcome.Ended (hears.inquiry (λ e. cc e))
-  wished inquired.TooLong hears = wished_as outcome.TooLong (hears.inquiry (λ e. cc e))
-  wished inquired.Spent hears = wished_as outcome.Spent (hears.inquiry (λ e. cc e))
-  wished inquired.ReadFault hears = wished_as outcome.ReadFault (hears.inquiry (λ e. cc e))
-  wished inquired.WriteFault hears = record { inquired = _; result_is = refl; inquires = not_inquired word [] MAX_SECRET_LEN start now (hears.cut refl) }
+  pub wished : (result : Result (List ℕ) Unheard) → Asks (Err not_written) MAX_SECRET_LEN (inquire_text word []) result (Answers (secret_outcome result)) start now
+      → AsksClient connection_views word MAX_SECRET_LEN result start now
+  wished (Ok secret) asks = wished_as (outcome.Data secret) (asks.inquiry (λ e. cc e))
+  wished (Err unheard.Cancelled) asks = wished_as outcome.Cancelled (asks.inquiry (λ e. cc e))
+  wished (Err unheard.TooMuch) asks = wished_as outcome.TooMuch (asks.inquiry (λ e. cc e))
+  wished (Err unheard.Unexpected) asks = wished_as outcome.Unexpected (asks.inquiry (λ e. cc e))
+  wished (Err (unheard.Gone gone.Ended)) asks = wished_as outcome.Ended (asks.inquiry (λ e. cc e))
+  wished (Err (unheard.Gone gone.TooLong)) asks = wished_as outcome.TooLong (asks.inquiry (λ e. cc e))
+  wished (Err (unheard.Gone gone.Spent)) asks = wished_as outcome.Spent (asks.inquiry (λ e. cc e))
+  wished (Err (unheard.Gone gone.ReadFault)) asks = wished_as outcome.ReadFault (asks.inquiry (λ e. cc e))
+  wished (Err (unheard.Gone gone.WriteFault)) asks = record { inquired = _; result_is = refl; inquires = not_inquired word [] MAX_SECRET_LEN start now (asks.cut refl) }
 
-  pub wishes : (what : InquiredSecret) → HearsWish word start what now → Wishes start word (secret_said what) now
-  wishes what hears = let asks = wished what hears in record { wished = asked asks; left = asks.inquires.left }
+  pub wishes : (result : Result (List ℕ) Unheard) → Asks (Err not_written) MAX_SECRET_LEN (inquire_text word []) result (Answers (secret_outcome result)) start now → Wishes start word result now
+  wishes result asks = let is = wished result asks in record { wished = asked is; left = is.inquires.left }
 
 pub wishes_unsaid : {word : List ℕ} {start : Connection} → IsOpen start → ¬ IsLine (inquire_text word []) → Wishes start word (Err unheard.Unexpected) start
 wishes_unsaid going unfit = record { wished = unsaid unfit; left = going }

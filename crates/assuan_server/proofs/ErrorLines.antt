@@ -1,13 +1,9 @@
 -- Error lines are lines.
-use Rattle.std.proofs.Common.{refl, lit≤}
-use Rattle.std.specs.Fmt.{digits}
-use Rattle.assuan_line.specs.Lines.{IsLine}
-use Rattle.assuan_server.specs.Errors.{error_text}
-use Rattle.session_client.specs.declared.code.Code.{Code}
-use Rattle.session_client.specs.declared.code.Code.TheVariants.{General, BadSecKey, Checksum, BadPass, NoSecKey, NoData, NotSupported, Timeout, InvSexp, NoPinentry}
-use Rattle.session_client.specs.declared.code.Code.TheVariants.{NotTrusted, Cancelled, NotConfirmed, UnknownOption, Forbidden, LineTooLong, TooMuch, Unexpected, UnknownCommand, Parameter, FileExists, NoMemory}
-use Rattle.assuan_server.specs.declared.errors.Origin.{Origin}
-use Rattle.assuan_server.specs.declared.errors.Origin.TheVariants.{Agent, Pinentry}
+use Rattle.std.{proofs.Common.{refl, lit≤}, specs.Fmt.digits}
+use Rattle.{assuan_line.specs.Lines.IsLine, session_client.specs.declared.code.Code.Code}
+use Rattle.session_client.specs.declared.code.Code.TheVariants.{General, BadSecKey, Checksum, BadPass, NoSecKey, NoData, NotSupported, Timeout, InvSexp, NoPinentry, NotTrusted, Cancelled, NotConfirmed, UnknownOption, Forbidden, LineTooLong}
+use Rattle.session_client.specs.declared.code.Code.TheVariants.{TooMuch, Unexpected, UnknownCommand, Parameter, FileExists, NoMemory}
+use Rattle.assuan_server.specs.{Errors.error_text, declared.errors.Origin.{Origin, TheVariants.{Agent, Pinentry}}}
 
 pub error_line : (code : Code) (origin : Origin) → IsLine (error_text code origin)
 unfolding digits

@@ -1,25 +1,10 @@
 -- An inquiry: from its question to what its answer says.
-use Rattle.std.proofs.Common.{◌≡◌, ◌≤◌, ◌<◌, ℕ, List, [], length, Some, None, refl, ap, sym, ◌∙◌, subst, arith, inl, inr}
-use Rattle.std.specs.Prelude.{codes}
-use Rattle.std.proofs.lemmas.Bool.{cases_lt}
-use Rattle.std.specs.List.{flat_map}
-use Rattle.agent_ports.specs.Sides.{Side}
-use Rattle.agent_ports.specs.declared.link.Sent.TheVariants.{All}
-use Rattle.assuan_escape.specs.DataLines.{carried}
-use Rattle.assuan_line.specs.Next.{Reader, ended_by}
-use Rattle.assuan_line.specs.Reading.{HasRead}
-use Rattle.assuan_line.specs.Skipping.{IsUndecided, ReadsOn}
-use Rattle.assuan_text.specs.LineEnds.{line_of}
-use Rattle.assuan_line.specs.declared.reader.Took.{Took}
-use Rattle.assuan_line.specs.declared.reader.Took.TheVariants.{Line}
-use Rattle.assuan_line.proofs.ReadingOn.{read_says_less}
-use Rattle.assuan_server.specs.Asking.{Gather, Inquire}
-use Rattle.assuan_server.specs.Connections.{Connection}
-use Rattle.assuan_server.specs.Failures.{IsAnswer}
-use Rattle.assuan_server.specs.Inquiries.{Outcome, Data, TooMuch, Cancelled, Unexpected, Ended, TooLong, Spent, ReadFault, ended_of}
-use Rattle.assuan_server.specs.Inquiries.{IsAtEnd, IsData, IsWord, Names, Answers, AnswersDropped, is_skipped}
-use Rattle.assuan_server.specs.Inquiries.{ComesTo, can, end, past, foreign, ended, too_long, spent, read_fault}
-use Rattle.assuan_server.specs.Written.{HasWritten}
+use Rattle.std.{proofs.{Common.{◌≡◌, ◌≢◌, ◌≤◌, ◌<◌, ℕ, List, [], length, Some, None, refl, ap, sym, ◌∙◌, subst, arith, inl, inr}, lemmas.Bool.cases_lt}, specs.{Prelude.codes, List.flat_map}}
+use Rattle.{agent_ports.specs.{Sides.Side, declared.link.Sent.TheVariants.All}, assuan_escape.specs.DataLines.carried, assuan_line.specs.{Next.{Reader, ended_by}, Reading.HasRead, Skipping.{IsUndecided, ReadsOn}, declared.reader.Took.Took}}
+use Rattle.{assuan_line.{specs.declared.reader.Took.TheVariants.Line, proofs.ReadingOn.read_says_less}, assuan_text.specs.LineEnds.line_of, session_client.specs.declared.unheard.Unheard.Unheard}
+use Rattle.assuan_server.specs.{Asking.{Gather, Inquire, not_written}, Connections.Connection, Ends.{IsAnswer, GivesNone}}
+use Rattle.assuan_server.specs.Inquiries.{Outcome, Data, TooMuch, Cancelled, Unexpected, Ended, TooLong, Spent, ReadFault, ended_of, error_outcome, IsAtEnd, IsData, IsWord, Names, Answers, AnswersDropped, is_skipped, ComesTo, can, end}
+use Rattle.assuan_server.specs.{Inquiries.{past, foreign, ended, too_long, spent, read_fault}, Written.HasWritten}
 
 abbrev Undecided : List ℕ → Type 0
 Undecided = IsUndecided (λ before line. is_skipped line) []
@@ -48,13 +33,16 @@ ended_by_outcome too_long = refl
 ended_by_outcome spent = refl
 ended_by_outcome read_fault = refl
 
--- the inquiry came to this, whatever its bytes are
-pub failed : {limit : ℕ} {keeps : List ℕ → Type 0} {took : Took} {outcome : Outcome} (Else : Outcome → Type 0) → ((limit : ℕ) (bytes : List ℕ) → ComesTo limit bytes took outcome)
-    → IsAnswer limit keeps took (Names Else (Some outcome))
-failed {limit} {outcome = outcome} Else comes_to = record {
-  answers = λ bytes kept. (outcome, comes_to limit bytes, refl);
-  ended = λ other is. ended_by_outcome (comes_to 0 []) ∙ ap ended_of is;
-}
+-- the client gave nothing, whatever the bytes are
+module _ {took : Took} {error : Unheard} (none : GivesNone took error) where
+  pub failed : {limit : ℕ} {keeps : List ℕ → Type 0} (Else : Outcome → Type 0) → IsAnswer limit keeps took (Names Else (error_outcome error))
+  failed {limit} Else = rw none.named (record {
+    answers = λ bytes kept. (none.outcome, none.comes_to limit bytes, refl);
+    ended = λ other is. ended_by_outcome (none.comes_to 0 []) ∙ ap ended_of is;
+  })
+
+  pub was_written : error ≢ not_written
+  was_written is = let named : None ≡ Some none.outcome = sym (ap error_outcome is) ∙ none.named in cc named
 
 pub inquired : {limit : ℕ} {keeps : List ℕ → Type 0} {line : List ℕ} {before after : Connection} {took : Took} {Says : Outcome → Type 0}
     → Gather (ReadsOn (λ before line. is_skipped line) [] (λ lines. keeps (flat_map carried lines))) line before took after → IsAnswer limit keeps took Says → Inquire limit line Says before after

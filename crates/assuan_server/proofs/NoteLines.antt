@@ -1,17 +1,8 @@
 -- The lines that tell a client of a prompt or of a limit, or ask it for a passphrase.
-use Rattle.std.proofs.Common.{◌≡◌, ◌+◌, ◌≤◌, ◌<◌, ◌^◌, ℕ, Bool, true, false, List, [], ◌∷◌, ◌++◌, length, inl, inr, refl, sym, subst, ◌∙◌, arith, length-append}
-use Rattle.std.specs.Prelude.{codes, decimal}
-use Rattle.std.specs.Char.{is_ascii_digit}
-use Rattle.std.specs.Str.{all_ascii_digits}
-use Rattle.std.proofs.lemmas.Bool.{and_parts, or_parts, or_from, eqb-true}
-use Rattle.std.proofs.lemmas.Bool.Decides.{eqb_tells}
-use Rattle.std.proofs.lemmas.Fmt.{digits_decimal}
-use Rattle.std.proofs.lemmas.List.Folds.{list_any-append}
-use Rattle.std.proofs.lemmas.Str.Parse.{tells_all_ascii_digits, numerals_by_value}
-use Rattle.assuan_line.specs.Lines.{IsLine}
-use Rattle.assuan_server.specs.Inquiries.{inquire_text}
-use Rattle.assuan_server.specs.Written.{status_text}
-use Rattle.assuan_text.specs.LineEnds.{is_lf, has_lf}
+use Rattle.std.proofs.{Common.{◌≡◌, ◌+◌, ◌≤◌, ◌<◌, ◌^◌, ℕ, Bool, true, false, List, [], ◌∷◌, ◌++◌, length, inl, inr, refl, sym, subst, ◌∙◌, arith, length-append}, lemmas.Bool.{and_parts, or_parts, or_from, eqb-true, Decides.eqb_tells}}
+use Rattle.std.{proofs.lemmas.{Fmt.digits_decimal, List.Folds.list_any-append, Str.Parse.{tells_all_ascii_digits, numerals_by_value}}, specs.{Prelude.{codes, decimal}, Char.is_ascii_digit, Str.all_ascii_digits}}
+use Rattle.{assuan_line.specs.Lines.IsLine, assuan_text.specs.LineEnds.{is_lf, has_lf}}
+use Rattle.assuan_server.specs.{Inquiries.inquire_text, Written.status_text}
 
 -- the text that tells the client of a prompt in the process of this number
 abbrev pub note_text : ℕ → List ℕ

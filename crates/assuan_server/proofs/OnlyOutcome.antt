@@ -1,14 +1,8 @@
 -- Bytes have one reading: what an inquiry comes to that a line closes.
-use Rattle.std.proofs.Common.{◌≡◌, ℕ, List, [], ◌++◌, get_or, refl, ap, sym, subst, ◌∙◌, arith}
-use Rattle.std.specs.Prelude.{codes}
-use Rattle.std.specs.List.{flat_map}
-use Rattle.assuan_line.specs.Next.{Reader}
-use Rattle.assuan_line.specs.Skipping.{ReadsAfter}
-use Rattle.assuan_line.specs.declared.reader.Took.{Took}
-use Rattle.assuan_line.specs.declared.reader.Took.TheVariants as took
-use Rattle.assuan_line.proofs.OnlyReading.{only_reading}
-use Rattle.assuan_escape.specs.DataLines.{carried}
+use Rattle.std.{proofs.Common.{◌≡◌, ℕ, List, [], ◌++◌, get_or, refl, ap, sym, subst, ◌∙◌, arith}, specs.{Prelude.codes, List.flat_map}}
+use Rattle.{assuan_line.{specs.{Next.Reader, Skipping.ReadsAfter, declared.reader.Took.Took}, proofs.OnlyReading.only_reading}, assuan_escape.specs.DataLines.carried}
 use Rattle.assuan_server.specs.Inquiries.{IsWord, Outcome, ComesTo, Inquiry, IsClosed, is_skipped}
+use Rattle.assuan_line.specs.declared.reader.Took.TheVariants as took
 
 -- a line closed the inquiry
 closes : {limit : ℕ} {bytes : List ℕ} {answer : Took} {outcome : Outcome} → ComesTo limit bytes answer outcome → IsClosed outcome → (line : List ℕ) × (answer ≡ took.Line line)

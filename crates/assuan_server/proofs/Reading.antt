@@ -1,13 +1,8 @@
 -- What is read, by what the answers of a reader say.
-use Rattle.std.proofs.Common.{◌≡◌, ◌+◌, ℕ, Bool, List, [], ◌++◌, length, Option, None, Some, refl, ap, sym, subst, arith}
-use Rattle.std.specs.Option.{option_map}
-use Rattle.std.specs.Prelude.{IfSome}
-use Rattle.agent_ports.specs.Sides.{WhereKnown}
-use Rattle.assuan_line.specs.Next.{Reader, ended_by}
-use Rattle.assuan_line.specs.Skipping.{ReadsNext, ReadsAfter}
-use Rattle.assuan_line.specs.declared.reader.Took.{Took}
-use Rattle.assuan_line.specs.declared.reader.Took.TheVariants as took
+use Rattle.std.{proofs.Common.{◌≡◌, ◌+◌, ℕ, Bool, List, [], ◌++◌, length, Option, None, Some, refl, ap, sym, subst, arith}, specs.{Option.option_map, Prelude.IfSome}}
+use Rattle.{agent_ports.specs.Sides.WhereKnown, assuan_line.specs.{Next.{Reader, ended_by}, Skipping.{ReadsNext, ReadsAfter}, declared.reader.Took.Took}}
 use Rattle.assuan_server.specs.Reading.{Supply, unread, IsSupply, Reads, line, too_long, end, spent, fault, ReadsPast}
+use Rattle.assuan_line.specs.declared.reader.Took.TheVariants as took
 
 -- what a read of lines says of the bytes that come next, and with which supply it began
 pub read_known : (supply : Supply) (start now : Reader) (before after : Option (List ℕ)) (Says Which : List ℕ → List ℕ → Type 0)

@@ -1,13 +1,7 @@
 -- Writes of several texts, of which one may stop within its text.
 use Rattle.std.proofs.Common.{◌≡◌, ℕ, List, [], ◌++◌, Result, Ok, Err, refl, ◌∙◌}
-use Rattle.agent_ports.specs.Writing.{whole_of}
-use Rattle.agent_ports.specs.declared.link.Sent.{Sent}
-use Rattle.agent_ports.specs.declared.link.WriteFault.{WriteFault}
-use Rattle.agent_ports.proofs.Writing.{writes_nothing, writes_then, writes_first}
-use Rattle.assuan_line.proofs.Sending.{sent_whole}
-use Rattle.assuan_server.specs.Connections.{Connection}
-use Rattle.assuan_server.specs.Written.{HasWritten}
-use Rattle.assuan_server.specs.Written.{WritesText}
+use Rattle.{agent_ports.{specs.{Writing.whole_of, declared.link.{Sent.Sent, WriteFault.WriteFault}}, proofs.Writing.{writes_nothing, writes_then, writes_first}}, assuan_line.proofs.Sending.sent_whole}
+use Rattle.assuan_server.specs.{Connections.Connection, Written.{HasWritten, WritesText}}
 
 -- nothing was written
 pub said_nothing : (conn : Connection) → WritesText [] conn (Ok tt) conn

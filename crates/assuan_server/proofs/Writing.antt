@@ -1,16 +1,9 @@
 -- A write of data lines that is under way.
-use Rattle.std.proofs.Common.{◌≡◌, ℕ, ◌+◌, ◌-◌, ◌^◌, ◌≤◌, min, List, [], ◌∷◌, ◌++◌, length, take, drop, Option, Some, None, Ok, Err, refl, ap, sym, ◌∙◌, subst, arith, append_assoc, append-nil, length-append}
-use Rattle.std.proofs.lemmas.List.{length_push}
+use Rattle.std.proofs.{Common.{◌≡◌, ℕ, ◌+◌, ◌-◌, ◌^◌, ◌≤◌, min, List, [], ◌∷◌, ◌++◌, length, take, drop, Option, Some, None, Ok, Err, refl, ap, sym, ◌∙◌, subst, arith, append_assoc, append-nil, length-append}, lemmas.List.length_push}
 use Rattle.std.proofs.lemmas.List.Concat.{flat_map-append}
-use Rattle.agent_ports.specs.Sides.{with_bytes}
-use Rattle.agent_ports.proofs.Known.{with_bytes_append}
-use Rattle.agent_ports.specs.declared.link.Sent.{Sent}
-use Rattle.agent_ports.specs.declared.link.Sent.TheVariants.{All as Whole, Failed}
-use Rattle.assuan_server.specs.Connections.{Connection}
-use Rattle.assuan_escape.specs.DataLines.{data_line, AreData, data_text}
+use Rattle.{agent_ports.{specs.{Sides.with_bytes, declared.link.Sent.{Sent, TheVariants.{All as Whole, Failed}}, Writing.StopsWriting}, proofs.Known.with_bytes_append}, assuan_escape.specs.DataLines.{data_line, AreData, data_text}}
 use Rattle.assuan_text.specs.LineEnds.{line_of}
-use Rattle.agent_ports.specs.Writing.{StopsWriting}
-use Rattle.assuan_server.specs.Written.{HasWritten, WritesData}
+use Rattle.assuan_server.specs.{Connections.Connection, Written.{HasWritten, WritesData}}
 
 -- the lines so far: whatever pieces the rest is sent in, they complete these
 pub record IsWriting (bytes : List ℕ) (before now : Connection) (rest : List ℕ) (sent : ℕ) : Type 0 where

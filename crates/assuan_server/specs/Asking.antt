@@ -1,15 +1,8 @@
 -- What asking the client does to a connection.
-use Rattle.std.specs.Prelude.{◌≡◌, ◌≤◌, ℕ, List, []}
-use Rattle.agent_ports.specs.Sides.{with_bytes}
-use Rattle.agent_ports.specs.declared.link.Sent.TheVariants.{Failed}
-use Rattle.assuan_line.specs.Next.{Reader, ended_by}
-use Rattle.assuan_line.specs.Reading.{HasRead}
-use Rattle.assuan_line.specs.Skipping.{IsUndecided}
-use Rattle.assuan_text.specs.LineEnds.{line_of}
-use Rattle.assuan_line.specs.declared.reader.Took.{Took}
-use Rattle.assuan_server.specs.Connections.{Connection}
-use Rattle.assuan_server.specs.Inquiries.{Outcome, Inquiry, ended_of, is_skipped}
-use Rattle.assuan_server.specs.Written.{HasWritten}
+use Rattle.std.specs.Prelude.{◌≡◌, ◌≢◌, ◌≤◌, ℕ, List, []}
+use Rattle.{agent_ports.specs.{Sides.with_bytes, declared.link.Sent.TheVariants.Failed}, assuan_line.specs.{Next.{Reader, ended_by}, Reading.HasRead, Skipping.IsUndecided, declared.reader.Took.Took}, assuan_text.specs.LineEnds.line_of}
+use Rattle.session_client.specs.declared.unheard.{Unheard.{Unheard, TheVariants.Gone}, Gone.TheVariants.WriteFault}
+use Rattle.assuan_server.specs.{Connections.Connection, Inquiries.{Outcome, Inquiry, ended_of, is_skipped}, Written.HasWritten}
 
 -- a line was written, and lines were read up to the first answer that an inquiry doesn't skip
 pub record Gather (Reads : List ℕ → Took → Reader → List ℕ → Type 0) (line : List ℕ) (before : Connection) (took : Took) (after : Connection) : Type 0 where
@@ -31,3 +24,15 @@ pub record Inquire (limit : ℕ) (line : List ℕ) (Says : Outcome → Type 0) (
 -- The line wasn't written whole, and nothing was read.
 abbrev pub IsNotAsked : List ℕ → Connection → Connection → Type 0
 IsNotAsked line before after = (count : ℕ) × HasWritten (line_of line) before (Failed count) after
+
+-- the error of a client whom nothing was asked, since its link takes nothing
+abbrev pub not_written : Unheard
+not_written = Gone WriteFault
+
+abbrev pub NotWritten : List ℕ → Connection → Connection → Unheard → Type 0
+NotWritten line before after error = (error ≡ not_written) × IsNotAsked line before after
+
+-- The client was asked by this line, and its answer, of which so much is said, came to this; or it came to that the line wasn't written.
+pub record Asks {A : Type 0} (write_fault : A) (limit : ℕ) (line : List ℕ) (result : A) (Says : Outcome → Type 0) (before after : Connection) : Type 0 where
+  pub inquiry : result ≢ write_fault → Inquire limit line Says before after
+  pub cut : result ≡ write_fault → IsNotAsked line before after

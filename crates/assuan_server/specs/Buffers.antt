@@ -1,8 +1,7 @@
 -- Private: what a buffer keeps of the bytes that an inquiry's data lines carried so far.
 use Rattle.std.specs.Prelude.{◌≡◌, ◌<◌, ◌+◌, Bool, true, false, ℕ, List, length}
 use Rattle.cache_policy.specs.declared.secret.TheConstants.{MAX_SECRET_LEN}
-use Rattle.assuan_server.specs.declared.inquiry.buffer.Overflow.{Overflow}
-use Rattle.assuan_server.specs.declared.inquiry.buffer.Overflow.TheVariants.{None, TooMuch, NoMemory}
+use Rattle.assuan_server.specs.declared.inquiry.buffer.Overflow.{Overflow, TheVariants.{None, TooMuch, NoMemory}}
 
 -- in memory: the bytes themselves, or that they are past the limit, or that there was no memory for them
 abbrev pub IsVecOf : ℕ → List ℕ → Overflow → List ℕ → Type 0

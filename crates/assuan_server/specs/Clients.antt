@@ -1,26 +1,12 @@
 -- A connection as that of a session's client: the lines that its server reads, what is seen of it, and what the client has said by an
 -- inquiry (Assuan manual, "server responses").
 use Rattle.std.specs.Prelude.{ℕ, Bool, true, false, List, [], Option, Some, None, Result, Ok, Err, IfSome}
-use Rattle.assuan_line.specs.Lines.{IsLine}
-use Rattle.assuan_line.specs.Next.{WereNeeded, held}
-use Rattle.assuan_line.specs.Skipping.{IsUndecided}
-use Rattle.assuan_line.specs.declared.reader.Took.{Took}
+use Rattle.{assuan_line.specs.{Lines.IsLine, Next.{WereNeeded, held}, Skipping.IsUndecided, declared.reader.Took.Took}, assuan_text.specs.{Forms.is_ignored, LineEnds.line_of}, cache_policy.specs.declared.secret.TheConstants.MAX_SECRET_LEN}
+use Rattle.session_client.specs.{Asking.{AsksClient, LeftBy}, Lines.{Lines, Views}, declared.unheard.{Gone.Gone, Unheard.Unheard}}
+use Rattle.assuan_server.specs.{Connections.Connection, Inquiries.{Outcome, Data, Cancelled, TooMuch, Unexpected, Ended, TooLong, Spent, ReadFault, inquire_text, is_skipped}, Reading.{Supply, ReadsRequest, ReadsInquiry, IsSupply, unread}}
 use Rattle.assuan_line.specs.declared.reader.Took.TheVariants as took
-use Rattle.assuan_text.specs.Forms.{is_ignored}
-use Rattle.assuan_text.specs.LineEnds.{line_of}
-use Rattle.cache_policy.specs.declared.secret.TheConstants.{MAX_SECRET_LEN}
-use Rattle.session_client.specs.Asking.{AsksClient, LeftBy, without_data}
-use Rattle.session_client.specs.Lines.{Lines, Views}
-use Rattle.session_client.specs.declared.unheard.Gone.{Gone}
 use Rattle.session_client.specs.declared.unheard.Gone.TheVariants as gone
-use Rattle.session_client.specs.declared.unheard.Unheard.{Unheard}
 use Rattle.session_client.specs.declared.unheard.Unheard.TheVariants as unheard
-use Rattle.assuan_server.specs.Connections.{Connection}
-use Rattle.assuan_server.specs.Inquiries.{Outcome, Data, Cancelled, TooMuch, Unexpected, Ended, TooLong, Spent, ReadFault, inquire_text, is_skipped, outcome_of_dropped, outcome_of_secret}
-use Rattle.assuan_server.specs.Reading.{Supply, ReadsRequest, ReadsInquiry, IsSupply, unread}
-use Rattle.assuan_server.specs.declared.inquiry.Dropped.{Dropped}
-use Rattle.assuan_server.specs.declared.inquiry.Dropped.TheVariants as dropped
-use Rattle.assuan_server.specs.declared.inquiry.InquiredSecret.{InquiredSecret}
 
 -- what the client has said by an inquiry that came to this
 abbrev pub outcome_says : Outcome → Result (List ℕ) Unheard
@@ -32,18 +18,6 @@ outcome_says Ended = Err (unheard.Gone gone.Ended)
 outcome_says TooLong = Err (unheard.Gone gone.TooLong)
 outcome_says Spent = Err (unheard.Gone gone.Spent)
 outcome_says ReadFault = Err (unheard.Gone gone.ReadFault)
-
--- where nothing was read, its line couldn't be written
-abbrev pub said_by_outcome : Option Outcome → Result (List ℕ) Unheard
-said_by_outcome (Some outcome) = outcome_says outcome
-said_by_outcome None = Err (unheard.Gone gone.WriteFault)
-
-abbrev pub secret_said : InquiredSecret → Result (List ℕ) Unheard
-secret_said what = said_by_outcome (outcome_of_secret what)
-
-abbrev pub drop_said : Dropped → Result (Unit {0}) Unheard
-drop_said dropped.Done = Ok tt
-drop_said what = without_data (said_by_outcome (outcome_of_dropped what))
 
 -- the answer that ended the reader of a client that is gone so
 abbrev pub answer_of : Gone → Option Took

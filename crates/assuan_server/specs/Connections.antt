@@ -1,8 +1,6 @@
 -- A connection as contracts see it.
-use Rattle.std.specs.Prelude.{◌≡◌, None}
-use Rattle.std.specs.Borrow.{GName}
-use Rattle.agent_ports.specs.Sides.{Side}
-use Rattle.assuan_line.specs.Next.{Reader}
+use Rattle.std.specs.{Prelude.{◌≡◌, None}, Borrow.GName}
+use Rattle.{agent_ports.specs.Sides.Side, assuan_line.specs.Next.Reader}
 
 pub record Connection : Type 0 where
   -- which link it is that the connection holds

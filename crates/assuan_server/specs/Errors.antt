@@ -1,9 +1,7 @@
 -- Error lines, as the Assuan manual has them ("server responses").
 use Rattle.std.specs.Prelude.{ℕ, ◌+◌, ◌*◌, List, ◌++◌, codes, decimal}
-use Rattle.assuan_server.specs.declared.errors.Origin.{Origin}
-use Rattle.assuan_server.specs.declared.errors.Origin.TheVariants.{Agent, Pinentry}
-use Rattle.session_client.specs.Codes.{code_of, error_description}
-use Rattle.session_client.specs.declared.code.Code.{Code}
+use Rattle.session_client.specs.{Codes.{code_of, error_description}, declared.code.Code.Code}
+use Rattle.assuan_server.specs.declared.errors.Origin.{Origin, TheVariants.{Agent, Pinentry}}
 
 -- where an error comes from: its number there, and its name
 abbrev pub source_of : Origin → ℕ

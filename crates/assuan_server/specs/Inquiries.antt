@@ -1,20 +1,14 @@
 -- Inquiries, as the Assuan manual has them ("server responses", INQUIRE): the client answers with data lines and END, or with
 -- CAN. What is skipped between these, and what becomes of any other line, is this project's own rule.
-use Rattle.std.specs.Prelude.{◌≡◌, ◌<◌, ◌≤◌, ◌==◌, ◌||◌, Bool, ℕ, List, [], ◌++◌, length, map, codes, if◌then◌else◌, Option, Some, None}
-use Rattle.std.specs.List.{flat_map, before_first}
-use Rattle.std.specs.Char.{to_ascii_lowercase}
-use Rattle.assuan_text.specs.Forms.{is_data, is_idle}
-use Rattle.assuan_escape.specs.DataLines.{carried}
-use Rattle.assuan_line.specs.Next.{Reader}
-use Rattle.assuan_line.specs.Skipping.{ReadsAfter}
-use Rattle.assuan_line.specs.declared.reader.Took.{Took}
+use Rattle.std.specs.{Prelude.{◌≡◌, ◌<◌, ◌≤◌, ◌==◌, ◌||◌, Bool, ℕ, List, [], ◌++◌, length, map, codes, if◌then◌else◌, Option, Some, None, Result, Ok, Err}, List.{flat_map, before_first}, Char.to_ascii_lowercase}
+use Rattle.{assuan_text.specs.{Forms.{is_data, is_idle}, Blanks.is_blank}, assuan_escape.specs.DataLines.carried, assuan_line.specs.{Next.Reader, Skipping.ReadsAfter, declared.reader.Took.Took}}
+use Rattle.session_client.specs.declared.unheard.Unheard.{Unheard}
+use Rattle.assuan_server.specs.declared.inquiry.{Dropped.Dropped, Inquired.Inquired, InquiredSecret.InquiredSecret}
 use Rattle.assuan_line.specs.declared.reader.Took.TheVariants as took
-use Rattle.assuan_text.specs.Blanks.{is_blank}
-use Rattle.assuan_server.specs.declared.inquiry.Dropped.{Dropped}
+use Rattle.session_client.specs.declared.unheard.Unheard.TheVariants as unheard
+use Rattle.session_client.specs.declared.unheard.Gone.TheVariants as gone
 use Rattle.assuan_server.specs.declared.inquiry.Dropped.TheVariants as dropped
-use Rattle.assuan_server.specs.declared.inquiry.Inquired.{Inquired}
 use Rattle.assuan_server.specs.declared.inquiry.Inquired.TheVariants as inquired
-use Rattle.assuan_server.specs.declared.inquiry.InquiredSecret.{InquiredSecret}
 use Rattle.assuan_server.specs.declared.inquiry.InquiredSecret.TheVariants as inquired_secret
 
 -- the line that asks the client
@@ -120,6 +114,25 @@ outcome_of_dropped dropped.TooLong = Some TooLong
 outcome_of_dropped dropped.Spent = Some Spent
 outcome_of_dropped dropped.ReadFault = Some ReadFault
 outcome_of_dropped dropped.WriteFault = None
+
+-- and a client that gave a passphrase or took note, or else its error
+abbrev pub error_outcome : Unheard → Option Outcome
+error_outcome unheard.Cancelled = Some Cancelled
+error_outcome unheard.TooMuch = Some TooMuch
+error_outcome unheard.Unexpected = Some Unexpected
+error_outcome (unheard.Gone gone.Ended) = Some Ended
+error_outcome (unheard.Gone gone.TooLong) = Some TooLong
+error_outcome (unheard.Gone gone.Spent) = Some Spent
+error_outcome (unheard.Gone gone.ReadFault) = Some ReadFault
+error_outcome (unheard.Gone gone.WriteFault) = None
+
+abbrev pub secret_outcome : Result (List ℕ) Unheard → Option Outcome
+secret_outcome (Ok secret) = Some (Data secret)
+secret_outcome (Err error) = error_outcome error
+
+abbrev pub drop_outcome : Result (Unit {0}) Unheard → Option Outcome
+drop_outcome (Ok noted) = None
+drop_outcome (Err error) = error_outcome error
 
 -- an inquiry came to what is named, or else to something of this kind
 abbrev pub Names : (Outcome → Type 0) → Option Outcome → Outcome → Type 0

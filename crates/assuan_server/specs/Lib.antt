@@ -3,7 +3,7 @@ pub mod Buffers
 pub mod Clients
 pub mod Connections
 pub mod Errors
-pub mod Failures
+pub mod Ends
 pub mod Inquiries
 pub mod Reading
 pub mod Requests

@@ -1,17 +1,9 @@
 -- What a session reads from the bytes that are there: requests, and the lines that its inquiries take in between. The rules on
 -- a line that is too long, on the budget and on faults are this project's own.
-use Rattle.std.specs.Prelude.{◌≡◌, ◌<◌, ◌+◌, ◌++◌, ℕ, Bool, List, [], length}
-use Rattle.std.specs.List.{flat_map}
-use Rattle.std.specs.Option.{option_map_or}
-use Rattle.assuan_line.specs.Lines.{after_line}
-use Rattle.assuan_line.specs.Next.{Reader, next_of, IsCutShort, IsTooLong}
-use Rattle.assuan_line.specs.Skipping.{Skipped, Stops}
-use Rattle.assuan_line.specs.declared.reader.Took.{Took}
-use Rattle.assuan_line.specs.declared.reader.Took.TheVariants.{Line, TooLong, End, Spent, ReadFault}
-use Rattle.assuan_escape.specs.DataLines.{carried}
+use Rattle.std.specs.{Prelude.{◌≡◌, ◌<◌, ◌+◌, ◌++◌, ℕ, Bool, List, [], length}, List.flat_map, Option.option_map_or}
+use Rattle.assuan_line.specs.{Lines.after_line, Next.{Reader, next_of, IsCutShort, IsTooLong}, Skipping.{Skipped, Stops}, declared.reader.{Took.{Took, TheVariants.{Line, TooLong, End, Spent, ReadFault}}, TheConstants.BUDGET}}
+use Rattle.{assuan_escape.specs.DataLines.carried, assuan_text.specs.Forms.is_ignored}
 use Rattle.assuan_server.specs.Inquiries.{Outcome, ComesTo, is_skipped}
-use Rattle.assuan_text.specs.Forms.{is_ignored}
-use Rattle.assuan_line.specs.declared.reader.TheConstants.{BUDGET}
 
 -- how many bytes a session may take
 abbrev pub budget : ℕ

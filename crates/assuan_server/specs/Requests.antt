@@ -1,11 +1,7 @@
 -- Which lines are requests. That blanks, tabs and comments are passed over is this project's own rule, after the Assuan manual
 -- ("client requests").
 use Rattle.std.specs.Prelude.{◌≡◌, ℕ, List, []}
-use Rattle.assuan_line.specs.Next.{Reader}
-use Rattle.assuan_line.specs.Reading.{HasRead}
-use Rattle.assuan_line.specs.Skipping.{IsUndecided, ReadsAfter}
-use Rattle.assuan_line.specs.declared.reader.Took.{Took}
-use Rattle.assuan_text.specs.Forms.{is_ignored}
+use Rattle.{assuan_line.specs.{Next.Reader, Reading.HasRead, Skipping.{IsUndecided, ReadsAfter}, declared.reader.Took.Took}, assuan_text.specs.Forms.is_ignored}
 use Rattle.assuan_server.specs.Connections.{Connection}
 
 -- the next request of these bytes: what comes after the lines that are ignored

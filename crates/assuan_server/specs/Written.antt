@@ -1,20 +1,9 @@
 -- The lines that a server writes, as the Assuan manual has them ("server responses"), and what a write of them leaves.
-use Rattle.std.specs.Prelude.{◌≡◌, ◌≤◌, ◌==◌, ◌^◌, ◌-◌, min, List, [], ℕ, ◌++◌, length, codes, decimal, if◌then◌else◌, Option, Some, None, Result, Ok, Err, ⊤}
-use Rattle.std.specs.Option.{option_map}
-use Rattle.agent_ports.specs.declared.link.Sent.{Sent}
-use Rattle.agent_ports.specs.declared.link.Sent.TheVariants.{All, Failed}
-use Rattle.assuan_escape.specs.DataLines.{AreData, data_text}
-use Rattle.assuan_line.specs.Written.{HasSent}
-use Rattle.assuan_text.specs.LineEnds.{line_of}
-use Rattle.agent_ports.specs.Writing.{Writes}
-use Rattle.agent_ports.specs.declared.link.WriteFault.{WriteFault as Fault}
-use Rattle.assuan_server.specs.Connections.{Connection}
-use Rattle.assuan_server.specs.Errors.{error_text}
-use Rattle.session_client.specs.Refusals.{refusal_code}
-use Rattle.session_client.specs.declared.code.Code.{Code}
-use Rattle.session_client.specs.declared.refusal.Refusal.{Refusal}
+use Rattle.std.specs.{Prelude.{◌≡◌, ◌≤◌, ◌==◌, ◌^◌, ◌-◌, min, List, [], ℕ, ◌++◌, length, codes, decimal, if◌then◌else◌, Option, Some, None, Result, Ok, Err, ⊤}, Option.option_map}
+use Rattle.{agent_ports.specs.{declared.link.{Sent.{Sent, TheVariants.{All, Failed}}, WriteFault.WriteFault as Fault}, Writing.Writes}, assuan_escape.specs.DataLines.{AreData, data_text}, assuan_line.specs.Written.HasSent}
+use Rattle.{assuan_text.specs.LineEnds.line_of, session_client.specs.{Refusals.refusal_code, declared.{code.Code.Code, refusal.Refusal.Refusal}}}
+use Rattle.assuan_server.specs.{Connections.Connection, Errors.error_text, declared.errors.Origin.TheVariants.{Agent, Pinentry}}
 use Rattle.session_client.specs.declared.refusal.Refusal.TheVariants as refusal
-use Rattle.assuan_server.specs.declared.errors.Origin.TheVariants.{Agent, Pinentry}
 
 abbrev pub greeting : List ℕ
 greeting = codes "OK Pleased to meet you"

@@ -5,15 +5,9 @@
 
 ghost use Rattle.std.specs.Prelude.{◌≡◌, ◌≤◌, ◌+◌, [], length, false, None, Some, List, ℕ, OnSome};
 ghost use Rattle.std.specs.List.{flat_map};
-ghost use Rattle.assuan_line.specs.Lines.{IsLine};
-ghost use Rattle.assuan_text.specs.LineEnds.{has_lf};
-ghost use Rattle.assuan_line.specs.Reading.{HasRead};
-ghost use Rattle.assuan_line.specs.Skipping.{IsUndecided, ReadsOn};
-ghost use Rattle.assuan_text.specs.LineEnds.{line_of};
-ghost use Rattle.assuan_text.specs.declared.TheConstants.{MAX_LINE_LEN};
-ghost use Rattle.assuan_server.specs.Connections.{IsOpen};
-ghost use Rattle.assuan_server.specs.Requests.{NextRequest};
-ghost use Rattle.assuan_server.specs.Errors.{error_text};
+ghost use Rattle.assuan_line.specs.{Lines.IsLine, Reading.HasRead, Skipping.{IsUndecided, ReadsOn}};
+ghost use Rattle.assuan_text.specs.{LineEnds.{has_lf, line_of}, declared.TheConstants.MAX_LINE_LEN};
+ghost use Rattle.assuan_server.specs.{Connections.IsOpen, Requests.NextRequest, Errors.error_text};
 ghost use Rattle.assuan_server.specs.Written.{greeting, ok_text, status_text, comment_text};
 ghost use Rattle.assuan_server.specs.Written.{HasWritten, WritesLine, refusal_line};
 

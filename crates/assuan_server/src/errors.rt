@@ -3,8 +3,7 @@
 //! `specs/Errors`.
 
 ghost use Rattle.std.specs.Prelude.{◌≡◌, ◌≤◌, ◌<◌, ◌^◌, length, false};
-ghost use Rattle.assuan_text.specs.LineEnds.{has_lf};
-ghost use Rattle.assuan_line.specs.Lines.{IsLine};
+ghost use Rattle.{assuan_text.specs.LineEnds.has_lf, assuan_line.specs.Lines.IsLine};
 ghost use Rattle.assuan_server.specs.Errors.{source_of, source_name, error_number, error_text};
 
 use assuan_text::Text;

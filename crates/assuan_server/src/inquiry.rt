@@ -4,33 +4,29 @@
 //! `specs/Asking` is the contract, and `ComesTo` of `specs/Inquiries` the outcome.
 
 ghost use Rattle.std.specs.Prelude.{◌≡◌, ◌≢◌, ◌≤◌, ◌∷◌, ◌++◌, [], ℕ, List, length, codes, None};
-ghost use Rattle.std.specs.Prelude.{Some, IfSome, IfNone, OnOk, IfErr, MatchResult};
-ghost use Rattle.std.specs.List.{flat_map};
-ghost use Rattle.assuan_line.specs.Lines.{IsLine};
-ghost use Rattle.assuan_line.specs.Next.{Reader};
-ghost use Rattle.assuan_line.specs.Skipping.{ReadsOn};
-ghost use Rattle.assuan_text.specs.LineEnds.{line_of};
-ghost use Rattle.assuan_escape.specs.DataLines.{carried};
+ghost use Rattle.std.specs.{Prelude.{Err, IfOk, IfErr, OnOk, MatchResult}, List.flat_map};
+ghost use Rattle.assuan_line.specs.{Lines.IsLine, Next.Reader, Skipping.ReadsOn};
+ghost use Rattle.{assuan_text.specs.LineEnds.line_of, assuan_escape.specs.DataLines.carried};
 ghost use Rattle.cache_policy.specs.declared.secret.TheConstants.{MAX_SECRET_LEN};
-ghost use Rattle.assuan_server.specs.Asking.{Gather, Inquire, IsNotAsked};
-ghost use Rattle.assuan_server.specs.Buffers.{IsVecOf, IsSecretOf, IsCountOf};
-ghost use Rattle.assuan_server.specs.Connections.{IsOpen};
+ghost use Rattle.assuan_server.specs.Asking.{Gather, Asks, NotWritten, not_written};
+ghost use Rattle.assuan_server.specs.{Buffers.{IsVecOf, IsSecretOf, IsCountOf}, Connections.IsOpen};
 ghost use Rattle.assuan_server.specs.Inquiries.{inquire_text, Inquiry, Outcome, ComesTo, IsWord};
 ghost use Rattle.assuan_server.specs.Inquiries.{IfData, IsClosed, Answers, AnswersDropped};
 ghost use Rattle.assuan_server.specs.Inquiries.{outcome_of, outcome_of_secret, outcome_of_dropped};
-ghost use Rattle.assuan_server.specs.Inquiries.{is_skipped};
-ghost use Rattle.assuan_server.specs.Failures.{IsAnswer};
-ghost use Rattle.assuan_server.specs.Written.{HasWritten};
+ghost use Rattle.assuan_server.specs.Inquiries.{is_skipped, secret_outcome, drop_outcome};
+ghost use Rattle.assuan_server.specs.{Ends.IsAnswer, Written.{HasWritten, WritesText, limit_line}};
 
 mod buffer;
-mod failure;
+mod end;
 
 use crate::conn::Conn;
-use agent_ports::{Link, Sent};
+use agent_ports::{Link, Sent, WriteFault};
 use assuan_line::Took;
-use buffer::{Buffer, ByteCounter, InquiryLines, Overflow, SecretBuffer, VecBuffer};
+use buffer::{Buffer as Bytes, ByteCounter, InquiryLines, Overflow, SecretBuffer, VecBuffer};
 use cache_policy::{MAX_SECRET_LEN, Secret};
-use failure::end_of;
+use end::end_of;
+use itoa::Buffer;
+use session_client::{Gone, Unheard};
 use std::alloc::Global;
 
 /// What an inquiry came to. After `Ended`, `TooLong`, `Spent` and `ReadFault` no more is read.
@@ -114,19 +110,16 @@ impl<'a, L: Link> Conn<'a, L> {
     pub fn inquire(&mut self, alloc: Global, word: &[u8], params: &[u8], limit: usize) -> Inquired
         requires going { IsOpen self.old }
         requires one_line { IsLine (inquire_text word.now params.now) }
-        ensures inquiry { result ≢ Inquired.WriteFault → Inquire limit
-            (inquire_text word.now params.now) (Answers (outcome_of result)) self.old self.new }
-        ensures cut { result ≡ Inquired.WriteFault
-            → IsNotAsked (inquire_text word.now params.now) self.old self.new }
+        ensures asks { Asks Inquired.WriteFault limit (inquire_text word.now params.now) result
+            (Answers (outcome_of result)) self.old self.new }
         ensures within { IfData result (λ bytes. length bytes ≤ limit) }
     {
         let mut lines = InquiryLines {
             buffer: VecBuffer::new(alloc, limit),
         };
-        let mut took = self.gather(word, params, &mut lines);
-        match &mut took {
-            Some(took) => collected(took, lines.buffer),
-            None => Inquired::WriteFault,
+        match &mut self.gather(word, params, &mut lines) {
+            Ok(took) => collected(took, lines.buffer),
+            Err(_) => Inquired::WriteFault,
         }
     }
 
@@ -135,24 +128,29 @@ impl<'a, L: Link> Conn<'a, L> {
     pub fn inquire_secret(&mut self, word: &[u8], params: &[u8]) -> InquiredSecret
         requires going { IsOpen self.old }
         requires one_line { IsLine (inquire_text word.now params.now) }
-        ensures inquiry { result ≢ InquiredSecret.WriteFault
-            → Inquire MAX_SECRET_LEN (inquire_text word.now params.now)
-            (Answers (outcome_of_secret result)) self.old self.new }
-        ensures cut { result ≡ InquiredSecret.WriteFault
-            → IsNotAsked (inquire_text word.now params.now) self.old self.new }
+        ensures { Asks InquiredSecret.WriteFault MAX_SECRET_LEN (inquire_text word.now params.now)
+            result (Answers (outcome_of_secret result)) self.old self.new }
+    {
+        match self.ask_secret(word, params) {
+            Ok(secret) => InquiredSecret::Secret(secret),
+            Err(error) => error.into(),
+        }
+    }
+
+    /// Asks as `inquire_secret` does.
+    pub fn ask_secret(&mut self, word: &[u8], params: &[u8]) -> Result<Secret, Unheard>
+        requires going { IsOpen self.old }
+        requires one_line { IsLine (inquire_text word.now params.now) }
+        ensures { Asks (Err not_written) MAX_SECRET_LEN (inquire_text word.now params.now)
+            result (Answers (secret_outcome result)) self.old self.new }
     {
         let mut lines = InquiryLines {
             buffer: SecretBuffer::new(),
         };
-        let mut took = self.gather(word, params, &mut lines);
-        match &mut took {
-            Some(took) => {
-                let inquired = buffered(took, &lines.buffer);
-                lines.buffer.bytes.clear();
-                inquired
-            }
-            None => InquiredSecret::WriteFault,
-        }
+        let mut took = self.gather(word, params, &mut lines)?;
+        let secret = buffered(&mut took, &lines.buffer);
+        lines.buffer.bytes.clear();
+        secret
     }
 
     /// Asks the client as `inquire` does, for bytes that nobody needs: they are counted and
@@ -160,43 +158,65 @@ impl<'a, L: Link> Conn<'a, L> {
     pub fn inquire_drop(&mut self, word: &[u8], params: &[u8], limit: usize) -> Dropped
         requires going { IsOpen self.old }
         requires one_line { IsLine (inquire_text word.now params.now) }
-        ensures inquiry { result ≢ Dropped.WriteFault
-            → Inquire limit (inquire_text word.now params.now)
+        ensures { Asks Dropped.WriteFault limit (inquire_text word.now params.now) result
             (AnswersDropped (outcome_of_dropped result)) self.old self.new }
-        ensures cut { result ≡ Dropped.WriteFault
-            → IsNotAsked (inquire_text word.now params.now) self.old self.new }
+    {
+        match self.ask_dropped(word, params, limit) {
+            Ok(()) => Dropped::Done,
+            Err(error) => error.into(),
+        }
+    }
+
+    /// Asks as `inquire_drop` does.
+    pub(crate) fn ask_dropped(
+        &mut self,
+        word: &[u8],
+        params: &[u8],
+        limit: usize,
+    ) -> Result<(), Unheard>
+        requires going { IsOpen self.old }
+        requires one_line { IsLine (inquire_text word.now params.now) }
+        ensures { Asks (Err not_written) limit (inquire_text word.now params.now) result
+            (AnswersDropped (drop_outcome result)) self.old self.new }
     {
         let mut lines = InquiryLines {
             buffer: ByteCounter::new(limit),
         };
-        let mut took = self.gather(word, params, &mut lines);
-        match &mut took {
-            Some(took) => counted(took, lines.buffer),
-            None => Dropped::WriteFault,
-        }
+        let mut took = self.gather(word, params, &mut lines)?;
+        counted(&mut took, lines.buffer)
     }
 
-    /// Asks the client, and reads up to the first line that isn't skipped. `None` where the
-    /// question couldn't be written.
-    fn gather<B: Buffer + Drop>(
+    /// Tells the client how many bytes are taken of what it is asked for.
+    #[tactic(auto, using(crate::proofs::Saying::said))]
+    pub fn tell_limit(&mut self, limit: usize) -> Result<(), WriteFault>
+        ensures { WritesText (limit_line limit) self.old result self.new }
+    {
+        let mut digits = Buffer::new();
+        self.status(b"INQUIRE_MAXLEN", digits.format(limit).as_bytes())
+            .whole()
+    }
+
+    /// Asks the client, and reads up to the first line that isn't skipped, unless the question
+    /// couldn't be written.
+    fn gather<B: Bytes + Drop>(
         &mut self,
         word: &[u8],
         params: &[u8],
         lines: &mut InquiryLines<B>,
-    ) -> Option<Took>
+    ) -> Result<Took, Unheard>
         requires going { IsOpen self.old }
         requires one_line { IsLine (inquire_text word.now params.now) }
         ensures gathered { B.keeps lines.old.buffer
-            [] → IfSome result (λ took. Gather (ReadsOn (λ before line. is_skipped line)
+            [] → IfOk result (λ took. Gather (ReadsOn (λ before line. is_skipped line)
             [] (λ skipped. B.keeps lines.new.buffer (flat_map carried skipped)))
             (inquire_text word.now params.now) self.old took self.new) }
-        ensures cut { IfNone result
-            (IsNotAsked (inquire_text word.now params.now) self.old self.new) }
+        ensures cut { IfErr result
+            (NotWritten (inquire_text word.now params.now) self.old self.new) }
         ensures limit { B.limit lines.new.buffer ≡ B.limit lines.old.buffer }
     {
         match self.ask(word, params) {
-            Sent::All => Some(self.next_after(lines)),
-            Sent::Failed { .. } => None,
+            Sent::All => Ok(self.next_after(lines)),
+            Sent::Failed { .. } => Err(Unheard::Gone(Gone::WriteFault)),
         }
     }
 
@@ -229,8 +249,8 @@ fn collected(took: &mut Took, buffer: VecBuffer) -> Inquired
     ensures within { IfData result (λ bytes. length bytes ≤ buffer.limit) }
     ensures others { result ≢ Inquired.WriteFault }
 {
-    if let Err(failure) = end_of(took) {
-        return failure.into();
+    if let Err(error) = end_of(took) {
+        return error.into();
     }
     match buffer.overflow {
         Overflow::None => Inquired::Data(buffer.into_bytes()),
@@ -241,32 +261,28 @@ fn collected(took: &mut Took, buffer: VecBuffer) -> Inquired
 
 /// What an inquiry for a secret comes to whose bytes are kept so, by the answer after its data
 /// lines.
-fn buffered(took: &mut Took, buffer: &SecretBuffer) -> InquiredSecret
+fn buffered(took: &mut Took, buffer: &SecretBuffer) -> Result<Secret, Unheard>
     ensures answer { IsAnswer MAX_SECRET_LEN (IsSecretOf buffer.now.bytes buffer.now.too_much)
-        took.old (Answers (outcome_of_secret result)) }
-    ensures others { result ≢ InquiredSecret.WriteFault }
+        took.old (Answers (secret_outcome result)) }
+    ensures others { result ≢ Err not_written }
 {
-    if let Err(failure) = end_of(took) {
-        return failure.into();
-    }
+    end_of(took)?;
     match buffer.secret() {
-        Some(secret) => InquiredSecret::Secret(secret),
-        None => InquiredSecret::TooMuch,
+        Some(secret) => Ok(secret),
+        None => Err(Unheard::TooMuch),
     }
 }
 
 /// What an inquiry comes to whose bytes are counted so, by the answer after its data lines.
-fn counted(took: &mut Took, counter: ByteCounter) -> Dropped
+fn counted(took: &mut Took, counter: ByteCounter) -> Result<(), Unheard>
     ensures answer { IsAnswer counter.limit (IsCountOf counter.limit counter.left counter.past)
-        took.old (AnswersDropped (outcome_of_dropped result)) }
-    ensures others { result ≢ Dropped.WriteFault }
+        took.old (AnswersDropped (drop_outcome result)) }
+    ensures others { result ≢ Err not_written }
 {
-    if let Err(failure) = end_of(took) {
-        return failure.into();
-    }
+    end_of(took)?;
     if counter.past {
-        Dropped::TooMuch
+        Err(Unheard::TooMuch)
     } else {
-        Dropped::Done
+        Ok(())
     }
 }

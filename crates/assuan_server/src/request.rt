@@ -3,8 +3,7 @@
 //! and with the law that the next request is the only one.
 
 ghost use Rattle.std.specs.Prelude.{◌≡◌, ◌++◌, ◌∷◌, [], ℕ, List, true, false};
-ghost use Rattle.assuan_line.specs.Next.{Reader};
-ghost use Rattle.assuan_text.specs.Forms.{is_ignored};
+ghost use Rattle.{assuan_line.specs.Next.Reader, assuan_text.specs.Forms.is_ignored};
 ghost use Rattle.assuan_server.specs.Requests.{IsNextRequest};
 
 use assuan_line::{Line, LineFilter, Took};

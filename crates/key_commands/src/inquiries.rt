@@ -5,15 +5,14 @@
 ghost use Rattle.std.specs.Prelude.{[]};
 ghost use Rattle.{assuan_line.specs.Lines.IsLine, assuan_server.specs.Clients.connection_views};
 ghost use Rattle.assuan_server.specs.{Connections.IsOpen, Inquiries.inquire_text};
-ghost use Rattle.assuan_server.specs.Written.{WritesText, limit_line};
-ghost use Rattle.agent_ask.specs.{ClientParts.Writes, PartStates.DoesWithClient};
+ghost use Rattle.{assuan_server.specs.Written.limit_line, agent_ask.specs.ClientParts.Writes};
+ghost use Rattle.agent_ask.specs.PartStates.{DoesWithClient};
 ghost use Rattle.key_commands.specs.Passphrases.{AsksSecret};
 
-use agent_ports::{Link, WriteFault};
+use agent_ports::Link;
 use assuan_server::Conn;
 use cache_policy::{MAX_SECRET_LEN, Secret};
-use itoa::Buffer;
-use session_client::{Gone, Refusal, Unheard};
+use session_client::Refusal;
 
 /// Asks the client for a passphrase by this word. It is told first how many bytes are taken.
 pub(crate) fn ask_client<L: Link>(word: &[u8], conn: &mut Conn<'_, L>) -> Result<Secret, Refusal>
@@ -22,10 +21,7 @@ pub(crate) fn ask_client<L: Link>(word: &[u8], conn: &mut Conn<'_, L>) -> Result
     ensures { DoesWithClient connection_views (AsksSecret word.now) conn.old result conn.new }
 {
     tell_limit(MAX_SECRET_LEN, conn)?;
-    match conn.inquire_secret(word, b"").said() {
-        Ok(secret) => Ok(secret),
-        Err(why) => Err(Refusal::Client(why)),
-    }
+    Ok(conn.ask_secret(word, b"")?)
 }
 
 /// Tells the client how many bytes are taken of what it is asked for.
@@ -33,17 +29,5 @@ pub(crate) fn tell_limit<L: Link>(limit: usize, conn: &mut Conn<'_, L>) -> Resul
     requires { IsOpen conn.old }
     ensures { DoesWithClient connection_views (Writes (limit_line limit)) conn.old result conn.new }
 {
-    match write_limit(limit, conn) {
-        Ok(()) => Ok(()),
-        Err(WriteFault) => Err(Refusal::Client(Unheard::Gone(Gone::WriteFault))),
-    }
-}
-
-#[tactic(auto, using(assuan_server::proofs::Saying::said))]
-fn write_limit<L: Link>(limit: usize, conn: &mut Conn<'_, L>) -> Result<(), WriteFault>
-    ensures { WritesText (limit_line limit) conn.old result conn.new }
-{
-    let mut digits = Buffer::new();
-    conn.status(b"INQUIRE_MAXLEN", digits.format(limit).as_bytes())
-        .whole()
+    Ok(conn.tell_limit(limit)?)
 }

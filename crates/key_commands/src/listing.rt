@@ -21,10 +21,10 @@ use crate::reply::Reply;
 use crate::texts::write_info;
 use crate::turns::peek;
 use agent_ask::Held;
-use agent_ports::{Grip, Keys, Link, WriteFault};
+use agent_ports::{Grip, Keys, Link};
 use assuan_server::{Code, Conn};
 use cache_policy::Desk;
-use session_client::{Gone, Refusal, Unheard};
+use session_client::Refusal;
 use sexp_keys::KeyList;
 use std::alloc::Global;
 
@@ -161,8 +161,5 @@ fn tell_info<L: Link>(
     ensures { DoesWithClient connection_views (Writes (info_line grip.now cached clear))
         conn.old result conn.new }
 {
-    match write_info(conn, grip, cached, clear) {
-        Ok(()) => Ok(()),
-        Err(WriteFault) => Err(Refusal::Client(Unheard::Gone(Gone::WriteFault))),
-    }
+    Ok(write_info(conn, grip, cached, clear)?)
 }

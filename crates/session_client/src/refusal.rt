@@ -6,6 +6,7 @@ ghost use Rattle.std.specs.Prelude.{◌≡◌};
 ghost use Rattle.session_client.specs.Refusals.{gone_by};
 
 use crate::{Code, Gone, Unheard};
+use agent_ports::WriteFault;
 
 /// Why a request isn't carried out further, once it was read.
 #[derive(Clone, Copy, PartialEq, Eq)]
@@ -16,6 +17,30 @@ pub enum Refusal {
     Pinentry(Code),
     /// The client gave nothing of what was wanted, or is gone.
     Client(Unheard),
+}
+
+impl From<Unheard> for Refusal {
+    ghost use Rattle.std.specs.Prelude.{◌≡◌};
+    ghost use Rattle.session_client.specs.declared.refusal.Refusal.TheVariants.{Client};
+
+    ghost from_gives = { λ error why. why ≡ Client error };
+
+    fn from(error: Unheard) -> Refusal {
+        Refusal::Client(error)
+    }
+}
+
+impl From<WriteFault> for Refusal {
+    ghost use Rattle.std.specs.Prelude.{◌≡◌};
+    ghost use Rattle.session_client.specs.declared.refusal.Refusal.TheVariants.{Client};
+    ghost use Rattle.session_client.specs.declared.unheard.Gone.TheVariants as gone;
+    ghost use Rattle.session_client.specs.declared.unheard.Unheard.TheVariants.{Gone};
+
+    ghost from_gives = { λ _ why. why ≡ Client (Gone gone.WriteFault) };
+
+    fn from(_fault: WriteFault) -> Refusal {
+        Refusal::Client(Unheard::Gone(Gone::WriteFault))
+    }
 }
 
 impl Refusal {

@@ -1,26 +1,22 @@
-use Rattle.std.{proofs.{Common.{sym, ◌∙◌, subst}, lemmas.Result.err_from_is_err_and}, specs.Prelude.codes}
-use Rattle.{agent_ask.proofs.{PartsAtClient.{gave, gave_none}, PartsDone.{part_then, part_stops, open_after}}, assuan_server.{specs.Clients.connection_views, proofs.Clients.wished}}
-use Rattle.{cache_policy.specs.declared.secret.TheConstants.MAX_SECRET_LEN, session_client.specs.Asking.AsksClient}
+use Rattle.std.proofs.lemmas.Result.{err_from_is_err_and}
+use Rattle.{agent_ask.proofs.{PartsAtClient.{wrote, wrote_part, gave, gave_none}, PartsDone.{part_then, part_stops, open_after}}, assuan_server.proofs.Clients.{said_so, wished}}
 use Rattle.agent_commands.proofs.inquiry.ask_client.Goals as goal
 
 pub returns-in_err-tell_limit : goal.returns-in_err-tell_limit
 returns-in_err-tell_limit g c =
     let p = err_from_is_err_and c.from_residual.result c.from_residual.ensures.1 in
-    rw (p.1, p.2) (λ held. part_stops (c.in_err-tell_limit.ensures held))
+    rw (p.1, p.2) (λ held. part_stops (wrote_part c.in_err-tell_limit.field-0.0 (said_so c.in_err-tell_limit.ensures) held))
 
-pub inquire_secret-requires-clause-going : goal.inquire_secret-requires-clause-going
-inquire_secret-requires-clause-going g c = open_after c.in_ok-tell_limit.ensures
+pub ask_secret-requires-clause-going : goal.ask_secret-requires-clause-going
+ask_secret-requires-clause-going g c = open_after (wrote c.requires (said_so c.in_ok-tell_limit.ensures))
 
-pub returns-in-Ok : goal.returns-in-Ok
-returns-in-Ok g c =
-    let asks =
-    subst (λ r. AsksClient connection_views (codes "PASSPHRASE") MAX_SECRET_LEN r c.tell_limit.new.conn c.inquire_secret.new.self) (sym c.said.ensures ∙ c.in-Ok.is)
-    (wished (open_after c.in_ok-tell_limit.ensures) c.inquire_secret.result (record { inquiry = c.inquire_secret.ensures.inquiry; cut = c.inquire_secret.ensures.cut })) in
-    λ held. part_then (c.in_ok-tell_limit.ensures held) (gave asks held)
+pub returns-in_err-ask_secret : goal.returns-in_err-ask_secret
+returns-in_err-ask_secret g c =
+    let p = err_from_is_err_and c.from_residual-in_err-ask_secret.result c.from_residual-in_err-ask_secret.ensures.1 in
+    let told = wrote c.requires (said_so c.in_ok-tell_limit.ensures) in
+    rw (p.1, p.2) (λ held. part_then (told held) (gave_none (wished (open_after told) _ c.in_err-ask_secret.ensures) held))
 
-pub returns-in-Err : goal.returns-in-Err
-returns-in-Err g c =
-    let asks =
-    subst (λ r. AsksClient connection_views (codes "PASSPHRASE") MAX_SECRET_LEN r c.tell_limit.new.conn c.inquire_secret.new.self) (sym c.said.ensures ∙ c.in-Err.is)
-    (wished (open_after c.in_ok-tell_limit.ensures) c.inquire_secret.result (record { inquiry = c.inquire_secret.ensures.inquiry; cut = c.inquire_secret.ensures.cut })) in
-    λ held. part_then (c.in_ok-tell_limit.ensures held) (gave_none asks held)
+pub returns : goal.returns
+returns g c =
+    let told = wrote c.requires (said_so c.in_ok-tell_limit.ensures) in
+    λ held. part_then (told held) (gave (wished (open_after told) _ c.in_ok-ask_secret.ensures) held)

@@ -1,8 +1,7 @@
 use Rattle.std.proofs.Common.{◌≡◌, refl, ap, sym, ◌∙◌, subst}
 use Rattle.assuan_line.specs.Ahead.{bytes_ahead}
-use Rattle.assuan_line.specs.Stops.{reader_at, ReadAhead, Decides}
+use Rattle.assuan_line.specs.Stops.{reader_at, ReadAhead}
 use Rattle.assuan_line.specs.declared.buffer.Ahead.{Ahead}
-use Rattle.assuan_line.specs.declared.reader.Took.{Took}
 use Rattle.assuan_line.proofs.Reading.{read_then, undecided_before, decides_since, decides_ahead}
 use Rattle.assuan_line.proofs.reader.take_line.Goals as goal
 
@@ -36,8 +35,7 @@ returns-in-Err-clause-taken g c =
     record {
       middle = after;
       read = read_then _ (reader_at c.loop-took.ahead c.loop-took.left) after _ (g.S.Source.input c.loop-took.source) _ i.read next;
-      decides = subst (λ (t : Took). Decides after (g.S.Source.input c.args.source.now) t after (g.S.Source.input c.read_ahead.new.source)) (sym c.into.ensures)
-          (decides_since after after _ (g.S.Source.input c.args.source.now) (g.S.Source.input c.loop-took.source) (g.S.Source.input c.read_ahead.new.source) i.read.faults c.in-Err.ensures.stop);
+      decides = decides_since after after _ (g.S.Source.input c.args.source.now) (g.S.Source.input c.loop-took.source) (g.S.Source.input c.read_ahead.new.source) i.read.faults c.in-Err.ensures.stop;
       budget = refl {a = c.read_ahead.new.left};
     }
 

@@ -1,7 +1,6 @@
 use Rattle.std.proofs.Common.{◌≡◌, rules, sym, subst}
 use Rattle.assuan_line.specs.Lines.{IsLine}
-use Rattle.assuan_server.specs.Errors.{error_text}
-use Rattle.assuan_server.proofs.ErrorLines.{error_line}
+use Rattle.assuan_server.{specs.Errors.error_text, proofs.ErrorLines.error_line}
 use Rattle.assuan_server.proofs.errors.error_text.Goals as goal
 
 pub returns-clause-is_line : goal.returns-clause-is_line

@@ -1,10 +1,12 @@
 use Rattle.std.proofs.Common.{◌≡◌, ◌≤◌, List, ℕ, rules, subst, length}
-use Rattle.assuan_server.specs.Inquiries.{IsAtEnd}
-use Rattle.assuan_server.proofs.Inquiring.{failed, with_data, beyond, without_memory}
+use Rattle.assuan_server.{specs.Inquiries.IsAtEnd, proofs.Inquiring.{failed, was_written, with_data, beyond, without_memory}}
 use Rattle.assuan_server.proofs.inquiry.collected.Goals as goal
 
 pub returns-in-Err-clause-answer : goal.returns-in-Err-clause-answer
-returns-in-Err-clause-answer c = rw c.into.ensures (failed IsAtEnd c.in-Err.ensures.failure)
+returns-in-Err-clause-answer c = rw c.into.ensures.named (failed c.in-Err.ensures.failure IsAtEnd)
+
+pub returns-in-Err-clause-others : goal.returns-in-Err-clause-others
+returns-in-Err-clause-others c = λ is. was_written c.in-Err.ensures.failure (c.into.ensures.cut.0 is)
 
 pub returns-in-None-clause-answer : goal.returns-in-None-clause-answer
 returns-in-None-clause-answer c =

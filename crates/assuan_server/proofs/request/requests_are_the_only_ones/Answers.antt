@@ -1,6 +1,5 @@
 use Rattle.std.proofs.Common.{[]}
-use Rattle.assuan_text.specs.Forms.{is_ignored}
-use Rattle.assuan_line.proofs.OnlyReading.{only_reading}
+use Rattle.{assuan_text.specs.Forms.is_ignored, assuan_line.proofs.OnlyReading.only_reading}
 use Rattle.assuan_server.proofs.request.requests_are_the_only_ones.Goals as goal
 
 pub returns : goal.returns

@@ -1,8 +1,11 @@
+use Rattle.std.proofs.lemmas.Result.{err_from_is_err_and}
 use Rattle.{agent_ask.proofs.PartsAtClient.{wrote, wrote_part}, assuan_server.proofs.Clients.said_so}
 use Rattle.key_commands.proofs.listing.tell_info.Goals as goal
 
-pub returns-in-Ok : goal.returns-in-Ok
-returns-in-Ok g c = wrote c.requires (said_so c.in-Ok.ensures)
+pub returns-in_err-write_info : goal.returns-in_err-write_info
+returns-in_err-write_info g c =
+    let p = err_from_is_err_and c.from_residual.result c.from_residual.ensures.1 in
+    rw (p.1, p.2) (wrote_part c.in_err-write_info.field-0.0 (said_so c.in_err-write_info.ensures))
 
-pub returns-in-Err : goal.returns-in-Err
-returns-in-Err g c = wrote_part c.in-Err.field-0 (said_so c.in-Err.ensures)
+pub returns : goal.returns
+returns g c = wrote c.requires (said_so c.in_ok-write_info.ensures)

@@ -1,9 +1,6 @@
-use Rattle.std.proofs.Common.{sym, ◌∙◌}
-use Rattle.std.proofs.lemmas.Bool.{false≢true}
-use Rattle.assuan_server.proofs.Clients.{HearsWish, wishes, wishes_unsaid}
-use Rattle.assuan_server.proofs.NoteLines.{wish_no_line, wish_unfit}
+use Rattle.std.proofs.{Common.{sym, ◌∙◌}, lemmas.Bool.false≢true}
+use Rattle.assuan_server.proofs.{Clients.{wishes, wishes_unsaid}, NoteLines.{wish_no_line, wish_unfit}, client.ConnClientSecret.ask.Goals.{then-word-via-then-word, then-word-via-else-word+then-is_none}}
 use Rattle.assuan_server.proofs.client.ConnClientSecret.ask.Goals as goal
-use Rattle.assuan_server.proofs.client.ConnClientSecret.ask.Goals.{then-word-via-then-word, then-word-via-else-word+then-is_none}
 
 pub returns-then-word : goal.returns-then-word
 returns-then-word g c = wishes_unsaid c.requires (elim c.then-word.branch [
@@ -12,7 +9,4 @@ returns-then-word g c = wishes_unsaid c.requires (elim c.then-word.branch [
 ])
 
 pub returns : goal.returns
-returns g c =
-    let hears : HearsWish c.args.word.now c.args.self.now c.inquire_secret.result c.inquire_secret.new.self =
-    record { inquiry = c.inquire_secret.ensures.inquiry; cut = c.inquire_secret.ensures.cut } in
-    rw c.said.ensures (wishes c.requires c.inquire_secret.result hears)
+returns g c = wishes c.requires c.ask_secret.result c.ask_secret.ensures

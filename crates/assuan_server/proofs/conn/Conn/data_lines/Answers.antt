@@ -1,6 +1,4 @@
-use Rattle.std.proofs.Common.{◌≡◌, ◌∙◌, length, take, ap, sym, List, ℕ}
-use Rattle.std.proofs.lemmas.Bool.{eqb-true}
-use Rattle.std.proofs.lemmas.List.{nil_from_length}
+use Rattle.std.proofs.{Common.{◌≡◌, ◌∙◌, length, take, ap, sym, List, ℕ}, lemmas.{Bool.eqb-true, List.nil_from_length}}
 use Rattle.assuan_escape.specs.DataLines.{data_line}
 use Rattle.assuan_server.proofs.Writing.{written_alone, writing_more, written_once_none_is_left, written_cut}
 use Rattle.assuan_server.proofs.conn.Conn.data_lines.Goals as goal

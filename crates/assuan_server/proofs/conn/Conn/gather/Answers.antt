@@ -1,6 +1,5 @@
 use Rattle.std.proofs.Common.{[]}
-use Rattle.assuan_server.specs.Inquiries.{inquire_text}
-use Rattle.assuan_server.proofs.Inquiring.{gathered}
+use Rattle.assuan_server.{specs.Inquiries.inquire_text, proofs.Inquiring.gathered}
 use Rattle.assuan_server.proofs.conn.Conn.gather.Goals as goal
 
 pub returns-in-All-clause-gathered : goal.returns-in-All-clause-gathered

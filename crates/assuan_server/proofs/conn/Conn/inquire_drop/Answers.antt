@@ -1,14 +1,11 @@
-use Rattle.std.proofs.Common.{ℕ, ◌∙◌, subst, arith}
-use Rattle.assuan_server.specs.Asking.{Inquire}
-use Rattle.assuan_server.specs.Buffers.{IsCountOf}
-use Rattle.assuan_server.specs.Inquiries.{inquire_text, outcome_of_dropped, AnswersDropped}
-use Rattle.assuan_server.proofs.Inquiring.{inquired}
+use Rattle.std.proofs.Common.{Err, ap}
 use Rattle.assuan_server.proofs.conn.Conn.inquire_drop.Goals as goal
 
-pub returns-in-Some-clause-inquiry : goal.returns-in-Some-clause-inquiry
-returns-in-Some-clause-inquiry g c = λ written.
-    let new = c.new.ensures in
-    let counter = c.gather-took.new.lines.buffer in
-    subst (λ (limit : ℕ). Inquire limit (inquire_text c.args.word.now c.args.params.now) (AnswersDropped (outcome_of_dropped c.counted.result)) c.args.self.now c.gather-took.new.self)
-    (c.gather-took.ensures.limit ∙ new.limit)
-    (inquired {keeps = IsCountOf counter.limit counter.left counter.past} (rw c.in-Some.is at c.gather-took.ensures.gathered (rw (new.past, new.left, new.limit) (omega arith))) c.counted.ensures.answer)
+pub returns-in-Ok : goal.returns-in-Ok
+returns-in-Ok g c = record { inquiry = λ written. c.in-Ok.ensures.inquiry (λ e. cc e); cut = λ is. absurd (cc is) }
+
+pub returns-in-Err : goal.returns-in-Err
+returns-in-Err g c = record {
+  inquiry = λ written. rw c.into.ensures.named (c.in-Err.ensures.inquiry (λ e. written (c.into.ensures.cut.1 (cc e))));
+  cut = λ is. c.in-Err.ensures.cut (ap Err (c.into.ensures.cut.0 is));
+}

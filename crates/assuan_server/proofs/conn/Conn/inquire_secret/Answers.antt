@@ -1,9 +1,11 @@
-use Rattle.assuan_server.specs.Buffers.{IsSecretOf}
-use Rattle.assuan_server.proofs.Inquiring.{inquired}
+use Rattle.std.proofs.Common.{Err, ap}
 use Rattle.assuan_server.proofs.conn.Conn.inquire_secret.Goals as goal
 
-pub returns-in-Some-clause-inquiry : goal.returns-in-Some-clause-inquiry
-returns-in-Some-clause-inquiry g c = λ written.
-    let new = c.new.ensures in
-    let buffer = c.gather-took.new.lines.buffer in
-    inquired {keeps = IsSecretOf buffer.bytes buffer.too_much} (rw c.in-Some.is at c.gather-took.ensures.gathered (rw new.too_much new.bytes)) c.buffered-inquired.ensures.answer
+pub returns-in-Ok : goal.returns-in-Ok
+returns-in-Ok g c = record { inquiry = λ written. c.in-Ok.ensures.inquiry (λ e. cc e); cut = λ is. absurd (cc is) }
+
+pub returns-in-Err : goal.returns-in-Err
+returns-in-Err g c = record {
+  inquiry = λ written. rw c.into.ensures.named (c.in-Err.ensures.inquiry (λ e. written (c.into.ensures.cut.1 (cc e))));
+  cut = λ is. c.in-Err.ensures.cut (ap Err (c.into.ensures.cut.0 is));
+}

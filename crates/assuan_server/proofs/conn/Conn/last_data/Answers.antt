@@ -1,9 +1,6 @@
-use Rattle.std.proofs.Common.{[], Result, Err, subst}
-use Rattle.std.specs.Prelude.{ℕ}
-use Rattle.assuan_escape.specs.DataLines.{data_text}
-use Rattle.assuan_text.specs.LineEnds.{line_of}
-use Rattle.assuan_server.specs.Written.{WritesData, ok_text}
-use Rattle.assuan_server.proofs.Writing.{cut_within}
+use Rattle.std.{proofs.Common.{[], Result, Err, subst}, specs.Prelude.ℕ}
+use Rattle.{assuan_escape.specs.DataLines.data_text, assuan_text.specs.LineEnds.line_of}
+use Rattle.assuan_server.{specs.Written.{WritesData, ok_text}, proofs.Writing.cut_within}
 use Rattle.assuan_server.proofs.conn.Conn.last_data.Goals as goal
 
 pub returns-in-Err : goal.returns-in-Err
