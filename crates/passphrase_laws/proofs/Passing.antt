@@ -1,10 +1,9 @@
 -- The options that the command says are taken or refused.
 use Rattle.std.specs.List.{AllByRecursion}
 use Rattle.std.specs.Prelude.{if◌then◌else◌}
-use Rattle.std.proofs.Common.{◌≡◌, ℕ, Bool, true, false, List, [], ◌∷◌, ◌++◌, codes, refl, subst}
+use Rattle.std.proofs.Common.{◌≡◌, ℕ, Bool, true, false, List, [], ◌∷◌, ◌++◌, codes, refl, ap, subst, ◌∙◌}
 use Rattle.agent_ask.specs.PartExchanges.{AnyExchange, answered, refused}
 use Rattle.agent_ask.specs.Parts.{returns, refuses}
-use Rattle.agent_ask.specs.Plans.{text}
 use Rattle.agent_ask.specs.TurnParts as turn
 use Rattle.agent_commands.specs.Endings.{went_after}
 use Rattle.agent_commands.specs.Exchanges.{CacheExchange, option_replies}
@@ -12,7 +11,6 @@ use Rattle.agent_commands.specs.Names.{command_named}
 use Rattle.agent_commands.specs.Parts.{CacheEvent}
 use Rattle.agent_commands.specs.Requests.{request_of}
 use Rattle.agent_commands.specs.declared.request.CacheCommand.{CacheCommand}
-use Rattle.agent_commands.specs.declared.request.CacheCommand.TheVariants.{SetOption}
 use Rattle.agent_commands.specs.declared.request.Request.{Request}
 use Rattle.agent_commands.specs.declared.request.Request.TheVariants.{Cache}
 use Rattle.agent_commands.specs.declared.went.Went.{Went}
@@ -20,17 +18,18 @@ use Rattle.agent_origin.specs.SessionExchanges.{RequestExchange, cache, keys}
 use Rattle.agent_origin.specs.declared.kept.Kept.{Kept}
 use Rattle.assuan_server.specs.Written.{refusal_line}
 use Rattle.assuan_server.specs.declared.errors.Origin.TheVariants.{Agent}
+use Rattle.assuan_text.specs.Blanks.{without_blanks}
 use Rattle.passphrase_talk.specs.Dialogues.{option_with, options_of}
 use Rattle.passphrase_talk.specs.declared.connector.Waits.{Waits}
 use Rattle.passphrase_talk.specs.declared.connector.Waits.TheVariants as waits
 use Rattle.session_client.specs.declared.code.Code.TheVariants as code
 use Rattle.session_options.specs.OptionValues.{Applied, EnvWords, OptionValues, applied, refused as left_so, set_to}
 use Rattle.session_options.specs.Table.{named}
-use Rattle.session_options.specs.Text.{can_be_kept, option_value}
+use Rattle.session_options.specs.Text.{can_be_kept}
 use Rattle.session_options.specs.declared.options.OptionAnswer.{OptionAnswer}
 use Rattle.session_options.specs.declared.options.OptionAnswer.TheVariants as option
 use Rattle.session_options.specs.declared.rules.Rules.{Rules}
-use Rattle.passphrase_laws.specs.Served.{IsPassed, Passes}
+use Rattle.passphrase_laws.specs.Served.{IsPassed, Passes, SaysTerminal, SetInTurn, Sets}
 use Rattle.passphrase_laws.specs.Served as served
 
 -- by each answer to an option
@@ -48,57 +47,77 @@ passes_by option.NotSupported before set same (answered events held reply does _
 passes_by option.NotSupported before set same (refused events held why refuses turn.unheld) =
     record { reply = _; is_reply = served.refused code.NotSupported Agent; events_are = refl; goes_on = refl; mode = refl }
 
--- a line that is read as an option with this text, which leaves the pinentry-mode
-record IsOption (line : List ℕ) : Type 0 where
-  said : List ℕ
-  read : request_of line ≡ Cache (SetOption (text said))
-  mode : (values : OptionValues) → (applied values said).after.mode ≡ values.mode
-
 -- what a session does for a request on the cache is its exchange
 pub on_cache : {rules : Rules} {before after : Kept} {request : Request} {command : CacheCommand} {events : List CacheEvent} {went : Went} → request ≡ Cache command
     → RequestExchange rules before request events after went → CacheExchange rules before.options request events after.options went
 on_cache is (cache exchange) = exchange
 on_cache is (keys exchange) = absurd (cc is)
 
-passed : (rules : Rules) (line : List ℕ) → IsOption line → IsPassed rules line
-passed rules line is before after events went exchange =
-    passes_by (applied before.options is.said).answer before.options (applied before.options is.said).after (is.mode before.options)
+kept_mode : (values set : OptionValues) → set.mode ≡ values.mode → (kept : Bool) → (if kept then set_to set else left_so option.Parameter values).after.mode ≡ values.mode
+kept_mode values set same true = same
+kept_mode values set same false = refl
+
+-- an option that leaves the pinentry-mode
+passed : (rules : Rules) {value : List ℕ} {change : OptionValues → OptionValues} (line : List ℕ) → ((values : OptionValues) → (change values).mode ≡ values.mode) → Sets value change line
+    → IsPassed rules line
+passed rules {value} {change} line same is before after events went exchange =
+    let mode = ap (λ (a : Applied). a.after.mode) (is.sets before.options) ∙ kept_mode before.options (change before.options) (same before.options) (can_be_kept value) in
+    passes_by (applied before.options is.said).answer before.options (applied before.options is.said).after mode
     (subst (λ (r : Request). CacheExchange rules before.options r events after.options went) is.read (on_cache is.read exchange))
 
 -- ---- each of the options
 
--- whether its value can be kept or not
-plain_mode : (values : OptionValues) (set : Applied) → set.after.mode ≡ values.mode → (kept : Bool) → (if kept then set else left_so option.Parameter values).after.mode ≡ values.mode
-plain_mode values set same true = same
-plain_mode values set same false = refl
-
-notify : IsOption (codes "OPTION allow-pinentry-notify")
+notify_sets : Sets [] (λ old. record old { notify = true }) (codes "OPTION allow-pinentry-notify")
 unfolding request_of command_named applied named
-notify = record { said = codes "allow-pinentry-notify"; read = refl; mode = λ values. refl }
+notify_sets = record { said = codes "allow-pinentry-notify"; read = refl; sets = λ values. refl }
 
-tty_name : (byte : ℕ) (value : List ℕ) → IsOption (codes "OPTION ttyname=" ++ byte ∷ value)
+name_sets : (byte : ℕ) (word : List ℕ) → Sets (without_blanks (byte ∷ word)) (λ old. record old { env = record old.env { ttyname = without_blanks (byte ∷ word) } }) (codes "OPTION ttyname=" ++ byte ∷ word)
 unfolding request_of command_named applied named
-tty_name byte value =
-    let said : List ℕ = codes "ttyname=" ++ byte ∷ value in
-    record { said = said; read = refl; mode = λ values. plain_mode values (set_to (record values { env = record values.env { ttyname = option_value said } })) refl (can_be_kept (option_value said)) }
+name_sets byte word = record { said = codes "ttyname=" ++ byte ∷ word; read = refl; sets = λ values. refl }
 
-tty_type : (byte : ℕ) (value : List ℕ) → IsOption (codes "OPTION ttytype=" ++ byte ∷ value)
+type_sets : (byte : ℕ) (word : List ℕ) → Sets (without_blanks (byte ∷ word)) (λ old. record old { env = record old.env { ttytype = without_blanks (byte ∷ word) } }) (codes "OPTION ttytype=" ++ byte ∷ word)
 unfolding request_of command_named applied named
-tty_type byte value =
-    let said : List ℕ = codes "ttytype=" ++ byte ∷ value in
-    record { said = said; read = refl; mode = λ values. plain_mode values (set_to (record values { env = record values.env { ttytype = option_value said } })) refl (can_be_kept (option_value said)) }
+type_sets byte word = record { said = codes "ttytype=" ++ byte ∷ word; read = refl; sets = λ values. refl }
 
-lc_ctype : (byte : ℕ) (value : List ℕ) → IsOption (codes "OPTION lc-ctype=" ++ byte ∷ value)
+ctype_sets : (byte : ℕ) (word : List ℕ) → Sets (without_blanks (byte ∷ word)) (λ old. record old { env = record old.env { lc_ctype = without_blanks (byte ∷ word) } }) (codes "OPTION lc-ctype=" ++ byte ∷ word)
 unfolding request_of command_named applied named
-lc_ctype byte value =
-    let said : List ℕ = codes "lc-ctype=" ++ byte ∷ value in
-    record { said = said; read = refl; mode = λ values. plain_mode values (set_to (record values { env = record values.env { lc_ctype = option_value said } })) refl (can_be_kept (option_value said)) }
+ctype_sets byte word = record { said = codes "lc-ctype=" ++ byte ∷ word; read = refl; sets = λ values. refl }
 
-lc_messages : (byte : ℕ) (value : List ℕ) → IsOption (codes "OPTION lc-messages=" ++ byte ∷ value)
+messages_sets : (byte : ℕ) (word : List ℕ) → Sets (without_blanks (byte ∷ word)) (λ old. record old { env = record old.env { lc_messages = without_blanks (byte ∷ word) } }) (codes "OPTION lc-messages=" ++ byte ∷ word)
 unfolding request_of command_named applied named
-lc_messages byte value =
-    let said : List ℕ = codes "lc-messages=" ++ byte ∷ value in
-    record { said = said; read = refl; mode = λ values. plain_mode values (set_to (record values { env = record values.env { lc_messages = option_value said } })) refl (can_be_kept (option_value said)) }
+messages_sets byte word = record { said = codes "lc-messages=" ++ byte ∷ word; read = refl; sets = λ values. refl }
+
+abbrev Changes : Type 0
+Changes = List (List ℕ × (List ℕ → OptionValues → OptionValues))
+
+name_turn : (word : List ℕ) {more : Changes} {lines : List (List ℕ)} → SetInTurn more lines
+    → SetInTurn ((word, λ value old. record old { env = record old.env { ttyname = value } }) ∷ more) (option_with (codes "OPTION ttyname=") word ++ lines)
+name_turn [] later = served.unsaid later
+name_turn (byte ∷ word) later = served.said (name_sets byte word) later
+
+type_turn : (word : List ℕ) {more : Changes} {lines : List (List ℕ)} → SetInTurn more lines
+    → SetInTurn ((word, λ value old. record old { env = record old.env { ttytype = value } }) ∷ more) (option_with (codes "OPTION ttytype=") word ++ lines)
+type_turn [] later = served.unsaid later
+type_turn (byte ∷ word) later = served.said (type_sets byte word) later
+
+ctype_turn : (word : List ℕ) {more : Changes} {lines : List (List ℕ)} → SetInTurn more lines
+    → SetInTurn ((word, λ value old. record old { env = record old.env { lc_ctype = value } }) ∷ more) (option_with (codes "OPTION lc-ctype=") word ++ lines)
+ctype_turn [] later = served.unsaid later
+ctype_turn (byte ∷ word) later = served.said (ctype_sets byte word) later
+
+messages_turn : (word : List ℕ) {more : Changes} {lines : List (List ℕ)} → SetInTurn more lines
+    → SetInTurn ((word, λ value old. record old { env = record old.env { lc_messages = value } }) ∷ more) (option_with (codes "OPTION lc-messages=") word ++ lines)
+messages_turn [] later = served.unsaid later
+messages_turn (byte ∷ word) later = served.said (messages_sets byte word) later
+
+pub says_terminal : (terminal : EnvWords) → SaysTerminal terminal (options_of waits.Prompt terminal)
+says_terminal terminal = record {
+  notify = codes "OPTION allow-pinentry-notify";
+  notifies = notify_sets;
+  words = _;
+  in_turn = name_turn terminal.ttyname (type_turn terminal.ttytype (ctype_turn terminal.lc_ctype (messages_turn terminal.lc_messages served.none)));
+  lines_are = refl;
+}
 
 -- ---- all of them
 
@@ -110,28 +129,28 @@ module _ (rules : Rules) where
   all_append [] more one two = two
   all_append (line ∷ first) more one two = (one.0, all_append first more one.1 two)
 
-  with_name : (value : List ℕ) → ArePassed (option_with (codes "OPTION ttyname=") value)
-  with_name [] = tt
-  with_name (byte ∷ value) = (passed rules _ (tty_name byte value), tt)
+  name_passed : (word : List ℕ) → ArePassed (option_with (codes "OPTION ttyname=") word)
+  name_passed [] = tt
+  name_passed (byte ∷ word) = (passed rules _ (λ values. refl) (name_sets byte word), tt)
 
-  with_type : (value : List ℕ) → ArePassed (option_with (codes "OPTION ttytype=") value)
-  with_type [] = tt
-  with_type (byte ∷ value) = (passed rules _ (tty_type byte value), tt)
+  type_passed : (word : List ℕ) → ArePassed (option_with (codes "OPTION ttytype=") word)
+  type_passed [] = tt
+  type_passed (byte ∷ word) = (passed rules _ (λ values. refl) (type_sets byte word), tt)
 
-  with_ctype : (value : List ℕ) → ArePassed (option_with (codes "OPTION lc-ctype=") value)
-  with_ctype [] = tt
-  with_ctype (byte ∷ value) = (passed rules _ (lc_ctype byte value), tt)
+  ctype_passed : (word : List ℕ) → ArePassed (option_with (codes "OPTION lc-ctype=") word)
+  ctype_passed [] = tt
+  ctype_passed (byte ∷ word) = (passed rules _ (λ values. refl) (ctype_sets byte word), tt)
 
-  with_messages : (value : List ℕ) → ArePassed (option_with (codes "OPTION lc-messages=") value)
-  with_messages [] = tt
-  with_messages (byte ∷ value) = (passed rules _ (lc_messages byte value), tt)
+  messages_passed : (word : List ℕ) → ArePassed (option_with (codes "OPTION lc-messages=") word)
+  messages_passed [] = tt
+  messages_passed (byte ∷ word) = (passed rules _ (λ values. refl) (messages_sets byte word), tt)
 
   pub options_passed : (wait : Waits) (terminal : EnvWords) → ArePassed (options_of wait terminal)
   options_passed waits.Answer terminal = tt
   options_passed waits.Prompt terminal = (
-    passed rules _ notify,
-    all_append (option_with (codes "OPTION ttyname=") terminal.ttyname) _ (with_name terminal.ttyname)
-        (all_append (option_with (codes "OPTION ttytype=") terminal.ttytype) _ (with_type terminal.ttytype)
-        (all_append (option_with (codes "OPTION lc-ctype=") terminal.lc_ctype) _ (with_ctype terminal.lc_ctype)
-        (all_append (option_with (codes "OPTION lc-messages=") terminal.lc_messages) [] (with_messages terminal.lc_messages) tt))),
+    passed rules _ (λ values. refl) notify_sets,
+    all_append (option_with (codes "OPTION ttyname=") terminal.ttyname) _ (name_passed terminal.ttyname)
+        (all_append (option_with (codes "OPTION ttytype=") terminal.ttytype) _ (type_passed terminal.ttytype)
+        (all_append (option_with (codes "OPTION lc-ctype=") terminal.lc_ctype) _ (ctype_passed terminal.lc_ctype)
+        (all_append (option_with (codes "OPTION lc-messages=") terminal.lc_messages) [] (messages_passed terminal.lc_messages) tt))),
   )

@@ -1,11 +1,14 @@
 -- What a session of this agent does for the lines of a dialogue: each option is answered by one line, and then the request is. How an option is
 -- answered is this project's own.
 use Rattle.std.specs.List.{AllByRecursion}
-use Rattle.std.specs.Prelude.{◌≡◌, ℕ, List, [], ◌∷◌, ◌++◌}
+use Rattle.std.specs.Prelude.{◌≡◌, ℕ, true, List, [], ◌∷◌, ◌++◌, if◌then◌else◌}
+use Rattle.agent_ask.specs.Plans.{text}
 use Rattle.agent_ask.specs.SessionEvents.{Received, Sent}
 use Rattle.agent_commands.specs.Exchanges.{LineExchange}
 use Rattle.agent_commands.specs.Parts.{CacheEvent}
-use Rattle.agent_commands.specs.Requests.{GetFields}
+use Rattle.agent_commands.specs.Requests.{GetFields, request_of}
+use Rattle.agent_commands.specs.declared.request.CacheCommand.TheVariants.{SetOption}
+use Rattle.agent_commands.specs.declared.request.Request.TheVariants.{Cache}
 use Rattle.agent_commands.specs.declared.went.Went.{Went}
 use Rattle.agent_commands.specs.declared.went.Went.TheVariants.{On}
 use Rattle.agent_origin.specs.SessionExchanges.{SessionExchange}
@@ -14,10 +17,13 @@ use Rattle.assuan_line.specs.declared.reader.Took.TheVariants.{Line}
 use Rattle.assuan_server.specs.Errors.{error_text}
 use Rattle.assuan_server.specs.Written.{ok}
 use Rattle.assuan_server.specs.declared.errors.Origin.{Origin}
+use Rattle.assuan_text.specs.Blanks.{without_blanks}
 use Rattle.assuan_text.specs.LineEnds.{line_of}
 use Rattle.passphrase_talk.specs.declared.told.Told.{Told}
 use Rattle.session_client.specs.declared.code.Code.{Code}
-use Rattle.session_options.specs.OptionValues.{OptionValues}
+use Rattle.session_options.specs.OptionValues.{EnvWords, OptionValues, applied, refused as left_as, set_to}
+use Rattle.session_options.specs.Text.{can_be_kept}
+use Rattle.session_options.specs.declared.options.OptionAnswer.TheVariants.{Parameter}
 use Rattle.session_options.specs.declared.options.PinMode.TheVariants.{Ask}
 use Rattle.session_options.specs.declared.rules.Rules.{Rules}
 use Rattle.passphrase_laws.specs.Exchanges.{texts_of}
@@ -40,6 +46,37 @@ pub record Passes (before : OptionValues) (events : List CacheEvent) (after : Op
 abbrev pub IsPassed : Rules → List ℕ → Type 0
 IsPassed rules option =
     (before after : Kept) (events : List CacheEvent) (went : Went) → SessionExchange rules before option events after went → Passes before.options events after.options went
+
+-- The line is read as an option that, where this value can be kept, changes the option values so, and else is refused.
+pub record Sets (value : List ℕ) (change : OptionValues → OptionValues) (line : List ℕ) : Type 0 where
+  pub said : List ℕ
+  pub read : request_of line ≡ Cache (SetOption (text said))
+  pub sets : (values : OptionValues) → applied values said ≡ (if can_be_kept value then set_to (change values) else left_as Parameter values)
+
+-- the words of a terminal, and what each changes
+abbrev pub terminal_words : EnvWords → List (List ℕ × (List ℕ → OptionValues → OptionValues))
+terminal_words terminal =
+    (terminal.ttyname, λ value old. record old { env = record old.env { ttyname = value } })
+    ∷ (terminal.ttytype, λ value old. record old { env = record old.env { ttytype = value } })
+    ∷ (terminal.lc_ctype, λ value old. record old { env = record old.env { lc_ctype = value } })
+    ∷ (terminal.lc_messages, λ value old. record old { env = record old.env { lc_messages = value } })
+    ∷ []
+
+-- These lines set the words in their order, each without the blanks in front of it; one that is empty isn't said.
+pub data SetInTurn : List (List ℕ × (List ℕ → OptionValues → OptionValues)) → List (List ℕ) → Type 0 where
+  none : SetInTurn [] []
+  unsaid : {change : List ℕ → OptionValues → OptionValues} {more : List (List ℕ × (List ℕ → OptionValues → OptionValues))} {lines : List (List ℕ)} → SetInTurn more lines
+      → SetInTurn (([], change) ∷ more) lines
+  said : {byte : ℕ} {word : List ℕ} {change : List ℕ → OptionValues → OptionValues} {more : List (List ℕ × (List ℕ → OptionValues → OptionValues))} {line : List ℕ} {lines : List (List ℕ)}
+      → Sets (without_blanks (byte ∷ word)) (change (without_blanks (byte ∷ word))) line → SetInTurn more lines → SetInTurn ((byte ∷ word, change) ∷ more) (line ∷ lines)
+
+-- that a pinentry's launch is to be told, and then these words
+pub record SaysTerminal (terminal : EnvWords) (lines : List (List ℕ)) : Type 0 where
+  pub notify : List ℕ
+  pub notifies : Sets [] (λ old. record old { notify = true }) notify
+  pub words : List (List ℕ)
+  pub in_turn : SetInTurn (terminal_words terminal) words
+  pub lines_are : lines ≡ notify ∷ words
 
 -- the lines that a session read, in their order
 abbrev pub lines_read : List CacheEvent → List (List ℕ)

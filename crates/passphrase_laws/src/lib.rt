@@ -18,7 +18,7 @@ mod session;
 
 pub use asking::a_request_is_read_as_meant;
 pub use exchange::a_request_for_a_passphrase_is_answered_so;
-pub use options::an_option_is_taken_or_refused;
+pub use options::{an_option_is_taken_or_refused, an_option_sets_what_it_says};
 pub use reading::{a_passphrase_is_read, an_error_is_read};
 pub use road::{a_request_for_a_passphrase_is_told_it, a_task_is_told_what_its_request_came_to};
 pub use said::a_task_says_what_its_words_mean;

@@ -1,9 +1,10 @@
-//! A law on the options that the command says: how this agent answers each. Nothing runs.
-//! Definitions are in `specs/Served`; the lines are `options_of` of `passphrase_talk`.
+//! Laws on the options that the command says: how this agent reads each, and answers it. Nothing
+//! runs. Definitions are in `specs/Served`; the lines are `options_of` of `passphrase_talk`.
 
-ghost use Rattle.passphrase_laws.specs.Served.{IsPassed};
+ghost use Rattle.passphrase_laws.specs.Served.{IsPassed, SaysTerminal};
 ghost use Rattle.passphrase_talk.specs.Dialogues.{options_of};
 ghost use Rattle.passphrase_talk.specs.declared.connector.Waits.{Waits};
+ghost use Rattle.passphrase_talk.specs.declared.connector.Waits.TheVariants.{Prompt};
 ghost use Rattle.session_options.specs.OptionValues.{EnvWords};
 ghost use Rattle.session_options.specs.declared.rules.Rules.{Rules};
 ghost use Rattle.std.specs.List.{AllByRecursion};
@@ -13,4 +14,10 @@ ghost use Rattle.std.specs.List.{AllByRecursion};
 pub fn an_option_is_taken_or_refused()
     ensures { (rules : Rules) (waits : Waits) (terminal : EnvWords)
         → AllByRecursion (IsPassed rules) (options_of waits terminal) }
+{}
+
+/// They are read as what they are meant as: that a pinentry's launch is told, and each word of the
+/// terminal, which is set where the agent can keep it; and nothing else is set.
+pub fn an_option_sets_what_it_says()
+    ensures { (terminal : EnvWords) → SaysTerminal terminal (options_of Prompt terminal) }
 {}
