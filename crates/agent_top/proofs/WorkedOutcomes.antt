@@ -6,14 +6,13 @@ use Rattle.std.proofs.Common.{lit<, lit≤, arith}
 use Rattle.std.proofs.lemmas.Bool.Decides.{nat_tests}
 use Rattle.hex.proofs.OnLiterals.{hex_on_literals}
 use Rattle.agent_commands.specs.Answers.{closing}
-use Rattle.agent_commands.specs.Names.{command_named}
+use Rattle.command_table.specs.Commands.{command_named}
 use Rattle.agent_commands.specs.Passphrases.{ask}
 use Rattle.agent_commands.specs.Requests.{request_of}
 use Rattle.agent_commands.specs.declared.went.SessionEnd.TheVariants as ends
 use Rattle.agent_commands.specs.declared.went.Went.TheVariants.{On}
 use Rattle.agent_core.specs.Cores.{mark_of}
 use Rattle.agent_origin.specs.DoorSessions.{DoorExchange, is_allowed, forbidden, unset}
-use Rattle.agent_origin.specs.Doors.{rule_named}
 use Rattle.agent_origin.specs.declared.door.Door.TheVariants.{Outer}
 use Rattle.agent_origin.specs.declared.kept.Kept.{Kept}
 use Rattle.agent_ask.specs.SessionEvents.{Sent}
@@ -55,11 +54,11 @@ replies = refl
 -- and to one at the outer door that sets a terminal, or asks for a passphrase that is cached
 module _ (rules : Rules) (kept : Kept) where
   sets_terminal : DoorExchange Outer rules kept (codes "OPTION ttyname=/dev/pts/3") (Sent ok ∷ []) kept On
-  unfolding command_named request_of rule_named
+  unfolding command_named request_of
   sets_terminal = is_allowed refl unset
 
   asks_for_cached : DoorExchange Outer rules kept (codes "GET_PASSPHRASE k") (Sent (failed code.Forbidden) ∷ []) kept On
-  unfolding command_named request_of rule_named
+  unfolding command_named request_of
   asks_for_cached = forbidden refl
 
 -- statuses
