@@ -1,13 +1,36 @@
 -- A request of the command on a worked example: its line, how the agent reads it, what is written for it, and what that is read as.
-use Rattle.std.{specs.List.AllByRecursion, proofs.{Common.{◌≡◌, ◌<◌, ℕ, true, List, [], ◌∷◌, ◌++◌, codes, All, None, refl, sym, subst, arith}, lemmas.List.Elements.{All-cons, All-nil}}}
-use Rattle.{agent_ask.specs.{PartExchanges.answered, Parts.{goes_on, returns}, SessionEvents.{Sent, cache_turn}}, agent_commands.specs.{Exchanges.{CacheExchange, LineExchange, reply, tells}, Parts.CacheEvent, Passphrases.ask}}
-use Rattle.{agent_commands.specs.{Requests.get_passphrase, declared.{request.Request.{Request, TheVariants.Cache}, went.Went.TheVariants.On}}, assuan_escape.specs.DataLines.IsPiece, assuan_server.specs.Written.IsDataAnswer}
-use Rattle.{cache_policy.specs.{Turns.Given, declared.{grant.Grant.Grant, mode.Mode.TheVariants.User}}, passphrase_words.specs.{Requests.{Looks, line_of_request}, Tasks.TaskValue, Texts.texts_of, declared.task.Act.TheVariants.Cached}}
-use Rattle.session_options.specs.{OptionValues.OptionValues, declared.rules.Rules.Rules}
-use Rattle.passphrase_laws.{specs.{Asking.{Says, fields_of}, Readings.{IsSecret, IsReadAs}, Roads.{IsWhole, AreReplies, session_text}}, proofs.{Asked.looks_read, ReadAs.passphrase_read}}
+use Rattle.std.specs.List.{AllByRecursion}
+use Rattle.std.proofs.Common.{◌≡◌, ◌<◌, ℕ, true, List, [], ◌∷◌, ◌++◌, codes, All, None, refl, sym, subst, arith}
+use Rattle.std.proofs.lemmas.List.Elements.{All-cons, All-nil}
+use Rattle.agent_ask.specs.PartExchanges.{answered}
+use Rattle.agent_ask.specs.Parts.{goes_on, returns}
+use Rattle.agent_ask.specs.SessionEvents.{Sent, cache_turn}
 use Rattle.agent_ask.specs.TurnParts as turn
+use Rattle.agent_commands.specs.Exchanges.{CacheExchange, LineExchange, reply, tells}
+use Rattle.agent_commands.specs.Parts.{CacheEvent}
+use Rattle.agent_commands.specs.Passphrases.{ask}
+use Rattle.agent_commands.specs.Requests.{get_passphrase}
+use Rattle.agent_commands.specs.declared.request.Request.{Request}
+use Rattle.agent_commands.specs.declared.request.Request.TheVariants.{Cache}
+use Rattle.agent_commands.specs.declared.went.Went.TheVariants.{On}
 use Rattle.assuan_client.specs.declared.answer.Answer.TheVariants as answer
+use Rattle.assuan_escape.specs.DataLines.{IsPiece}
+use Rattle.assuan_server.specs.Written.{IsDataAnswer}
+use Rattle.cache_policy.specs.Turns.{Given}
+use Rattle.cache_policy.specs.declared.grant.Grant.{Grant}
+use Rattle.cache_policy.specs.declared.mode.Mode.TheVariants.{User}
+use Rattle.passphrase_words.specs.Requests.{Looks, line_of_request}
+use Rattle.passphrase_words.specs.Tasks.{TaskValue}
+use Rattle.passphrase_words.specs.Texts.{texts_of}
+use Rattle.passphrase_words.specs.declared.task.Act.TheVariants.{Cached}
+use Rattle.session_options.specs.OptionValues.{OptionValues}
+use Rattle.session_options.specs.declared.rules.Rules.{Rules}
+use Rattle.passphrase_laws.specs.Asking.{Says, fields_of}
+use Rattle.passphrase_laws.specs.Readings.{IsSecret, IsReadAs}
+use Rattle.passphrase_laws.specs.Roads.{IsWhole, AreReplies, session_text}
 use Rattle.passphrase_laws.specs.Roads as road
+use Rattle.passphrase_laws.proofs.Asked.{looks_read}
+use Rattle.passphrase_laws.proofs.ReadAs.{passphrase_read}
 
 -- what is kept as mail is looked for
 abbrev task : TaskValue
