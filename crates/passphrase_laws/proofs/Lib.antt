@@ -14,4 +14,8 @@ pub mod Words
 pub mod Fields
 pub mod Asked
 pub mod Reaching
+pub mod Meaning
+pub mod Passing
+pub mod Serving
+pub mod Closing
 mod WorkedRoads

@@ -4,37 +4,50 @@ use Rattle.std.proofs.Common.{◌≡◌, ◌<◌, ℕ, true, List, [], ◌∷◌
 use Rattle.std.proofs.lemmas.List.Elements.{All-cons, All-nil}
 use Rattle.agent_ask.specs.PartExchanges.{answered}
 use Rattle.agent_ask.specs.Parts.{goes_on, returns}
-use Rattle.agent_ask.specs.SessionEvents.{Sent, cache_turn}
+use Rattle.agent_ask.specs.Answering as answering
+use Rattle.agent_ask.specs.SessionEvents.{Received, Sent, cache_turn}
 use Rattle.agent_ask.specs.TurnParts as turn
 use Rattle.agent_commands.specs.Exchanges.{CacheExchange, LineExchange, reply, tells}
 use Rattle.agent_commands.specs.Parts.{CacheEvent}
 use Rattle.agent_commands.specs.Passphrases.{ask}
 use Rattle.agent_commands.specs.Requests.{get_passphrase}
+use Rattle.agent_commands.specs.Talks.{Session}
+use Rattle.agent_commands.specs.Talks as talks
 use Rattle.agent_commands.specs.declared.request.Request.{Request}
 use Rattle.agent_commands.specs.declared.request.Request.TheVariants.{Cache}
+use Rattle.agent_commands.specs.declared.went.SessionEnd.TheVariants.{Ended}
 use Rattle.agent_commands.specs.declared.went.Went.TheVariants.{On}
+use Rattle.agent_origin.specs.SessionExchanges.{SessionExchange, cache, kept_at_start}
 use Rattle.assuan_client.specs.declared.answer.Answer.TheVariants as answer
 use Rattle.assuan_escape.specs.DataLines.{IsPiece}
-use Rattle.assuan_server.specs.Written.{IsDataAnswer}
+use Rattle.assuan_line.specs.declared.reader.Took.TheVariants as took
+use Rattle.assuan_server.specs.Written.{IsDataAnswer, greeting}
+use Rattle.assuan_text.specs.LineEnds.{line_of}
 use Rattle.cache_policy.specs.Turns.{Given}
 use Rattle.cache_policy.specs.declared.grant.Grant.{Grant}
 use Rattle.cache_policy.specs.declared.mode.Mode.TheVariants.{User}
+use Rattle.passphrase_words.specs.Options.{form_of}
 use Rattle.passphrase_words.specs.Requests.{Looks, line_of_request}
+use Rattle.passphrase_words.specs.Spelling as spelling
 use Rattle.passphrase_words.specs.Tasks.{TaskValue}
-use Rattle.passphrase_words.specs.Texts.{texts_of}
+use Rattle.passphrase_words.specs.Texts.{texts_of as words_of}
 use Rattle.passphrase_words.specs.declared.task.Act.TheVariants.{Cached}
 use Rattle.session_options.specs.OptionValues.{OptionValues}
 use Rattle.session_options.specs.declared.rules.Rules.{Rules}
-use Rattle.passphrase_laws.specs.Asking.{Says, fields_of}
+use Rattle.passphrase_laws.specs.Asking.{Means, Says, command, fields_of}
+use Rattle.passphrase_laws.specs.Exchanges.{texts_of}
 use Rattle.passphrase_laws.specs.Readings.{IsSecret, IsReadAs}
 use Rattle.passphrase_laws.specs.Roads.{IsWhole, AreReplies, session_text}
 use Rattle.passphrase_laws.specs.Roads as road
+use Rattle.passphrase_laws.specs.Served.{Serves}
 use Rattle.passphrase_laws.proofs.Asked.{looks_read}
+use Rattle.passphrase_laws.proofs.Meaning as meaning
 use Rattle.passphrase_laws.proofs.ReadAs.{passphrase_read}
+use Rattle.passphrase_laws.proofs.Serving.{serves}
 
 -- what is kept as mail is looked for
 abbrev task : TaskValue
-task = record { folder = None; seconds = None; id = codes "mail"; act = Cached; texts = texts_of (codes "mail") None [] }
+task = record { folder = None; seconds = None; id = codes "mail"; act = Cached; texts = words_of (codes "mail") None [] }
 
 says : Says task None []
 says = record { id_is = refl; some = λ is. cc is; texts_are = refl }
@@ -92,3 +105,37 @@ text_is grant = refl
 
 no_replies : AreReplies [] []
 no_replies = road.none
+
+-- ---- from the words to the session
+
+-- its words
+abbrev words : List (List ℕ)
+words = codes "--cached" ∷ codes "mail" ∷ []
+
+meant : Means words task None []
+unfolding form_of
+meant = command (spelling.flag {name = codes "--cached"} refl spelling.none) refl (record {
+  sound = refl;
+  together = refl;
+  alone_or_free = refl;
+  counted = refl;
+  task_is = refl;
+  fit = record { id_is = refl; short = omega arith; whole = refl };
+})
+
+abbrev line : List ℕ
+line = line_of_request task Looks
+
+-- a session that is said this line alone
+abbrev spoken : Grant → List CacheEvent
+spoken grant = Sent (line_of greeting) ∷ Received (took.Line line) ∷ (events grant ++ Received took.End ∷ [])
+
+module _ (rules : Rules) (grant : Grant) (id : grant.id ≡ codes "mail") (mode : grant.mode ≡ User) (is : grant.entry.secret ≡ secret) where
+  session : Session (SessionExchange rules) (kept_at_start rules) (spoken grant) Ended
+  session = talks.greeted (talks.goes_on line (answering.whole (cache (exchange rules (kept_at_start rules).options grant id mode is))) talks.ended)
+
+  it_serves : Serves rules [] line (spoken grant)
+  it_serves = serves rules line [] (get_passphrase (fields_of task None [] true 0)) (looks_read task None [] (meaning.says words task None [] meant)) [] tt session refl (tt, (tt, (tt, (tt, (tt, tt)))))
+
+  it_writes : texts_of (spoken grant) ≡ codes "OK Pleased to meet you" ++ 10 ∷ written
+  it_writes = refl

@@ -1,12 +1,14 @@
 -- The requests of the command `passphrase` as the agent reads them (GnuPG manual, "Agent GET_PASSPHRASE").
-use Rattle.std.specs.Prelude.{◌≡◌, ◌≢◌, ℕ, Bool, true, false, List, [], map, codes, Option, Some, None, if◌then◌else◌}
+use Rattle.std.specs.Prelude.{◌≡◌, ◌≢◌, ℕ, Bool, true, false, List, [], ◌∷◌, map, codes, get_or, Option, Some, None, if◌then◌else◌}
 use Rattle.arrayvec.specs.ArrayVec.{ArrayVec}
 use Rattle.agent_ask.specs.Plans.{text}
 use Rattle.agent_commands.specs.Requests.{GetFields}
 use Rattle.assuan_text.specs.Blanks.{is_blank}
 use Rattle.passphrase_words.specs.Ids.{is_id}
+use Rattle.passphrase_words.specs.Rules.{IsTask, askpass_task}
+use Rattle.passphrase_words.specs.Spelling.{Setting, Spells, operands_of, value_given}
 use Rattle.passphrase_words.specs.Tasks.{TaskValue}
-use Rattle.passphrase_words.specs.Texts.{texts_of, description_or}
+use Rattle.passphrase_words.specs.Texts.{Fits, texts_of, description_or}
 use Rattle.passphrase_words.specs.declared.task.Act.{Act}
 use Rattle.passphrase_words.specs.declared.task.Act.TheVariants.{Give}
 
@@ -24,6 +26,18 @@ pub record Says (task : TaskValue) (prompt : Option (List ℕ)) (description : L
   pub id_is : is_id task.id ≡ true
   pub some : prompt ≢ Some []
   pub texts_are : task.texts ≡ texts_of task.id prompt description
+
+-- The words are this task's, and give it this prompt, where they have one, and this description. An askpass's one text is its description.
+pub data Means (words : List (List ℕ)) (task : TaskValue) : Option (List ℕ) → List ℕ → Type 0 where
+  command : {given : List Setting} {rest operands : List (List ℕ)} → Spells given rest words → operands_of rest ≡ Some operands → IsTask given operands task
+      → Means words task (value_given (codes "--prompt") given) (get_or operands 1 [])
+  askpass : {text : List ℕ} → words ≡ text ∷ [] → task ≡ askpass_task text → Fits task.id task.texts → Means words task None text
+
+-- what the words of a task give it
+pub record HasTexts (words : List (List ℕ)) (task : TaskValue) : Type 0 where
+  pub prompt : Option (List ℕ)
+  pub description : List ℕ
+  pub means : Means words task prompt description
 
 -- nobody is asked by this act
 abbrev pub is_quiet : Act → Bool

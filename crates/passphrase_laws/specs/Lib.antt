@@ -2,3 +2,4 @@ pub mod Readings
 pub mod Exchanges
 pub mod Roads
 pub mod Asking
+pub mod Served

@@ -1,0 +1,60 @@
+-- What words mean, their task says.
+use Rattle.std.proofs.Common.{◌≡◌, ◌≢◌, ℕ, ◌&&◌, true, false, List, [], ◌∷◌, codes, get_or, Option, Some, None, inl, inr, refl, ap, sym, ◌∙◌}
+use Rattle.std.specs.Option.{option_and_then}
+use Rattle.std.specs.Prelude.{not}
+use Rattle.std.specs.Str.{bytes_eq}
+use Rattle.std.proofs.lemmas.Bool.{and_parts, cases_Bool, cond-true, cond-false, false≢true}
+use Rattle.std.proofs.lemmas.Slice.Eq.{bytes_eq-Decides}
+use Rattle.passphrase_words.specs.Options.{form_of}
+use Rattle.passphrase_words.specs.Rules.{are_sound, fits}
+use Rattle.passphrase_words.specs.Spelling.{Setting, is_set, value_given}
+use Rattle.passphrase_words.specs.Tasks.{TaskValue, WantsTask}
+use Rattle.passphrase_words.specs.Texts.{texts_of}
+use Rattle.passphrase_words.specs.Words.{Reads, ReadsAskpass}
+use Rattle.passphrase_words.specs.Words as reading
+use Rattle.passphrase_laws.specs.Asking.{HasTexts, Means, Says, command, askpass}
+
+abbrev prompt_name : List ℕ
+prompt_name = codes "--prompt"
+
+-- an empty prompt has no form
+empty_unfit : fits (prompt_name, Some []) ≡ false
+unfolding form_of
+empty_unfit = refl
+
+module _ (setting : Setting) (others : List Setting) (fit : fits setting ≡ true) where
+  not_empty_here : bytes_eq setting.0 prompt_name ≡ true → setting.1 ≢ Some []
+  not_empty_here same is =
+      let name : setting.0 ≡ prompt_name = (bytes_eq-Decides setting.0 prompt_name).0 same in
+      let empty : setting ≡ (prompt_name, Some []) = ap (λ (n : List ℕ). (n, setting.1)) name ∙ ap (λ (v : Option (List ℕ)). (prompt_name, v)) is in
+      false≢true (sym empty_unfit ∙ sym (ap fits empty) ∙ fit)
+
+-- a prompt that is given isn't empty
+not_empty : (given : List Setting) → are_sound given ≡ true → value_given prompt_name given ≢ Some []
+not_empty [] sound is = cc is
+not_empty (setting ∷ others) sound is =
+    let parts = and_parts (fits setting && not (is_set setting.0 others)) (are_sound others) sound in
+    let fit = (and_parts (fits setting) (not (is_set setting.0 others)) parts.0).0 in
+    elim (cases_Bool (bytes_eq setting.0 prompt_name)) [
+      | inl same ↦ not_empty_here setting others fit same (sym (ap (λ (f : Option (Option (List ℕ))). option_and_then (λ value. value) f) (cond-true _ _ _ same)) ∙ is)
+      | inr other ↦ not_empty others parts.1 (sym (ap (λ (f : Option (Option (List ℕ))). option_and_then (λ value. value) f) (cond-false _ _ _ other)) ∙ is)
+    ]
+
+pub says : (words : List (List ℕ)) (task : TaskValue) (prompt : Option (List ℕ)) (description : List ℕ) → Means words task prompt description → Says task prompt description
+says words task prompt description (command {given} {operands = operands} spelled behind is) = record {
+  id_is = is.fit.id_is;
+  some = not_empty given is.sound;
+  texts_are = ap (λ (t : TaskValue). t.texts) is.task_is ∙ ap (λ (i : List ℕ). texts_of i (value_given prompt_name given) (get_or operands 1 [])) (sym (ap (λ (t : TaskValue). t.id) is.task_is));
+}
+says words task prompt description (askpass {text} words_are task_is fit) = record {
+  id_is = fit.id_is;
+  some = λ is. cc is;
+  texts_are = ap (λ (t : TaskValue). t.texts) task_is ∙ ap (λ (i : List ℕ). texts_of i None text) (sym (ap (λ (t : TaskValue). t.id) task_is));
+}
+
+pub read_texts : (words : List (List ℕ)) (task : TaskValue) → Reads words (WantsTask task) → HasTexts words task
+read_texts words task (reading.task {given} {operands = operands} spelled behind is) =
+    record { prompt = value_given prompt_name given; description = get_or operands 1 []; means = command spelled behind is }
+
+pub askpass_texts : (words : List (List ℕ)) (task : TaskValue) → ReadsAskpass words task → HasTexts words task
+askpass_texts words task reads = record { prompt = None; description = reads.text; means = askpass reads.words_are reads.task_is reads.fit }

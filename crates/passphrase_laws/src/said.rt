@@ -1,0 +1,19 @@
+//! Laws on the words of the command line: what they say is what the task's requests say. Nothing
+//! runs. Definitions are in `specs/Asking`; how words are read is `Reads` of `passphrase_words`.
+
+ghost use Rattle.passphrase_laws.specs.Asking.{HasTexts, Means, Says};
+ghost use Rattle.passphrase_words.specs.Tasks.{TaskValue, WantsTask};
+ghost use Rattle.passphrase_words.specs.Words.{Reads, ReadsAskpass};
+ghost use Rattle.std.specs.Prelude.{List, Option, ℕ};
+
+/// A task that words ask for, and that of an askpass, says the prompt and the description that the
+/// words give it, and its id is one.
+pub fn a_task_says_what_its_words_mean()
+    ensures read { (words : List (List ℕ)) (task : TaskValue) → Reads words (WantsTask task)
+        → HasTexts words task }
+    ensures askpass { (words : List (List ℕ)) (task : TaskValue) → ReadsAskpass words task
+        → HasTexts words task }
+    ensures says { (words : List (List ℕ)) (task : TaskValue) (prompt : Option (List ℕ))
+        (description : List ℕ) → Means words task prompt description
+        → Says task prompt description }
+{}
