@@ -1,70 +1,65 @@
 -- Requests that ask the cache alone, by what is read of their lines.
-use Rattle.std.{proofs.Common.{◌≡◌, ℕ, Bool, true, false, List, [], ◌∷◌, Option, None, Some, Result, Ok, Err, refl, sym, ap, ◌∙◌, subst}, specs.{Option.{option_and_then, option_map}, Prelude.{codes, if◌then◌else◌}}}
-use Rattle.{session_client.specs.{declared.code.Code.{Code, TheVariants.UnknownCommand}, Fields.{◌>>=◌, in_form}}, assuan_text.specs.{Options.{options_of, arguments_of, last_value}, Words.{command_of, rest_of, words}}}
-use Rattle.agent_ask.specs.Plans.{text}
-use Rattle.agent_commands.specs.{Exchanges.{quiet_of, quiet_fields, is_quiet}, Fields.{cache_id, life, cleared_mode, given_passphrase}, Names.{command_named, is_key_command}}
-use Rattle.agent_commands.specs.{Requests.{GetFields, get_passphrase, ReadsGet, BeginsRequest, preset_of, clear_of, confirmation_of, description_of, info_of, either, request_by, request_of}, declared.names.CommandName.CommandName}
-use Rattle.agent_commands.specs.declared.request.CacheCommand.{CacheCommand, TheVariants.{Nop, Reset, Bye, Help, SetOption, GetInfo, GetPassphrase, PresetPassphrase, ClearPassphrase, GetConfirmation, ReloadAgent, KillAgent, SetKeyDesc}}
+use Rattle.std.{proofs.Common.{◌≡◌, ℕ, Bool, true, false, List, [], ◌∷◌, Option, None, Some, Result, Ok, Err, refl, sym, subst}, specs.{Option.option_map, Prelude.{codes, if◌then◌else◌}}}
+use Rattle.{session_client.specs.{declared.code.Code.Code, Fields.{◌>>=◌, in_form}}, assuan_text.specs.{Options.{options_of, arguments_of, last_value}, Words.{rest_of, words}}, command_table.specs.Commands.command_in}
+use Rattle.command_table.specs.declared.commands.Command.{Command}
+use Rattle.agent_commands.specs.{Exchanges.{quiet_of, is_quiet}, Fields.{cache_id, life, cleared_mode, given_passphrase}}
+use Rattle.agent_commands.specs.{Requests.{GetFields, get_fields, get_passphrase, ReadsGet, preset_of, clear_of, confirmation_of, description_of, info_of, either, request_by, request_of}, declared.request.CacheCommand.CacheCommand}
+use Rattle.agent_commands.specs.declared.request.CacheCommand.TheVariants.{Nop, Reset, Bye, Help, SetOption, GetInfo, GetPassphrase, PresetPassphrase, ClearPassphrase, GetConfirmation, ReloadAgent, KillAgent, SetKeyDesc}
 use Rattle.agent_commands.specs.declared.request.{QuietRequest.QuietRequest, Request.{Request, TheVariants.{Cache, Key, Bad}}, Texts.Texts}
-use Rattle.agent_commands.specs.declared.names.CommandName.TheVariants as name
+use Rattle.command_table.specs.declared.commands.Command.TheVariants as on
+use Rattle.command_table.specs.declared.commands.CommandName.TheVariants as name
 
--- no other command is quiet, whatever is read of it
-never : {A : Type 0} (first : Result A Code) (next : A → Result CacheCommand Code) → ((value : A) → quiet_of (either (next value)) ≡ None) → quiet_of (either (first >>= next)) ≡ None
+-- no other command has these fields, whatever is read of it
+never : {A : Type 0} (first : Result A Code) (next : A → Result CacheCommand Code) → ((value : A) → get_fields (either (next value)) ≡ None) → get_fields (either (first >>= next)) ≡ None
 never (Ok value) next each = each value
 never (Err code) next each = refl
 
-never_preset : (options arguments : List (List ℕ)) → quiet_of (either (preset_of options arguments)) ≡ None
+never_preset : (options arguments : List (List ℕ)) → get_fields (either (preset_of options arguments)) ≡ None
 never_preset options [] = refl
 never_preset options (word ∷ []) = refl
 never_preset options (word ∷ timeout ∷ more) = never (in_form (cache_id word)) _ (λ id. never (in_form (life timeout)) _ (λ life. never (in_form (given_passphrase _ more)) _ (λ secret. refl)))
 
-never_clear : (options arguments : List (List ℕ)) → quiet_of (either (clear_of options arguments)) ≡ None
+never_clear : (options arguments : List (List ℕ)) → get_fields (either (clear_of options arguments)) ≡ None
 never_clear options [] = refl
 never_clear options (word ∷ more) =
     never (in_form (cleared_mode (last_value (codes "--mode") options))) (λ mode. in_form (cache_id word) >>= (λ id. Ok (ClearPassphrase id mode)))
     (λ mode. never (in_form (cache_id word)) (λ id. Ok (ClearPassphrase id mode)) (λ id. refl))
 
-never_confirmation : (arguments : List (List ℕ)) → quiet_of (either (confirmation_of arguments)) ≡ None
+never_confirmation : (arguments : List (List ℕ)) → get_fields (either (confirmation_of arguments)) ≡ None
 never_confirmation [] = refl
 never_confirmation (word ∷ more) = refl
 
-never_description : (words : List (List ℕ)) → quiet_of (either (description_of words)) ≡ None
+never_description : (words : List (List ℕ)) → get_fields (either (description_of words)) ≡ None
 never_description [] = refl
 never_description (word ∷ more) = refl
 
-unnamed_is_not_quiet : (is_key : Bool) (line : List ℕ) → quiet_of (if is_key then Key (text line) else Bad UnknownCommand) ≡ None
-unnamed_is_not_quiet true line = refl
-unnamed_is_not_quiet false line = refl
+-- but a GET_PASSPHRASE does
+got : (get : Option GetFields) → get_fields (either (in_form (option_map get_passphrase get))) ≡ get
+got None = refl
+got (Some fields) = refl
 
--- but a GET_PASSPHRASE is, by its fields
-quiet_got : (get : Option GetFields) → quiet_of (either (in_form (option_map get_passphrase get))) ≡ option_and_then quiet_fields get
-quiet_got None = refl
-quiet_got (Some fields) = refl
+got_by : (command : Option Command) (line : List ℕ) (get : Option GetFields) → ReadsGet command (rest_of line) get → get_fields (request_by command line) ≡ get
+got_by None line get is = rw is refl
+got_by (Some (on.Key name)) line get is = rw is refl
+got_by (Some (on.Trust name)) line get is = rw is refl
+got_by (Some (on.Cache name.GetPassphrase)) line get is = rw is (got get)
+got_by (Some (on.Cache name.Nop)) line get is = rw is refl
+got_by (Some (on.Cache name.Reset)) line get is = rw is refl
+got_by (Some (on.Cache name.Bye)) line get is = rw is refl
+got_by (Some (on.Cache name.Help)) line get is = rw is refl
+got_by (Some (on.Cache name.SetOption)) line get is = rw is refl
+got_by (Some (on.Cache name.GetInfo)) line get is = rw is (never (info_of (arguments_of (words (rest_of line)))) _ (λ info. refl))
+got_by (Some (on.Cache name.PresetPassphrase)) line get is = rw is (never_preset (options_of (words (rest_of line))) (arguments_of (words (rest_of line))))
+got_by (Some (on.Cache name.ClearPassphrase)) line get is = rw is (never_clear (options_of (words (rest_of line))) (arguments_of (words (rest_of line))))
+got_by (Some (on.Cache name.GetConfirmation)) line get is = rw is (never_confirmation (arguments_of (words (rest_of line))))
+got_by (Some (on.Cache name.ReloadAgent)) line get is = rw is refl
+got_by (Some (on.Cache name.KillAgent)) line get is = rw is refl
+got_by (Some (on.Cache name.SetKeyDesc)) line get is = rw is (never_description (words (rest_of line)))
 
--- so what is quiet of a line is what is quiet of the GET_PASSPHRASE that was read
-quiet_by : (command : Option CommandName) (line : List ℕ) (get : Option GetFields) → ReadsGet command (rest_of line) get
-    → quiet_of (request_by command line) ≡ option_and_then quiet_fields get
-quiet_by None line get is = rw is (unnamed_is_not_quiet (is_key_command (command_of line)) line)
-quiet_by (Some name.GetPassphrase) line get is = rw is (quiet_got get)
-quiet_by (Some name.Nop) line get is = rw is refl
-quiet_by (Some name.Reset) line get is = rw is refl
-quiet_by (Some name.Bye) line get is = rw is refl
-quiet_by (Some name.Help) line get is = rw is refl
-quiet_by (Some name.SetOption) line get is = rw is refl
-quiet_by (Some name.GetInfo) line get is = rw is (never (info_of (arguments_of (words (rest_of line)))) _ (λ info. refl))
-quiet_by (Some name.PresetPassphrase) line get is = rw is (never_preset (options_of (words (rest_of line))) (arguments_of (words (rest_of line))))
-quiet_by (Some name.ClearPassphrase) line get is = rw is (never_clear (options_of (words (rest_of line))) (arguments_of (words (rest_of line))))
-quiet_by (Some name.GetConfirmation) line get is = rw is (never_confirmation (arguments_of (words (rest_of line))))
-quiet_by (Some name.ReloadAgent) line get is = rw is refl
-quiet_by (Some name.KillAgent) line get is = rw is refl
-quiet_by (Some name.SetKeyDesc) line get is = rw is (never_description (words (rest_of line)))
-
-pub quiet_begun : (line word rest : List ℕ) (command : Option CommandName) (get : Option GetFields) → BeginsRequest line word rest command get
-    → quiet_of (request_of line) ≡ option_and_then quiet_fields get
+-- so what was read of a line are the fields of its request
+pub fields_read : (line : List ℕ) (get : Option GetFields) → ReadsGet (command_in line) (rest_of line) get → get_fields (request_of line) ≡ get
 unfolding request_of
-quiet_begun line word rest command get begun =
-    let named : command ≡ command_named (command_of line) = begun.command_is ∙ ap command_named begun.cut.word_is in
-    rw (sym named) (quiet_by command line get (rw begun.cut.rest_is at begun.get_is))
+fields_read line get is = got_by (command_in line) line get is
 
 -- a request that is quiet is a GET_PASSPHRASE with these fields
 module _ (P : Request → Type 0) (request : QuietRequest)

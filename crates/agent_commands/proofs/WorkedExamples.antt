@@ -1,8 +1,8 @@
 -- The definition on worked examples, each by computation.
 use Rattle.std.specs.Prelude.{◌≡◌, ℕ, List, [], ◌∷◌, ◌++◌, replicate, codes, true, false, Some, None, Ok, refl}
 use Rattle.{percent_encoding.proofs.OnLiterals.percent_encoding_on_literals, hex.proofs.OnLiterals.hex_on_literals, cache_policy.specs.declared.{life.Life.TheVariants.{Default, Endless, Seconds}, mode.Mode.TheVariants.{User, Normal, Ssh}}}
-use Rattle.{agent_ask.specs.Plans.text, session_client.specs.declared.code.Code.TheVariants.{NotSupported, UnknownCommand, Parameter}}
-use Rattle.agent_commands.specs.{Names.{command_named, is_key_command, info_named, is_listed}, Fields.passphrase, Requests.{GetFields, request_of, get_passphrase}, declared.request.Info.TheVariants.{Version, Listed}}
+use Rattle.{command_table.specs.Commands.{command_named, is_listed}, agent_ask.specs.Plans.text, session_client.specs.declared.code.Code.TheVariants.{NotSupported, UnknownCommand, Parameter}}
+use Rattle.agent_commands.specs.{Fields.passphrase, Requests.{GetFields, request_of, get_passphrase, info_named}, declared.request.Info.TheVariants.{Version, Listed}}
 use Rattle.agent_commands.specs.declared.request.{CacheCommand.TheVariants.{Nop, Bye, SetOption, GetInfo, PresetPassphrase, ClearPassphrase, GetConfirmation, KillAgent}, Request.TheVariants.{Cache, Key, Bad}}
 
 -- GET_PASSPHRASE with no option and no texts
@@ -34,15 +34,15 @@ unfolding request_of command_named info_named
 version_is_lower = refl
 
 foo : request_of (codes "FOO") ≡ Bad UnknownCommand
-unfolding request_of command_named is_key_command
+unfolding request_of command_named
 foo = refl
 
 key : request_of (codes "Keyinfo --list") ≡ Key (text (codes "Keyinfo --list"))
-unfolding request_of command_named is_key_command
+unfolding request_of command_named
 key = refl
 
 no_command : request_of [] ≡ Bad UnknownCommand
-unfolding request_of command_named is_key_command
+unfolding request_of command_named
 no_command = refl
 
 unlisted_pair : request_of (codes "GETINFO cmd_has_option GET_PASSPHRASE mode") ≡ Bad NotSupported

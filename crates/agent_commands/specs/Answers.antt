@@ -1,7 +1,8 @@
 -- What requests are answered, as the GnuPG manual has it ("Agent's Assuan protocol"). The codes are this project's own.
-use Rattle.std.specs.{Prelude.{◌≡◌, ℕ, Bool, true, false, List, [], ◌++◌, codes, decimal}, List.flat_map}
+use Rattle.std.specs.{Prelude.{◌≡◌, ℕ, Bool, true, false, List, ◌++◌, codes, decimal}, List.flat_map}
 use Rattle.{assuan_escape.specs.Escapes.hex_text, assuan_server.specs.Written.{ok, ok_text, comment_text, IsDataAnswer}, assuan_text.specs.LineEnds.line_of, session_options.specs.declared.rules.Rules.Rules}
-use Rattle.agent_commands.specs.{Names.command_names, declared.request.Info.{Info, TheVariants.{Version, Pid, S2kCount, Listed}}}
+use Rattle.command_table.specs.Commands.{commands, names_told}
+use Rattle.agent_commands.specs.declared.request.Info.{Info, TheVariants.{Version, Pid, S2kCount, Listed}}
 
 abbrev pub closing : List ℕ
 closing = line_of (ok_text (codes "closing connection"))
@@ -10,12 +11,12 @@ closing = line_of (ok_text (codes "closing connection"))
 abbrev pub comments : List (List ℕ) → List ℕ
 comments names = flat_map (λ name. line_of (comment_text name)) names
 
--- and for each command that HELP tells, and for further ones that a server has
-abbrev pub help_with : List (List ℕ) → List ℕ
-help_with further = comments command_names ++ (comments further ++ ok)
+-- and for each command that HELP tells, in a session that has to do with the trust list or in another one
+abbrev pub help_with : Bool → List ℕ
+help_with trusts = comments (names_told trusts commands) ++ ok
 
 abbrev pub help : List ℕ
-help = help_with []
+help = help_with false
 
 -- a passphrase: with `--data` as data lines, and otherwise by its uppercase hexadecimal digits
 abbrev pub IsPassphrase : Bool → List ℕ → List ℕ → Type 0

@@ -3,7 +3,6 @@ pub mod Endings
 pub mod Events
 pub mod Exchanges
 pub mod Fields
-pub mod Names
 pub mod Outside
 pub mod Parts
 pub mod Passphrases

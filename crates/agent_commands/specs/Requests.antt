@@ -1,13 +1,25 @@
 -- What a line asks for, or the fault for which it is refused (GnuPG manual, "Agent's Assuan protocol"). Which fault a refusal has is
 -- this project's own.
-use Rattle.std.specs.{Prelude.{◌≡◌, ◌≤◌, ℕ, Bool, true, List, [], ◌∷◌, length, codes, Option, Some, None, Result, Ok, Err, if◌then◌else◌}, Option.option_map, Str.bytes_eq}
-use Rattle.{assuan_text.specs.{declared.TheConstants.MAX_LINE_LEN, Options.{options_of, arguments_of, has_option, last_option, last_value}, Words.{command_of, rest_of, words}}, assuan_escape.specs.Escapes.unescaped}
-use Rattle.{agent_ask.specs.Plans.text, session_client.specs.{Fields.{◌>>=◌, in_form}, declared.code.Code.{Code, TheVariants.{NotSupported, UnknownCommand, Parameter}}}}
-use Rattle.agent_commands.specs.{Names.{command_named, is_key_command, info_named, is_listed}, Fields.{cache_id, unless_placeholder, text_or, texts, repeats, life, cleared_mode, given_passphrase}, declared.names.CommandName.CommandName}
-use Rattle.agent_commands.specs.declared.request.{Texts.Texts, Info.{Info, TheVariants.Listed}, CacheCommand.CacheCommand}
-use Rattle.agent_commands.specs.declared.request.{CacheCommand.TheVariants.{Nop, Reset, Bye, Help, SetOption, GetInfo, GetPassphrase, PresetPassphrase, ClearPassphrase, GetConfirmation, ReloadAgent, KillAgent, SetKeyDesc}, Request.Request}
-use Rattle.agent_commands.specs.declared.request.Request.TheVariants.{Cache, Key, Bad}
-use Rattle.agent_commands.specs.declared.names.CommandName.TheVariants as name
+use Rattle.std.specs.{Prelude.{◌≡◌, ℕ, Bool, true, false, List, [], ◌∷◌, codes, Option, Some, None, Result, Ok, Err, if◌then◌else◌}, Option.{is_none, option_map}, Str.bytes_eq}
+use Rattle.{assuan_text.specs.{Options.{options_of, arguments_of, has_option, last_option, last_value}, Rows.found, Words.{rest_of, words}}, assuan_escape.specs.Escapes.unescaped, agent_ask.specs.Plans.text}
+use Rattle.{session_client.specs.{Fields.{◌>>=◌, in_form}, declared.code.Code.{Code, TheVariants.{NotSupported, UnknownCommand, Parameter}}}, command_table.specs.{Commands.{command_in, is_listed}, declared.commands.Command.Command}}
+use Rattle.command_table.specs.declared.commands.CommandName.{CommandName}
+use Rattle.agent_commands.specs.{Fields.{cache_id, unless_placeholder, text_or, texts, repeats, life, cleared_mode, given_passphrase}, declared.request.{Texts.Texts, Info.{Info, TheVariants.{Version, Pid, S2kCount, Listed}}}}
+use Rattle.agent_commands.specs.declared.request.CacheCommand.{CacheCommand, TheVariants.{Nop, Reset, Bye, Help, SetOption, GetInfo, GetPassphrase, PresetPassphrase, ClearPassphrase, GetConfirmation, ReloadAgent, KillAgent, SetKeyDesc}}
+use Rattle.agent_commands.specs.declared.request.Request.{Request, TheVariants.{Cache, Key, Bad}}
+use Rattle.command_table.specs.declared.commands.Command.TheVariants as on
+use Rattle.command_table.specs.declared.commands.CommandName.TheVariants as name
+
+-- what GETINFO can be asked for by one word
+abbrev pub infos : List (List ℕ × Info)
+infos =
+    (codes "version", Version)
+    ∷ (codes "pid", Pid)
+    ∷ (codes "s2k_count", S2kCount)
+    ∷ []
+
+unfoldable pub info_named : List ℕ → Option Info
+info_named word = found word infos
 
 -- cmd_has_option COMMAND OPTION; further words are passed over
 abbrev pub listed_info : List (List ℕ) → Result Info Code
@@ -46,6 +58,11 @@ get_fields (Cache (GetPassphrase plain check no_ask repeat quality id texts)) = 
   texts = texts;
 })
 get_fields _ = None
+
+-- one that is in form, and leaves the cache out
+abbrev pub leaves_cache : Option GetFields → Bool
+leaves_cache None = false
+leaves_cache (Some fields) = is_none fields.id
 
 -- GET_PASSPHRASE OPTIONS ID [ERROR PROMPT DESCRIPTION]
 abbrev pub get_of : List (List ℕ) → List (List ℕ) → Result CacheCommand Code
@@ -113,29 +130,21 @@ abbrev pub either : Result CacheCommand Code → Request
 either (Ok command) = Cache command
 either (Err code) = Bad code
 
--- the command that the line begins with, carried out with the rest of the line. A command on keys keeps its line as it is.
-abbrev pub request_by : Option CommandName → List ℕ → Request
-request_by (Some name) line = either (asked_by name (rest_of line))
-request_by None line = if is_key_command (command_of line) then Key (text line) else Bad UnknownCommand
+-- what a line asks of the cache or the session, by the command that it begins with
+abbrev pub cache_request_by : Option Command → List ℕ → Result CacheCommand Code
+cache_request_by (Some (on.Cache name)) line = asked_by name (rest_of line)
+cache_request_by _ line = Err UnknownCommand
+
+-- A line with a command on keys is kept as it is.
+abbrev pub request_by : Option Command → List ℕ → Request
+request_by (Some (on.Key name)) line = Key (text line)
+request_by command line = either (cache_request_by command line)
 
 -- what is read of a GET_PASSPHRASE before its texts are made: its fields, where they are in form. Of another command nothing is.
-abbrev pub ReadsGet : Option CommandName → List ℕ → Option GetFields → Type 0
-ReadsGet (Some name.GetPassphrase) rest get =
+abbrev pub ReadsGet : Option Command → List ℕ → Option GetFields → Type 0
+ReadsGet (Some (on.Cache name.GetPassphrase)) rest get =
     get_of (options_of (words rest)) (arguments_of (words rest)) ≡ in_form (option_map get_passphrase get)
 ReadsGet _ rest get = get ≡ None
 
--- a line that is cut into its first word and what comes after it
-pub record IsCut (line word rest : List ℕ) : Type 0 where
-  pub word_is : word ≡ command_of line
-  pub rest_is : rest ≡ rest_of line
-  pub line_within : length line ≤ MAX_LINE_LEN
-  pub rest_within : length rest ≤ MAX_LINE_LEN
-
--- and read so far: the command of this name, and what it says where it is a GET_PASSPHRASE
-pub record BeginsRequest (line word rest : List ℕ) (command : Option CommandName) (get : Option GetFields) : Type 0 where
-  pub cut : IsCut line word rest
-  pub command_is : command ≡ command_named word
-  pub get_is : ReadsGet command rest get
-
 unfoldable pub request_of : List ℕ → Request
-request_of line = request_by (command_named (command_of line)) line
+request_of line = request_by (command_in line) line

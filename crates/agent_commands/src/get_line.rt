@@ -2,7 +2,7 @@
 //! the texts, which are long. Pure. Begin with `GetLine::of`; `get_of` (`specs/Requests`) says what
 //! is in form, and `quiet` when the cache alone is asked.
 
-ghost use Rattle.std.specs.{Prelude.{◌≡◌, ◌≤◌, length}, Option.option_map};
+ghost use Rattle.std.specs.{Prelude.{◌≡◌, ◌≤◌, length}, Option.{is_none, option_map}};
 ghost use Rattle.assuan_text.specs.declared.TheConstants.{MAX_LINE_LEN};
 ghost use Rattle.assuan_text.specs.{Options.{options_of, arguments_of}, Words.words};
 ghost use Rattle.session_client.specs.Fields.{in_form};
@@ -77,6 +77,13 @@ impl<'a> GetLine<'a> {
             plain: has_option(self.text, b"--data"),
             id: unless_placeholder(self.id),
         })
+    }
+
+    /// Whether it leaves the cache out.
+    pub(crate) fn leaves_cache(&self) -> bool
+        ensures { result ≡ is_none self.now.id }
+    {
+        unless_placeholder(self.id).is_none()
     }
 
     /// The command, with the texts that a prompt may show.

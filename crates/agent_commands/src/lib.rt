@@ -9,13 +9,11 @@
 
 mod command;
 mod confirmation;
-mod cut_line;
 mod fields;
 mod found;
 mod get_line;
 mod inquiry;
 mod line_request;
-mod names;
 mod passphrase;
 mod read;
 mod request;
@@ -23,10 +21,8 @@ mod response;
 mod went;
 
 pub use command::{run_cache, run_quiet};
-pub use cut_line::CutLine;
 pub use fields::MAX_REPEAT;
 pub use line_request::LineRequest;
-pub use names::{COMMANDS, CommandName, KEY_COMMANDS, PROMPT_COMMANDS, commands_are_as_defined};
 pub use read::read_request;
 pub use request::{CacheCommand, Info, QuietRequest, Request, Texts};
 pub use response::{went_after, write_help};

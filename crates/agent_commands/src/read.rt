@@ -2,23 +2,32 @@
 //! them (GnuPG manual, "Agent's Assuan protocol"). Pure. Begin with `read_command`; `asked_by`
 //! (`specs/Requests`) says what it gives.
 
-ghost use Rattle.std.specs.Prelude.{◌≡◌, ◌≤◌, length, if◌then◌else◌, Some};
+ghost use Rattle.std.specs.Prelude.{◌≡◌, ◌≤◌, length, Some};
 ghost use Rattle.assuan_text.specs.declared.TheConstants.{MAX_LINE_LEN};
 ghost use Rattle.assuan_text.specs.{Options.{options_of, arguments_of}, Words.words};
-ghost use Rattle.agent_ask.specs.Plans.{text};
-ghost use Rattle.agent_commands.specs.Names.{is_key_command};
-ghost use Rattle.agent_commands.specs.Requests.{request_of, asked_by, ReadsGet, info_of};
-ghost use Rattle.agent_commands.specs.Requests.{listed_info, preset_of, clear_of, confirmation_of};
-ghost use Rattle.agent_commands.specs.Requests.{description_of};
+ghost use Rattle.agent_commands.specs.Requests.{request_of, asked_by, ReadsGet, info_named};
+ghost use Rattle.agent_commands.specs.Requests.{info_of, listed_info, preset_of, clear_of};
+ghost use Rattle.agent_commands.specs.Requests.{confirmation_of, description_of};
+ghost use Rattle.command_table.specs.declared.commands.Command.TheVariants as on;
 
 use crate::fields::{cache_id, cleared_mode, given_passphrase, life, text_or};
 use crate::get_line::GetLine;
-use crate::names::{CommandName, HAS_OPTION, info_named, is_key_command, is_listed};
 use crate::{CacheCommand, Info, LineRequest, Request};
 use assuan_escape::unescape;
 use assuan_line::Line;
 use assuan_server::Code;
-use assuan_text::{Text, arguments, has_option, next_word};
+use assuan_text::{Text, arguments, found, has_option, next_word};
+use command_table::{CommandName, is_listed};
+
+/// What GETINFO can be asked for by one word.
+const INFOS: [(&[u8], Info); 3] = [
+    (b"version", Info::Version),
+    (b"pid", Info::Pid),
+    (b"s2k_count", Info::S2kCount),
+];
+
+/// The word of GETINFO before a command and an option.
+const HAS_OPTION: &[u8] = b"cmd_has_option";
 
 /// Reads a line as what it asks for.
 ///
@@ -30,19 +39,6 @@ pub fn read_request(line: &Line) -> Request
     LineRequest::of(line).whole()
 }
 
-/// A line that begins with none of the commands on the cache.
-pub(crate) fn read_other(word: &[u8], line: &[u8]) -> Request
-    requires { length line.now ≤ MAX_LINE_LEN }
-    ensures { result ≡ (if is_key_command word.now then Request.Key (text line.now)
-        else Request.Bad Code.UnknownCommand) }
-{
-    if is_key_command(word) {
-        Request::Key(text_of(line))
-    } else {
-        Request::Bad(Code::UnknownCommand)
-    }
-}
-
 /// What comes after a command of this name, of which a GET_PASSPHRASE is read already.
 pub(crate) fn read_command(
     name: CommandName,
@@ -50,7 +46,7 @@ pub(crate) fn read_command(
     get: &Option<GetLine<'_>>,
 ) -> Result<CacheCommand, Code>
     requires within { length rest.now ≤ MAX_LINE_LEN }
-    requires get { ReadsGet (Some name) rest.now get.now }
+    requires get { ReadsGet (Some (on.Cache name)) rest.now get.now }
     ensures { result ≡ asked_by name rest.now }
 {
     match name {
@@ -83,6 +79,14 @@ pub(crate) fn text_of(bytes: &[u8]) -> Text
     let mut text = Text::new();
     text.try_extend_from_slice(bytes).unwrap();
     text
+}
+
+/// What GETINFO is asked for by this word.
+#[tactic(auto, unfolding(crate::specs::Requests::info_named))]
+fn info_named(word: &[u8]) -> Option<Info>
+    ensures { result ≡ info_named word.now }
+{
+    found(word, &INFOS)
 }
 
 /// What GETINFO is asked for, by its arguments.

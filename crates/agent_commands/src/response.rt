@@ -3,31 +3,28 @@
 //! passphrase. Begin with `respond`; what it writes is `RespondsTo` (`specs/Steps`), and the text
 //! of each response `IsText`.
 
-ghost use Rattle.std.specs.Prelude.{◌≡◌, ◌++◌, ℕ, List, All, map};
+ghost use Rattle.std.specs.Prelude.{◌≡◌, ℕ, List, [], All, if◌then◌else◌};
 ghost use Rattle.{assuan_line.specs.Lines.IsLine, assuan_text.specs.LineEnds.line_of};
-ghost use Rattle.assuan_escape.specs.Escapes.{hex_text};
+ghost use Rattle.{assuan_text.specs.Rows.rows_of, assuan_escape.specs.Escapes.hex_text};
 ghost use Rattle.assuan_server.specs.Written.{comment_text, ok_text, IsDataAnswer, WritesText};
-ghost use Rattle.session_client.specs.Refusals.{gone_by};
+ghost use Rattle.{command_table.specs.Commands.names_told, session_client.specs.Refusals.gone_by};
 ghost use Rattle.agent_commands.specs.Answers.{IsPassphrase, comments, help_with};
-ghost use Rattle.agent_commands.specs.{Endings.went_after, Names.command_names};
-ghost use Rattle.agent_commands.specs.Steps.{IsText, RespondsTo, went_of};
+ghost use Rattle.agent_commands.specs.{Endings.went_after, Steps.{IsText, RespondsTo, went_of}};
 
 use crate::found::Found;
-use crate::{COMMANDS, KEY_COMMANDS, SessionEnd, Went};
+use crate::{SessionEnd, Went};
 use agent_ask::unless_cut;
 use agent_ports::{Link, WriteFault};
 use assuan_escape::upper_hex;
 use assuan_server::Conn;
 use cache_policy::Secret;
+use command_table::{COMMANDS, Command};
 use itoa::Buffer;
 use session_client::Refusal;
 use wiping::wipe;
 
 /// The version that GETINFO gives.
 const VERSION: &[u8] = b"2.4.0";
-
-/// No command beside those on the cache and on keys.
-const NO_COMMANDS: [(&[u8], ()); 0] = [];
 
 /// What a request is answered where it isn't refused.
 #[derive(Drop)]
@@ -89,7 +86,7 @@ fn write_response<L: Link>(conn: &mut Conn<'_, L>, response: &Response) -> Resul
     match response {
         Response::Ok => conn.ok(b"").whole(),
         Response::Bye | Response::Killed => conn.ok(b"closing connection").whole(),
-        Response::Help => write_help(conn, &NO_COMMANDS),
+        Response::Help => write_help(conn, false),
         Response::Version => write_data(conn, VERSION),
         Response::Number(number) => write_data(conn, Buffer::new().format(*number).as_bytes()),
         Response::Passphrase { secret, plain } => write_passphrase(conn, secret.secret(), *plain),
@@ -131,35 +128,38 @@ fn write_digits<L: Link>(conn: &mut Conn<'_, L>, secret: &Secret) -> Result<(), 
     sent.whole()
 }
 
-/// Writes a comment for each command that HELP tells and, behind these, for each further one that a
-/// server has, and that this is all.
-pub fn write_help<L: Link, T>(
-    conn: &mut Conn<'_, L>,
-    further: &[(&[u8], T)],
-) -> Result<(), WriteFault>
-    requires { All (λ row. IsLine (comment_text row.0.now)) further.now }
-    ensures { WritesText (help_with (map (λ row. row.0.now) further.now)) conn.old result conn.new }
+/// Writes a comment for each command that HELP tells, in a session that has to do with the trust
+/// list or in another one, and that this is all.
+pub fn write_help<L: Link>(conn: &mut Conn<'_, L>, trusts: bool) -> Result<(), WriteFault>
+    ensures { WritesText (help_with trusts) conn.old result conn.new }
 {
-    write_commands(conn)?;
-    write_names(conn, further)?;
+    write_names(conn, &COMMANDS, trusts)?;
     conn.ok(b"").whole()
 }
 
-/// Writes a comment for each command that HELP tells.
-fn write_commands<L: Link>(conn: &mut Conn<'_, L>) -> Result<(), WriteFault>
-    ensures { WritesText (comments command_names) conn.old result conn.new }
+/// Writes a comment for each row of a table that HELP tells, with its name.
+fn write_names<L: Link>(
+    conn: &mut Conn<'_, L>,
+    rows: &[(&[u8], Command)],
+    trusts: bool,
+) -> Result<(), WriteFault>
+    requires { All (λ row. IsLine (comment_text row.0.now)) rows.now }
+    ensures { WritesText (comments (names_told trusts (rows_of rows.now))) conn.old result conn.new }
 {
-    write_names(conn, &COMMANDS)?;
-    write_names(conn, &KEY_COMMANDS)
+    for (name, command) in rows {
+        write_name(conn, name, command.is_told(trusts))?;
+    }
+    Ok(())
 }
 
-/// Writes a comment for each row of a table, with its name.
-fn write_names<L: Link, T>(conn: &mut Conn<'_, L>, rows: &[(&[u8], T)]) -> Result<(), WriteFault>
-    requires { All (λ row. IsLine (comment_text row.0.now)) rows.now }
-    ensures { WritesText (comments (map (λ row. row.0.now) rows.now)) conn.old result conn.new }
+/// Writes a comment with this name, where it is told.
+fn write_name<L: Link>(conn: &mut Conn<'_, L>, name: &[u8], told: bool) -> Result<(), WriteFault>
+    requires { IsLine (comment_text name.now) }
+    ensures { WritesText (if told then line_of (comment_text name.now) else []) conn.old result
+        conn.new }
 {
-    for (name, _) in rows {
-        conn.comment(name).whole()?;
+    if told {
+        return conn.comment(name).whole();
     }
     Ok(())
 }

@@ -2,8 +2,7 @@
 //! function, `count`, which all parts of the host call; `Rose` (`agent_ports`, `specs/Counts`) says
 //! what it does.
 
-ghost use Rattle.std.specs.Prelude.{◌≤◌};
-ghost use Rattle.std.specs.Bool.{OnTrue};
+ghost use Rattle.std.specs.{Prelude.◌≤◌, Bool.OnTrue};
 ghost use Rattle.agent_ports.specs.Counts.{Rose};
 
 /// Counts a call that failed.

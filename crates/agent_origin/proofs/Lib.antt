@@ -2,7 +2,6 @@ mod TrustDone
 mod Outer
 mod OuterKeys
 mod OuterTrust
-mod KnownCommands
 pub mod OuterSessions
 pub mod OuterRuns
 mod NewTrustFiles

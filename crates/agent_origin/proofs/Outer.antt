@@ -1,24 +1,23 @@
 -- Lines that are allowed at the outer door, and what is done for them to the cache.
-use Rattle.std.{proofs.Common.{◌≡◌, ℕ, Bool, true, false, cond, List, [], ◌∷◌, ◌++◌, map, Option, None, Some, Result, Ok, Err, is_none, refl, ap, sym, ◌∙◌, subst, append_assoc}, specs.{Prelude.⊤, Option.{option_map, option_or}}}
-use Rattle.std.specs.Str.{str_eq_ignore_ascii_case}
+use Rattle.std.{proofs.Common.{◌≡◌, ℕ, Bool, true, false, List, [], ◌∷◌, ◌++◌, Option, None, Some, Result, Ok, Err, is_none, refl, ap, sym, ◌∙◌, subst, append_assoc}, specs.Prelude.⊤}
 use Rattle.agent_ask.specs.{ClientParts.{Writes, written, cut, Inquires, given, not_given}, ConsentParts.AgreesTo, Events.PromptEvent, PartExchanges.{AnyReply, AnyExchange, answered, refused}, Parts.{Follows, Returns, Refuses}}
 use Rattle.agent_ask.specs.{SessionEvents.{AnyEvent, Received, Sent, Cut, Inquiry, CacheTurn, Further, turns_in, said_last}, TurnParts.{Seats, opened, interrupted, Closes, unheld, closed}}
-use Rattle.agent_ask.{specs.{SessionPrompts.{AnyInSession, none, called, noted, out_of_memory}, Plans.text}, proofs.Within.{Within, OfNothing, weaker, returned, refused as refused_so, is_needed, or_otherwise}}
-use Rattle.agent_commands.specs.{Exchanges.{CacheExchange, LineExchange, option_replies, confirms_by, CacheReplies, TellsPassphrase, TellsInfo}, Names.{commands, prompt_commands, command_named, is_key_command}}
-use Rattle.agent_commands.specs.{Parts.{CacheEvent, CachePart, AsksPassphrase}, Passphrases.{LooksFor, WantsPrompt, KeepsUnder, ByCache, Uncached as NotCached, WithoutPrompt, PromptsAny, Prompts, as_wanted, passphrase_by}}
-use Rattle.agent_commands.specs.{Requests.{GetFields, get_fields, request_of, request_by, either, info_of, confirmation_of}, declared.{names.CommandName.CommandName, request.CacheCommand.CacheCommand}}
+use Rattle.agent_ask.{specs.SessionPrompts.{AnyInSession, none, called, noted, out_of_memory}, proofs.Within.{Within, OfNothing, weaker, returned, refused as refused_so, is_needed, or_otherwise}}
+use Rattle.agent_commands.specs.{Exchanges.{CacheExchange, LineExchange, option_replies, confirms_by, CacheReplies, TellsPassphrase, TellsInfo}, Parts.{CacheEvent, CachePart, AsksPassphrase}}
+use Rattle.agent_commands.specs.Passphrases.{LooksFor, WantsPrompt, KeepsUnder, ByCache, Uncached as NotCached, WithoutPrompt, PromptsAny, Prompts, as_wanted, passphrase_by}
+use Rattle.agent_commands.specs.{Requests.{GetFields, get_fields, leaves_cache, request_of, request_by, asked_by, either, info_of, confirmation_of}, declared.request.CacheCommand.CacheCommand}
 use Rattle.agent_commands.specs.declared.request.{CacheCommand.TheVariants.{Nop, Reset, Bye, Help, SetOption, GetInfo, GetPassphrase, PresetPassphrase, ClearPassphrase, GetConfirmation, ReloadAgent, KillAgent, SetKeyDesc}, Info.Info}
 use Rattle.{agent_commands.specs.declared.{request.{Request.{Request, TheVariants.{Cache, Key, Bad}}, Texts.Texts}, went.Went.Went}, assuan_server.specs.{Written.limit_line, Clients.session_lines}, session_client.specs.Fields.◌>>=◌}
-use Rattle.{session_client.specs.declared.{code.Code.{Code, TheVariants.UnknownCommand}, refusal.Refusal.{Refusal, TheVariants.Agent}, unheard.Gone.Gone}, assuan_text.specs.{Options.arguments_of, Rows.found_in_any_case}}
-use Rattle.{assuan_text.specs.Words.{command_of, rest_of, words}, arrayvec.specs.ArrayVec.ArrayVec, cache_policy.specs.{declared.{secret.TheConstants.MAX_SECRET_LEN, mark.MarkStep.TheVariants.Seat}, Extending.Taken, Turns.Open}}
-use Rattle.session_options.specs.{declared.{options.{OptionAnswer.OptionAnswer, PinMode.PinMode}, rules.Rules.Rules}, OptionValues.OptionValues}
-use Rattle.agent_origin.specs.{Doors.{key_rules, trust_rules, rule_named, leaves_cache, passes, passes_by, allowed}, OuterTurns.{AreOuterTurns, no_turns, peeks, unseated, seated, LeavesCache}, declared.door.Door.TheVariants.Outer}
-use Rattle.agent_origin.specs.declared.door.Rule.{Rule, TheVariants.{Always, NotTheMode, AboutTheAgent, Uncached, Never}}
+use Rattle.{session_client.specs.declared.{code.Code.Code, refusal.Refusal.{Refusal, TheVariants.Agent}, unheard.Gone.Gone}, command_table.specs.{Commands.{command_in, outer_rule}, declared.commands.Command.Command}}
+use Rattle.{command_table.specs.declared.commands.CommandName.CommandName, assuan_text.specs.{Options.arguments_of, Words.{rest_of, words}}, arrayvec.specs.ArrayVec.ArrayVec, cache_policy.specs.declared.secret.TheConstants.MAX_SECRET_LEN}
+use Rattle.{cache_policy.specs.{declared.mark.MarkStep.TheVariants.Seat, Extending.Taken, Turns.Open}, session_options.specs.{declared.{options.{OptionAnswer.OptionAnswer, PinMode.PinMode}, rules.Rules.Rules}, OptionValues.OptionValues}}
+use Rattle.agent_origin.specs.{Doors.{passes, passes_by, allowed}, OuterTurns.{AreOuterTurns, no_turns, peeks, unseated, seated, LeavesCache}, declared.door.Door.TheVariants.Outer}
 use Rattle.agent_ask.specs.ConsentParts as consent
 use Rattle.agent_ask.proofs.Within as within
 use Rattle.agent_commands.specs.Exchanges as exchange
 use Rattle.agent_commands.specs.Passphrases as passphrase
-use Rattle.agent_commands.specs.declared.names.CommandName.TheVariants as name
+use Rattle.command_table.specs.declared.commands.Command.TheVariants as at_table
+use Rattle.command_table.specs.declared.commands.CommandName.TheVariants as name
 use Rattle.session_client.specs.declared.code.Code.TheVariants as code
 use Rattle.session_options.specs.declared.options.OptionAnswer.TheVariants as option
 use Rattle.session_options.specs.declared.options.PinMode.TheVariants as mode
@@ -250,46 +249,6 @@ exchange_leaves agent before after (Cache command) events went outer does = part
 exchange_leaves agent before after (Bad why) events went outer does = parts_leave (unseated_too (refused_by (Agent why))) does
 exchange_leaves agent before after (Key line) events went outer does = absurd does
 
--- ---- the tables
-
-both_found : {X Y : Type 0} (f : X → Y) (first x : X) (rest : Option X) (others : Option Y) → (rest ≡ Some x → others ≡ Some (f x)) → (found : Bool) → cond found (Some first) rest ≡ Some x
-    → cond found (Some (f first)) others ≡ Some (f x)
-both_found f first x rest others more true is = ap (option_map f) is
-both_found f first x rest others more false is = more is
-
--- a table that begins with the same names
-pub found_mapped : {X Y : Type 0} (f : X → Y) (word : List ℕ) (rows : List (List ℕ × X)) (more : List (List ℕ × Y)) (x : X) → found_in_any_case word rows ≡ Some x
-    → found_in_any_case word (map (λ row. (row.0, f row.1)) rows ++ more) ≡ Some (f x)
-found_mapped f word [] more x is = cc is
-found_mapped f word (row ∷ rows) more x is =
-    both_found f row.1 x (found_in_any_case word rows) (found_in_any_case word (map (λ row. (row.0, f row.1)) rows ++ more)) (found_mapped f word rows more x) (str_eq_ignore_ascii_case row.0 word) is
-
-appended : {X : Type 0} (first : X) (rest other all : Option X) → all ≡ option_or rest other → (found : Bool) → cond found (Some first) all ≡ option_or (cond found (Some first) rest) other
-appended first rest other all is true = refl
-appended first rest other all is false = is
-
--- a table behind another
-pub found_joined : {X : Type 0} (word : List ℕ) (rows more : List (List ℕ × X))
-    → found_in_any_case word (rows ++ more) ≡ option_or (found_in_any_case word rows) (found_in_any_case word more)
-found_joined word [] more = refl
-found_joined word (row ∷ rows) more =
-    appended row.1 (found_in_any_case word rows) (found_in_any_case word more) (found_in_any_case word (rows ++ more)) (found_joined word rows more) (str_eq_ignore_ascii_case row.0 word)
-
-abbrev pub cache_rule : CommandName → Rule
-cache_rule name.SetOption = NotTheMode
-cache_rule name.GetInfo = AboutTheAgent
-cache_rule name.GetPassphrase = Uncached
-cache_rule name.PresetPassphrase = Never
-cache_rule name.ClearPassphrase = Never
-cache_rule name.ReloadAgent = Never
-cache_rule name.KillAgent = Never
-cache_rule name.SetKeyDesc = Never
-cache_rule _ = Always
-
-rule_of_cache : (word : List ℕ) (name : CommandName) → command_named word ≡ Some name → rule_named word ≡ Some (cache_rule name)
-unfolding command_named rule_named
-rule_of_cache word name is = found_mapped cache_rule word (commands ++ prompt_commands) (key_rules ++ trust_rules) name (found_joined word commands prompt_commands ∙ is)
-
 -- ---- lines
 
 info_outer : (read : Result Info Code) → IsOuterRequest (either (read >>= λ what. Ok (GetInfo what)))
@@ -299,10 +258,6 @@ info_outer (Err code) = tt
 confirmation_outer : (arguments : List (List ℕ)) → IsOuterRequest (either (confirmation_of arguments))
 confirmation_outer [] = tt
 confirmation_outer (word ∷ more) = tt
-
-unknown_outer : (is_key : Bool) (line : ArrayVec ℕ) → IsOuterRequest (cond is_key (Key line) (Bad UnknownCommand))
-unknown_outer true line = tt
-unknown_outer false line = tt
 
 no_id_there : (id : Option (List ℕ)) → is_none id ≡ true → id ≡ None
 no_id_there None is = refl
@@ -325,7 +280,7 @@ uncached_outer (Cache (SetKeyDesc text)) is = cc is
 uncached_outer (Key line) is = cc is
 uncached_outer (Bad code) is = cc is
 
-passes_outer : (name : CommandName) (line : List ℕ) → request_of line ≡ request_by (Some name) line → passes (cache_rule name) line ≡ true → IsOuterRequest (request_by (Some name) line)
+passes_outer : (name : CommandName) (line : List ℕ) → request_of line ≡ either (asked_by name (rest_of line)) → passes (outer_rule (at_table.Cache name)) line ≡ true → IsOuterRequest (either (asked_by name (rest_of line)))
 passes_outer name.Nop line same is = tt
 passes_outer name.Reset line same is = tt
 passes_outer name.Bye line same is = tt
@@ -340,19 +295,15 @@ passes_outer name.ReloadAgent line same is = cc is
 passes_outer name.KillAgent line same is = cc is
 passes_outer name.SetKeyDesc line same is = cc is
 
-pub request_is : (line : List ℕ) (found : Option CommandName) → command_named (command_of line) ≡ found → request_of line ≡ request_by found line
-unfolding request_of
-request_is line found is = ap (λ (f : Option CommandName). request_by f line) is
-
-named_outer : (line : List ℕ) (found : Option CommandName) → command_named (command_of line) ≡ found → allowed Outer line ≡ true → IsOuterRequest (request_by found line)
-named_outer line None is allows = unknown_outer (is_key_command (command_of line)) (text line)
-named_outer line (Some name) is allows =
-    passes_outer name line (request_is line (Some name) is)
-    (subst (λ (rule : Option Rule). passes_by rule line ≡ true) (rule_of_cache (command_of line) name is) allows)
+named_outer : (line : List ℕ) (found : Option Command) → request_of line ≡ request_by found line → passes_by found line ≡ true → IsOuterRequest (request_by found line)
+named_outer line None same allows = tt
+named_outer line (Some (at_table.Key name)) same allows = tt
+named_outer line (Some (at_table.Trust name)) same allows = tt
+named_outer line (Some (at_table.Cache name)) same allows = passes_outer name line same allows
 
 pub line_outer : (line : List ℕ) → allowed Outer line ≡ true → IsOuterRequest (request_of line)
-line_outer line allows =
-    subst IsOuterRequest (sym (request_is line (command_named (command_of line)) refl)) (named_outer line (command_named (command_of line)) refl allows)
+unfolding request_of
+line_outer line allows = named_outer line (command_in line) refl allows
 
 pub line_leaves : (agent : Rules) (before after : OptionValues) (line : List ℕ) (events : List CacheEvent) (went : Went) → allowed Outer line ≡ true
     → LineExchange agent before line events after went → LeavesCache events

@@ -1,18 +1,18 @@
 -- Lines with a command on keys that are allowed at the outer door, and what is done for them to the cache.
-use Rattle.std.{proofs.Common.{◌≡◌, ℕ, Bool, true, false, not, cond, List, [], ◌∷◌, ◌++◌, map, Option, None, Some, Result, Ok, Err, refl, ap, sym, ◌∙◌, subst}, specs.{Prelude.codes, Str.str_eq_ignore_ascii_case}}
+use Rattle.std.{proofs.Common.{◌≡◌, ℕ, Bool, true, false, not, cond, List, [], ◌∷◌, Option, None, Some, Result, Ok, Err, refl, ap, sym}, specs.Prelude.codes}
 use Rattle.{agent_ask.{specs.{Further.FurtherEvent, Plans.text, Parts.{goes_on, stops, returns}, TurnParts.{peeked, interrupted}}, proofs.Within.is_unless}, agent_commands.specs.Events.EventWith}
-use Rattle.agent_commands.specs.{Names.{commands as cache_commands, prompt_commands, command_named as cache_command_named, is_key_command}, Requests.{request_of, asked_by, either as of_cache}, declared.names.CommandName.CommandName}
-use Rattle.{agent_commands.specs.declared.request.{CacheCommand.CacheCommand, Request.TheVariants.{Key, Bad as BadLine}}, agent_ports.specs.declared.grip.Grip.Grip, arrayvec.specs.ArrayVec.ArrayVec}
-use Rattle.{session_client.specs.{declared.{code.Code.{Code, TheVariants.UnknownCommand}, refusal.Refusal.{Refusal, TheVariants.Agent}}, Fields.{◌>>=◌, in_form}}, assuan_text.specs.Options.{arguments_of, has_option, options_of}}
-use Rattle.{assuan_text.specs.{Rows.found_in_any_case, Words.{command_of, rest_of, words}}, key_commands.specs.{Events.Event, Exchanges.{KeyExchange, KeyReply, KeyReplies, HaveKeyReplies, KeyInfoReplies}}}
-use Rattle.key_commands.specs.{KeyParts.{HasOne, is_key, faulty, no_memory as no_key_memory, unread}, Names.{commands_on_keys, key_command_named}, Parts.{Finds, found, absent, faulted, no_memory}}
-use Rattle.key_commands.specs.{Requests.{key_or_bad, some_grips, first_grip, key_request_by, key_request_of}, declared.{names.KeyCommandName.KeyCommandName, request.KeyRequest.KeyRequest}}
+use Rattle.{agent_commands.specs.{Requests.{request_of, request_by, cache_request_by, asked_by, either as of_cache}, declared.request.{CacheCommand.CacheCommand, Request.TheVariants.Key}}, agent_ports.specs.declared.grip.Grip.Grip}
+use Rattle.{arrayvec.specs.ArrayVec.ArrayVec, session_client.specs.{declared.{code.Code.Code, refusal.Refusal.{Refusal, TheVariants.Agent}}, Fields.{◌>>=◌, in_form}}, assuan_text.specs.Options.{arguments_of, has_option, options_of}}
+use Rattle.{assuan_text.specs.Words.{rest_of, words}, command_table.specs.{Commands.{command_in, outer_rule}, declared.commands.{Command.Command, KeyCommandName.KeyCommandName}}, key_commands.specs.Events.Event}
+use Rattle.key_commands.specs.{Exchanges.{KeyExchange, KeyReply, KeyReplies, HaveKeyReplies, KeyInfoReplies}, KeyParts.{HasOne, is_key, faulty, no_memory as no_key_memory, unread}, Parts.{Finds, found, absent, faulted, no_memory}}
+use Rattle.key_commands.specs.{Requests.{key_or_bad, some_grips, first_grip, key_request_by, key_request_of}, declared.request.KeyRequest.KeyRequest}
 use Rattle.key_commands.specs.declared.{request.KeyRequest.TheVariants.{HaveKey, KeyInfo, ListKeys, KeyWrap, ImportKey, ExportKey, Passwd, DeleteKey, Bad}, went.KeyWent.KeyWent, wrap_keys.WrapKeys.WrapKeys}
 use Rattle.session_options.specs.{OptionValues.OptionValues, declared.rules.Rules.Rules}
-use Rattle.agent_origin.specs.{Doors.{key_rules, trust_rules, rule_named, passes, passes_by, allowed}, OuterTurns.{peeks, LeavesCache}, declared.door.{Door.TheVariants.Outer, Rule.{Rule, TheVariants.{Always, OneKey, Never}}}}
-use Rattle.agent_origin.proofs.Outer.{LeaveLaw, Leaves, LeavesUnseated, unseated_too, leaves_nothing, bind, gives, refused_by, parts_leave, found_mapped, found_joined, cache_rule, request_is}
+use Rattle.agent_origin.specs.{Doors.{passes, passes_by, allowed}, OuterTurns.{peeks, LeavesCache}, Serving.is_on_keys, declared.door.Door.TheVariants.Outer}
+use Rattle.agent_origin.proofs.Outer.{LeaveLaw, Leaves, LeavesUnseated, unseated_too, leaves_nothing, bind, gives, refused_by, parts_leave}
 use Rattle.session_client.specs.declared.code.Code.TheVariants as code
-use Rattle.key_commands.specs.declared.names.KeyCommandName.TheVariants as name
+use Rattle.command_table.specs.declared.commands.Command.TheVariants as at_table
+use Rattle.command_table.specs.declared.commands.KeyCommandName.TheVariants as name
 
 -- ---- what is done
 
@@ -62,50 +62,41 @@ module _ (agent : Rules) (options : OptionValues) (wraps : WrapKeys) where
 
 -- ---- lines
 
--- a line that is handed on begins with no command on the cache
+-- a line is handed on as it is
 not_handed_on : (read : Result CacheCommand Code) (handed : ArrayVec ℕ) → of_cache read ≡ Key handed → ⊥
 not_handed_on (Ok command) handed is = cc is
 not_handed_on (Err code) handed is = cc is
 
-other_by : (line : List ℕ) (handed : ArrayVec ℕ) (found : Option CommandName) → cache_command_named (command_of line) ≡ found → request_of line ≡ Key handed → cache_command_named (command_of line) ≡ None
-other_by line handed None is key = is
-other_by line handed (Some name) is key = absurd (not_handed_on (asked_by name (rest_of line)) handed (sym (request_is line (Some name) is) ∙ key))
-
-other_command : (line : List ℕ) (handed : ArrayVec ℕ) → request_of line ≡ Key handed → cache_command_named (command_of line) ≡ None
-other_command line handed key = other_by line handed (cache_command_named (command_of line)) refl key
-
--- and it is handed on as it is
-handed_if : (line : List ℕ) (handed : ArrayVec ℕ) (known : Bool) → cond known (Key (text line)) (BadLine UnknownCommand) ≡ Key handed → handed.items ≡ line
-handed_if line handed true is = let same : text line ≡ handed = cc in sym (ap (λ (h : ArrayVec ℕ). h.items) same)
-handed_if line handed false is = cc is
+handed_by : (found : Option Command) (line : List ℕ) (handed : ArrayVec ℕ) → request_by found line ≡ Key handed → handed.items ≡ line
+handed_by (Some (at_table.Key name)) line handed is = let same : text line ≡ handed = cc is in sym (ap (λ (h : ArrayVec ℕ). h.items) same)
+handed_by (Some (at_table.Cache name)) line handed is = absurd (not_handed_on (asked_by name (rest_of line)) handed is)
+handed_by (Some (at_table.Trust name)) line handed is = absurd (cc is)
+handed_by None line handed is = absurd (cc is)
 
 pub handed_line : (line : List ℕ) (handed : ArrayVec ℕ) → request_of line ≡ Key handed → handed.items ≡ line
-handed_line line handed key =
-    let other = other_command line handed key in
-    handed_if line handed (is_key_command (command_of line)) (sym (request_is line None other) ∙ key)
+unfolding request_of
+handed_line line handed key = handed_by (command_in line) line handed key
 
--- a table that begins with other names
-neither_found : {X Y : Type 0} (f : X → Y) (first : X) (rest : Option X) (others behind : Option Y) → (rest ≡ None → others ≡ behind) → (is : Bool) → cond is (Some first) rest ≡ None
-    → cond is (Some (f first)) others ≡ behind
-neither_found f first rest others behind more true none = cc none
-neither_found f first rest others behind more false none = more none
+-- one with a command on keys is handed on, and any other one is read by the commands on the cache
+key_by : (found : Option Command) (line : List ℕ) → is_on_keys found ≡ true → request_by found line ≡ Key (text line)
+key_by (Some (at_table.Key name)) line is = refl
+key_by (Some (at_table.Cache name)) line is = absurd (cc is)
+key_by (Some (at_table.Trust name)) line is = absurd (cc is)
+key_by None line is = absurd (cc is)
 
-found_behind : {X Y : Type 0} (f : X → Y) (word : List ℕ) (rows : List (List ℕ × X)) (more : List (List ℕ × Y)) → found_in_any_case word rows ≡ None
-    → found_in_any_case word (map (λ row. (row.0, f row.1)) rows ++ more) ≡ found_in_any_case word more
-found_behind f word [] more none = refl
-found_behind f word (row ∷ rows) more none =
-    neither_found f row.1 (found_in_any_case word rows) (found_in_any_case word (map (λ row. (row.0, f row.1)) rows ++ more)) (found_in_any_case word more) (found_behind f word rows more)
-    (str_eq_ignore_ascii_case row.0 word) none
+pub key_is_handed : (line : List ℕ) → is_on_keys (command_in line) ≡ true → request_of line ≡ Key (text line)
+unfolding request_of
+key_is_handed line is = key_by (command_in line) line is
 
-abbrev pub key_rule : KeyCommandName → Rule
-key_rule name.HaveKey = Always
-key_rule name.KeyInfo = OneKey
-key_rule _ = Never
+other_by : (found : Option Command) (line : List ℕ) → is_on_keys found ≡ false → request_by found line ≡ of_cache (cache_request_by found line)
+other_by (Some (at_table.Key name)) line is = absurd (cc is)
+other_by (Some (at_table.Cache name)) line is = refl
+other_by (Some (at_table.Trust name)) line is = refl
+other_by None line is = refl
 
-rule_of_key : (word : List ℕ) (name : KeyCommandName) → cache_command_named word ≡ None → key_command_named word ≡ Some name → rule_named word ≡ Some (key_rule name)
-unfolding cache_command_named key_command_named rule_named
-rule_of_key word name other is = found_behind cache_rule word (cache_commands ++ prompt_commands) (key_rules ++ trust_rules) (found_joined word cache_commands prompt_commands ∙ other)
-    ∙ found_mapped key_rule word commands_on_keys trust_rules name is
+pub other_is_read : (line : List ℕ) → is_on_keys (command_in line) ≡ false → request_of line ≡ of_cache (cache_request_by (command_in line) line)
+unfolding request_of
+other_is_read line is = other_by (command_in line) line is
 
 have_outer : (agent : Rules) (options : OptionValues) (wraps : WrapKeys) (read : Result (List Grip) Code) → IsOuterKey agent options wraps (key_or_bad (read >>= λ grips. Ok (HaveKey grips)))
 have_outer agent options wraps (Ok grips) = tt
@@ -118,7 +109,7 @@ info_outer agent options wraps (Ok grip) false one = tt
 info_outer agent options wraps (Err code) false one = tt
 
 module _ (agent : Rules) (options : OptionValues) (wraps : WrapKeys) (line : List ℕ) where
-  passes_outer : (name : KeyCommandName) → passes (key_rule name) line ≡ true → IsOuterKey agent options wraps (key_request_by (Some name) line)
+  passes_outer : (name : KeyCommandName) → passes (outer_rule (at_table.Key name)) line ≡ true → IsOuterKey agent options wraps (key_request_by (Some (at_table.Key name)) (rest_of line))
   passes_outer name.HaveKey is = have_outer agent options wraps (some_grips (arguments_of (words (rest_of line))))
   passes_outer name.KeyInfo is =
       info_outer agent options wraps (in_form (first_grip (arguments_of (words (rest_of line))))) (has_option (codes "--list") (options_of (words (rest_of line)))) is
@@ -128,15 +119,12 @@ module _ (agent : Rules) (options : OptionValues) (wraps : WrapKeys) (line : Lis
   passes_outer name.Passwd is = cc is
   passes_outer name.DeleteKey is = cc is
 
-  named_outer : (found : Option KeyCommandName) → key_command_named (command_of line) ≡ found → cache_command_named (command_of line) ≡ None → allowed Outer line ≡ true
-      → IsOuterKey agent options wraps (key_request_by found line)
-  named_outer None is other allows = tt
-  named_outer (Some name) is other allows =
-      passes_outer name (subst (λ (rule : Option Rule). passes_by rule line ≡ true) (rule_of_key (command_of line) name other is) allows)
+  named_outer : (found : Option Command) → passes_by found line ≡ true → IsOuterKey agent options wraps (key_request_by found (rest_of line))
+  named_outer None allows = tt
+  named_outer (Some (at_table.Cache name)) allows = tt
+  named_outer (Some (at_table.Trust name)) allows = tt
+  named_outer (Some (at_table.Key name)) allows = passes_outer name allows
 
-  pub key_leaves : {events : List (EventWith FurtherEvent)} {after : WrapKeys} {went : KeyWent} → allowed Outer line ≡ true → (handed : ArrayVec ℕ) → request_of line ≡ Key handed
-      → KeyExchange agent options wraps (key_request_of line) events after went → LeavesCache events
+  pub key_leaves : {events : List (EventWith FurtherEvent)} {after : WrapKeys} {went : KeyWent} → allowed Outer line ≡ true → KeyExchange agent options wraps (key_request_of line) events after went → LeavesCache events
   unfolding key_request_of
-  key_leaves allows handed key exchanged =
-      parts_leave
-      (key_replies_leave agent options wraps (key_request_by (key_command_named (command_of line)) line) (named_outer (key_command_named (command_of line)) refl (other_command line handed key) allows)) exchanged
+  key_leaves allows exchanged = parts_leave (key_replies_leave agent options wraps (key_request_by (command_in line) (rest_of line)) (named_outer (command_in line) allows)) exchanged

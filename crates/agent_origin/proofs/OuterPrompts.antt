@@ -4,11 +4,11 @@ use Rattle.std.proofs.lemmas.Slice.Eq.{bytes_eq-Decides}
 use Rattle.agent_ask.{specs.{Answering.{WholeOrCut, whole, cut}, PartExchanges.{answered, refused}, SessionEvents.{Cut, Sent, CutAtLast}}, proofs.Within.{Within, Yields, returned_so, refused_so, yields_then}}
 use Rattle.agent_commands.specs.{Endings.went_after, Exchanges.{CacheExchange, CacheReply, option_replies, CacheReplies}, Requests.request_of}
 use Rattle.agent_commands.specs.{Talks.{Talk, goes_on, over, ended, spent, read_fault, too_long, cut_too_long, Session, greeted, cut_greeting}, declared.request.{CacheCommand.CacheCommand, Request.{Request, TheVariants.{Cache, Key, Bad}}}}
-use Rattle.{agent_commands.specs.declared.went.{SessionEnd.SessionEnd, Went.{Went, TheVariants.On}}, assuan_server.specs.Written.ok, assuan_text.specs.{Rows.found, Words.command_of}, key_commands.specs.Events.Event}
+use Rattle.{agent_commands.specs.declared.went.{SessionEnd.SessionEnd, Went.{Went, TheVariants.On}}, assuan_server.specs.Written.ok, assuan_text.specs.Rows.found, command_table.specs.Commands.command_in, key_commands.specs.Events.Event}
 use Rattle.{key_commands.proofs.EachEvent.each_append, session_client.specs.declared.refusal.Refusal.TheVariants.Agent}
 use Rattle.session_options.specs.{OptionValues.{OptionValues, Applied, without_description, set_to, with_mode, with_count, valued, applied_as, applied}, Table.{names, named, mode_of, count_of}, Text.{name_of, option_value, can_be_kept}}
 use Rattle.session_options.specs.declared.{options.{OptionAnswer.OptionAnswer, PinMode.PinMode}, rules.Rules.Rules}
-use Rattle.agent_origin.specs.{DoorSessions.{door_command_named, door_command, AllowedExchange, DoorExchange}, Doors.{is_of_terminal, sets_terminal, allowed}, OuterPrompts.{no_words, PromptNames, PromptsName}}
+use Rattle.agent_origin.specs.{DoorSessions.{own_to_door, door_command, AllowedExchange, DoorExchange}, Doors.{is_of_terminal, sets_terminal, allowed}, OuterPrompts.{no_words, PromptNames, PromptsName}}
 use Rattle.agent_origin.{specs.{SessionExchanges.{RequestExchange, cache, keys}, declared.{door.Door.TheVariants.Outer, door_session.DoorCommand.{DoorCommand, TheVariants.Terminal}, kept.Kept.Kept}}, proofs.Naming.exchange_names}
 use Rattle.agent_commands.specs.declared.request.CacheCommand.TheVariants as on
 use Rattle.session_options.specs.declared.options.OptionAnswer.TheVariants as option
@@ -145,7 +145,7 @@ allowed_unset : {rules : Rules} {before after : Kept} (line : List ℕ) {command
 allowed_unset line is unset door.helped = unset
 allowed_unset line is unset door.unset = unset
 allowed_unset line is unset (door.trusts exchange) = unset
-allowed_unset line is unset (door.any exchange) = request_unset (request_of line) (heeded (sets_terminal (request_of line)) _ (door_command_named (command_of line)) is) unset exchange
+allowed_unset line is unset (door.any exchange) = request_unset (request_of line) (heeded (sets_terminal (request_of line)) _ (own_to_door (command_in line)) is) unset exchange
 
 door_unset : {rules : Rules} {before after : Kept} (line : List ℕ) → Unset before.options → {events : List Event} {went : Went} → DoorExchange Outer rules before line events after went → Unset after.options
 door_unset line unset (door.forbidden never) = unset
@@ -167,7 +167,7 @@ by_terminal (door.any exchange) is = cc is
 pub option_unset_there : {rules : Rules} {before after : Kept} (line : List ℕ) {events : List Event} {went : Went} → allowed Outer line ≡ true → sets_terminal (request_of line) ≡ true
     → DoorExchange Outer rules before line events after went → (events ≡ Sent ok ∷ []) × (after ≡ before) × (went ≡ On)
 option_unset_there line allows sets (door.forbidden refuses) = absurd (cc (allows, refuses))
-option_unset_there line allows sets (door.is_allowed may exchange) = by_terminal exchange (ap (λ b. cond b (Some Terminal) (door_command_named (command_of line))) sets)
+option_unset_there line allows sets (door.is_allowed may exchange) = by_terminal exchange (ap (λ b. cond b (Some Terminal) (own_to_door (command_in line))) sets)
 
 -- ---- sessions
 

@@ -18,7 +18,7 @@ module _ (rules : Rules) where
   request_leaves line {before} request is allows {events} {went} (cache {options} exchanged) =
       line_leaves rules before.options options line events went allows (subst (λ (r : Request). CacheExchange rules before.options r events options went) (sym is) exchanged)
   request_leaves line {before} request is allows {events} (keys {line = handed} {wraps} {went} exchanged) =
-      key_leaves rules before.options before.wraps line allows handed is
+      key_leaves rules before.options before.wraps line allows
       (subst (λ (l : List ℕ). KeyExchange rules before.options before.wraps (key_request_of l) events wraps went) (handed_line line handed is) exchanged)
 
   allowed_leaves : (line : List ℕ) {before after : Kept} → allowed Outer line ≡ true → {named : _} {events : List Event} {went : Went} → AllowedExchange rules before line named events after went

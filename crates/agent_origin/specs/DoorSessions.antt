@@ -1,34 +1,29 @@
 -- Sessions by the door that they came in: what each has to do with, and what it does for each of its lines. At either door the commands on the trust
 -- list are served beside those of every session. A known command that isn't allowed there is answered by an error of its own, and nothing else is
 -- done. The terminal of another machine has no effect at the outer door. This is the project's own.
-use Rattle.std.specs.Prelude.{◌≡◌, ℕ, true, false, List, [], ◌∷◌, codes, map, Option, Some, None, if◌then◌else◌}
+use Rattle.std.specs.Prelude.{◌≡◌, ℕ, true, false, List, [], ◌∷◌, Option, Some, None, if◌then◌else◌}
 use Rattle.{agent_ask.specs.{Events.Call, SessionEvents.Sent}, agent_commands.specs.{Answers.help_with, declared.went.{SessionEnd.SessionEnd, Went.{Went, TheVariants.On}}, Requests.request_of}, assuan_server.specs.Written.{failed, ok}}
-use Rattle.{session_client.specs.declared.code.Code.TheVariants.Forbidden, assuan_text.specs.{Rows.found_in_any_case, Words.command_of}, cache_policy.specs.{declared.mark.MarkStep.MarkStep, Turns.Turn}, key_commands.specs.Events.Event}
-use Rattle.session_options.specs.declared.rules.Rules.{Rules}
-use Rattle.agent_origin.specs.{Doors.{sets_terminal, allowed}, TrustExchanges.TrustExchange, FurtherStates.FurtherWorld, TrustNames.commands_on_trust, TrustRequests.trust_request_of, SessionExchanges.{SessionExchange, kept_at_start}}
+use Rattle.{session_client.specs.declared.code.Code.TheVariants.Forbidden, command_table.specs.{Commands.command_in, declared.commands.Command.Command}, cache_policy.specs.{declared.mark.MarkStep.MarkStep, Turns.Turn}}
+use Rattle.{key_commands.specs.Events.Event, session_options.specs.declared.rules.Rules.Rules}
+use Rattle.agent_origin.specs.{Doors.{sets_terminal, allowed}, TrustExchanges.TrustExchange, FurtherStates.FurtherWorld, TrustRequests.trust_request_of, SessionExchanges.{SessionExchange, kept_at_start}}
 use Rattle.agent_origin.specs.{Sessions.{Surroundings, ServesSession}, declared.{door.Door.{Door, TheVariants.{Home, Outer}}, kept.Kept.Kept, door_session.DoorCommand.{DoorCommand, TheVariants.{Help, Trust, Terminal}}}}
+use Rattle.command_table.specs.declared.commands.Command.TheVariants as on
+use Rattle.command_table.specs.declared.commands.CommandName.TheVariants as name
 
--- the commands that a session at a door answers in a way of its own
-abbrev pub door_commands : List (List ℕ × DoorCommand)
-door_commands =
-    (codes "HELP", Help)
-    ∷ (codes "ISTRUSTED", Trust)
-    ∷ (codes "MARKTRUSTED", Trust)
-    ∷ []
+-- what a door does for itself with a command: it answers HELP in a way of its own, and those on the trust list
+abbrev pub own_to_door : Option Command → Option DoorCommand
+own_to_door (Some (on.Cache name.Help)) = Some Help
+own_to_door (Some (on.Trust name)) = Some Trust
+own_to_door _ = None
 
--- the one of this name, whatever the case of its letters
-unfoldable pub door_command_named : List ℕ → Option DoorCommand
-door_command_named word = found_in_any_case word door_commands
-
--- what the door does for itself with a line: at the outer door also with an option of the terminal
+-- and with a line: at the outer door also with an option of the terminal
 abbrev pub door_command : Door → List ℕ → Option DoorCommand
-door_command Home line = door_command_named (command_of line)
-door_command Outer line =
-    if sets_terminal (request_of line) then Some Terminal else door_command_named (command_of line)
+door_command Home line = own_to_door (command_in line)
+door_command Outer line = if sets_terminal (request_of line) then Some Terminal else own_to_door (command_in line)
 
--- HELP tells the commands on the trust list behind all others
+-- HELP tells the commands on the trust list too
 abbrev pub door_help : List ℕ
-door_help = help_with (map (λ row. row.0) commands_on_trust)
+door_help = help_with true
 
 -- what is done for a line that is allowed, by the command that the door has a way of its own for, if it is one
 pub data AllowedExchange (rules : Rules) (before : Kept) (line : List ℕ) : Option DoorCommand → List Event → Kept → Went → Type 0 where

@@ -2,7 +2,6 @@ pub mod Doors
 pub mod OuterTurns
 pub mod OuterRuns
 pub mod OuterPrompts
-pub mod TrustNames
 pub mod TrustRequests
 pub mod Sessions
 pub mod FurtherStates

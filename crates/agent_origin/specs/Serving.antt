@@ -1,9 +1,10 @@
 -- Private: how far a session has come at some state of its code.
-use Rattle.std.specs.Prelude.{◌≡◌, ℕ, List, Result}
+use Rattle.std.specs.Prelude.{◌≡◌, ℕ, Bool, true, false, List, Option, Some, Result}
 use Rattle.{agent_ask.specs.Answering.{unless_cut, FaultsCounted}, agent_commands.specs.{Endings.gone_of, Events.EventWith, Outside.World, States.{SessionState, EventsLead}, Talks.Talk, declared.went.SessionEnd.SessionEnd}}
 use Rattle.{agent_commands.specs.declared.went.{SessionEnd.TheVariants.WriteFault, Went.{Went, TheVariants.{On, End}}}, agent_ports.specs.declared.link.WriteFault.WriteFault as Fault, assuan_server.specs.Clients.connection_views}
-use Rattle.assuan_server.specs.{Connections.Connection, Reading.unread, Written.WritesText}
+use Rattle.{assuan_server.specs.{Connections.Connection, Reading.unread, Written.WritesText}, command_table.specs.declared.commands.Command.Command}
 use Rattle.agent_origin.specs.Sessions.{Surroundings, Leaves, LineRelation, ServesSession}
+use Rattle.command_table.specs.declared.commands.Command.TheVariants as at_table
 
 -- the requests of a session were answered up to its end
 pub record ServesRequests {w : World} {S : Type 0} (exchange : LineRelation w S) (before : S) (start : SessionState w) (end : SessionEnd) (now : SessionState w) : Type 0 where
@@ -25,3 +26,8 @@ pub record ServesConn {w : World} {S : Type 0} (exchange : LineRelation w S) (be
 -- a text was written, whole or in part, and the session goes on where it was whole
 pub data SaysText (text : List ℕ) (before : Connection) : Went → Connection → Type 0 where
   says : {after : Connection} (written : Result (Unit {0}) Fault) → WritesText text before written after → SaysText text before (unless_cut On (End WriteFault) written) after
+
+-- a command on keys
+abbrev pub is_on_keys : Option Command → Bool
+is_on_keys (Some (at_table.Key name)) = true
+is_on_keys _ = false

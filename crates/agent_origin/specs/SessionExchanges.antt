@@ -2,8 +2,8 @@
 -- is this project's own.
 use Rattle.std.specs.Prelude.{ℕ, List, None, if◌then◌else◌}
 use Rattle.{arrayvec.specs.ArrayVec.ArrayVec, agent_ask.specs.Further.FurtherEvent, agent_commands.specs.{Endings.end_of, Events.EventWith, Exchanges.CacheExchange, Requests.request_of, declared.request.Request.{Request, TheVariants.Key}}}
-use Rattle.{agent_commands.specs.declared.went.Went.{Went, TheVariants.{On, End}}, key_commands.specs.{Exchanges.KeyExchange, Requests.{key_request_of, ends_description}, declared.{went.KeyWent.KeyWent, wrap_keys.WrapKeys.WrapKeys}}}
-use Rattle.session_options.specs.{OptionValues.{OptionValues, at_start, without_description}, declared.rules.Rules.Rules}
+use Rattle.{agent_commands.specs.declared.went.Went.{Went, TheVariants.{On, End}}, key_commands.specs.{Exchanges.KeyExchange, Requests.key_request_of, declared.{went.KeyWent.KeyWent, wrap_keys.WrapKeys.WrapKeys}}}
+use Rattle.{command_table.specs.Commands.{command_in, ends_description}, session_options.specs.{OptionValues.{OptionValues, at_start, without_description}, declared.rules.Rules.Rules}}
 use Rattle.agent_origin.specs.declared.kept.Kept.{Kept}
 use Rattle.key_commands.specs.declared.went.KeyWent.TheVariants as key
 
@@ -18,7 +18,7 @@ went_after_key (key.Gone how) = End (end_of how)
 
 -- A line with a command on keys leaves the option values. One whose prompts the client may describe ends the description.
 abbrev pub described_after : List ℕ → OptionValues → OptionValues
-described_after line options = if ends_description line then without_description options else options
+described_after line options = if ends_description (command_in line) then without_description options else options
 
 -- A request: what is kept before it, what the session does for it, what is kept after it, and how the session goes on. A request on the cache or
 -- on the session, or one that is refused, leaves the wrapping keys; one on keys leaves the option values but for the description, whatever it is answered.

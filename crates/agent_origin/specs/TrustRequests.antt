@@ -2,10 +2,10 @@
 -- fault a refusal has is this project's own.
 use Rattle.std.specs.{Prelude.{ℕ, nat_le, true, List, ◌∷◌, length, codes, Option, Some, None, Result, Ok, Err, if◌then◌else◌}, Str.bytes_eq}
 use Rattle.{arrayvec.specs.ArrayVec.ArrayVec, assuan_escape.specs.Escapes.unescaped, session_client.specs.{declared.code.Code.{Code, TheVariants.{UnknownCommand, Parameter}}, Fields.{◌>>=◌, in_form}}, assuan_text.specs.Options.arguments_of}
-use Rattle.{assuan_text.specs.Words.{command_of, rest_of, words}, key_commands.specs.Requests.{grip, first_grip}}
-use Rattle.agent_origin.specs.{TrustNames.trust_command_named, declared.trust.request.{TheConstants.MAX_NAME_LEN, TrustPurpose.{TrustPurpose, TheVariants.{X509, OpenPgp}}, TrustRequest.TrustRequest}}
-use Rattle.agent_origin.specs.declared.trust.{request.TrustRequest.TheVariants.{IsTrusted, MarkTrusted, Bad}, names.TrustCommandName.TrustCommandName}
-use Rattle.agent_origin.specs.declared.trust.names.TrustCommandName.TheVariants as name
+use Rattle.{assuan_text.specs.Words.{rest_of, words}, command_table.specs.{Commands.command_in, declared.commands.{Command.Command, TrustCommandName.TrustCommandName}}, key_commands.specs.Requests.{grip, first_grip}}
+use Rattle.agent_origin.specs.declared.trust.request.{TheConstants.MAX_NAME_LEN, TrustPurpose.{TrustPurpose, TheVariants.{X509, OpenPgp}}, TrustRequest.{TrustRequest, TheVariants.{IsTrusted, MarkTrusted, Bad}}}
+use Rattle.command_table.specs.declared.commands.Command.TheVariants as on
+use Rattle.command_table.specs.declared.commands.TrustCommandName.TheVariants as name
 
 -- what a certificate is to be trusted for
 abbrev pub purpose : List ℕ → Option TrustPurpose
@@ -43,9 +43,14 @@ trust_or_bad (Ok request) = request
 trust_or_bad (Err code) = Bad code
 
 -- the command that the line begins with, with the rest of the line
-abbrev pub trust_request_by : Option TrustCommandName → List ℕ → TrustRequest
-trust_request_by (Some name) line = trust_or_bad (trust_asked_by name (rest_of line))
-trust_request_by None line = Bad UnknownCommand
+abbrev pub trust_request_by : Option Command → List ℕ → TrustRequest
+trust_request_by (Some (on.Trust name)) line = trust_or_bad (trust_asked_by name (rest_of line))
+trust_request_by _ line = Bad UnknownCommand
 
 unfoldable pub trust_request_of : List ℕ → TrustRequest
-trust_request_of line = trust_request_by (trust_command_named (command_of line)) line
+trust_request_of line = trust_request_by (command_in line) line
+
+-- the command, where it is one on the trust list
+abbrev pub trust_command : Option Command → Option TrustCommandName
+trust_command (Some (on.Trust name)) = Some name
+trust_command _ = None

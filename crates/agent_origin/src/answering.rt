@@ -3,24 +3,25 @@
 //! had a passphrase. Begin with `answer`; what it does is `SessionExchange`
 //! (`specs/SessionExchanges`).
 
-ghost use Rattle.std.specs.Prelude.{◌≡◌, ℕ, List, None};
+ghost use Rattle.std.specs.Prelude.{◌≡◌, None};
 ghost use Rattle.{agent_ask.specs.Prompters.IsShut, agent_ports.specs.TrustFiles.TrustState};
 ghost use Rattle.assuan_server.specs.{Connections.IsOpen, Written.failed};
-ghost use Rattle.{assuan_text.specs.Words.command_of, agent_commands.specs.Requests.request_of};
-ghost use Rattle.agent_commands.specs.States.{AnswersRequest};
+ghost use Rattle.agent_commands.specs.{Requests.request_of, States.AnswersRequest};
 ghost use Rattle.key_commands.specs.States.{KeyWorld, key_state};
+ghost use Rattle.command_table.specs.Commands.{command_in};
 ghost use Rattle.agent_origin.specs.FurtherStates.{FurtherWorld, further_state};
 ghost use Rattle.agent_origin.specs.SessionExchanges.{went_after_key, described_after};
 ghost use Rattle.agent_origin.specs.SessionExchanges.{RequestExchange, SessionExchange};
-ghost use Rattle.agent_origin.specs.Serving.{SaysText};
+ghost use Rattle.agent_origin.specs.Serving.{SaysText, is_on_keys};
 
 use crate::Kept;
 use agent_ask::{Prompter, unless_cut};
-use agent_commands::{CutLine, LineRequest, Request, SessionEnd, Went, run_cache, run_quiet};
+use agent_commands::{LineRequest, SessionEnd, Went, run_cache, run_quiet};
 use agent_ports::{Dice, Keys, Link};
 use assuan_server::{Code, Conn, Origin};
 use cache_policy::Desk;
-use key_commands::{KeyWent, may_prompt, read_key_cut, run_key};
+use command_table::{Command, CutLine};
+use key_commands::{KeyWent, read_key_cut, run_key};
 use session_options::{Options, Rules};
 use std::alloc::Global;
 use wiping::wipe_stack;
@@ -82,12 +83,12 @@ fn answer_whole<L: Link, D: Desk, P: Prompter, K: Keys, R: Dice>(
     keys: &mut K,
     dice: &mut R,
 ) -> Went
-    requires read { request.now ≡ request_of line.now }
+    requires read { request.now ≡ line.now }
     requires open { IsOpen conn.old }
     requires free { (D.at desk.old).out ≡ None }
     requires shut { IsShut (P.at prompter.old) }
     ensures answers { AnswersRequest {w = KeyWorld D.turned P.prompted}
-        (λ before. RequestExchange rules.now before request.now) kept.old
+        (λ before. RequestExchange rules.now before (request_of line.now)) kept.old
         (key_state D.turned P.prompted conn.old desk.old prompter.old
         (K.keys keys.old) (R.draws dice.old)) result kept.new
         (key_state D.turned P.prompted conn.new desk.new prompter.new (K.keys keys.new)
@@ -95,38 +96,41 @@ fn answer_whole<L: Link, D: Desk, P: Prompter, K: Keys, R: Dice>(
     ensures free { (D.at desk.new).out ≡ None }
     ensures shut { IsShut (P.at prompter.new) }
 {
-    match request.whole() {
-        Request::Cache(command) => {
-            run_cache(&command, rules, &mut kept.options, conn, desk, prompter)
-        }
-        Request::Key(_) => {
-            let request = read_key_cut(line.word(), line.rest());
-            let went = run_key(
-                alloc,
-                &request,
-                rules,
-                &kept.options,
-                &mut kept.wraps,
-                conn,
-                desk,
-                prompter,
-                keys,
-                dice,
-            );
-            end_description(line.word(), &mut kept.options);
-            went_after_key(went)
-        }
-        Request::Bad(code) => refuse(code, conn),
+    if is_on_keys(line) {
+        let request = read_key_cut(line);
+        let went = run_key(
+            alloc,
+            &request,
+            rules,
+            &kept.options,
+            &mut kept.wraps,
+            conn,
+            desk,
+            prompter,
+            keys,
+            dice,
+        );
+        end_description(line, &mut kept.options);
+        return went_after_key(went);
+    }
+    match request.cache_command() {
+        Ok(command) => run_cache(&command, rules, &mut kept.options, conn, desk, prompter),
+        Err(code) => refuse(code, conn),
     }
 }
 
-/// Ends the description of prompts behind a line with a command on keys, where that one may prompt.
-#[tactic(auto, unfolding(key_commands::specs::Requests::ends_description))]
-fn end_description(word: &[u8], options: &mut Options)
-    ensures { (line : List ℕ) → word.now ≡ command_of line
-        → options.new ≡ described_after line options.old }
+/// Whether its command is one on keys.
+fn is_on_keys(line: &CutLine<'_>) -> bool
+    ensures { result ≡ is_on_keys (command_in line.now) }
 {
-    if may_prompt(word) {
+    matches!(line.command(), Some(Command::Key(_)))
+}
+
+/// Ends the description of prompts behind a line with a command on keys, where that one may prompt.
+fn end_description(line: &CutLine<'_>, options: &mut Options)
+    ensures { options.new ≡ described_after line.now options.old }
+{
+    if line.ends_description() {
         options.end_description();
     }
 }

@@ -1,18 +1,16 @@
 //! Which lines are allowed at which of the agent's sockets: at the user's own (gpg-agent's main
 //! socket) all, at the outer one (its `--extra-socket`) those that the rule of their command lets
-//! through. Pure. Begin with `Rule` and its table `RULES`; `allowed` (`specs/Doors`) defines what
-//! `allows` gives.
+//! through. Pure. Begin with `passes`; `allowed` (`specs/Doors`) defines what `allows` gives.
 
-ghost use Rattle.std.specs.Prelude.{◌≡◌, map};
+ghost use Rattle.std.specs.Prelude.{◌≡◌};
 ghost use Rattle.assuan_text.specs.Words.{words};
-ghost use Rattle.agent_commands.specs.Requests.{get_fields, request_of};
-ghost use Rattle.agent_origin.specs.Doors.{rules, rule_named, is_about_the_agent, leaves_cache};
+ghost use Rattle.agent_origin.specs.Doors.{is_about_the_agent};
 ghost use Rattle.agent_origin.specs.Doors.{passes, allowed, is_of_terminal, sets_terminal};
-ghost use Rattle.agent_origin.specs.declared.door.TheConstants.{RULES};
 
-use agent_commands::{CacheCommand, CutLine, LineRequest, Request};
+use agent_commands::{CacheCommand, LineRequest, Request};
 use assuan_line::Line;
-use assuan_text::{arguments, found_in_any_case, has_option, next_word};
+use assuan_text::{arguments, has_option, next_word};
+use command_table::{CutLine, Rule};
 use session_options::name_and_value;
 
 /// The option that says how a session wants its prompts.
@@ -44,51 +42,6 @@ pub enum Door {
     Outer,
 }
 
-/// What the line of a command has to be at the outer door. Which rule a command has is this
-/// project's own.
-#[derive(Clone, Copy, PartialEq, Eq)]
-pub(crate) enum Rule {
-    /// Any line, in form or not.
-    Always,
-    /// An OPTION of any name but `pinentry-mode`, by which a session says how its prompts are
-    /// answered.
-    NotTheMode,
-    /// A GETINFO of what the agent is and can do: `version` or `cmd_has_option`.
-    AboutTheAgent,
-    /// A GET_PASSPHRASE in form that leaves the cache out: its cache id is `X`.
-    Uncached,
-    /// A KEYINFO of one key, not of all, which `--list` asks for.
-    OneKey,
-    /// No line, in form or not.
-    Never,
-}
-
-/// The commands that are known, each with its rule.
-const RULES: [(&[u8], Rule); 22] = [
-    (b"NOP", Rule::Always),
-    (b"RESET", Rule::Always),
-    (b"BYE", Rule::Always),
-    (b"HELP", Rule::Always),
-    (b"OPTION", Rule::NotTheMode),
-    (b"GETINFO", Rule::AboutTheAgent),
-    (b"GET_PASSPHRASE", Rule::Uncached),
-    (b"PRESET_PASSPHRASE", Rule::Never),
-    (b"CLEAR_PASSPHRASE", Rule::Never),
-    (b"GET_CONFIRMATION", Rule::Always),
-    (b"RELOADAGENT", Rule::Never),
-    (b"KILLAGENT", Rule::Never),
-    (b"SETKEYDESC", Rule::Never),
-    (b"HAVEKEY", Rule::Always),
-    (b"KEYINFO", Rule::OneKey),
-    (b"KEYWRAP_KEY", Rule::Never),
-    (b"IMPORT_KEY", Rule::Never),
-    (b"EXPORT_KEY", Rule::Never),
-    (b"PASSWD", Rule::Never),
-    (b"DELETE_KEY", Rule::Never),
-    (b"ISTRUSTED", Rule::Always),
-    (b"MARKTRUSTED", Rule::Never),
-];
-
 /// Whether a line is allowed to a session that came in by this door. One that begins with no known
 /// command is: it isn't forbidden, but answered as an unknown command.
 pub fn allowed(door: Door, line: &Line) -> bool
@@ -97,15 +50,15 @@ pub fn allowed(door: Door, line: &Line) -> bool
     allows(door, &CutLine::of(line))
 }
 
-/// The same of one that is cut into its first word and what comes after it.
+/// The same of one whose command is found.
 pub(crate) fn allows(door: Door, line: &CutLine<'_>) -> bool
     ensures { result ≡ allowed door line.now }
 {
     if door == Door::Home {
         return true;
     }
-    match rule_named(line.word()) {
-        Some(rule) => passes(rule, line),
+    match line.command() {
+        Some(command) => passes(command.outer_rule(), line),
         None => true,
     }
 }
@@ -127,19 +80,6 @@ fn is_of_terminal(name: &[u8]) -> bool
     name == TTYNAME || name == TTYTYPE || name == LC_CTYPE || name == LC_MESSAGES
 }
 
-/// A law: `RULES` has the commands and their rules as they are defined, in this order.
-pub fn doors_are_as_defined()
-    ensures { map (λ row. (row.0.now, row.1)) RULES ≡ rules }
-{}
-
-/// The rule of the command of this name, whatever the case of its letters.
-#[tactic(auto, unfolding(crate::specs::Doors::rule_named))]
-fn rule_named(word: &[u8]) -> Option<Rule>
-    ensures { result ≡ rule_named word.now }
-{
-    found_in_any_case(word, &RULES)
-}
-
 /// Whether a line with a command of this rule is allowed at the outer door.
 fn passes(rule: Rule, line: &CutLine<'_>) -> bool
     ensures { result ≡ passes rule line.now }
@@ -149,7 +89,7 @@ fn passes(rule: Rule, line: &CutLine<'_>) -> bool
         Rule::Always => true,
         Rule::NotTheMode => name_and_value(rest).0 != PINENTRY_MODE,
         Rule::AboutTheAgent => is_about_the_agent(arguments(rest)),
-        Rule::Uncached => leaves_cache(&LineRequest::of_cut(line).whole()),
+        Rule::Uncached => LineRequest::of_cut(line).leaves_cache(),
         Rule::OneKey => !has_option(rest, b"--list"),
         Rule::Never => false,
     }
@@ -163,13 +103,4 @@ fn is_about_the_agent(text: &[u8]) -> bool
         Some((what, _)) => what == VERSION || what == HAS_OPTION,
         None => false,
     }
-}
-
-fn leaves_cache(request: &Request) -> bool
-    ensures { result ≡ leaves_cache (get_fields request.now) }
-{
-    matches!(
-        request,
-        Request::Cache(CacheCommand::GetPassphrase { id: None, .. })
-    )
 }

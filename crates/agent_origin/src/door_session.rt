@@ -6,21 +6,20 @@
 ghost use Rattle.std.specs.Prelude.{◌≡◌, None};
 ghost use Rattle.{agent_ask.specs.Prompters.IsShut, assuan_server.specs.Connections.IsOpen};
 ghost use Rattle.assuan_server.specs.Written.{ok};
-ghost use Rattle.agent_origin.specs.DoorSessions.{door_command_named, door_command, door_help};
-ghost use Rattle.agent_origin.specs.{DoorSessions.ServesDoor, TrustExchanges.AnswersTrust};
-ghost use Rattle.agent_origin.specs.{FurtherStates.surroundings, TrustRequests.trust_request_of};
-ghost use Rattle.agent_origin.specs.Serving.{SaysText};
+ghost use Rattle.agent_origin.specs.DoorSessions.{door_command, door_help, ServesDoor};
+ghost use Rattle.agent_origin.specs.{TrustExchanges.AnswersTrust, FurtherStates.surroundings};
+ghost use Rattle.agent_origin.specs.{TrustRequests.trust_request_of, Serving.SaysText};
 
 use crate::answering::{answer, refuse};
 use crate::door::{Door, allows, sets_terminal};
 use crate::trust::read_trust_cut;
-use crate::{Answers, Kept, TRUST_COMMANDS, run_trust, serve};
+use crate::{Answers, Kept, run_trust, serve};
 use agent_ask::{Prompter, unless_cut};
-use agent_commands::{CutLine, LineRequest, SessionEnd, Went, write_help};
+use agent_commands::{LineRequest, SessionEnd, Went, write_help};
 use agent_ports::{Dice, Keys, Link, TrustFile};
 use assuan_server::{Code, Conn};
-use assuan_text::found_in_any_case;
 use cache_policy::Desk;
+use command_table::{Command, CommandName, CutLine};
 use session_options::{Options, Rules};
 use std::alloc::Global;
 
@@ -37,13 +36,6 @@ enum DoorCommand {
     Terminal,
 }
 
-/// Those that the command's name alone decides.
-const DOOR_COMMANDS: [(&[u8], DoorCommand); 3] = [
-    (b"HELP", DoorCommand::Help),
-    (b"ISTRUSTED", DoorCommand::Trust),
-    (b"MARKTRUSTED", DoorCommand::Trust),
-];
-
 /// What a session at this door does for itself with a line.
 // Apart from the session's loop, where a place for the request would be filled anew for each line.
 #[inline(never)]
@@ -53,15 +45,11 @@ fn door_command(door: Door, line: &CutLine<'_>) -> Option<DoorCommand>
     if door == Door::Outer && sets_terminal(&LineRequest::of_cut(line).whole()) {
         return Some(DoorCommand::Terminal);
     }
-    door_command_named(line.word())
-}
-
-/// What a session at a door does for itself with the command of this name.
-#[tactic(auto, unfolding(crate::specs::DoorSessions::door_command_named))]
-fn door_command_named(word: &[u8]) -> Option<DoorCommand>
-    ensures { result ≡ door_command_named word.now }
-{
-    found_in_any_case(word, &DOOR_COMMANDS)
+    match line.command() {
+        Some(Command::Cache(CommandName::Help)) => Some(DoorCommand::Help),
+        Some(Command::Trust(_)) => Some(DoorCommand::Trust),
+        _ => None,
+    }
 }
 
 impl Answers for Door {
@@ -108,7 +96,7 @@ fn help<L: Link>(conn: &mut Conn<'_, L>) -> Went
     ensures { SaysText door_help conn.old result conn.new }
 {
     let cut = Went::End(SessionEnd::WriteFault);
-    unless_cut(Went::On, cut, write_help(conn, &TRUST_COMMANDS))
+    unless_cut(Went::On, cut, write_help(conn, true))
 }
 
 /// Says that all is well, as NOP does.

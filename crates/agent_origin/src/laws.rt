@@ -3,23 +3,19 @@
 //! `a_new_trust_file_has_two_consents`; what they speak of is `ServesDoor` and `DoorExchange`
 //! (`specs/DoorSessions`).
 
-ghost use Rattle.std.specs.Prelude.{◌≡◌, ℕ, List, [], ◌∷◌, ◌++◌, true, false, IsSome};
+ghost use Rattle.std.specs.Prelude.{◌≡◌, ℕ, List, [], ◌∷◌, ◌++◌, true, false};
 ghost use Rattle.agent_ask.specs.SessionEvents.{Sent, turns_in};
-ghost use Rattle.agent_commands.specs.Exchanges.{LineExchange};
-ghost use Rattle.agent_commands.specs.Names.{command_named as cache_command_named};
-ghost use Rattle.agent_commands.specs.Requests.{request_of};
+ghost use Rattle.agent_commands.specs.{Exchanges.LineExchange, Requests.request_of};
 ghost use Rattle.agent_commands.specs.declared.request.Request.TheVariants.{Key};
 ghost use Rattle.agent_commands.specs.declared.went.SessionEnd.{SessionEnd as Ends};
 ghost use Rattle.agent_commands.specs.declared.went.Went.{Went as Goes, TheVariants.On};
 ghost use Rattle.{arrayvec.specs.ArrayVec.ArrayVec, assuan_server.specs.Written.{failed, ok}};
 ghost use Rattle.session_client.specs.declared.code.Code.TheVariants.{Forbidden};
-ghost use Rattle.key_commands.specs.{Events.Event, Exchanges.KeyExchange, Names.key_command_named};
-ghost use Rattle.key_commands.specs.{Requests.key_request_of, declared.went.KeyWent.KeyWent};
-ghost use Rattle.key_commands.specs.declared.wrap_keys.WrapKeys.{WrapKeys};
+ghost use Rattle.key_commands.specs.{Events.Event, Exchanges.KeyExchange, Requests.key_request_of};
+ghost use Rattle.key_commands.specs.declared.{went.KeyWent.KeyWent, wrap_keys.WrapKeys.WrapKeys};
 ghost use Rattle.session_options.specs.{OptionValues.OptionValues, declared.rules.Rules.Rules};
 ghost use Rattle.agent_origin.specs.DoorSessions.{DoorExchange, ServesDoor};
-ghost use Rattle.agent_origin.specs.Doors.{rule_named, sets_terminal, allowed};
-ghost use Rattle.agent_origin.specs.{TrustExchanges.TrustExchange, TrustNames.trust_command_named};
+ghost use Rattle.agent_origin.specs.{Doors.{sets_terminal, allowed}, TrustExchanges.TrustExchange};
 ghost use Rattle.agent_origin.specs.NewTrustFiles.{replaced, HasConsents, HasConsentsIn};
 ghost use Rattle.agent_origin.specs.FurtherStates.{FurtherWorld};
 ghost use Rattle.agent_origin.specs.{OuterPrompts.{no_words, PromptsName}, OuterRuns.LeavesDesk};
@@ -90,15 +86,6 @@ pub fn a_prompt_at_the_outer_door_names_no_terminal<D: Desk, P: Prompter>()
         (before after : Surroundings (FurtherWorld D.turned P.prompted)) (end : Ends)
         → (served : ServesDoor D.turned P.prompted Outer rules before end after)
         → PromptsName no_words served.events }
-{}
-
-/// A law: each command that is known has its rule at the outer door, whichever of the agent's
-/// tables names it: that of the cache, of the keys or of the trust list. One without a rule would
-/// be allowed there as an unknown one is, and then be carried out.
-pub fn each_known_command_has_a_rule()
-    ensures cache { (word : List ℕ) → IsSome (cache_command_named word) → IsSome (rule_named word) }
-    ensures keys { (word : List ℕ) → IsSome (key_command_named word) → IsSome (rule_named word) }
-    ensures trust { (word : List ℕ) → IsSome (trust_command_named word) → IsSome (rule_named word) }
 {}
 
 /// A law: a line that isn't allowed at its session's door is answered by the one error, nothing

@@ -2,8 +2,7 @@
 //! came in by a door, with the commands on the agent's trust list.
 //!
 //! Begin with [`serve_door`]: a session's events lead its link, desk, prompter, keys, dice and
-//! trust file from before to after, exactly. [`allowed`] is one table with a rule for each known
-//! command; a session at the outer door leaves the cache as it is
+//! trust file from before to after, exactly. [`allowed`] goes by the rule of a line's command; a session at the outer door leaves the cache as it is
 //! ([`an_outer_session_leaves_the_run`]), and its prompts name no terminal
 //! ([`a_prompt_at_the_outer_door_names_no_terminal`]). [`read_trust`] and [`run_trust`] read a
 //! request on the trust list and answer it, and a new list has two consents
@@ -20,17 +19,14 @@ mod service;
 mod trust;
 
 pub use answering::answer;
-pub use door::{Door, allowed, doors_are_as_defined};
+pub use door::{Door, allowed};
 pub use door_session::serve_door;
 pub use kept::Kept;
 pub use laws::{
     a_forbidden_line_does_nothing, a_new_trust_file_has_two_consents,
     a_prompt_at_the_outer_door_names_no_terminal, an_option_of_the_terminal_does_nothing_there,
     an_outer_session_leaves_the_cache, an_outer_session_leaves_the_run,
-    each_known_command_has_a_rule, the_outer_door_leaves_the_cache,
+    the_outer_door_leaves_the_cache,
 };
 pub use service::{Answers, serve};
-pub use trust::{
-    MAX_NAME_LEN, OwnerName, TRUST_COMMANDS, TrustCommandName, TrustPurpose, TrustRequest,
-    read_trust, run_trust, trust_commands_are_as_defined,
-};
+pub use trust::{MAX_NAME_LEN, OwnerName, TrustPurpose, TrustRequest, read_trust, run_trust};

@@ -12,11 +12,12 @@ ghost use Rattle.agent_origin.specs.{SessionExchanges.kept_at_start, Sessions.Se
 
 use crate::Kept;
 use agent_ask::Prompter;
-use agent_commands::{CutLine, SessionEnd, Went};
+use agent_commands::{SessionEnd, Went};
 use agent_ports::{Dice, Keys, Link, TrustFile, WriteFault};
 use assuan_line::{BUDGET, Took};
 use assuan_server::{Code, Conn, Origin};
 use cache_policy::Desk;
+use command_table::CutLine;
 use session_options::Rules;
 use std::alloc::Global;
 use wiping::wipe_stack;

@@ -4,14 +4,12 @@
 
 mod calls;
 mod marking;
-mod names;
 mod questions;
 mod read;
 mod reply;
 mod request;
 mod run;
 
-pub use names::{TRUST_COMMANDS, TrustCommandName, trust_commands_are_as_defined};
 pub use read::read_trust;
 pub(crate) use read::read_trust_cut;
 pub use request::{MAX_NAME_LEN, OwnerName, TrustPurpose, TrustRequest};

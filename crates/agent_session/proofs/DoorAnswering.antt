@@ -1,41 +1,16 @@
 -- Lines at a door: each exchange is caused, and is one of any session, where its command isn't the door's own.
-use Rattle.std.{specs.{List.AllByRecursion, Str.str_to_ascii_lowercase}, proofs.Common.{◌≡◌, ◌⊎◌, ℕ, Bool, true, false, cond, List, [], ◌∷◌, ◌++◌, Option, Some, None, bytes_eq, codes, map, refl, sym, ap, subst, inl, inr, ◌∙◌}}
-use Rattle.{agent_ask.specs.{Prompters.is_failed, SessionEvents.Sent}, agent_commands.specs.{Answers.comments, Names.command_names, Requests.request_of, declared.went.Went.{Went, TheVariants.On}}}
-use Rattle.{assuan_server.specs.{Written.{failed as failed_line, ok}, declared.errors.Origin.{Origin, TheVariants.Agent}}, session_client.specs.declared.code.Code.Code, assuan_text.specs.Words.command_of, key_commands.specs.Events.Event}
-use Rattle.{key_commands.proofs.EachRequest.IsBesideTrust, session_options.specs.declared.rules.Rules.Rules, agent_origin.specs.{DoorSessions.{door_help, AllowedExchange, DoorExchange, door_command_named, door_command}, Doors.allowed}}
-use Rattle.agent_origin.specs.{TrustNames.{commands_on_trust, trust_command_named}, TrustExchanges.TrustExchange, TrustRequests.trust_request_of, SessionExchanges.SessionExchange, declared.{door.Door.Door, kept.Kept.Kept}}
-use Rattle.agent_origin.{specs.declared.trust.{names.TrustCommandName.TrustCommandName, request.TrustRequest.TheVariants.Bad}, proofs.{EachLine.each_request, OwnCommands.{own_command, not_own}}}
+use Rattle.std.{specs.List.AllByRecursion, proofs.Common.{◌≡◌, ◌⊎◌, ℕ, true, false, List, [], ◌∷◌, Option, Some, None, refl, sym, ap, subst, inl, inr, ◌∙◌}}
+use Rattle.{agent_ask.specs.{Prompters.is_failed, SessionEvents.Sent}, agent_commands.specs.{Requests.request_of, declared.went.Went.{Went, TheVariants.On}}, assuan_server.specs.Written.{failed as failed_line, ok}}
+use Rattle.{assuan_server.specs.declared.errors.Origin.{Origin, TheVariants.Agent}, session_client.specs.declared.code.Code.Code, key_commands.{specs.Events.Event, proofs.EachRequest.IsBesideTrust}}
+use Rattle.{session_options.specs.declared.rules.Rules.Rules, agent_origin.specs.{DoorSessions.{door_help, AllowedExchange, DoorExchange, door_command}, Doors.allowed, TrustExchanges.TrustExchange}}
+use Rattle.agent_origin.{specs.{TrustRequests.{trust_request_of, trust_command}, SessionExchanges.SessionExchange, declared.{door.Door.Door, kept.Kept.Kept, trust.request.TrustRequest.TheVariants.Bad}}, proofs.EachLine.each_request}
+use Rattle.{agent_origin.proofs.OwnCommands.{trust_named, other_is_no_trust}, command_table.specs.{Commands.{command_in, commands, names_told}, declared.commands.TrustCommandName.TrustCommandName}}
 use Rattle.agent_session.specs.{Causes.{HasOne, HasCall, WantsMemory, is_broken}, Completeness.{IsAnsweredBy, HasError, CausedAtDoor, WantsNoPrompt, any, on_trust}}
 use Rattle.agent_session.{specs.DoorCauses.{IsTrustCaused, IsCausedBy, IsCausedAtDoor, IsReadTrust, read_trust, IsNotTrusted, unsaid, denied, denied_mark, forbidden, is_allowed}, proofs.Answering.{Judging, none_failed, no_trust_failed}}
-use Rattle.agent_session.proofs.{Asides.{asides_append, comments_aside}, Completing.{IsPossible, IsSteady, never_absent}, Explained.{Explained, replied, failed, silent, is_answered, is_caused, went_on, goes_on as explained_on}}
-use Rattle.agent_session.proofs.{KeyExplained.{exchange_caused, exchange_goes_on}, Replying.{IsReply, begins, reply_ok}, Standing.stand_all, TrustDenied.{none_called, denial_is_said}, TrustExplained.{trust_explained, trust_line_form}}
+use Rattle.agent_session.proofs.{Completing.{IsPossible, IsSteady, never_absent}, Explained.{Explained, replied, failed, silent, is_answered, is_caused, went_on, goes_on as explained_on}, KeyExplained.{exchange_caused, exchange_goes_on}}
+use Rattle.agent_session.proofs.{Replying.{IsReply, reply_names, reply_ok}, Standing.stand_all, TrustDenied.{none_called, denial_is_said}, TrustExplained.{trust_explained, trust_line_form}}
 use Rattle.session_client.specs.declared.code.Code.TheVariants as code
 use Rattle.agent_origin.specs.DoorSessions as doors
-use Rattle.agent_origin.specs.declared.trust.names.TrustCommandName.TheVariants as name
-
--- ---- names of commands
-
--- a command of the door's own that isn't HELP is one on the trust list, and one that is none of the door's own isn't
-trust_by : {X : Type 0} {help trust : X} → ¬ (help ≡ trust) → (first second third : Bool) → cond first (Some help) (cond second (Some trust) (cond third (Some trust) None)) ≡ Some trust
-    → (found : TrustCommandName) × (cond second (Some name.IsTrusted) (cond third (Some name.MarkTrusted) None) ≡ Some found)
-trust_by {help} {trust} other true second third is = absurd (other (let same : help ≡ trust = cc is in same))
-trust_by other false true third is = (name.IsTrusted, refl)
-trust_by other false false true is = (name.MarkTrusted, refl)
-trust_by other false false false is = absurd (cc is)
-
-none_by : {X : Type 0} (help trust : X) (first second third : Bool) → cond first (Some help) (cond second (Some trust) (cond third (Some trust) None)) ≡ None
-    → cond second (Some name.IsTrusted) (cond third (Some name.MarkTrusted) None) ≡ None
-none_by help trust true second third is = absurd (cc is)
-none_by help trust false true third is = absurd (cc is)
-none_by help trust false false true is = absurd (cc is)
-none_by help trust false false false is = refl
-
-abbrev pub is_word : List ℕ → List ℕ → Bool
-is_word row word = bytes_eq (str_to_ascii_lowercase row) (str_to_ascii_lowercase word)
-
-pub no_command : (word : List ℕ) → door_command_named word ≡ None → trust_command_named word ≡ None
-unfolding door_command_named trust_command_named
-no_command word is = none_by _ _ (is_word (codes "HELP") word) (is_word (codes "ISTRUSTED") word) (is_word (codes "MARKTRUSTED") word) is
 
 -- ---- one exchange
 
@@ -47,13 +22,7 @@ none_read_of : (events : List Event) → AllByRecursion IsBesideTrust events →
 none_read_of events each (file, read_trust is has) = none_called events each has
 
 reply_help : IsReply door_help
-reply_help = begins (λ e. absurd (cc e)) (record {
-  before = comments command_names ++ comments (map (λ row. row.0) commands_on_trust);
-  asides = asides_append (comments_aside command_names refl) (comments_aside (map (λ row. row.0) commands_on_trust) refl);
-  rest = [];
-  is = refl;
-  one_line = refl;
-})
+reply_help = reply_names (names_told true commands) refl refl
 
 module _ (door : Door) (rules : Rules) (before : Kept) (line : List ℕ) (events : List Event) where
   abbrev Caused : Code → Origin → Type 0
@@ -82,7 +51,7 @@ module _ (door : Door) (rules : Rules) (before : Kept) (line : List ℕ) where
   JudgedBy events went = Judged door rules before line events went
 
   -- a request on the trust list
-  trust_judged : (found : TrustCommandName) → trust_command_named (command_of line) ≡ Some found → allowed door line ≡ true → {events : List Event} {went : Went}
+  trust_judged : (found : TrustCommandName) → trust_command (command_in line) ≡ Some found → allowed door line ≡ true → {events : List Event} {went : Went}
       → TrustExchange rules before.options (trust_request_of line) events went → JudgedBy events went
   trust_judged found named allows {events} exchanged =
       judged door rules before line events
@@ -93,7 +62,7 @@ module _ (door : Door) (rules : Rules) (before : Kept) (line : List ℕ) where
       exchanged (stand_all events)))
 
   -- one of any session
-  session_judged : trust_command_named (command_of line) ≡ None → allowed door line ≡ true → {events : List Event} {after : Kept} {went : Went}
+  session_judged : trust_command (command_in line) ≡ None → allowed door line ≡ true → {events : List Event} {after : Kept} {went : Went}
       → SessionExchange rules before line events after went → AllByRecursion IsPossible events → JudgedBy events went
   session_judged named allows {events} {went} exchanged possible =
       let caused = exchange_caused rules before line (never_absent possible) exchanged in
@@ -105,15 +74,13 @@ module _ (door : Door) (rules : Rules) (before : Kept) (line : List ℕ) where
 
   allowed_judged : {command : _} → door_command door line ≡ command → allowed door line ≡ true → {events : List Event} {after : Kept} {went : Went}
       → AllowedExchange rules before line command events after went → AllByRecursion IsPossible events → JudgedBy events went
-  unfolding door_command_named trust_command_named
   allowed_judged is allows doors.unset possible = judged door rules before line (Sent ok ∷ []) (replied [] ok tt reply_ok tt)
   allowed_judged is allows doors.helped possible = judged door rules before line (Sent door_help ∷ []) (replied [] door_help tt reply_help tt)
   allowed_judged is allows (doors.trusts exchanged) possible =
-      let found = trust_by (λ e. absurd (cc e)) (is_word (codes "HELP") (command_of line)) (is_word (codes "ISTRUSTED") (command_of line)) (is_word (codes "MARKTRUSTED") (command_of line))
-      (own_command door line (λ e. absurd (cc e)) is) in
+      let found = trust_named door line is in
       trust_judged found.0 found.1 allows exchanged
   allowed_judged is allows (doors.any exchanged) possible =
-      session_judged (no_command (command_of line) (not_own door line is)) allows exchanged possible
+      session_judged (other_is_no_trust door line is) allows exchanged possible
 
   door_judged : {events : List Event} {after : Kept} {went : Went} → DoorExchange door rules before line events after went → AllByRecursion IsPossible events → JudgedBy events went
   door_judged (doors.forbidden refuses) possible =
@@ -140,7 +107,7 @@ module _ (door : Door) (rules : Rules) (before : Kept) (line : List ℕ) where
 
   never_forbidden : {events : List Event} → allowed door line ≡ true → IsCausedAtDoor door rules before line events code.Forbidden Agent → ⊥
   never_forbidden allowing (forbidden refuses) = absurd (cc (allowing, refuses))
-  never_forbidden {events} allowing (is_allowed allows cause) = never (trust_command_named (command_of line)) cause
+  never_forbidden {events} allowing (is_allowed allows cause) = never (trust_command (command_in line)) cause
     where
       never : (found : Option TrustCommandName) → IsCausedBy rules before line events found code.Forbidden Agent → ⊥
       never None cause = cause
@@ -184,7 +151,7 @@ module _ (rules : Rules) (before : Kept) (line : List ℕ) (events : List Event)
 
   module _ (door : Door) where
     -- an error line but Forbidden has a cause that the line's command says
-    pub because : (why : Code) → ¬ (code.Forbidden ≡ why) → IsCausedAtDoor door rules before line events why Agent → Because (trust_command_named (command_of line)) why
+    pub because : (why : Code) → ¬ (code.Forbidden ≡ why) → IsCausedAtDoor door rules before line events why Agent → Because (trust_command (command_in line)) why
     because why other (forbidden refuses) = absurd (other refl)
     because why other (is_allowed allows cause) = cause
 
@@ -194,11 +161,11 @@ at_door door rules = record {
   has_cause = λ before line events after went caused. caused.by_cause.caused;
   goes_on = λ before line events after went possible exchanged. (door_judged door rules before line exchanged possible).goes_on;
   for_memory = λ before line events cause.
-      wanted_by rules before line events (trust_command_named (command_of line)) (because rules before line events door code.NoMemory (λ e. absurd (cc e)) cause);
+      wanted_by rules before line events (trust_command (command_in line)) (because rules before line events door code.NoMemory (λ e. absurd (cc e)) cause);
   by_failure = λ before line events cause.
-      failed_by rules before line events (trust_command_named (command_of line)) (because rules before line events door code.General (λ e. absurd (cc e)) cause);
+      failed_by rules before line events (trust_command (command_in line)) (because rules before line events door code.General (λ e. absurd (cc e)) cause);
   unopened = λ before line events cause.
-      unopened_by rules before line events (trust_command_named (command_of line)) (because rules before line events door code.NoPinentry (λ e. absurd (cc e)) cause);
+      unopened_by rules before line events (trust_command (command_in line)) (because rules before line events door code.NoPinentry (λ e. absurd (cc e)) cause);
 }
 
 -- ---- lines of any session

@@ -1,22 +1,20 @@
 -- Each code is answered wherever its cause stands, in a session and at a door.
-use Rattle.std.specs.{List.AllByRecursion, Option.option_or, Str.str_to_ascii_lowercase}
-use Rattle.std.proofs.{Common.{◌≡◌, ◌⊎◌, ℕ, List, [], Option, Some, None, Result, Err, refl, sym, subst, inl, inr, ◌<◌, Bool, true, false, cond, ◌∷◌, ◌++◌, length, Ok, bytes_eq, codes}, lemmas.Slice.Eq.bytes_eq-Decides}
-use Rattle.{agent_ask.specs.{Further.{Keys, Read, Removed}, SessionEvents.{Inquiry, Further, said_last}, Plans.text, TurnParts.Closes}, arrayvec.specs.ArrayVec.ArrayVec, agent_ports.specs.declared.grip.Grip.Grip}
+use Rattle.std.{specs.List.AllByRecursion, proofs.Common.{◌≡◌, ◌⊎◌, ℕ, List, [], Option, Some, None, Result, Err, refl, sym, subst, inl, inr, ◌<◌, false, ◌∷◌, ◌++◌, length, Ok}}
+use Rattle.{agent_ask.specs.{Further.{Keys, Read, Removed}, SessionEvents.{Inquiry, Further, said_last}, TurnParts.Closes}, arrayvec.specs.ArrayVec.ArrayVec, agent_ports.specs.declared.grip.Grip.Grip}
 use Rattle.{session_client.specs.{Refusals.refusal_code, declared.{code.Code.Code, unheard.Unheard.Unheard}}, assuan_server.specs.{declared.errors.Origin.TheVariants.Agent, Written.refusal_line}, key_lines.specs.Canon.Canon}
 use Rattle.{session_options.specs.{OptionValues.OptionValues, declared.{options.OptionAnswer.OptionAnswer, rules.Rules.Rules}}, sexp_keys.specs.{Key.Key, declared.fault.KeyFault.KeyFault}, agent_commands.specs.Exchanges.CacheExchange}
-use Rattle.agent_commands.specs.declared.{request.Request.{Request, TheVariants.{Cache, Key as OnKeys, Bad}}, went.Went.Went, names.CommandName.CommandName}
-use Rattle.{agent_commands.specs.{Names.{commands, prompt_commands, command_named as cache_command_named, is_key_command}, Requests.{request_of, request_by}}, key_commands.specs.{Lines.max_key_data, Events.Event, Exchanges.KeyExchange}}
-use Rattle.key_commands.specs.{Faults.fault_code, Files.FileSays, Requests.key_request_of, declared.{request.KeyRequest.KeyRequest, went.KeyWent.KeyWent, wrap_keys.WrapKeys.WrapKeys}}
-use Rattle.agent_origin.specs.{SessionExchanges.{RequestExchange, cache, keys}, declared.{kept.Kept.Kept, door.Door.Door, trust.{names.TrustCommandName.TrustCommandName, request.{TrustPurpose.TrustPurpose, TrustRequest.TrustRequest}}}}
-use Rattle.agent_origin.specs.{declared.trust.request.TrustRequest.TheVariants.MarkTrusted, DoorSessions.{AllowedExchange, DoorExchange, door_command_named, door_command}, TrustExchanges.{flag_of, Marked, TrustExchange}}
-use Rattle.{agent_origin.{specs.{TrustNames.trust_command_named, TrustRequests.trust_request_of, Doors.sets_terminal}, proofs.OwnCommands.{own_command, not_own, terminal_set}}, assuan_text.specs.Words.command_of}
+use Rattle.{agent_commands.specs.{declared.{request.Request.{Request, TheVariants.{Cache, Key as OnKeys, Bad}}, went.Went.Went}, Requests.{request_of, request_by}}, key_commands.specs.{Lines.max_key_data, Events.Event}}
+use Rattle.key_commands.specs.{Exchanges.KeyExchange, Faults.fault_code, Files.FileSays, Requests.key_request_of, declared.{request.KeyRequest.KeyRequest, went.KeyWent.KeyWent, wrap_keys.WrapKeys.WrapKeys}}
+use Rattle.agent_origin.specs.{SessionExchanges.{RequestExchange, cache, keys}, declared.{kept.Kept.Kept, door.Door.Door, trust.request.{TrustPurpose.TrustPurpose, TrustRequest.{TrustRequest, TheVariants.MarkTrusted}}}}
+use Rattle.agent_origin.specs.{DoorSessions.{AllowedExchange, DoorExchange, door_command}, TrustExchanges.{flag_of, Marked, TrustExchange}, TrustRequests.{trust_request_of, trust_command}, Doors.sets_terminal}
+use Rattle.{agent_origin.proofs.OwnCommands.{help_is_no_trust, other_is_no_trust, terminal_set}, command_table.specs.{declared.commands.{Command.Command, TrustCommandName.TrustCommandName}, Commands.command_in}}
 use Rattle.trust_list.specs.{Trust.{trust, with_entry}, declared.TheConstants.MAX_TRUST_FILE_LEN}
 use Rattle.agent_session.specs.Causes.{Has, IsSaid, said, sent, IsRead, read, on_keys, IsRefusedBy, Judges, tells, unlocks, Unlocks, exports, changes, LacksKeys, AreUnread, later, IsOption, option, KeyDataSays, data_says, IsFaulty, file}
 use Rattle.agent_session.specs.{Causes.{protection, key_data, HasNoData, no_id, empty, no_import, no_export, there, here}, Completeness.{Remembers, HasError}}
 use Rattle.agent_session.specs.{Exactly.{ExactCause, IsLong, long, long_file, ExactTrustCause, ExactCauseAtDoor, forbidden, on_trust, any}, DoorCauses.{IsReadTrust, read_trust, IsReadAgain, read_again, inquired, too_long}}
 use Rattle.agent_session.proofs.{ExactCache.{option_due, cache_due, cache_answered, none_without, none_cached}, ExactKeys.{have_answered, by_said, NoFault, due_of, deciding_of, keys_answered}, ExactLong.long_answered}
 use Rattle.agent_session.proofs.{ExactParts.{Deciding, SaidDecides, IsDecided, NoneOwed, SaysTo, answer_free, decided_before, said_error}, ExactReads.{SentRefuses, IsUnlockable, FileRefuses, faulty, owes, read_refuses, by_file}}
-use Rattle.agent_session.proofs.{DoorAnswering.{is_word, no_command, door_is_session}, ExactTrust.{ByLong, marked_long, due_trust, trust_answered}, Standing.each_left, TrustDenied.denial_is_said, TrustTold.{Told, told}}
+use Rattle.agent_session.proofs.{DoorAnswering.door_is_session, ExactTrust.{ByLong, marked_long, due_trust, trust_answered}, Standing.each_left, TrustDenied.denial_is_said, TrustTold.{Told, told}}
 use Rattle.agent_ports.specs.declared.keys.KeyDone.TheVariants as key_done
 use Rattle.agent_ports.specs.declared.keys.KeyRead.TheVariants as key_read
 use Rattle.session_client.specs.declared.code.Code.TheVariants as code
@@ -25,8 +23,9 @@ use Rattle.session_client.specs.declared.unheard.Unheard.TheVariants as unheard
 use Rattle.session_options.specs.declared.options.OptionAnswer.TheVariants as option_answer
 use Rattle.key_commands.specs.declared.request.KeyRequest.TheVariants as on
 use Rattle.agent_session.specs.Causes as causes
+use Rattle.command_table.specs.declared.commands.Command.TheVariants as at_table
 use Rattle.agent_origin.specs.DoorSessions as doors
-use Rattle.agent_origin.specs.declared.trust.names.TrustCommandName.TheVariants as name
+use Rattle.command_table.specs.declared.commands.TrustCommandName.TheVariants as name
 use Rattle.agent_session.proofs.TrustTold as telling
 use Rattle.agent_ask.specs.TurnParts as turning
 
@@ -203,51 +202,16 @@ module _ (one_canon : (file : List ℕ) (a b : Option (List ℕ)) → Canon file
 
 -- ---- names of commands
 
--- one that is HELP is none on the trust list
-help_only : {X : Type 0} {help trust_it : X} → ¬ (trust_it ≡ help) → (first second third : Bool) → (first ≡ true → second ≡ false) → (first ≡ true → third ≡ false)
-    → cond first (Some help) (cond second (Some trust_it) (cond third (Some trust_it) None)) ≡ Some help → cond second (Some name.IsTrusted) (cond third (Some name.MarkTrusted) None) ≡ None
-help_only other true true third so so_too is = absurd (cc (so refl))
-help_only other true false true so so_too is = absurd (cc (so_too refl))
-help_only other true false false so so_too is = refl
-help_only {help} {trust_it} other false true third so so_too is = absurd (other (let same : trust_it ≡ help = cc is in same))
-help_only {help} {trust_it} other false false true so so_too is = absurd (other (let same : trust_it ≡ help = cc is in same))
-help_only other false false false so so_too is = absurd (cc is)
+-- one on the trust list is no option
+unset_by : (found : Option Command) (line : List ℕ) {name : TrustCommandName} → trust_command found ≡ Some name → sets_terminal (request_by found line) ≡ false
+unset_by (Some (at_table.Trust name)) line is = refl
+unset_by (Some (at_table.Cache name)) line is = absurd (cc is)
+unset_by (Some (at_table.Key name)) line is = absurd (cc is)
+unset_by None line is = absurd (cc is)
 
--- nor is an option
-abbrev small_found : {X : Type 0} → List ℕ → List (List ℕ × X) → Option X
-small_found small [] = None
-small_found small (row ∷ rows) = cond (bytes_eq (str_to_ascii_lowercase row.0) small) (Some row.1) (small_found small rows)
-
-abbrev small_command : List ℕ → Option CommandName
-small_command small = option_or (small_found small commands) (small_found small prompt_commands)
-
-trusts_by : (small : List ℕ) (first second : Bool) → bytes_eq (str_to_ascii_lowercase (codes "ISTRUSTED")) small ≡ first → bytes_eq (str_to_ascii_lowercase (codes "MARKTRUSTED")) small ≡ second → {found : TrustCommandName}
-    → cond first (Some name.IsTrusted) (cond second (Some name.MarkTrusted) None) ≡ Some found → small_command small ≡ None
-trusts_by small true second is is_second same = subst (λ (s : List ℕ). small_command s ≡ None) ((bytes_eq-Decides (str_to_ascii_lowercase (codes "ISTRUSTED")) small).0 is) refl
-trusts_by small false true is is_second same = subst (λ (s : List ℕ). small_command s ≡ None) ((bytes_eq-Decides (str_to_ascii_lowercase (codes "MARKTRUSTED")) small).0 is_second) refl
-trusts_by small false false is is_second same = cc same
-
-no_cache_command : (word : List ℕ) {found : TrustCommandName} → trust_command_named word ≡ Some found → cache_command_named word ≡ None
-unfolding trust_command_named cache_command_named
-no_cache_command word is = trusts_by (str_to_ascii_lowercase word) (is_word (codes "ISTRUSTED") word) (is_word (codes "MARKTRUSTED") word) refl refl is
-
-unset_by : (keys : Bool) (line : List ℕ) → sets_terminal (cond keys (OnKeys (text line)) (Bad code.UnknownCommand)) ≡ false
-unset_by true line = refl
-unset_by false line = refl
-
-not_on_trust : (line : List ℕ) {found : TrustCommandName} → trust_command_named (command_of line) ≡ Some found → sets_terminal (request_of line) ≡ false
+not_on_trust : (line : List ℕ) {name : TrustCommandName} → trust_command (command_in line) ≡ Some name → sets_terminal (request_of line) ≡ false
 unfolding request_of
-not_on_trust line is =
-    subst (λ (c : Option CommandName). sets_terminal (request_by c line) ≡ false) (sym (no_cache_command (command_of line) is)) (unset_by (is_key_command (command_of line)) line)
-
-help_by : (small : List ℕ) → bytes_eq (str_to_ascii_lowercase (codes "HELP")) small ≡ true → str_to_ascii_lowercase (codes "HELP") ≡ small
-help_by small is = (bytes_eq-Decides (str_to_ascii_lowercase (codes "HELP")) small).0 is
-
-other_trusted : (word : List ℕ) → is_word (codes "HELP") word ≡ true → is_word (codes "ISTRUSTED") word ≡ false
-other_trusted word is = subst (λ (s : List ℕ). bytes_eq (str_to_ascii_lowercase (codes "ISTRUSTED")) s ≡ false) (help_by (str_to_ascii_lowercase word) is) refl
-
-other_marked : (word : List ℕ) → is_word (codes "HELP") word ≡ true → is_word (codes "MARKTRUSTED") word ≡ false
-other_marked word is = subst (λ (s : List ℕ). bytes_eq (str_to_ascii_lowercase (codes "MARKTRUSTED")) s ≡ false) (help_by (str_to_ascii_lowercase word) is) refl
+not_on_trust line is = unset_by (command_in line) line is
 
 -- ---- requests
 
@@ -301,18 +265,11 @@ module _ (rules : Rules) (before : Kept) where
 
   module _ (one_canon : (file : List ℕ) (a b : Option (List ℕ)) → Canon file a → Canon file b → a ≡ b) (line : List ℕ) where
     trust_allowed : (door : Door) {command : _} {found : TrustCommandName} {events : List Event} {after : Kept} {went : Went} → AllowedExchange rules before line command events after went → door_command door line ≡ command
-        → trust_command_named (command_of line) ≡ Some found → TrustExchange rules before.options (trust_request_of line) events went
-    unfolding door_command_named trust_command_named
-    trust_allowed door {found} doors.helped is named =
-        let word = command_of line in
-        let none : trust_command_named (command_of line) ≡ None = help_only (λ e. absurd (cc e)) (is_word (codes "HELP") word) (is_word (codes "ISTRUSTED") word) (is_word (codes "MARKTRUSTED") word) (λ help. other_trusted word help)
-        (λ help. other_marked word help) (own_command door line (λ e. absurd (cc e)) is) in
-        absurd (cc (none, named))
+        → trust_command (command_in line) ≡ Some found → TrustExchange rules before.options (trust_request_of line) events went
+    trust_allowed door doors.helped is named = absurd (cc (help_is_no_trust door line is, named))
     trust_allowed door doors.unset is named = absurd (cc (terminal_set door line is, not_on_trust line named))
     trust_allowed door (doors.trusts exchanged) is named = exchanged
-    trust_allowed door {found} (doors.any exchanged) is named =
-        let none : trust_command_named (command_of line) ≡ None = no_command (command_of line) (not_own door line is) in
-        absurd (cc (none, named))
+    trust_allowed door (doors.any exchanged) is named = absurd (cc (other_is_no_trust door line is, named))
 
     pub door_cause : (door : Door) {events : List Event} {after : Kept} {went : Went} → DoorExchange door rules before line events after went → AllByRecursion Remembers events → (why : Code)
         → ExactCauseAtDoor door rules before line events why → HasError why Agent events

@@ -1,18 +1,18 @@
 -- By which codes lines are refused.
 use Rattle.std.{proofs.Common.{◌≡◌, ℕ, Bool, true, false, List, [], ◌∷◌, codes, Option, Some, None, Result, Ok, Err, subst, inl, inr}, specs.Prelude.{if◌then◌else◌, ⊤}}
-use Rattle.{agent_ask.specs.{Further.FurtherEvent, Plans.text}, session_client.specs.declared.code.Code.Code, assuan_server.specs.declared.errors.Origin.TheVariants.Agent}
-use Rattle.{assuan_text.specs.{Options.{options_of, arguments_of, has_option, last_option, last_value}, Words.{command_of, rest_of, words}}, session_options.specs.declared.rules.Rules.Rules, agent_commands.specs.Events.EventWith}
-use Rattle.agent_commands.specs.{Fields.{cache_id, repeats, texts, life, cleared_mode, given_passphrase}, Names.{command_named, is_key_command, info_named}, Requests.request_of, declared.names.CommandName.CommandName}
-use Rattle.{agent_commands.specs.declared.request.{CacheCommand.CacheCommand, Request.{Request, TheVariants.{Cache, Key, Bad}}}, key_commands.specs.{Requests.key_request_of, declared.names.KeyCommandName.KeyCommandName}}
-use Rattle.{key_commands.specs.declared.request.KeyRequest.KeyRequest, agent_origin.specs.declared.kept.Kept.Kept}
+use Rattle.{agent_ask.specs.Further.FurtherEvent, session_client.specs.declared.code.Code.Code, assuan_server.specs.declared.errors.Origin.TheVariants.Agent}
+use Rattle.{assuan_text.specs.{Options.{options_of, arguments_of, has_option, last_option, last_value}, Words.{rest_of, words}}, session_options.specs.declared.rules.Rules.Rules, agent_commands.specs.Events.EventWith}
+use Rattle.agent_commands.specs.{Fields.{cache_id, repeats, texts, life, cleared_mode, given_passphrase}, Requests.request_of, declared.request.{CacheCommand.CacheCommand, Request.{Request, TheVariants.{Cache, Key, Bad}}}}
+use Rattle.{command_table.specs.{Commands.command_in, declared.commands.{Command.Command, CommandName.CommandName, KeyCommandName.KeyCommandName}}, key_commands.specs.{Requests.key_request_of, declared.request.KeyRequest.KeyRequest}}
+use Rattle.agent_origin.specs.declared.kept.Kept.{Kept}
 use Rattle.agent_session.specs.Causes.{IsCaused, IsRefusedBy, on_keys, IsMalformed, IsUnsupported}
 use Rattle.session_client.specs.declared.code.Code.TheVariants as code
+use Rattle.command_table.specs.declared.commands.Command.TheVariants as at_table
 use Rattle.session_client.specs.Fields as fields
 use Rattle.agent_commands.specs.Requests as requests
-use Rattle.agent_commands.specs.declared.names.CommandName.TheVariants as name
-use Rattle.key_commands.specs.Names as key_names
+use Rattle.command_table.specs.declared.commands.CommandName.TheVariants as name
 use Rattle.key_commands.specs.Requests as key_requests
-use Rattle.key_commands.specs.declared.names.KeyCommandName.TheVariants as key_name
+use Rattle.command_table.specs.declared.commands.KeyCommandName.TheVariants as key_name
 use Rattle.key_commands.specs.declared.request.KeyRequest.TheVariants as on
 
 -- the codes by which lines are refused
@@ -59,7 +59,7 @@ listed_fits (command ∷ option ∷ more) = if_fits _ (fine tt) (fault unsupport
 
 info_fits : (arguments : List (List ℕ)) → Fits (requests.info_of arguments)
 info_fits [] = fault form
-info_fits (what ∷ more) = if_fits _ (listed_fits more) (needed_fits (info_named what))
+info_fits (what ∷ more) = if_fits _ (listed_fits more) (needed_fits (requests.info_named what))
 
 get_fits : (options arguments : List (List ℕ)) → Fits (requests.get_of options arguments)
 get_fits options [] = fault form
@@ -108,17 +108,15 @@ either_fits : {result : Result CacheCommand Code} → Fits result → FitsReques
 either_fits (fine good) = cached
 either_fits (fault is) = bad is
 
-unnamed_fits : (is_key : Bool) (input : List ℕ) → FitsRequest (if is_key then Key (text input) else Bad code.UnknownCommand)
-unnamed_fits true input = keyed
-unnamed_fits false input = bad unknown
-
-named_fits : (command : Option CommandName) (input : List ℕ) → FitsRequest (requests.request_by command input)
-named_fits (Some name) input = either_fits (asked_fits name (rest_of input))
-named_fits None input = unnamed_fits (is_key_command (command_of input)) input
+named_fits : (found : Option Command) (input : List ℕ) → FitsRequest (requests.request_by found input)
+named_fits (Some (at_table.Cache name)) input = either_fits (asked_fits name (rest_of input))
+named_fits (Some (at_table.Key name)) input = keyed
+named_fits (Some (at_table.Trust name)) input = bad unknown
+named_fits None input = bad unknown
 
 pub request_fits : (input : List ℕ) → FitsRequest (request_of input)
 unfolding request_of
-request_fits input = named_fits (command_named (command_of input)) input
+request_fits input = named_fits (command_in input) input
 
 -- ---- requests on keys
 
@@ -146,13 +144,15 @@ either_asked : (result : Result KeyRequest Code) → FitsSo IsAsked result → (
 either_asked (Ok value) (fine good) why is = absurd (subst IsAsked is good)
 either_asked (Err given) (fault code_is) why is = let same : given ≡ why = cc in subst IsLineCode same code_is
 
-named_asked : (command : Option KeyCommandName) (input : List ℕ) (why : Code) → key_requests.key_request_by command input ≡ on.Bad why → IsLineCode why
-named_asked (Some name) input why is = either_asked (key_requests.key_asked_by name (rest_of input)) (key_asked_fits name (rest_of input)) why is
+named_asked : (found : Option Command) (input : List ℕ) (why : Code) → key_requests.key_request_by found (rest_of input) ≡ on.Bad why → IsLineCode why
+named_asked (Some (at_table.Key name)) input why is = either_asked (key_requests.key_asked_by name (rest_of input)) (key_asked_fits name (rest_of input)) why is
+named_asked (Some (at_table.Cache name)) input why is = let same : code.UnknownCommand ≡ why = cc in subst IsLineCode same unknown
+named_asked (Some (at_table.Trust name)) input why is = let same : code.UnknownCommand ≡ why = cc in subst IsLineCode same unknown
 named_asked None input why is = let same : code.UnknownCommand ≡ why = cc in subst IsLineCode same unknown
 
 pub key_request_fits : (input : List ℕ) (why : Code) → key_request_of input ≡ on.Bad why → IsLineCode why
 unfolding key_request_of
-key_request_fits input why is = named_asked (key_names.key_command_named (command_of input)) input why is
+key_request_fits input why is = named_asked (command_in input) input why is
 
 -- ---- so its refusal has its cause
 

@@ -2,9 +2,10 @@
 use Rattle.std.{specs.List.AllByRecursion, proofs.Common.{◌≡◌, ◌∙◌, ◌++◌, ◌⊎◌, ℕ, List, [], ◌∷◌, Option, None, Some, codes, arith, refl, sym, ap, subst, inl, inr}}
 use Rattle.{agent_ask.specs.{Answering.{whole, cut}, SessionEvents.{Received, Sent, Cut, CutAtLast}}, agent_commands.specs.{Requests.request_of, Endings.end_of, Talks.{Talk, Session}, declared.request.Request.{Request, TheVariants.Key}}}
 use Rattle.agent_commands.specs.declared.went.{SessionEnd.{SessionEnd, TheVariants.{Bye, Killed, Ended, TooLong, Spent, ReadFault, WriteFault}}, Went.{Went, TheVariants.{On, End}}}
-use Rattle.agent_origin.specs.{DoorSessions.{AllowedExchange, DoorExchange}, TrustExchanges.TrustExchange, TrustNames.trust_command_named, SessionExchanges.{RequestExchange, cache, keys, went_after_key}, declared.door.Door.Door}
-use Rattle.{agent_origin.specs.declared.{kept.Kept.Kept, trust.names.TrustCommandName.TrustCommandName}, assuan_server.specs.{Errors.error_text, Written.greeting, declared.errors.Origin.TheVariants.Agent}}
-use Rattle.{assuan_text.specs.{LineEnds.line_of, Words.command_of}, key_commands.specs.Events.Event, session_client.specs.declared.unheard.Gone.Gone, session_options.specs.declared.rules.Rules.Rules}
+use Rattle.agent_origin.specs.{DoorSessions.{AllowedExchange, DoorExchange}, TrustExchanges.TrustExchange, TrustRequests.trust_command, SessionExchanges.{RequestExchange, cache, keys, went_after_key}, declared.door.Door.Door}
+use Rattle.{agent_origin.specs.declared.kept.Kept.Kept, command_table.specs.{Commands.command_in, declared.commands.TrustCommandName.TrustCommandName}, assuan_server.specs.{Errors.error_text, Written.greeting}}
+use Rattle.{assuan_server.specs.declared.errors.Origin.TheVariants.Agent, assuan_text.specs.LineEnds.line_of, key_commands.specs.Events.Event, session_client.specs.declared.unheard.Gone.Gone}
+use Rattle.session_options.specs.declared.rules.Rules.{Rules}
 use Rattle.agent_session.specs.{Causes.{Has, here, later, IsSaid, said}, Completeness.{AnswersNothing, AnswersAtLast, IsAnsweredBy, HasError, Exchanges, CausedInSession, CausedAtDoor}, DoorCauses.IsCausedBy}
 use Rattle.agent_session.{specs.Exactly.{WasTooLong, at_read, at_inquiry, EndsTooLong}, proofs.{CacheCourses.cache_gone, Courses.heard_so, DoorAnswering.because, ErrorLines.{no_reply, no_status}, ExactEnds.{refusal_told, end_told}}}
 use Rattle.agent_session.proofs.{Explained.has_split, KeyCourses.key_gone, Replying.begins, Standing.{has_left, has_right, each_has}, TrustGone.trust_gone, TrustTold.{Told, told}}
@@ -244,5 +245,5 @@ door_long door rules = record {
   ends = λ {before} {after} {line} {events} {went} caused says. door_gone caused.by_cause.exchange says;
   told = λ {before} {after} {line} {events} {went} caused is. door_told caused.by_cause.exchange is;
   caused = λ {before} {after} {line} {events} {went} caused has.
-      said_by_command rules before line (trust_command_named (command_of line)) (because rules before line events door code.LineTooLong (λ e. absurd (cc e)) (caused.by_cause.caused code.LineTooLong Agent has));
+      said_by_command rules before line (trust_command (command_in line)) (because rules before line events door code.LineTooLong (λ e. absurd (cc e)) (caused.by_cause.caused code.LineTooLong Agent has));
 }

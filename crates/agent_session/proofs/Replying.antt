@@ -1,7 +1,7 @@
 -- Texts that answer a request, and aren't error lines.
-use Rattle.std.{proofs.Common.{◌≡◌, ◌≢◌, ℕ, Bool, true, false, List, [], ◌∷◌, ◌++◌, codes, refl, sym, subst, arith}, specs.Prelude.if◌then◌else◌}
-use Rattle.{agent_commands.specs.{Answers.{closing, help, comments}, Names.command_names}, assuan_server.specs.Written.ok, assuan_escape.{specs.{DataLines.data_text, Escapes.hex_text}, proofs.EscapeLemmas.has_lf_hex_text}}
-use Rattle.assuan_text.specs.LineEnds.{has_lf, line_of}
+use Rattle.std.{proofs.Common.{◌≡◌, ◌≢◌, ℕ, Bool, true, false, List, [], ◌∷◌, ◌++◌, not, codes, refl, sym, subst, arith}, specs.{Prelude.if◌then◌else◌, List.{list_all, list_any}}}
+use Rattle.{agent_commands.specs.Answers.{closing, help, comments}, assuan_server.specs.Written.ok, command_table.specs.Commands.{commands, names_told}, assuan_escape.specs.{DataLines.data_text, Escapes.hex_text}}
+use Rattle.{assuan_escape.proofs.EscapeLemmas.has_lf_hex_text, assuan_text.specs.LineEnds.{has_lf, line_of}}
 use Rattle.agent_session.{specs.Completeness.{AreAsides, none, of_status, EndsInOk, IsStatus}, proofs.Asides.{comments_aside, data_aside, nonce_status, one_aside}}
 use Rattle.assuan_server.specs.Written as written
 use Rattle.agent_commands.specs.Answers as answers
@@ -21,8 +21,13 @@ reply_ok = begins (λ e. omega (arith, e)) (ends_in_ok none)
 pub reply_closing : IsReply closing
 reply_closing = begins (λ e. omega (arith, e)) (record { before = []; asides = none; rest = codes " closing connection"; is = refl; one_line = refl })
 
+-- a comment for one name at least, and OK
+pub reply_names : (names : List (List ℕ)) → list_all (λ name. not (has_lf name)) names ≡ true → list_any (λ name. true) names ≡ true → IsReply (comments names ++ ok)
+reply_names [] each some = cc some
+reply_names (name ∷ more) each some = begins (λ e. omega (arith, e)) (ends_in_ok (comments_aside (name ∷ more) each))
+
 pub reply_help : IsReply help
-reply_help = begins (λ e. omega (arith, e)) (ends_in_ok (comments_aside command_names refl))
+reply_help = reply_names (names_told false commands) refl refl
 
 pub reply_status : (line : List ℕ) → IsStatus line → IsReply (line ++ ok)
 reply_status line status = subst (λ (l : List ℕ). IsReply (l ++ ok)) (sym status.is) (begins (λ e. omega (arith, e)) (ends_in_ok (one_aside (of_status status.one_line))))

@@ -5,12 +5,13 @@ use Rattle.agent_ask.specs.{Callers.unheard_of, Events.PromptEvent, Further.NoMe
 use Rattle.{agent_ask.specs.{declared.consent.Agreed.Agreed, Interrupts.Interrupts, ConsentParts.{consent_refusal, AgreesTo}, TurnParts.{Seats, Closes}}, assuan_server.specs.{Written.ok, Clients.session_lines}}
 use Rattle.{assuan_server.specs.declared.errors.Origin.{Origin, TheVariants.{Agent, Pinentry}}, agent_commands.specs.{Endings.went_after, declared.{request.Request.Request, went.Went.Went}}, agent_ports.specs.declared.grip.Grip.Grip}
 use Rattle.{arrayvec.specs.ArrayVec.ArrayVec, session_client.specs.{Refusals.{refusal_code, gone_by}, declared.{code.Code.Code, refusal.Refusal.{Refusal, TheVariants.Client}, unheard.Unheard.Unheard}, Fields.in_form, Asking.gone_of}}
-use Rattle.{cache_policy.specs.{Turns.{Turn, Refused, closes}, declared.mark.MarkStep.{MarkStep, TheVariants.Seat}}, assuan_text.specs.{Options.arguments_of, Words.{command_of, rest_of, words}}, key_commands.specs.Events.Event}
+use Rattle.{cache_policy.specs.{Turns.{Turn, Refused, closes}, declared.mark.MarkStep.{MarkStep, TheVariants.Seat}}, assuan_text.specs.{Options.arguments_of, Words.{rest_of, words}}, key_commands.specs.Events.Event}
 use Rattle.{key_commands.specs.{Requests.{grip, first_grip}, Parts.{Part, refusal_events}}, session_options.specs.declared.{options.PinMode.PinMode, rules.Rules.Rules}, trust_list.specs.Trust.{trust, with_entry}}
 use Rattle.trust_list.specs.declared.TheConstants.{MAX_TRUST_FILE_LEN}
 use Rattle.agent_origin.specs.TrustExchanges.{flag_of, trust_question, fingerprint_question, unless_said, TrustedNow, Stores, StoresUnsaid, Consented, asked_in, Marked, Carried, TrustExchange}
-use Rattle.agent_origin.specs.{TrustParts.{ReadsFile, AddsEntry, Replaces, trust_called}, TrustNames.trust_command_named, TrustRequests.{purpose, owner, mark_trusted_of, trust_asked_by, trust_or_bad, trust_request_by, trust_request_of}}
-use Rattle.agent_origin.specs.declared.{kept.Kept.Kept, trust.{names.TrustCommandName.TrustCommandName, request.{TrustPurpose.TrustPurpose, TrustRequest.{TrustRequest, TheVariants.{IsTrusted, MarkTrusted, Bad}}}}}
+use Rattle.agent_origin.specs.{TrustParts.{ReadsFile, AddsEntry, Replaces, trust_called}, TrustRequests.{purpose, owner, mark_trusted_of, trust_asked_by, trust_or_bad, trust_request_by, trust_request_of, trust_command}}
+use Rattle.{agent_origin.specs.declared.{kept.Kept.Kept, trust.request.{TrustPurpose.TrustPurpose, TrustRequest.{TrustRequest, TheVariants.{IsTrusted, MarkTrusted, Bad}}}}, command_table.specs.Commands.command_in}
+use Rattle.command_table.specs.declared.commands.{Command.Command, TrustCommandName.TrustCommandName}
 use Rattle.agent_session.specs.{Causes.{StandIn, IsSaid, one, called_trust, turned}, Completeness.AnswersNothing}
 use Rattle.agent_session.specs.DoorCauses.{IsReadTrust, read_trust, IsReadAgain, read_again, IsMarked, IsTrustCaused, by_mode, by_client, by_stop, unsaid, denied, denied_mark, inquired, too_long, error, loopback}
 use Rattle.agent_session.proofs.{Explained.{Explained, replied, failed, silent, after_these}, Explaining.{Anything, ClientSays, cut, client_said, CausedRefusal, IsExplained, Comes, Explains, bind, returned, refused}}
@@ -31,7 +32,8 @@ use Rattle.agent_ask.specs.ConsentParts as consent
 use Rattle.agent_ask.specs.Parts as chain
 use Rattle.agent_ask.specs.TurnParts as taken
 use Rattle.agent_origin.specs.TrustParts as parts
-use Rattle.agent_origin.specs.declared.trust.names.TrustCommandName.TheVariants as name
+use Rattle.command_table.specs.declared.commands.Command.TheVariants as at_table
+use Rattle.command_table.specs.declared.commands.TrustCommandName.TheVariants as name
 use Rattle.agent_session.specs.Causes as causes
 use Rattle.agent_session.proofs.Prompted as prompted
 use Rattle.agent_session.proofs.TrustTold as telling
@@ -280,8 +282,12 @@ asked_form name.MarkTrusted rest = mark_form (arguments_of (words rest))
     mark_form (first ∷ second ∷ []) = refl
     mark_form (first ∷ second ∷ third ∷ more) = needed_form (grip first) _ (λ fingerprint. needed_form (purpose second) _ (λ flag. needed_form (owner third) _ (λ text. tt)))
 
-pub trust_line_form : (line : List ℕ) (name : TrustCommandName) → trust_command_named (command_of line) ≡ Some name → (why : Code) → trust_request_of line ≡ Bad why → why ≡ code.Parameter
+line_form : (found : Option Command) (line : List ℕ) {name : TrustCommandName} → trust_command found ≡ Some name → IsForm (trust_request_by found line)
+line_form (Some (at_table.Trust name)) line is = asked_form name (rest_of line)
+line_form (Some (at_table.Cache name)) line is = absurd (cc is)
+line_form (Some (at_table.Key name)) line is = absurd (cc is)
+line_form None line is = absurd (cc is)
+
+pub trust_line_form : (line : List ℕ) (name : TrustCommandName) → trust_command (command_in line) ≡ Some name → (why : Code) → trust_request_of line ≡ Bad why → why ≡ code.Parameter
 unfolding trust_request_of
-trust_line_form line name named why is =
-    let form : IsForm (trust_request_by (trust_command_named (command_of line)) line) = subst (λ n. IsForm (trust_request_by n line)) (sym named) (asked_form name (rest_of line)) in
-    subst IsForm is form
+trust_line_form line name named why is = subst IsForm is (line_form (command_in line) line named)

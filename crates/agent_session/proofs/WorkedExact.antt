@@ -3,12 +3,12 @@ use Rattle.std.{specs.List.AllByRecursion, proofs.Common.{◌≡◌, ◌<◌, �
 use Rattle.{arrayvec.specs.ArrayVec.ArrayVec, agent_ask.specs.{Answering.whole, Further.Replaced, SessionEvents.{Received, Sent, Inquiry, cache_turn}}, agent_commands.specs.{Exchanges.CacheExchange, Passphrases.ask}}
 use Rattle.agent_commands.specs.{Requests.{GetFields, get_passphrase, request_of}, declared.{request.{CacheCommand.TheVariants.PresetPassphrase, Request.{Request, TheVariants.{Cache, Key as OnKeys}}}, went.Went.Went}}
 use Rattle.{agent_commands.specs.declared.went.Went.TheVariants.{On, End}, assuan_server.specs.{Written.{limit_line, failed, greeting}, Inquiries.TooLong, declared.errors.Origin.TheVariants.Agent}, agent_ports.specs.declared.grip.Grip.Grip}
-use Rattle.{agent_ports.specs.declared.keys.KeyRead.KeyRead, assuan_text.specs.{LineEnds.line_of, Words.command_of}, cache_policy.specs.{Turns.{Empty, Given, FitsStep}, declared.{grant.Grant.Grant, life.Life.Life}}}
-use Rattle.{cache_policy.specs.declared.secret.TheConstants.MAX_SECRET_LEN, key_commands.specs.{Events.{Event, called, read, drew}, Exchanges.{KeyExchange, KeyInfoReplies, PasswdReplies, RewritesFile}, Files.{FileSays, IsWithList}}}
-use Rattle.{key_commands.specs.{KeyParts.file_in, Passphrases.{old_by, ask_nonce}, Requests.key_request_of, declared.wrapping.TheConstants.MAX_LIST_LEN}, key_lines.specs.Canon.{Canon, is_canonical}}
-use Rattle.{secret_file.specs.Protects.{ocb_protection, protected_file}, session_client.specs.Asking.Asked, session_options.specs.declared.rules.Rules.Rules, sexp_canonical.specs.Spelling.most_bytes, sexp_keys.specs.Key.Key}
-use Rattle.{sexp_keys.specs.Lists.key_list_of, agent_origin.specs.{DoorSessions.DoorExchange, Doors.allowed, TrustNames.trust_command_named, TrustRequests.trust_request_of, SessionExchanges.{RequestExchange, cache, keys}}}
-use Rattle.agent_origin.specs.declared.{door.Door.Door, kept.Kept.Kept, trust.request.TrustRequest.TheVariants.Bad}
+use Rattle.{agent_ports.specs.declared.keys.KeyRead.KeyRead, assuan_text.specs.LineEnds.line_of, cache_policy.specs.{Turns.{Empty, Given, FitsStep}, declared.{grant.Grant.Grant, life.Life.Life, secret.TheConstants.MAX_SECRET_LEN}}}
+use Rattle.key_commands.specs.{Events.{Event, called, read, drew}, Exchanges.{KeyExchange, KeyInfoReplies, PasswdReplies, RewritesFile}, Files.{FileSays, IsWithList}, KeyParts.file_in, Passphrases.{old_by, ask_nonce}}
+use Rattle.{key_commands.specs.{Requests.key_request_of, declared.wrapping.TheConstants.MAX_LIST_LEN}, key_lines.specs.Canon.{Canon, is_canonical}, secret_file.specs.Protects.{ocb_protection, protected_file}}
+use Rattle.{session_client.specs.Asking.Asked, session_options.specs.declared.rules.Rules.Rules, sexp_canonical.specs.Spelling.most_bytes, sexp_keys.specs.{Key.Key, Lists.key_list_of}, agent_origin.specs.DoorSessions.DoorExchange}
+use Rattle.agent_origin.specs.{Doors.allowed, TrustRequests.{trust_request_of, trust_command}, SessionExchanges.{RequestExchange, cache, keys}, declared.{door.Door.Door, kept.Kept.Kept, trust.request.TrustRequest.TheVariants.Bad}}
+use Rattle.command_table.specs.Commands.{command_in}
 use Rattle.agent_session.specs.{Causes.{Has, here, later, LacksKeys, empty, IsRead, IsReadOf, read_of, OpensRead, opens, protected, said}, Completeness.{Remembers, HasError}}
 use Rattle.agent_session.{specs.Exactly.{on_trust, clear, long, long_file, HasLongList, HasLongFile, EndsTooLong, at_inquiry}, proofs.{Exact.{cause_answered, door_cause}, ExactEnds.end_told, ExactFiles.one_says}}
 use Rattle.agent_session.proofs.{KeyExplained.exchange_caused, LongLines.{session_long, long_session}}
@@ -30,7 +30,7 @@ use Rattle.key_commands.specs.declared.request.KeyRequest.TheVariants as on
 use Rattle.key_commands.specs.declared.went.KeyWent.TheVariants as key_went
 use Rattle.session_client.specs.declared.unheard.Gone.TheVariants as gone
 use Rattle.session_client.specs.declared.unheard.Unheard.TheVariants as unheard
-use Rattle.agent_origin.specs.declared.trust.names.TrustCommandName.TheVariants as name
+use Rattle.command_table.specs.declared.commands.TrustCommandName.TheVariants as name
 use Rattle.agent_session.specs.Causes as causes
 
 one_of_two : {event first second : Event} → Has event (first ∷ second ∷ []) → (event ≡ first) ⊎ (event ≡ second)
@@ -105,7 +105,7 @@ module _ (one_canon : (file : List ℕ) (a b : Option (List ℕ)) → Canon file
         (subst (λ a. LacksKeys lacking (Some a)) (sym is) here)
 
   -- a line for the trust list that is out of form, at a door where its command is allowed
-  module _ (door : Door) (line : List ℕ) (allows : allowed door line ≡ true) (named : trust_command_named (command_of line) ≡ Some name.MarkTrusted) (is : trust_request_of line ≡ Bad code.Parameter) where
+  module _ (door : Door) (line : List ℕ) (allows : allowed door line ≡ true) (named : trust_command (command_in line) ≡ Some name.MarkTrusted) (is : trust_request_of line ≡ Bad code.Parameter) where
     abbrev malformed : List Event
     malformed = Sent (failed code.Parameter) ∷ []
 

@@ -1,10 +1,10 @@
 -- Worked examples: a session with the one request NOP, of whose exchange the laws hold.
 use Rattle.std.{proofs.Common.{◌≡◌, List, [], ◌∷◌, None, refl, sym, subst}, specs.Prelude.{⊤, codes}}
 use Rattle.{agent_ask.specs.{Events.Call, Parts.returns, Prompters.AtPrompter, SessionEvents.{Received, Sent}, TurnParts.unheld, Worlds.{Outside, Does}}, assuan_server.specs.{Written.{ok, greeting}, Reading.Supply}}
-use Rattle.agent_commands.specs.{Names.command_named, Requests.request_of, Talks.Session, declared.{request.{CacheCommand.TheVariants.Nop, Request.{Request, TheVariants.Cache}}, went.{SessionEnd.TheVariants.Ended, Went.TheVariants.On}}}
-use Rattle.{agent_origin.specs.{FurtherStates.FurtherWorld, SessionExchanges.{SessionExchange, RequestExchange, cache}, declared.kept.Kept.Kept}, agent_ports.specs.{KeyFiles.KeyFiles, Leads.{Leads, none, one}, Sides.Side}}
-use Rattle.{agent_ports.specs.TrustFiles.TrustState, assuan_text.specs.LineEnds.line_of, cache_policy.specs.{Desks.AtDesk, Turns.Turn, declared.mark.MarkStep.MarkStep}, key_commands.specs.Events.Event}
-use Rattle.session_options.specs.declared.rules.Rules.{Rules}
+use Rattle.{command_table.specs.Commands.command_named, agent_commands.specs.{Requests.request_of, Talks.Session, declared.{request.{CacheCommand.TheVariants.Nop, Request.{Request, TheVariants.Cache}}, went.SessionEnd.TheVariants.Ended}}}
+use Rattle.{agent_commands.specs.declared.went.Went.TheVariants.On, agent_origin.specs.{FurtherStates.FurtherWorld, SessionExchanges.{SessionExchange, RequestExchange, cache}, declared.kept.Kept.Kept}, agent_ports.specs.KeyFiles.KeyFiles}
+use Rattle.{agent_ports.specs.{Leads.{Leads, none, one}, Sides.Side, TrustFiles.TrustState}, assuan_text.specs.LineEnds.line_of, cache_policy.specs.{Desks.AtDesk, Turns.Turn, declared.mark.MarkStep.MarkStep}}
+use Rattle.{key_commands.specs.Events.Event, session_options.specs.declared.rules.Rules.Rules}
 use Rattle.agent_session.{specs.{Completeness.SessionCauses, RunExchanges.{ExchangeBetween, LawfulExchange}}, proofs.{Answering.in_session, RunExchanges.{between, session_between, lawful}}}
 use Rattle.agent_ask.specs.Answering as answering
 use Rattle.agent_ask.specs.PartExchanges as whole

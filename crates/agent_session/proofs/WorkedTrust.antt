@@ -1,11 +1,12 @@
 -- A worked exchange of a request on the trust list: MARKTRUSTED whose file is too long with one entry more, as it is read once the user consented.
 use Rattle.std.{specs.List.AllByRecursion, proofs.Common.{◌≡◌, ◌<◌, ℕ, Bool, true, List, [], ◌∷◌, ◌++◌, length, Option, Some, None, Result, Ok, Err, refl, sym, subst}}
 use Rattle.{agent_ask.specs.{ConsentParts.AgreesTo, SessionEvents.{Sent, cache_turn}, TrustCalls.Read}, agent_ports.specs.declared.{grip.Grip.Grip, trust.TrustRead.TrustRead}, arrayvec.specs.ArrayVec.ArrayVec}
-use Rattle.{assuan_server.specs.{Clients.session_lines, Written.failed, declared.errors.Origin.TheVariants.Agent}, assuan_text.specs.Words.command_of, cache_policy.specs.Turns.{Open, Done}}
-use Rattle.{cache_policy.specs.declared.mark.MarkStep.TheVariants.{Seat, Close}, key_commands.specs.{Events.Event, Parts.Part}, key_lines.specs.Canon.Canon, session_client.specs.declared.refusal.Refusal.Refusal}
-use Rattle.{session_options.specs.declared.rules.Rules.Rules, trust_list.specs.{Trust.{trust, with_entry}, declared.TheConstants.MAX_TRUST_FILE_LEN}, agent_commands.specs.declared.went.Went.TheVariants.On}
-use Rattle.agent_origin.specs.{DoorSessions.DoorExchange, Doors.allowed, TrustExchanges.{flag_of, trust_question, fingerprint_question, unless_said, TrustExchange, Marked, Consented, StoresUnsaid, Stores}, TrustNames.trust_command_named}
-use Rattle.agent_origin.specs.{TrustParts.{file_in, trust_called, has_read}, TrustRequests.trust_request_of, declared.{door.Door.Door, kept.Kept.Kept, trust.request.{TrustPurpose.TrustPurpose, TrustRequest.TheVariants.MarkTrusted}}}
+use Rattle.{assuan_server.specs.{Clients.session_lines, Written.failed, declared.errors.Origin.TheVariants.Agent}, cache_policy.specs.{Turns.{Open, Done}, declared.mark.MarkStep.TheVariants.{Seat, Close}}, key_commands.specs.Events.Event}
+use Rattle.{key_commands.specs.Parts.Part, key_lines.specs.Canon.Canon, session_client.specs.declared.refusal.Refusal.Refusal, session_options.specs.declared.rules.Rules.Rules, trust_list.specs.Trust.{trust, with_entry}}
+use Rattle.{trust_list.specs.declared.TheConstants.MAX_TRUST_FILE_LEN, agent_commands.specs.declared.went.Went.TheVariants.On, agent_origin.specs.{DoorSessions.DoorExchange, Doors.allowed}}
+use Rattle.agent_origin.specs.{TrustExchanges.{flag_of, trust_question, fingerprint_question, unless_said, TrustExchange, Marked, Consented, StoresUnsaid, Stores}, TrustParts.{file_in, trust_called, has_read}}
+use Rattle.agent_origin.specs.{TrustRequests.{trust_request_of, trust_command}, declared.{door.Door.Door, kept.Kept.Kept, trust.request.{TrustPurpose.TrustPurpose, TrustRequest.TheVariants.MarkTrusted}}}
+use Rattle.command_table.specs.Commands.{command_in}
 use Rattle.agent_session.{specs.{Causes.{here, later}, Completeness.{Remembers, HasError}, DoorCauses.{IsTooMuch, too_long, read_again, read_trust}, Exactly.on_trust}, proofs.{Exact.door_cause, Standing.{has_left, has_right}}}
 use Rattle.agent_ask.specs.PartExchanges as exchanges
 use Rattle.agent_ask.specs.Parts as chain
@@ -14,7 +15,7 @@ use Rattle.session_client.specs.declared.code.Code.TheVariants as code
 use Rattle.session_client.specs.declared.refusal.Refusal.TheVariants as refusals
 use Rattle.session_options.specs.declared.options.PinMode.TheVariants as mode
 use Rattle.agent_origin.specs.TrustParts as parts
-use Rattle.agent_origin.specs.declared.trust.names.TrustCommandName.TheVariants as name
+use Rattle.command_table.specs.declared.commands.TrustCommandName.TheVariants as name
 
 -- what the file doesn't say is asked
 asked_next : {said : Option Bool} (otherwise : Part (Unit {0})) {before after : Option ℕ} {events : List Event} {result : Result (Unit {0}) Refusal} → said ≡ None → otherwise before events result after
@@ -47,7 +48,7 @@ module _ (rules : Rules) (kept : Kept) (fingerprint : Grip) (purpose : TrustPurp
 
   -- its cause is the second read: at a door where the command is allowed the answer is Too much data
   module _ (one_canon : (file : List ℕ) (a b : Option (List ℕ)) → Canon file a → Canon file b → a ≡ b) (door : Door) (line : List ℕ) (allows : allowed door line ≡ true)
-      (named : trust_command_named (command_of line) ≡ Some name.MarkTrusted) (is : trust_request_of line ≡ MarkTrusted fingerprint purpose owner) (remembers : AllByRecursion Remembers events) where
+      (named : trust_command (command_in line) ≡ Some name.MarkTrusted) (is : trust_request_of line ≡ MarkTrusted fingerprint purpose owner) (remembers : AllByRecursion Remembers events) where
     read_again_so : IsTooMuch events (trust_request_of line)
     read_again_so = subst (IsTooMuch events) (sym is) (too_long refl (read_again (read_trust found_again (has_left _ (later (has_right first (has_right second here)))))) unsaid_still much)
 

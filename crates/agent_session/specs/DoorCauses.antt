@@ -2,10 +2,10 @@
 -- exchange, for each code of a request on the trust list. The codes and their causes are this project's own.
 use Rattle.std.specs.Prelude.{◌≡◌, ◌<◌, ◌⊎◌, ℕ, Bool, true, false, List, ◌∷◌, length, Option, Some, None}
 use Rattle.{agent_ask.specs.{Prompters.is_failed, TrustCalls.Read}, agent_commands.specs.Requests.request_of, agent_ports.specs.declared.{grip.Grip.Grip, trust.TrustRead.TrustRead}, arrayvec.specs.ArrayVec.ArrayVec}
-use Rattle.{session_client.specs.declared.code.Code.Code, assuan_server.specs.declared.errors.Origin.{Origin, TheVariants.{Agent, Pinentry}}, assuan_text.specs.Words.command_of, cache_policy.specs.Turns.{Stopping, Late}}
-use Rattle.{key_commands.specs.Events.Event, session_options.specs.{OptionValues.OptionValues, declared.rules.Rules.Rules}, trust_list.specs.{Trust.{trust, with_entry}, declared.TheConstants.MAX_TRUST_FILE_LEN}}
-use Rattle.agent_origin.specs.{Doors.allowed, TrustExchanges.flag_of, TrustNames.trust_command_named, TrustParts.{file_in, trust_called}, TrustRequests.trust_request_of, declared.{door.Door.Door, kept.Kept.Kept}}
-use Rattle.agent_origin.specs.declared.trust.{names.TrustCommandName.TrustCommandName, request.{TrustPurpose.TrustPurpose, TrustRequest.{TrustRequest, TheVariants.{IsTrusted, MarkTrusted, Bad}}}}
+use Rattle.{session_client.specs.declared.code.Code.Code, assuan_server.specs.declared.errors.Origin.{Origin, TheVariants.{Agent, Pinentry}}, cache_policy.specs.Turns.{Stopping, Late}, key_commands.specs.Events.Event}
+use Rattle.{session_options.specs.{OptionValues.OptionValues, declared.rules.Rules.Rules}, trust_list.specs.{Trust.{trust, with_entry}, declared.TheConstants.MAX_TRUST_FILE_LEN}, agent_origin.specs.{Doors.allowed, TrustExchanges.flag_of}}
+use Rattle.agent_origin.specs.{TrustParts.{file_in, trust_called}, TrustRequests.{trust_request_of, trust_command}, declared.{door.Door.Door, kept.Kept.Kept, trust.request.{TrustPurpose.TrustPurpose, TrustRequest.TrustRequest}}}
+use Rattle.{agent_origin.specs.declared.trust.request.TrustRequest.TheVariants.{IsTrusted, MarkTrusted, Bad}, command_table.specs.{Commands.command_in, declared.commands.TrustCommandName.TrustCommandName}}
 use Rattle.agent_session.specs.Causes.{Has, HasOne, HasCall, HasTrustCall, HasTurn, IsSaid, WantsMemory, FailsAtTrust, IsCaused, is_broken, is_cancelled, is_disagreed, is_timed_out}
 use Rattle.session_client.specs.declared.code.Code.TheVariants as code
 use Rattle.session_client.specs.declared.unheard.Gone.TheVariants as gone
@@ -91,5 +91,5 @@ module _ (rules : Rules) (before : Kept) (line : List ℕ) (events : List Event)
 -- an error line with this code and origin has its cause in this exchange of a line
 pub data IsCausedAtDoor (door : Door) (rules : Rules) (before : Kept) (line : List ℕ) (events : List Event) : Code → Origin → Type 0 where
   forbidden : allowed door line ≡ false → IsCausedAtDoor door rules before line events code.Forbidden Agent
-  is_allowed : {why : Code} {origin : Origin} → allowed door line ≡ true → IsCausedBy rules before line events (trust_command_named (command_of line)) why origin
+  is_allowed : {why : Code} {origin : Origin} → allowed door line ≡ true → IsCausedBy rules before line events (trust_command (command_in line)) why origin
       → IsCausedAtDoor door rules before line events why origin

@@ -2,10 +2,11 @@
 use Rattle.std.specs.Prelude.{◌≡◌, ◌<◌, ◌⊎◌, ℕ, true, false, List, length, Option, Some, None, Ok}
 use Rattle.{agent_ask.specs.{Events.{Called, GetPin}, Further.Prompt, declared.prompter.Outcome.TheVariants.Pin, SessionEvents.{Received, Further, cache_turn}}, agent_commands.specs.{Requests.request_of, declared.request.Request.Request}}
 use Rattle.{agent_commands.specs.declared.went.SessionEnd.{SessionEnd, TheVariants.{TooLong, WriteFault}}, agent_ports.specs.declared.grip.Grip.Grip, session_client.specs.declared.code.Code.Code}
-use Rattle.{assuan_server.specs.declared.errors.Origin.TheVariants.Agent, assuan_text.specs.Words.command_of, cache_policy.specs.{Turns.{Given, Done}, declared.{grant.Grant.Grant, mark.Way.Way}}, key_commands.specs.Events.Event}
-use Rattle.{key_commands.specs.{Files.IsWithList, Passphrases.{OpensBy, ask_nonce, ask_key, put_key}, declared.wrapping.TheConstants.MAX_LIST_LEN}, key_lines.specs.Canon.is_canonical, secret_file.specs.Opens.LockedKey}
-use Rattle.{sexp_canonical.specs.Spelling.most_bytes, sexp_keys.specs.{Key.Key, Lists.key_list_of}, session_options.specs.declared.rules.Rules.Rules, agent_origin.specs.{Doors.allowed, TrustNames.trust_command_named}}
-use Rattle.agent_origin.specs.{DoorSessions.door_command, TrustRequests.trust_request_of, declared.{door.Door.Door, kept.Kept.Kept, trust.{names.TrustCommandName.TrustCommandName, request.TrustRequest.{TrustRequest, TheVariants.Bad}}}}
+use Rattle.{assuan_server.specs.declared.errors.Origin.TheVariants.Agent, cache_policy.specs.{Turns.{Given, Done}, declared.{grant.Grant.Grant, mark.Way.Way}}, key_commands.specs.{Events.Event, Files.IsWithList}}
+use Rattle.{key_commands.specs.{Passphrases.{OpensBy, ask_nonce, ask_key, put_key}, declared.wrapping.TheConstants.MAX_LIST_LEN}, key_lines.specs.Canon.is_canonical, secret_file.specs.Opens.LockedKey}
+use Rattle.{sexp_canonical.specs.Spelling.most_bytes, sexp_keys.specs.{Key.Key, Lists.key_list_of}, session_options.specs.declared.rules.Rules.Rules, agent_origin.specs.{Doors.allowed, DoorSessions.door_command}}
+use Rattle.{agent_origin.specs.{TrustRequests.{trust_request_of, trust_command}, declared.{door.Door.Door, kept.Kept.Kept, trust.request.TrustRequest.{TrustRequest, TheVariants.Bad}}}, command_table.specs.Commands.command_in}
+use Rattle.command_table.specs.declared.commands.TrustCommandName.{TrustCommandName}
 use Rattle.agent_session.specs.{Causes.{Has, IsCaused, IsFaulty, IsSaid, IsRead, IsReadOf, IsReadLocked, IsDrawn, IsListOf, OpensRead, on_keys}, Completeness.HasError, DoorCauses.{IsNotTrusted, IsTooMuch}}
 use Rattle.session_client.specs.declared.code.Code.TheVariants as code
 use Rattle.assuan_line.specs.declared.reader.Took.TheVariants as took
@@ -82,7 +83,7 @@ module _ (events : List Event) (request : TrustRequest) where
 -- door, are answered by the door itself.
 pub data ExactCauseAtDoor (door : Door) (rules : Rules) (before : Kept) (line : List ℕ) (events : List Event) : Code → Type 0 where
   forbidden : allowed door line ≡ false → ExactCauseAtDoor door rules before line events code.Forbidden
-  on_trust : {name : TrustCommandName} {why : Code} → allowed door line ≡ true → trust_command_named (command_of line) ≡ Some name → ExactTrustCause events (trust_request_of line) why
+  on_trust : {name : TrustCommandName} {why : Code} → allowed door line ≡ true → trust_command (command_in line) ≡ Some name → ExactTrustCause events (trust_request_of line) why
       → ExactCauseAtDoor door rules before line events why
   any : {why : Code} → allowed door line ≡ true → door_command door line ≡ None → ExactCause events rules before (request_of line) why
       → ExactCauseAtDoor door rules before line events why

@@ -2,12 +2,10 @@
 //! door compare with those at none. Nothing runs; each contract is a fact about the definitions.
 //! Begin with `a_session_extends_a_run`.
 
-ghost use Rattle.std.specs.Prelude.{◌≡◌, List, ℕ, None, map, true};
+ghost use Rattle.std.specs.Prelude.{◌≡◌, List, ℕ, None, true};
 ghost use Rattle.{cache_policy.specs.Extending.ExtendsDesk, agent_ask.specs.SessionEvents.turns_in};
-ghost use Rattle.agent_commands.specs.Names.{key_commands};
 ghost use Rattle.agent_commands.specs.declared.went.{SessionEnd.SessionEnd as Ends, Went.Went};
-ghost use Rattle.{assuan_text.specs.Words.command_of, key_commands.specs.Events.Event};
-ghost use Rattle.key_commands.specs.Names.{commands_on_keys as read_commands};
+ghost use Rattle.key_commands.specs.Events.{Event};
 ghost use Rattle.session_options.specs.declared.rules.Rules.{Rules};
 ghost use Rattle.agent_origin.specs.DoorSessions.{DoorExchange, ServesDoor, door_command};
 ghost use Rattle.agent_origin.specs.{Doors.allowed, FurtherStates.FurtherWorld};
@@ -42,10 +40,4 @@ pub fn an_exchange_at_a_door_is_a_sessions()
         (events : List Event) (went : Went) → DoorExchange door rules kept line events now went
         → allowed door line ≡ true → door_command door line ≡ None
         → SessionExchange rules kept line events now went }
-{}
-
-/// The commands on keys that HELP tells, and that are handed on, are those that are read, in their
-/// order.
-pub fn key_commands_are_read()
-    ensures { map (λ row. row.0) key_commands ≡ map (λ row. row.0) read_commands }
 {}

@@ -27,7 +27,7 @@ pub use exactly::{
     each_cause_has_its_error,
 };
 pub use laws::{
-    a_session_extends_a_run, an_exchange_at_a_door_is_a_sessions, key_commands_are_read,
+    a_session_extends_a_run, an_exchange_at_a_door_is_a_sessions,
 };
 pub use own_passphrases::{
     a_session_stores_its_requests_own, each_passphrase_is_written_to_its_request,

@@ -7,11 +7,12 @@ ghost use Rattle.agent_ask.specs.Prompters.{IsShut};
 ghost use Rattle.agent_session.specs.Sessions.{no_trust, without_trust, ServesRules};
 
 use agent_ask::Prompter;
-use agent_commands::{CutLine, SessionEnd, Went};
+use agent_commands::{SessionEnd, Went};
 use agent_origin::{Answers, Kept, answer, serve};
 use agent_ports::{Dice, Keys, Link, TrustDone, TrustFile, TrustRead};
 use assuan_server::Conn;
 use cache_policy::Desk;
+use command_table::CutLine;
 use session_options::Rules;
 use std::alloc::Global;
 

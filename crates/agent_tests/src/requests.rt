@@ -1,12 +1,11 @@
 //! Tests of request lines: what each is read as, and by which code it is refused. Begin with `READ`
 //! and `REFUSALS`, a row a line, which `first_wrong` goes through.
 
-use agent_commands::{
-    CacheCommand, LineRequest, Request, Texts, commands_are_as_defined, read_request,
-};
+use agent_commands::{CacheCommand, LineRequest, Request, Texts, read_request};
 use arrayvec::ArrayVec;
 use assuan_line::Line;
 use cache_policy::CacheId;
+use command_table::commands_are_as_defined;
 use std::alloc::{AllocError, Global};
 use std::test::Fail;
 

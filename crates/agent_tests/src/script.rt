@@ -2,8 +2,7 @@
 //! That one's steps are a script, at fixed turns of the first, so nothing hangs on threads. Begin
 //! with `Bob` and `script_of`.
 
-ghost use Rattle.std.specs.Prelude.{◌≡◌, map, IfOk};
-ghost use Rattle.std.specs.List.{AllByRecursion};
+ghost use Rattle.std.specs.{Prelude.{◌≡◌, map, IfOk}, List.AllByRecursion};
 ghost use Rattle.agent_core.specs.Foreigners.{IsForeign, AllForeign};
 
 use crate::key_waits::{BEHIND, BESIDE, LATE};

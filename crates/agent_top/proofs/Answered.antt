@@ -1,31 +1,11 @@
 -- Runs of the agent, and sessions of its daemon: each error line has its cause, and where no count rose each request is answered.
-use Rattle.std.specs.List.{AllByRecursion}
-use Rattle.std.proofs.Common.{◌+◌, ◌-◌, ◌^◌, ℕ, List, min, arith}
-use Rattle.agent_ask.specs.Events.{Call}
-use Rattle.agent_ask.specs.Prompters.{IsCall}
-use Rattle.agent_commands.specs.Talks.{Session}
-use Rattle.agent_commands.specs.declared.went.SessionEnd.{SessionEnd}
-use Rattle.agent_core.specs.Solos.{TurnsSolo}
-use Rattle.agent_origin.specs.SessionExchanges.{kept_at_start}
-use Rattle.agent_origin.specs.declared.door.Door.{Door}
-use Rattle.agent_ports.specs.Counts.{Rose}
-use Rattle.agent_ports.specs.HostParts.{Views}
-use Rattle.agent_ports.specs.Readings.{Readings}
-use Rattle.agent_ports.specs.TrustFiles.{TrustState}
-use Rattle.agent_ports.specs.declared.session.SessionId.{SessionId}
-use Rattle.agent_serve.specs.Serves.{LinkSides, ServesOne}
-use Rattle.agent_session.proofs.Answering.{in_session, each_caused, all_answered}
-use Rattle.agent_session.proofs.DoorAnswering.{at_door}
-use Rattle.agent_session.specs.Completeness.{Remembers, AnswersAll, CausedAtDoor, FaultlessAtDoor}
-use Rattle.counted_lock.specs.Passes.{AtPass}
-use Rattle.counted_lock.specs.Turns.{CountedTurn}
-use Rattle.pinentry_client.specs.Dialogues.{PinentryDoes}
-use Rattle.pinentry_client.specs.States.{AtPinentry, at_prompter}
-use Rattle.session_options.specs.declared.rules.Rules.{Rules}
-use Rattle.agent_top.specs.Completeness.{NoFault, NoFaultOfOne, IsAnsweredRun, answered, no_session, IsCausedRun}
-use Rattle.agent_top.specs.Top.{Machine, RunsServer, ran}
+use Rattle.std.{specs.List.AllByRecursion, proofs.Common.{◌+◌, ◌-◌, ◌^◌, ℕ, List, min, arith}}
+use Rattle.{agent_ask.specs.{Events.Call, Prompters.IsCall}, agent_commands.specs.{Talks.Session, declared.went.SessionEnd.SessionEnd}, agent_core.specs.Solos.TurnsSolo, agent_origin.specs.SessionExchanges.kept_at_start}
+use Rattle.{agent_origin.specs.declared.door.Door.Door, agent_ports.specs.{Counts.Rose, HostParts.Views, Readings.Readings, TrustFiles.TrustState, declared.session.SessionId.SessionId}, agent_serve.specs.Serves.{LinkSides, ServesOne}}
+use Rattle.{agent_session.{proofs.{Answering.{in_session, each_caused, all_answered}, DoorAnswering.at_door}, specs.Completeness.{Remembers, AnswersAll, CausedAtDoor, FaultlessAtDoor}}, counted_lock.specs.{Passes.AtPass, Turns.CountedTurn}}
+use Rattle.{pinentry_client.specs.{Dialogues.PinentryDoes, States.{AtPinentry, at_prompter}}, session_options.specs.declared.rules.Rules.Rules}
+use Rattle.agent_top.{specs.{Completeness.{NoFault, NoFaultOfOne, IsAnsweredRun, answered, no_session, IsCausedRun}, Top.{Machine, RunsServer, ran}}, proofs.EndingWell.ends_by_client}
 use Rattle.agent_top.specs.Top as top
-use Rattle.agent_top.proofs.EndingWell.{ends_by_client}
 
 -- the count of a pinentry without a child is its launcher's
 stands_still : (before after : ℕ) → ¬ Rose before after → ¬ Rose (min (before + 0) (2 ^ 64 - 1)) (min (after + 0) (2 ^ 64 - 1))

@@ -1,14 +1,8 @@
 -- The ears of the daemon: whose they are, and how they are given back.
-use Rattle.std.proofs.Common.{◌≡◌, ◌+◌, ◌≤◌, ◌<◌, ◌⊎◌, inl, inr, ℕ, List, [], ◌∷◌, ◌++◌, Any, length, sum_by, refl, Option, None, Some, ap, sym, ◌∙◌, subst, arith}
-use Rattle.std.specs.Prelude.{slice_index_or}
-use Rattle.std.specs.List.{AllByRecursion}
-use Rattle.std.proofs.lemmas.List.Sums.{sum_by_push}
-use Rattle.agent_top.specs.Daemon.{AreEarsOf}
-use Rattle.std.proofs.lemmas.List.{get_or_append_left}
-use Rattle.std.proofs.lemmas.Bool.{cases_lt}
-use Rattle.std.proofs.Math.Seq.{get_or-append_seam}
-use Rattle.std.proofs.Common.{length-append}
+use Rattle.std.proofs.{Common.{◌≡◌, ◌+◌, ◌≤◌, ◌<◌, ◌⊎◌, inl, inr, ℕ, List, [], ◌∷◌, ◌++◌, Any, length, sum_by, refl, Option, None, Some, ap, sym, ◌∙◌, subst, arith, length-append}, lemmas.List.{get_or_append_left, Sums.sum_by_push}}
+use Rattle.std.{proofs.{lemmas.Bool.cases_lt, Math.Seq.get_or-append_seam}, specs.{Prelude.slice_index_or, List.AllByRecursion}}
 use Rattle.agent_ports.specs.Counts.{Rose, RoseBy}
+use Rattle.agent_top.specs.Daemon.{AreEarsOf}
 
 any_but_last : {X : Type 0} (P : X → Type 0) (xs : List X) (x : X) → Any P (xs ++ x ∷ []) → Any P xs ⊎ P x
 any_but_last P xs x (k, y, below, at, holds) = by_place (cases_lt k (length xs)) where

@@ -1,19 +1,11 @@
 -- Runs whose counts of faults stand still end by no fault.
 use Rattle.std.proofs.Common.{◌≡◌, ℕ, Bool, true, false, refl, sym, subst}
-use Rattle.agent_ports.specs.Counts.{Rose}
-use Rattle.agent_ports.specs.Sides.{Side, IsCut}
-use Rattle.agent_ports.specs.declared.link.Sent.{Sent}
-use Rattle.agent_ports.specs.declared.link.Sent.TheVariants.{All, Failed}
-use Rattle.agent_commands.specs.declared.went.SessionEnd.{SessionEnd}
-use Rattle.agent_commands.specs.declared.went.SessionEnd.TheVariants.{Bye, Killed, Ended, TooLong, Spent, ReadFault, WriteFault}
-use Rattle.agent_serve.specs.Working.{HostViews}
-use Rattle.session_options.specs.declared.rules.Rules.{Rules}
-use Rattle.agent_top.specs.Completeness.{NoLinkFault, SessionEndsByClient, SessionEndsWell, DaemonEndsWell, LoadEndsWell, over, spent, too_long, by_client, no_memory, stopped, done}
-use Rattle.agent_top.specs.Daemon.{RunsDaemon, summed, no_listener, status_after}
+use Rattle.{agent_ports.specs.{Counts.Rose, Sides.{Side, IsCut}, declared.link.Sent.{Sent, TheVariants.{All, Failed}}}, agent_commands.specs.declared.went.SessionEnd.SessionEnd}
+use Rattle.{agent_commands.specs.declared.went.SessionEnd.TheVariants.{Bye, Killed, Ended, TooLong, Spent, ReadFault, WriteFault}, agent_serve.specs.Working.HostViews, session_options.specs.declared.rules.Rules.Rules}
+use Rattle.agent_top.specs.{Completeness.{NoLinkFault, SessionEndsByClient, SessionEndsWell, DaemonEndsWell, LoadEndsWell, over, spent, too_long, by_client, no_memory, stopped, done}, Daemon.{RunsDaemon, summed, no_listener, status_after}}
+use Rattle.agent_top.specs.{Load.{RunsLoad, wrote, load_status}, Top.{Machine, RunsSession, RunsServer, ran, exit_number, status_of}}
 use Rattle.agent_top.specs.Daemon as daemon
-use Rattle.agent_top.specs.Load.{RunsLoad, wrote, load_status}
 use Rattle.agent_top.specs.Load as load
-use Rattle.agent_top.specs.Top.{Machine, RunsSession, RunsServer, ran, exit_number, status_of}
 use Rattle.agent_top.specs.Top as top
 
 faultless_end_is_by_client : (end : SessionEnd) → (end ≡ ReadFault → ⊥) → (end ≡ WriteFault → ⊥) → SessionEndsByClient (exit_number (status_of end))

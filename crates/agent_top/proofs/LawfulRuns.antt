@@ -1,47 +1,15 @@
 -- The laws on whole runs, over what the agent does.
-use Rattle.std.specs.Prelude.{⊤}
-use Rattle.std.proofs.Common.{◌+◌, ℕ, List, [], ◌∷◌, Option, None, refl}
-use Rattle.agent_ask.specs.Events.{Call}
-use Rattle.agent_ask.specs.Prompters.{IsCall}
-use Rattle.agent_ask.specs.SessionEvents.{turns_in}
-use Rattle.agent_commands.specs.declared.went.SessionEnd.{SessionEnd}
-use Rattle.agent_origin.proofs.OuterPrompts.{session_unnamed}
-use Rattle.agent_origin.proofs.OuterRuns.{leaves_desk}
-use Rattle.agent_origin.proofs.OuterSessions.{outer_leaves}
-use Rattle.agent_origin.proofs.Turning.{turns_lead}
-use Rattle.agent_origin.specs.DoorSessions.{DoorExchange}
-use Rattle.agent_origin.specs.OuterPrompts.{no_words, PromptsName}
-use Rattle.agent_origin.specs.OuterRuns.{LeavesDesk}
-use Rattle.agent_origin.specs.OuterTurns.{LeavesCache}
-use Rattle.agent_origin.specs.SessionExchanges.{kept_at_start}
-use Rattle.agent_origin.specs.declared.door.Door.{Door}
-use Rattle.agent_origin.specs.declared.door.Door.TheVariants.{Home, Outer}
-use Rattle.agent_ports.specs.HostParts.{Views}
-use Rattle.agent_ports.specs.Readings.{Readings}
-use Rattle.agent_ports.specs.Sides.{Side}
-use Rattle.agent_ports.specs.TrustFiles.{TrustState}
-use Rattle.agent_ports.specs.declared.session.SessionId.{SessionId}
-use Rattle.agent_serve.proofs.PromptedLines.{door_prompted}
-use Rattle.agent_serve.proofs.PromptedSessions.{session_prompted, have_prompts}
-use Rattle.agent_serve.proofs.Works.{told_where_nothing_failed}
-use Rattle.agent_serve.specs.Serves.{LinkSides, ServesOne}
-use Rattle.agent_serve.specs.Working.{HostViews, Post, ServesLinks, none, one_more, Works, WorkEach}
-use Rattle.agent_session.proofs.RunExchanges.{session_between}
-use Rattle.counted_lock.specs.Passes.{AtPass}
-use Rattle.counted_lock.specs.Turns.{AtCountedDesk, CountedTurn, at_counted}
-use Rattle.pinentry_client.proofs.Calling.{is_call}
-use Rattle.pinentry_client.specs.Dialogues.{PinentryDoes}
-use Rattle.pinentry_client.specs.States.{AtPinentry, at_prompter}
-use Rattle.session_options.specs.declared.rules.Rules.{Rules}
-use Rattle.agent_top.proofs.Answered.{server_answered, server_caused, daemon_answered, daemon_caused}
-use Rattle.agent_top.proofs.EndingWell.{server_ends_well, daemon_ends_well, load_ends_well}
-use Rattle.agent_top.proofs.OwnPassphrases.{own_turn, of_session}
-use Rattle.agent_top.proofs.RunLaws.{server_lawful, server_prompts, daemon_lawful, daemon_alone}
-use Rattle.agent_top.specs.Daemon.{Rounds, one_round, one_more_round, RunsDaemon, summed, no_listener}
+use Rattle.std.{specs.Prelude.⊤, proofs.Common.{◌+◌, ℕ, List, [], ◌∷◌, Option, None, refl}}
+use Rattle.{agent_ask.specs.{Events.Call, Prompters.IsCall, SessionEvents.turns_in}, agent_commands.specs.declared.went.SessionEnd.SessionEnd, agent_origin.proofs.{OuterPrompts.session_unnamed, OuterRuns.leaves_desk}}
+use Rattle.agent_origin.{proofs.{OuterSessions.outer_leaves, Turning.turns_lead}, specs.{DoorSessions.DoorExchange, OuterPrompts.{no_words, PromptsName}, OuterRuns.LeavesDesk, OuterTurns.LeavesCache, SessionExchanges.kept_at_start}}
+use Rattle.{agent_origin.specs.declared.door.Door.{Door, TheVariants.{Home, Outer}}, agent_ports.specs.{HostParts.Views, Readings.Readings, Sides.Side, TrustFiles.TrustState, declared.session.SessionId.SessionId}}
+use Rattle.agent_serve.{proofs.{PromptedLines.door_prompted, PromptedSessions.{session_prompted, have_prompts}, Works.told_where_nothing_failed}, specs.Serves.{LinkSides, ServesOne}}
+use Rattle.{agent_serve.specs.Working.{HostViews, Post, ServesLinks, none, one_more, Works, WorkEach}, agent_session.proofs.RunExchanges.session_between, counted_lock.specs.{Passes.AtPass, Turns.{AtCountedDesk, CountedTurn, at_counted}}}
+use Rattle.{pinentry_client.{proofs.Calling.is_call, specs.{Dialogues.PinentryDoes, States.{AtPinentry, at_prompter}}}, session_options.specs.declared.rules.Rules.Rules}
+use Rattle.agent_top.proofs.{Answered.{server_answered, server_caused, daemon_answered, daemon_caused}, EndingWell.{server_ends_well, daemon_ends_well, load_ends_well}, OwnPassphrases.{own_turn, of_session}}
+use Rattle.agent_top.{proofs.RunLaws.{server_lawful, server_prompts, daemon_lawful, daemon_alone}, specs.Daemon.{Rounds, one_round, one_more_round, RunsDaemon, summed, no_listener}}
+use Rattle.agent_top.specs.{LawfulRuns.{LawfulServer, LawfulLoad, LawfulDaemon, LawfulOne, LawfulLinks, LawfulWork, LawfulRound, LawfulRounds, IsLawfulDaemon, IfOuter, WantsNone}, Load.RunsLoad, Top.{Machine, RunsServer}}
 use Rattle.agent_top.specs.Daemon as daemon
-use Rattle.agent_top.specs.LawfulRuns.{LawfulServer, LawfulLoad, LawfulDaemon, LawfulOne, LawfulLinks, LawfulWork, LawfulRound, LawfulRounds, IsLawfulDaemon, IfOuter, WantsNone}
-use Rattle.agent_top.specs.Load.{RunsLoad}
-use Rattle.agent_top.specs.Top.{Machine, RunsServer}
 
 -- the pinentry is a prompter
 is_prompter : (before : AtPinentry) (call : Call) (after : AtPinentry) → PinentryDoes before call after → IsCall (at_prompter before) call (at_prompter after)

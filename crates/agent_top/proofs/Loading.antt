@@ -1,39 +1,11 @@
 -- What sessions leave of a desk's run, and marks that are those of words.
-use Rattle.std.proofs.Common.{◌≡◌, ◌∙◌, ◌≤◌, ◌<◌, ◌+◌, ◌*◌, ℕ, zero, suc, List, [], ◌∷◌, length, map, Option, None, Some, refl, ap, ap₂, sym, subst, arith, ◌-◌, ◌%◌, ◌/◌, mod-lt, lit<, true, eqb-true}
-use Rattle.std.specs.Prelude.{nat_lt, ◌==◌, if◌then◌else◌}
-use Rattle.std.specs.Int.{w32, to_be_bytes}
-use Rattle.cache_policy.specs.declared.life.Life.TheVariants.{Seconds}
-use Rattle.cache_policy.specs.declared.mark.MarkStep.TheVariants.{Ask, Put, Clear}
-use Rattle.cache_policy.specs.declared.mark.Way.TheVariants.{Quiet}
-use Rattle.cache_policy.specs.declared.mode.Mode.TheVariants.{Any, User}
-use Rattle.std.specs.List.{AllByRecursion, cons_option, filter_map}
-use Rattle.agent_ask.specs.Events.{Call}
-use Rattle.agent_ask.specs.Further.{FurtherEvent}
-use Rattle.agent_ask.specs.Worlds.{Outside, Does, received, sent, cut, asked, not_asked, turned, further}
-use Rattle.agent_commands.specs.Events.{EventWith}
-use Rattle.agent_origin.specs.FurtherStates.{FurtherWorld}
-use Rattle.agent_core.specs.Solos.{SoloState, SoloTurn}
-use Rattle.agent_ports.specs.Leads.{Leads, none, one}
-use Rattle.agent_ports.specs.Readings.{Readings}
-use Rattle.assuan_server.specs.Clients.{session_lines}
-use Rattle.cache_policy.specs.Histories.{History, moments}
-use Rattle.cache_policy.specs.Legal.{IsLegalRun}
-use Rattle.cache_policy.specs.Replay.{Replays, NoneEmpty, first_history, moments_at}
-use Rattle.cache_policy.specs.Runs.{joined, moment_of, start_of_run}
-use Rattle.cache_policy.specs.declared.mark.Mark.{Mark}
-use Rattle.cache_policy.specs.declared.mark.MarkStep.{MarkStep}
-use Rattle.rand_pcg.specs.Lcg.{Lcg}
-use Rattle.rand_pcg.specs.Pcg.{pcg32}
-use Rattle.cache_policy.specs.declared.life.Limits.{Limits}
-use Rattle.cache_policy.specs.declared.tally.Tally.{Tally}
-use Rattle.agent_core.specs.Tallies.{tally_of}
-use Rattle.session_options.specs.Defaults.{default_rules}
-use Rattle.std.specs.Prelude.{IfSome, IfOk, Result}
-use Rattle.std.specs.Option.{ok_or}
-use Rattle.std.proofs.Common.{append-nil}
-use Rattle.std.proofs.lemmas.List.{length-map}
-use Rattle.agent_top.proofs.Replays.{first_legal}
-use Rattle.agent_top.specs.Cache.{limits_of, session}
+use Rattle.std.proofs.{Common.{◌≡◌, ◌∙◌, ◌≤◌, ◌<◌, ◌+◌, ◌*◌, ℕ, zero, suc, List, [], ◌∷◌, length, map, Option, None, Some, refl, ap, ap₂, sym, subst, arith, ◌-◌, ◌%◌, ◌/◌, mod-lt, lit<, true, eqb-true, append-nil}, lemmas.List.length-map}
+use Rattle.std.specs.{Prelude.{nat_lt, ◌==◌, if◌then◌else◌, IfSome, IfOk, Result}, Int.{w32, to_be_bytes}, List.{AllByRecursion, cons_option, filter_map}, Option.ok_or}
+use Rattle.cache_policy.specs.declared.{life.{Life.TheVariants.Seconds, Limits.Limits}, mark.{MarkStep.{MarkStep, TheVariants.{Ask, Put, Clear}}, Way.TheVariants.Quiet, Mark.Mark}, mode.Mode.TheVariants.{Any, User}, tally.Tally.Tally}
+use Rattle.{cache_policy.specs.{Histories.{History, moments}, Legal.IsLegalRun, Replay.{Replays, NoneEmpty, first_history, moments_at}, Runs.{joined, moment_of, start_of_run}}, agent_ask.specs.{Events.Call, Further.FurtherEvent}}
+use Rattle.{agent_ask.specs.Worlds.{Outside, Does, received, sent, cut, asked, not_asked, turned, further}, agent_commands.specs.Events.EventWith, agent_origin.specs.FurtherStates.FurtherWorld, agent_core.specs.Solos.{SoloState, SoloTurn}}
+use Rattle.{agent_core.specs.Tallies.tally_of, agent_ports.specs.{Leads.{Leads, none, one}, Readings.Readings}, assuan_server.specs.Clients.session_lines, rand_pcg.specs.{Lcg.Lcg, Pcg.pcg32}, session_options.specs.Defaults.default_rules}
+use Rattle.agent_top.{proofs.Replays.first_legal, specs.Cache.{limits_of, session}}
 use Rattle.agent_top.specs.Load.{IsLoadTally, IsMadeByLoad, load_steps, load_words, load_readings, generator_of, key, KeepsRun, AreOfWords, IsOfWord, step_of, words_from, readings_from}
 
 pub keeps_itself : {C : Type 0} (desk : SoloState C) → KeepsRun desk desk

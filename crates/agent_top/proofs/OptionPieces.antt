@@ -1,21 +1,9 @@
 -- The pieces of a command line that are read as options: kinds of faults, names, one use of an option, words, and what stands around the first `=`.
 use Rattle.std.proofs.Common.{◌≡◌, ◌∙◌, ℕ, ◌+◌, suc, Bool, true, false, cond, List, [], ◌∷◌, ◌++◌, map, Option, Some, None, is_some, refl, ap, ap₂, sym, subst, codes, true≢false, arith, take, drop, append-nil}
-use Rattle.std.specs.Prelude.{not, ◌&&◌, ◌||◌, option_map, option_and_then, nat_eq}
-use Rattle.std.specs.List.{list_all, before_first, after_first, position_or_len}
-use Rattle.std.specs.Str.{bytes_eq}
-use Rattle.std.proofs.lemmas.Bool.{and_parts, eqb-true, or_parts}
-use Rattle.assuan_text.specs.Rows.{found}
-use Rattle.clap.specs.Lexer.{long_of, long_of_rest, strip_byte}
-use Rattle.clap.specs.Kinds.{Kinds, or_else}
-use Rattle.clap.specs.Faults.{use_fault}
-use Rattle.clap.specs.Walk.{at_row, more_values, arg_by_index, Row}
-use Rattle.clap.specs.Walk.{used, has_row, arg_by_long, arg_by_id}
-use Rattle.clap.specs.declared.parser.matches.ValueSource.TheVariants.{CommandLine}
-use Rattle.clap.specs.declared.error.kind.ErrorKind.TheVariants.{ArgumentConflict}
-use Rattle.agent_top.specs.Options.{after_dashes, row_for, is_flag, is_plain}
-use Rattle.agent_top.specs.Settings.{holds_equals, is_equals, begins_with_dash}
-use Rattle.agent_top.specs.declared.words.forms.Form.{Form}
-use Rattle.agent_top.specs.declared.words.forms.Form.TheVariants.{Flag, Path, Number}
+use Rattle.std.{proofs.lemmas.Bool.{and_parts, eqb-true, or_parts}, specs.{Prelude.{not, ◌&&◌, ◌||◌, option_map, option_and_then, nat_eq}, List.{list_all, before_first, after_first, position_or_len}, Str.bytes_eq}}
+use Rattle.{assuan_text.specs.Rows.found, clap.specs.{Lexer.{long_of, long_of_rest, strip_byte}, Kinds.{Kinds, or_else}, Faults.use_fault, Walk.{at_row, more_values, arg_by_index, Row, used, has_row, arg_by_long, arg_by_id}}}
+use Rattle.clap.specs.declared.{parser.matches.ValueSource.TheVariants.CommandLine, error.kind.ErrorKind.TheVariants.ArgumentConflict}
+use Rattle.agent_top.specs.{Options.{after_dashes, row_for, is_flag, is_plain}, Settings.{holds_equals, is_equals, begins_with_dash}, declared.words.forms.Form.{Form, TheVariants.{Flag, Path, Number}}}
 use Rattle.agent_top.proofs.OptionRows.{built, same_name, at_end}
 
 -- ---- kinds

@@ -1,34 +1,15 @@
 -- What clap makes of plain words is what their settings say, and it refuses those that aren't readable.
-use Rattle.std.proofs.Common.{◌≡◌, ◌∙◌, ℕ, Bool, true, false, cond, List, [], ◌∷◌, ◌++◌, map, Option, Some, None, is_some, refl, ap, ap₂, sym, subst, codes, true≢false, ⊎_elim}
-use Rattle.std.specs.Prelude.{not, ◌&&◌, ◌||◌, fold, option_map, option_and_then, Result, Ok, Err, IfErr, IsErrAnd}
-use Rattle.std.specs.Option.{option_map_or}
-use Rattle.std.specs.List.{list_all, list_any, before_first, after_first}
+use Rattle.std.proofs.{Common.{◌≡◌, ◌∙◌, ℕ, Bool, true, false, cond, List, [], ◌∷◌, ◌++◌, map, Option, Some, None, is_some, refl, ap, ap₂, sym, subst, codes, true≢false, ⊎_elim}, lemmas.Bool.{and_parts, and_from, or_parts}}
+use Rattle.std.{proofs.lemmas.Slice.Eq.bytes_eq-Decides, specs.{Prelude.{not, ◌&&◌, ◌||◌, fold, option_map, option_and_then, Result, Ok, Err, IfErr, IsErrAnd}, Option.option_map_or, List.{list_all, list_any, before_first, after_first}}}
 use Rattle.std.specs.Str.{bytes_eq}
-use Rattle.std.proofs.lemmas.Bool.{and_parts, and_from, or_parts}
-use Rattle.std.proofs.lemmas.Slice.Eq.{bytes_eq-Decides}
-use Rattle.assuan_text.specs.Rows.{found}
-use Rattle.clap.specs.Kinds.{Kinds, check_kinds, or_else, HasKind, IsAmong}
-use Rattle.clap.specs.Takes.{is_given}
-use Rattle.clap.specs.Values.{kind_of}
+use Rattle.{assuan_text.specs.Rows.found, clap.specs.{Kinds.{Kinds, check_kinds, or_else, HasKind, IsAmong}, Takes.is_given, Values.kind_of}}
 use Rattle.clap.specs.Faults.{walk_fault, settle_fault, fault_of, defaults_fault, default_fault, given_default_fault, check_fault, built_fault, is_simple_and_free}
-use Rattle.clap.specs.Simple.{App, names_of, filled_from, built as built_app, is_simple, matches_of}
-use Rattle.clap.specs.Walk.{rows_after, Row, Rule, idle, settled, has_row, finished, walk, nothing_held, with_default}
-use Rattle.clap.specs.declared.error.Error.{Error}
-use Rattle.clap.proofs.FaultLemmas.{leaf_fault}
-use Rattle.agent_top.specs.Forms.{forms, form_of, fits, is_of_form}
-use Rattle.agent_top.specs.Words.{rules_of, rules_with, run_of, if_extra_fits}
-use Rattle.clap.specs.Lexer.{long_of, long_of_rest, strip_byte}
-use Rattle.clap.specs.declared.error.kind.ErrorKind.{ErrorKind}
-use Rattle.agent_top.specs.declared.words.WordsFault.{WordsFault}
-use Rattle.agent_top.specs.declared.words.WordsFault.TheVariants.{Bad, NoMemory}
-use Rattle.agent_top.specs.Faults.{fault_by}
-use Rattle.agent_top.specs.Options.{IsRead, given_in, after_dashes, has_its_value, command_of, rule_for, is_readable, are_readable, row_for, rows_for, is_plain}
-use Rattle.agent_top.specs.Settings.{Setting, settings, is_set, are_distinct, alone, is_value_of, is_equals, holds_equals, begins_with_dash}
-use Rattle.agent_top.specs.declared.words.forms.Form.{Form}
-use Rattle.agent_top.specs.declared.words.forms.Form.TheVariants.{Flag, Path, Number}
-use Rattle.agent_top.proofs.OptionRows.{given_back, built, same_name}
-use Rattle.agent_top.proofs.OptionPieces.{strip_cases, before_more, before_bare, has_dash, none, none_both, and_true, dashed}
-use Rattle.agent_top.proofs.OptionWalk.{known_dashed, shape, from, readable_in, reads, Ends, At, walk_is}
+use Rattle.clap.specs.{Simple.{App, names_of, filled_from, built as built_app, is_simple, matches_of}, Walk.{rows_after, Row, Rule, idle, settled, has_row, finished, walk, nothing_held, with_default}, declared.error.Error.Error}
+use Rattle.clap.{specs.{declared.error.kind.ErrorKind.ErrorKind, Lexer.{long_of, long_of_rest, strip_byte}}, proofs.FaultLemmas.leaf_fault}
+use Rattle.agent_top.specs.{Forms.{forms, form_of, fits, is_of_form}, Words.{rules_of, rules_with, run_of, if_extra_fits}, declared.words.{WordsFault.{WordsFault, TheVariants.{Bad, NoMemory}}, forms.Form.Form}}
+use Rattle.agent_top.specs.{declared.words.forms.Form.TheVariants.{Flag, Path, Number}, Faults.fault_by, Options.{IsRead, given_in, after_dashes, has_its_value, command_of, rule_for, is_readable, are_readable, row_for, rows_for, is_plain}}
+use Rattle.agent_top.{specs.Settings.{Setting, settings, is_set, are_distinct, alone, is_value_of, is_equals, holds_equals, begins_with_dash}, proofs.OptionRows.{given_back, built, same_name}}
+use Rattle.agent_top.proofs.{OptionPieces.{strip_cases, before_more, before_bare, has_dash, none, none_both, and_true, dashed}, OptionWalk.{known_dashed, shape, from, readable_in, reads, Ends, At, walk_is}}
 
 -- ---- the settings are readable one after the other
 

@@ -1,25 +1,11 @@
 -- What clap keeps of readable settings, looked up by the names of options.
-use Rattle.std.proofs.Common.{◌≡◌, ◌∙◌, ℕ, Bool, true, false, cond, List, [], ◌∷◌, ◌++◌, map, Option, Some, None, is_some, refl, ap, sym, subst, codes, true≢false}
-use Rattle.std.specs.Prelude.{not, ◌&&◌, ◌||◌, find, fold, slice_get, option_map, option_and_then}
-use Rattle.std.specs.List.{list_all, list_any}
-use Rattle.std.specs.Option.{option_map_or}
-use Rattle.std.specs.Str.{bytes_eq}
-use Rattle.std.proofs.lemmas.Bool.{and_parts, and_from}
-use Rattle.std.proofs.lemmas.Slice.Eq.{bytes_eq-Decides}
-use Rattle.std.proofs.Common.{◌<◌, ◌+◌, length, take, get_or}
+use Rattle.std.proofs.{Common.{◌≡◌, ◌∙◌, ℕ, Bool, true, false, cond, List, [], ◌∷◌, ◌++◌, map, Option, Some, None, is_some, refl, ap, sym, subst, codes, true≢false, ◌<◌, ◌+◌, length, take, get_or}, lemmas.Bool.{and_parts, and_from}}
+use Rattle.std.{proofs.lemmas.{Slice.Eq.bytes_eq-Decides, List.{take_more, map-append}}, specs.{Prelude.{not, ◌&&◌, ◌||◌, find, fold, slice_get, option_map, option_and_then}, List.{list_all, list_any}, Option.option_map_or, Str.bytes_eq}}
 use Rattle.std.specs.Borrow.{Bor}
-use Rattle.std.proofs.lemmas.List.{take_more, map-append}
-use Rattle.assuan_text.specs.Rows.{found, rows_of}
-use Rattle.clap.specs.Facts.{explicit_source}
-use Rattle.clap.specs.Simple.{filled, with_rule}
-use Rattle.clap.specs.Walk.{Row, Rule, at_row, more_values, with_default, has_row, first_of, one_of, row_text}
-use Rattle.clap.specs.declared.builder.value_parser.Reading.TheVariants.{AsWritten}
-use Rattle.clap.specs.declared.parser.matches.ValueSource.TheVariants.{DefaultValue}
-use Rattle.agent_top.specs.Forms.{forms, form_of, fits, is_of_form}
-use Rattle.agent_top.specs.Options.{IsRead, command_of, rule_for, is_readable, has_its_value, row_for, text_of, value_in, given_in, rows_for, is_flag, flag_in, takes, takes_row}
-use Rattle.agent_top.specs.Settings.{Setting, is_set, value_given, are_distinct}
-use Rattle.agent_top.specs.declared.words.forms.Form.{Form}
-use Rattle.agent_top.specs.declared.words.forms.Form.TheVariants.{Flag, Path, Number}
+use Rattle.{assuan_text.specs.Rows.{found, rows_of}, clap.specs.{Facts.explicit_source, Simple.{filled, with_rule}, Walk.{Row, Rule, at_row, more_values, with_default, has_row, first_of, one_of, row_text}}}
+use Rattle.clap.specs.declared.{builder.value_parser.Reading.TheVariants.AsWritten, parser.matches.ValueSource.TheVariants.DefaultValue}
+use Rattle.agent_top.specs.{Forms.{forms, form_of, fits, is_of_form}, Options.{IsRead, command_of, rule_for, is_readable, has_its_value, row_for, text_of, value_in, given_in, rows_for, is_flag, flag_in, takes, takes_row}}
+use Rattle.agent_top.specs.{Settings.{Setting, is_set, value_given, are_distinct}, declared.words.forms.Form.{Form, TheVariants.{Flag, Path, Number}}}
 
 abbrev pub built : List ℕ × Form → Rule
 built row = filled (rule_for row)

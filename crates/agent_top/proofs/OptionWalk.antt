@@ -1,24 +1,14 @@
 -- How clap walks over plain words: as over the settings that they are read as.
-use Rattle.std.proofs.Common.{◌≡◌, ◌∙◌, ℕ, Bool, true, false, cond, List, [], ◌∷◌, ◌++◌, map, Option, Some, None, is_some, refl, ap, ap₂, sym, subst, codes, true≢false, append_assoc, append-nil}
-use Rattle.std.specs.Prelude.{if◌then◌else◌, not, ◌&&◌, fold, nat_lt, option_map, option_and_then}
-use Rattle.std.specs.List.{list_all, before_first, after_first}
-use Rattle.std.specs.Option.{option_map_or}
-use Rattle.std.specs.Str.{bytes_eq}
-use Rattle.std.proofs.lemmas.Bool.{and_parts}
-use Rattle.std.proofs.lemmas.List.{map-append}
-use Rattle.assuan_text.specs.Rows.{found}
-use Rattle.clap.specs.Lexer.{short_of_rest, long_of, long_of_rest, short_of, strip_byte, name_and_value}
-use Rattle.clap.specs.Kinds.{Kinds, or_else}
-use Rattle.clap.specs.Faults.{bundle_fault, flag_word_fault, positional_fault, stray_fault, walk_fault, turn_fault, step_fault, settle_fault, use_fault, react_fault, long_fault}
-use Rattle.clap.specs.Simple.{new_shape, Shape}
-use Rattle.clap.specs.Walk.{Step, next as goes_on, trailing, long_or_other, short_or_plain, plain_word, option_word, most_values, used_by_id, Held, Row, Rule}
-use Rattle.clap.specs.Walk.{Walk, Waiting, idle, option, positional, after_flag, after_step, long_met, walked, settled, reacted, has_row, arg_by_long, arg_by_id}
-use Rattle.agent_top.specs.Options.{has_its_value, row_for, is_flag, is_plain}
-use Rattle.agent_top.specs.Settings.{Setting, settings, is_set, alone, is_value_of, holds_equals, is_equals, begins_with_dash}
-use Rattle.agent_top.specs.declared.words.forms.Form.{Form}
-use Rattle.agent_top.specs.declared.words.forms.Form.TheVariants.{Flag, Path, Number}
-use Rattle.agent_top.proofs.OptionRows.{built, found_holds, same_name, own_name, has_given}
-use Rattle.agent_top.proofs.OptionPieces.{none, none_both, no_kinds, and_true, and_false, from_not, dashed, by_long, by_id, no_index, uses_flag, uses_value, uses_no_value, used_flag, used_value, WordIs, has_dash, bare_from, word_is, before_more, after_more, before_all, before_bare, dash, bare}
+use Rattle.std.proofs.{Common.{◌≡◌, ◌∙◌, ℕ, Bool, true, false, cond, List, [], ◌∷◌, ◌++◌, map, Option, Some, None, is_some, refl, ap, ap₂, sym, subst, codes, true≢false, append_assoc, append-nil}, lemmas.{Bool.and_parts, List.map-append}}
+use Rattle.std.specs.{Prelude.{if◌then◌else◌, not, ◌&&◌, fold, nat_lt, option_map, option_and_then}, List.{list_all, before_first, after_first}, Option.option_map_or, Str.bytes_eq}
+use Rattle.{assuan_text.specs.Rows.found, clap.specs.{Lexer.{short_of_rest, long_of, long_of_rest, short_of, strip_byte, name_and_value}, Kinds.{Kinds, or_else}}}
+use Rattle.clap.specs.{Faults.{bundle_fault, flag_word_fault, positional_fault, stray_fault, walk_fault, turn_fault, step_fault, settle_fault, use_fault, react_fault, long_fault}, Simple.{new_shape, Shape}}
+use Rattle.clap.specs.Walk.{Step, next as goes_on, trailing, long_or_other, short_or_plain, plain_word, option_word, most_values, used_by_id, Held, Row, Rule, Walk, Waiting, idle, option, positional, after_flag, after_step, long_met}
+use Rattle.clap.specs.Walk.{walked, settled, reacted, has_row, arg_by_long, arg_by_id}
+use Rattle.agent_top.specs.{Options.{has_its_value, row_for, is_flag, is_plain}, Settings.{Setting, settings, is_set, alone, is_value_of, holds_equals, is_equals, begins_with_dash}, declared.words.forms.Form.Form}
+use Rattle.agent_top.{specs.declared.words.forms.Form.TheVariants.{Flag, Path, Number}, proofs.OptionRows.{built, found_holds, same_name, own_name, has_given}}
+use Rattle.agent_top.proofs.OptionPieces.{none, none_both, no_kinds, and_true, and_false, from_not, dashed, by_long, by_id, no_index, uses_flag, uses_value, uses_no_value, used_flag, used_value, WordIs, has_dash, bare_from, word_is}
+use Rattle.agent_top.proofs.OptionPieces.{before_more, after_more, before_all, before_bare, dash, bare}
 
 -- ---- the walk over a command with these options
 

@@ -1,44 +1,16 @@
 -- What the sessions of a daemon hand to the cache is their own.
-use Rattle.std.specs.List.{AllByRecursion}
-use Rattle.std.specs.Prelude.{◌⊎◌, nat_eq, cond, filter}
-use Rattle.std.proofs.Common.{◌≡◌, ℕ, Bool, true, false, List, [], ◌∷◌, ◌++◌, length, Option, suc, refl, sym, ap, subst, inl, inr, arith}
-use Rattle.agent_ask.specs.SessionEvents.{Received, Sent, Cut, Inquiry, CacheTurn, Further, turns_in}
-use Rattle.agent_commands.specs.declared.went.SessionEnd.{SessionEnd}
-use Rattle.agent_origin.specs.DoorSessions.{DoorExchange}
-use Rattle.agent_origin.specs.declared.door.Door.{Door}
-use Rattle.agent_ports.specs.HostParts.{Views}
-use Rattle.agent_ports.specs.Readings.{Readings}
-use Rattle.agent_ports.specs.Sides.{Side}
-use Rattle.agent_ports.specs.TrustFiles.{TrustState}
-use Rattle.agent_ports.specs.declared.session.SessionId.{SessionId}
-use Rattle.agent_serve.specs.Pairs.{ByPlace}
-use Rattle.agent_serve.specs.Serves.{LinkSides, PassTurns, ServesOne}
+use Rattle.std.{specs.{List.AllByRecursion, Prelude.{◌⊎◌, nat_eq, cond, filter}}, proofs.{Common.{◌≡◌, ℕ, Bool, true, false, List, [], ◌∷◌, ◌++◌, length, Option, suc, refl, sym, ap, subst, inl, inr, arith}, lemmas.Bool.Decides.nat_tests}}
+use Rattle.{agent_ask.specs.SessionEvents.{Received, Sent, Cut, Inquiry, CacheTurn, Further, turns_in}, agent_commands.specs.declared.went.SessionEnd.SessionEnd, agent_origin.specs.{DoorSessions.DoorExchange, declared.door.Door.Door}}
+use Rattle.{agent_ports.specs.{HostParts.Views, Readings.Readings, Sides.Side, TrustFiles.TrustState, declared.session.SessionId.SessionId}, agent_serve.specs.{Pairs.ByPlace, Serves.{LinkSides, PassTurns, ServesOne}}}
+use Rattle.{agent_serve.specs.Working.{HostViews, Post, ServesLinks, Works, home_post, last_post}, agent_session.{specs.{Causes.{Has, here, later}, OwnPassphrases.HandsIn}, proofs.{AtOnce.all_fit, OwnSessions.{door_own, session_own}}}}
+use Rattle.cache_policy.specs.{Desks.MakesMarks, Extending.Taken, Histories.History, Turns.{Turn, with_since}, declared.{life.Limits.Limits, mark.{Mark.Mark, MarkStep.MarkStep}}}
+use Rattle.{cache_policy.specs.declared.mark.MarkStep.TheVariants.{Ask, Seat, Close, Put, Clear, Flush, Peek, Stop}, counted_lock.specs.Passes.{AtCounted, AtPass, mine, AreNewPasses, StandsIn, AllStandIn, numbered}}
+use Rattle.{counted_lock.specs.Turns.{AtCountedDesk, at_counted, CountedTurn}, key_commands.specs.Events.Event, pinentry_client.specs.Dialogues.PinentryDoes, session_options.specs.declared.rules.Rules.Rules}
+use Rattle.agent_top.{specs.{Daemon.SumsUp, OwnPassphrases.{IsOwnTurn, IsOfSession}}, proofs.Rounds.{PassRuns, EachRuns, each_runs}}
 use Rattle.agent_serve.specs.Serves as serves
-use Rattle.agent_serve.specs.Working.{HostViews, Post, ServesLinks, Works, home_post, last_post}
 use Rattle.agent_serve.specs.Working as working
-use Rattle.agent_session.specs.Causes.{Has, here, later}
-use Rattle.agent_session.specs.OwnPassphrases.{HandsIn}
-use Rattle.agent_session.proofs.AtOnce.{all_fit}
-use Rattle.agent_session.proofs.OwnSessions.{door_own, session_own}
-use Rattle.cache_policy.specs.Desks.{MakesMarks}
 use Rattle.cache_policy.specs.Desks as desks
-use Rattle.cache_policy.specs.Extending.{Taken}
-use Rattle.cache_policy.specs.Histories.{History}
-use Rattle.cache_policy.specs.Turns.{Turn, with_since}
-use Rattle.cache_policy.specs.declared.life.Limits.{Limits}
-use Rattle.cache_policy.specs.declared.mark.Mark.{Mark}
-use Rattle.cache_policy.specs.declared.mark.MarkStep.{MarkStep}
-use Rattle.cache_policy.specs.declared.mark.MarkStep.TheVariants.{Ask, Seat, Close, Put, Clear, Flush, Peek, Stop}
-use Rattle.counted_lock.specs.Passes.{AtCounted, AtPass, mine, AreNewPasses, StandsIn, AllStandIn, numbered}
-use Rattle.counted_lock.specs.Turns.{AtCountedDesk, at_counted, CountedTurn}
-use Rattle.key_commands.specs.Events.{Event}
-use Rattle.pinentry_client.specs.Dialogues.{PinentryDoes}
-use Rattle.session_options.specs.declared.rules.Rules.{Rules}
-use Rattle.std.proofs.lemmas.Bool.Decides.{nat_tests}
-use Rattle.agent_top.specs.Daemon.{SumsUp}
-use Rattle.agent_top.proofs.Rounds.{PassRuns, EachRuns, each_runs}
 use Rattle.agent_top.proofs.Rounds as rounds
-use Rattle.agent_top.specs.OwnPassphrases.{IsOwnTurn, IsOfSession}
 
 -- ---- elements of lists
 

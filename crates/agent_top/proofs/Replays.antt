@@ -1,17 +1,8 @@
 -- The run that a session's turns make of an empty cache: it goes on by them, is legal, and replays them.
-use Rattle.std.proofs.Common.{inr, refl, arith}
-use Rattle.agent_core.proofs.Alone.{Replayed, replayed}
-use Rattle.agent_core.specs.Solos.{AtSolo, at_desk, TurnsSolo}
-use Rattle.agent_ports.specs.Leads.{Leads}
-use Rattle.agent_ports.specs.Readings.{Readings}
-use Rattle.cache_policy.proofs.Extending.{extends}
-use Rattle.cache_policy.specs.Extending.{Taken, TakesTurn, IsExtended}
-use Rattle.cache_policy.specs.Legal.{IsLegalRun}
-use Rattle.cache_policy.specs.Replay.{first_history}
-use Rattle.cache_policy.specs.declared.life.Limits.{Limits}
-use Rattle.std.proofs.Common.{List, [], ◌∷◌}
-use Rattle.agent_top.specs.Cache.{session, fresh_desk}
-use Rattle.agent_top.specs.Top.{ReplaysTurns}
+use Rattle.std.proofs.Common.{inr, refl, arith, List, [], ◌∷◌}
+use Rattle.{agent_core.{proofs.Alone.{Replayed, replayed}, specs.Solos.{AtSolo, at_desk, TurnsSolo}}, agent_ports.specs.{Leads.Leads, Readings.Readings}, cache_policy.proofs.Extending.extends}
+use Rattle.cache_policy.specs.{Extending.{Taken, TakesTurn, IsExtended}, Legal.IsLegalRun, Replay.first_history, declared.life.Limits.Limits}
+use Rattle.agent_top.specs.{Cache.{session, fresh_desk}, Top.ReplaysTurns}
 
 pub first_legal : (limits : Limits) → IsLegalRun limits (first_history ∷ [])
 first_legal limits = record {

@@ -1,9 +1,6 @@
 -- What the daemon does with its passes and ears, round after round.
 use Rattle.std.proofs.Common.{◌≡◌, ◌⊎◌, inl, inr, ℕ, List, [], ◌∷◌, Option, subst, sym}
-use Rattle.counted_lock.specs.Passes.{AtPass, HasLooked}
-use Rattle.agent_serve.specs.Pairs.{ByPlace, PairedTo}
-use Rattle.agent_serve.specs.Working.{HostViews, WorkEach}
-use Rattle.session_options.specs.declared.rules.Rules.{Rules}
+use Rattle.{counted_lock.specs.Passes.{AtPass, HasLooked}, agent_serve.specs.{Pairs.{ByPlace, PairedTo}, Working.{HostViews, WorkEach}}, session_options.specs.declared.rules.Rules.Rules}
 use Rattle.agent_top.specs.Daemon.{FirstLooks, DaemonGoesOn, Rounds, AreEarsOf, one_round, one_more_round}
 
 -- what the daemon does with one pass and its ear: its worker works, once or again, and the daemon looks how far the run is

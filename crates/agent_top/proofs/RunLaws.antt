@@ -1,66 +1,19 @@
 -- Runs of `--server`, and sessions of a daemon: the laws on single requests hold of each of their exchanges, and their prompts have their children.
-use Rattle.std.proofs.Common.{◌≡◌, ◌<◌, ◌+◌, ℕ, Bool, List, Option, Some, None, length, refl, ap, subst, ◌∙◌, arith}
-use Rattle.std.specs.List.{AllByRecursion}
-use Rattle.std.specs.Prelude.{⊤, IfSome, true}
-use Rattle.agent_ask.specs.Events.{Call}
-use Rattle.agent_ask.specs.Prompters.{IsCall}
-use Rattle.agent_ask.specs.Worlds.{Outside, Does}
+use Rattle.std.{proofs.Common.{◌≡◌, ◌<◌, ◌+◌, ℕ, Bool, List, Option, Some, None, length, refl, ap, subst, ◌∙◌, arith}, specs.{List.AllByRecursion, Prelude.{⊤, IfSome, true}}}
+use Rattle.{agent_ask.specs.{Events.Call, Prompters.IsCall, Worlds.{Outside, Does}}, agent_commands.specs.{Requests.request_of, declared.went.{SessionEnd.SessionEnd, Went.Went}}}
+use Rattle.{agent_core.{specs.{Known.{MayRefuse, TakesStep, wants, begins, leaves}, Solos.{AtSolo, TurnsSolo, at_desk}, Cores.WantsMemory}, proofs.Alone.{IsAlone, alone_turn}}, agent_origin.specs.DoorSessions.{DoorExchange, door_command}}
+use Rattle.{agent_origin.specs.{Doors.allowed, FurtherStates.FurtherWorld, SessionExchanges.SessionExchange, declared.{door.Door.Door, kept.Kept.Kept}}, agent_ports.specs.{HostParts.Views, Leads.Leads, Readings.Readings}}
+use Rattle.{agent_ports.specs.{TrustFiles.TrustState, declared.session.SessionId.SessionId}, agent_serve.{proofs.{PromptedLines.request_prompted, PromptedSessions.{session_prompted, have_prompts}}, specs.Serves.{LinkSides, ServesOne}}}
+use Rattle.agent_session.proofs.{Answering.in_session, AtOnce.all_fit, DoorAnswering.{at_door, door_is_session}, Fair.{all_fair, alone}, LongLines.{long_session, session_long, door_long}}
+use Rattle.agent_session.{proofs.RunExchanges.{session_between, lawful, lawful_session}, specs.{Completeness.{IsStopped, SessionCauses}, DoorCauses.IsCausedAtDoor, Refusals.AnswersAlone, RunExchanges.LawfulExchange}}
+use Rattle.{assuan_server.specs.Reading.Supply, cache_policy.specs.declared.{entry.Entry.Entry, bounds.TheConstants.MAX_MARKS, history.Held.Held, life.Limits.Limits, mark.MarkStep.MarkStep}}
+use Rattle.cache_policy.specs.{declared.mark.{MarkStep.TheVariants.{Ask, Seat, Peek, Close, Put, Clear, Flush, Stop}, Way.TheVariants.{Quiet, Prompt}}, Histories.History, Policy.{Reply, ask_ruling}, Runs.{last_history, next_history}}
+use Rattle.{cache_policy.specs.Turns.{Turn, Refused, MayWantMemory, with_since}, counted_lock.specs.{Passes.AtPass, Turns.{AtCountedDesk, CountedTurn, at_counted}}, key_commands.specs.Events.Event}
+use Rattle.{pinentry_client.specs.{Dialogues.PinentryDoes, States.{AtPinentry, at_prompter}}, session_options.specs.declared.rules.Rules.Rules}
+use Rattle.agent_top.{proofs.Answered.{server_caused, daemon_caused}, specs.{Runs.{IsWithinHistory, IsOfEverySession, IsLawfulRun, IsLawfulSession, RunHasPrompts}, Top.{Machine, RunsServer, ran}}}
 use Rattle.agent_ask.specs.Worlds as worlds
-use Rattle.agent_commands.specs.Requests.{request_of}
-use Rattle.agent_commands.specs.declared.went.SessionEnd.{SessionEnd}
-use Rattle.agent_commands.specs.declared.went.Went.{Went}
-use Rattle.agent_core.specs.Known.{MayRefuse, TakesStep, wants, begins, leaves}
 use Rattle.agent_core.specs.Known as known
-use Rattle.agent_core.specs.Solos.{AtSolo, TurnsSolo, at_desk}
-use Rattle.agent_core.proofs.Alone.{IsAlone, alone_turn}
-use Rattle.agent_core.specs.Cores.{WantsMemory}
-use Rattle.agent_origin.specs.DoorSessions.{DoorExchange}
-use Rattle.agent_origin.specs.Doors.{allowed}
-use Rattle.agent_origin.specs.FurtherStates.{FurtherWorld}
-use Rattle.agent_origin.specs.DoorSessions.{door_command}
-use Rattle.agent_origin.specs.SessionExchanges.{SessionExchange}
-use Rattle.agent_origin.specs.declared.door.Door.{Door}
-use Rattle.agent_origin.specs.declared.kept.Kept.{Kept}
-use Rattle.agent_ports.specs.HostParts.{Views}
-use Rattle.agent_ports.specs.Leads.{Leads}
-use Rattle.agent_ports.specs.Readings.{Readings}
-use Rattle.agent_ports.specs.TrustFiles.{TrustState}
-use Rattle.agent_ports.specs.declared.session.SessionId.{SessionId}
-use Rattle.agent_serve.proofs.PromptedLines.{request_prompted}
-use Rattle.agent_serve.proofs.PromptedSessions.{session_prompted, have_prompts}
-use Rattle.agent_serve.specs.Serves.{LinkSides, ServesOne}
-use Rattle.agent_session.proofs.Answering.{in_session}
-use Rattle.agent_session.proofs.AtOnce.{all_fit}
-use Rattle.agent_session.proofs.DoorAnswering.{at_door, door_is_session}
-use Rattle.agent_session.proofs.Fair.{all_fair, alone}
-use Rattle.agent_session.proofs.LongLines.{long_session, session_long, door_long}
-use Rattle.agent_session.proofs.RunExchanges.{session_between, lawful, lawful_session}
-use Rattle.agent_session.specs.Completeness.{IsStopped, SessionCauses}
-use Rattle.agent_session.specs.DoorCauses.{IsCausedAtDoor}
-use Rattle.agent_session.specs.Refusals.{AnswersAlone}
-use Rattle.agent_session.specs.RunExchanges.{LawfulExchange}
-use Rattle.assuan_server.specs.Reading.{Supply}
-use Rattle.cache_policy.specs.declared.entry.Entry.{Entry}
-use Rattle.cache_policy.specs.Histories.{History}
-use Rattle.cache_policy.specs.Policy.{Reply, ask_ruling}
-use Rattle.cache_policy.specs.Runs.{last_history, next_history}
-use Rattle.cache_policy.specs.Turns.{Turn, Refused, MayWantMemory, with_since}
-use Rattle.cache_policy.specs.declared.bounds.TheConstants.{MAX_MARKS}
-use Rattle.cache_policy.specs.declared.history.Held.{Held}
-use Rattle.cache_policy.specs.declared.life.Limits.{Limits}
 use Rattle.cache_policy.specs.declared.mark.MarkReply.TheVariants as reply
-use Rattle.cache_policy.specs.declared.mark.MarkStep.{MarkStep}
-use Rattle.cache_policy.specs.declared.mark.MarkStep.TheVariants.{Ask, Seat, Peek, Close, Put, Clear, Flush, Stop}
-use Rattle.cache_policy.specs.declared.mark.Way.TheVariants.{Quiet, Prompt}
-use Rattle.counted_lock.specs.Passes.{AtPass}
-use Rattle.counted_lock.specs.Turns.{AtCountedDesk, CountedTurn, at_counted}
-use Rattle.key_commands.specs.Events.{Event}
-use Rattle.pinentry_client.specs.Dialogues.{PinentryDoes}
-use Rattle.pinentry_client.specs.States.{AtPinentry, at_prompter}
-use Rattle.session_options.specs.declared.rules.Rules.{Rules}
-use Rattle.agent_top.proofs.Answered.{server_caused, daemon_caused}
-use Rattle.agent_top.specs.Runs.{IsWithinHistory, IsOfEverySession, IsLawfulRun, IsLawfulSession, RunHasPrompts}
-use Rattle.agent_top.specs.Top.{Machine, RunsServer, ran}
 use Rattle.agent_top.specs.Top as top
 
 -- ---- the desk of a run: nobody else steps there

@@ -1,21 +1,8 @@
 -- What the agent does by its run mode, and what the daemon leaves.
-use Rattle.std.specs.Prelude.{IsSome, IfSome}
-use Rattle.std.proofs.Common.{Option, None, Some, refl, sym, ◌≡◌, ◌≤◌, ◌<◌, ◌⊎◌, inl, inr, ℕ, List, [], ◌∷◌, Any, true, false, ap, ◌∙◌, subst, arith}
-use Rattle.agent_ports.specs.Counts.{Rose}
-use Rattle.agent_ports.specs.HostParts.{Views, AreSettled}
-use Rattle.agent_ports.specs.Sides.{Side}
-use Rattle.agent_ports.specs.declared.host.Parts.{Parts}
-use Rattle.cache_policy.specs.declared.mark.Mark.{Mark}
-use Rattle.cache_policy.specs.declared.tally.Tally.{Tally}
-use Rattle.counted_lock.specs.Logs.{is_stopped}
-use Rattle.counted_lock.specs.Passes.{AtCounted, AtPass, IsClosed}
-use Rattle.session_options.specs.declared.rules.Rules.{Rules}
-use Rattle.session_options.specs.declared.rules.RunMode.{RunMode}
-use Rattle.session_options.specs.declared.rules.RunMode.TheVariants.{Server, Daemon, Load}
-use Rattle.agent_top.proofs.Stopping.{stays_stopped}
-use Rattle.agent_serve.specs.Working.{HostViews}
-use Rattle.agent_top.specs.Load.{RunsLoad, no_memory as no_memory_for_load}
-use Rattle.agent_top.specs.Daemon.{RunsDaemon, no_memory as no_memory_for_it, IsFirstStopped}
+use Rattle.std.{specs.Prelude.{IsSome, IfSome}, proofs.Common.{Option, None, Some, refl, sym, ◌≡◌, ◌≤◌, ◌<◌, ◌⊎◌, inl, inr, ℕ, List, [], ◌∷◌, Any, true, false, ap, ◌∙◌, subst, arith}}
+use Rattle.{agent_ports.specs.{Counts.Rose, HostParts.{Views, AreSettled}, Sides.Side, declared.host.Parts.Parts}, cache_policy.specs.declared.{mark.Mark.Mark, tally.Tally.Tally}, counted_lock.specs.Logs.is_stopped}
+use Rattle.{counted_lock.specs.Passes.{AtCounted, AtPass, IsClosed}, session_options.specs.declared.rules.{Rules.Rules, RunMode.{RunMode, TheVariants.{Server, Daemon, Load}}}, agent_serve.specs.Working.HostViews}
+use Rattle.agent_top.{proofs.Stopping.stays_stopped, specs.{Load.{RunsLoad, no_memory as no_memory_for_load}, Daemon.{RunsDaemon, no_memory as no_memory_for_it, IsFirstStopped}}}
 use Rattle.agent_top.specs.Top.{IfServer, IfDaemon, IfLoad, UsesParts, KeepsParts, HadNoMemory, RunsServer, RunsInFolder, settled, unread, Machine, machine, in_folder, with_pid, exit_number}
 use Rattle.agent_top.specs.declared.status.Status.TheVariants as status
 

@@ -1,19 +1,9 @@
 -- The words of the command line are spelled by the settings that they are read as.
 use Rattle.std.proofs.Common.{◌≡◌, ◌<◌, ◌≤◌, ◌+◌, ℕ, Bool, true, false, cond, List, [], ◌∷◌, ◌++◌, zero, suc, length, take, drop, get_or, Option, Some, None, refl, ap, sym, ◌∙◌, subst, arith, inl, inr}
-use Rattle.std.specs.Prelude.{not, ◌&&◌, ◌||◌}
-use Rattle.std.specs.Option.{option_map_or}
-use Rattle.std.specs.List.{list_all, list_any, position_or_len, before_first, after_first}
-use Rattle.std.specs.Str.{bytes_eq}
-use Rattle.std.proofs.lemmas.Bool.{and_parts, or_from, cond_both, cases_lt, eqb-true}
-use Rattle.std.proofs.lemmas.List.Folds.{list_any_more}
-use Rattle.std.proofs.lemmas.List.Sums.{prefix_len-le-length, split_at_first, passes_at_first, fails_before_first}
-use Rattle.std.proofs.lemmas.Slice.Eq.{bytes_eq-Decides}
-use Rattle.std.proofs.Math.Seq.{take-append_seam, drop-append-add}
-use Rattle.assuan_line.proofs.Places.{place_after}
-use Rattle.assuan_text.specs.Rows.{found}
-use Rattle.agent_top.specs.Forms.{forms, form_of, is_of_form, fits}
-use Rattle.agent_top.specs.Settings.{Setting, is_equals, holds_equals, begins_with_dash, alone, is_value_of, settings, Spells, none, bare, joined, apart}
-use Rattle.agent_top.specs.declared.words.forms.Form.{Form}
+use Rattle.std.proofs.lemmas.{Bool.{and_parts, or_from, cond_both, cases_lt, eqb-true}, List.{Folds.list_any_more, Sums.{prefix_len-le-length, split_at_first, passes_at_first, fails_before_first}}, Slice.Eq.bytes_eq-Decides}
+use Rattle.std.{proofs.Math.Seq.{take-append_seam, drop-append-add}, specs.{Prelude.{not, ◌&&◌, ◌||◌}, Option.option_map_or, List.{list_all, list_any, position_or_len, before_first, after_first}, Str.bytes_eq}}
+use Rattle.{assuan_line.proofs.Places.place_after, assuan_text.specs.Rows.found}
+use Rattle.agent_top.specs.{Forms.{forms, form_of, is_of_form, fits}, Settings.{Setting, is_equals, holds_equals, begins_with_dash, alone, is_value_of, settings, Spells, none, bare, joined, apart}, declared.words.forms.Form.Form}
 
 and_false : (b : Bool) → (b && false) ≡ false
 and_false true = refl

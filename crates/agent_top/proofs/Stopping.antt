@@ -1,16 +1,7 @@
 -- A run that is stopped stays so.
-use Rattle.std.proofs.Common.{◌≡◌, List, [], ◌∷◌, ◌++◌, Bool, true, false, ◌||◌, Option, None, Some, refl, ap, ◌∙◌}
-use Rattle.std.specs.Prelude.{length, ◌==◌}
-use Rattle.std.specs.Option.{option_map_or}
-use Rattle.cache_policy.specs.declared.bounds.TheConstants.{MAX_MARKS}
-use Rattle.cache_policy.specs.declared.mark.Mark.{Mark}
-use Rattle.cache_policy.specs.Histories.{History, with_mark}
-use Rattle.cache_policy.specs.Runs.{last_history, next_history, run_with_mark}
-use Rattle.cache_policy.specs.Seat.{stopped, is_stop}
-use Rattle.cache_policy.proofs.Growing.{stopped_turn_over}
-use Rattle.cache_policy.proofs.GrowingRuns.{last_run_with_mark}
-use Rattle.cache_policy.proofs.OneMore.{stopped_with_mark}
-use Rattle.counted_lock.specs.Logs.{run_from, run_of_log, is_stopped}
+use Rattle.std.{proofs.Common.{◌≡◌, List, [], ◌∷◌, ◌++◌, Bool, true, false, ◌||◌, Option, None, Some, refl, ap, ◌∙◌}, specs.{Prelude.{length, ◌==◌}, Option.option_map_or}}
+use Rattle.cache_policy.{specs.{declared.{bounds.TheConstants.MAX_MARKS, mark.Mark.Mark}, Histories.{History, with_mark}, Runs.{last_history, next_history, run_with_mark}, Seat.{stopped, is_stop}}, proofs.Growing.stopped_turn_over}
+use Rattle.{cache_policy.proofs.{GrowingRuns.last_run_with_mark, OneMore.stopped_with_mark}, counted_lock.specs.Logs.{run_from, run_of_log, is_stopped}}
 
 next_stopped : (history : History) → stopped history ≡ true → stopped (next_history history) ≡ true
 next_stopped history is = by_room (length history.marks == MAX_MARKS) refl where

@@ -1,13 +1,7 @@
 -- The definition of the words on worked examples, each by computation.
-use Rattle.std.specs.Prelude.{◌≡◌, ℕ, List, [], ◌∷◌, replicate, codes, Option, Some, None, refl, true}
-use Rattle.std.specs.List.{list_all}
-use Rattle.std.specs.Option.{option_map}
-use Rattle.session_options.specs.declared.rules.Rules.{Rules}
-use Rattle.session_options.specs.declared.rules.RunMode.TheVariants.{Server, Daemon, Load}
-use Rattle.agent_top.proofs.Spelling.{spelled, only}
-use Rattle.agent_top.specs.Settings.{Setting, Spells, settings, bare, joined, none}
-use Rattle.agent_top.specs.Forms.{fits, form_of}
-use Rattle.agent_top.specs.Words.{rules_from, rules_of}
+use Rattle.std.specs.{Prelude.{◌≡◌, ℕ, List, [], ◌∷◌, replicate, codes, Option, Some, None, refl, true}, List.list_all, Option.option_map}
+use Rattle.session_options.specs.declared.rules.{Rules.Rules, RunMode.TheVariants.{Server, Daemon, Load}}
+use Rattle.agent_top.{proofs.Spelling.{spelled, only}, specs.{Settings.{Setting, Spells, settings, bare, joined, none}, Forms.{fits, form_of}, Words.{rules_from, rules_of}}}
 
 -- the words as settings
 

@@ -1,48 +1,15 @@
 -- What is written, and what a run comes to, on worked examples, each by computation.
-use Rattle.std.specs.Fmt.{digits}
-use Rattle.std.specs.Prelude.{◌≡◌, ◌≤◌, ◌<◌, ℕ, zero, suc, nat_eq, List, [], ◌∷◌, ◌++◌, length, codes, None, refl, true, false}
-use Rattle.std.specs.List.{flat_map}
-use Rattle.std.proofs.Common.{lit<, lit≤, arith}
-use Rattle.std.proofs.lemmas.Bool.Decides.{nat_tests}
-use Rattle.hex.proofs.OnLiterals.{hex_on_literals}
-use Rattle.agent_commands.specs.Answers.{closing}
-use Rattle.agent_commands.specs.Names.{command_named}
-use Rattle.agent_commands.specs.Passphrases.{ask}
-use Rattle.agent_commands.specs.Requests.{request_of}
+use Rattle.std.{specs.{Fmt.digits, Prelude.{◌≡◌, ◌≤◌, ◌<◌, ℕ, zero, suc, nat_eq, List, [], ◌∷◌, ◌++◌, length, codes, None, refl, true, false}, List.flat_map}, proofs.{Common.{lit<, lit≤, arith}, lemmas.Bool.Decides.nat_tests}}
+use Rattle.{hex.proofs.OnLiterals.hex_on_literals, agent_commands.specs.{Answers.closing, Passphrases.ask, Requests.request_of, declared.went.Went.TheVariants.On}, command_table.specs.Commands.command_named, agent_core.specs.Cores.mark_of}
+use Rattle.{agent_origin.specs.{DoorSessions.{DoorExchange, is_allowed, forbidden, unset}, declared.{door.Door.TheVariants.Outer, kept.Kept.Kept}}, agent_ask.specs.SessionEvents.Sent, agent_ports.specs.Sides.Side}
+use Rattle.{agent_ports.specs.declared.session.SessionId.SessionId, assuan_escape.specs.Escapes.hex_text, assuan_server.specs.Written.{failed, greeting, ok, ok_text}, assuan_text.specs.LineEnds.line_of}
+use Rattle.cache_policy.{proofs.GrowingRuns.legal_run_with_mark, specs.{Legal.IsLegalRun, declared.{life.{Life.TheVariants.Endless, Limits.Limits}, mark.{Mark.Mark, MarkReply.TheVariants.{Given, Empty, Done}}}}}
+use Rattle.{cache_policy.specs.declared.{mark.MarkStep.TheVariants.{Put, Clear, Stop}, mode.Mode.TheVariants.{Any, User}, tally.Tally.Tally}, counted_lock.specs.{Logs.{run_of_log, marks_by}, Passes.{AtCounted, AtPass, IsClosed, numbered}}}
+use Rattle.session_options.specs.{Defaults.default_rules, declared.rules.Rules.Rules}
+use Rattle.agent_top.{proofs.Replays.first_legal, specs.{Cache.limits_of, Completeness.NoFault, Daemon.{summary_line, status_after}, Load.load_line, Top.{Machine, machine, exit_number, status_of}}}
 use Rattle.agent_commands.specs.declared.went.SessionEnd.TheVariants as ends
-use Rattle.agent_commands.specs.declared.went.Went.TheVariants.{On}
-use Rattle.agent_core.specs.Cores.{mark_of}
-use Rattle.agent_origin.specs.DoorSessions.{DoorExchange, is_allowed, forbidden, unset}
-use Rattle.agent_origin.specs.Doors.{rule_named}
-use Rattle.agent_origin.specs.declared.door.Door.TheVariants.{Outer}
-use Rattle.agent_origin.specs.declared.kept.Kept.{Kept}
-use Rattle.agent_ask.specs.SessionEvents.{Sent}
-use Rattle.agent_ports.specs.Sides.{Side}
 use Rattle.agent_ports.specs.declared.link.Sent.TheVariants as sent
-use Rattle.agent_ports.specs.declared.session.SessionId.{SessionId}
-use Rattle.assuan_escape.specs.Escapes.{hex_text}
-use Rattle.assuan_server.specs.Written.{failed, greeting, ok, ok_text}
-use Rattle.assuan_text.specs.LineEnds.{line_of}
-use Rattle.cache_policy.proofs.GrowingRuns.{legal_run_with_mark}
-use Rattle.cache_policy.specs.Legal.{IsLegalRun}
-use Rattle.cache_policy.specs.declared.life.Life.TheVariants.{Endless}
-use Rattle.cache_policy.specs.declared.life.Limits.{Limits}
-use Rattle.cache_policy.specs.declared.mark.Mark.{Mark}
-use Rattle.cache_policy.specs.declared.mark.MarkReply.TheVariants.{Given, Empty, Done}
-use Rattle.cache_policy.specs.declared.mark.MarkStep.TheVariants.{Put, Clear, Stop}
-use Rattle.cache_policy.specs.declared.mode.Mode.TheVariants.{Any, User}
-use Rattle.cache_policy.specs.declared.tally.Tally.{Tally}
-use Rattle.counted_lock.specs.Logs.{run_of_log, marks_by}
-use Rattle.counted_lock.specs.Passes.{AtCounted, AtPass, IsClosed, numbered}
 use Rattle.session_client.specs.declared.code.Code.TheVariants as code
-use Rattle.session_options.specs.Defaults.{default_rules}
-use Rattle.session_options.specs.declared.rules.Rules.{Rules}
-use Rattle.agent_top.proofs.Replays.{first_legal}
-use Rattle.agent_top.specs.Cache.{limits_of}
-use Rattle.agent_top.specs.Completeness.{NoFault}
-use Rattle.agent_top.specs.Daemon.{summary_line, status_after}
-use Rattle.agent_top.specs.Load.{load_line}
-use Rattle.agent_top.specs.Top.{Machine, machine, exit_number, status_of}
 
 -- ---- what is written
 
@@ -55,11 +22,11 @@ replies = refl
 -- and to one at the outer door that sets a terminal, or asks for a passphrase that is cached
 module _ (rules : Rules) (kept : Kept) where
   sets_terminal : DoorExchange Outer rules kept (codes "OPTION ttyname=/dev/pts/3") (Sent ok ∷ []) kept On
-  unfolding command_named request_of rule_named
+  unfolding command_named request_of
   sets_terminal = is_allowed refl unset
 
   asks_for_cached : DoorExchange Outer rules kept (codes "GET_PASSPHRASE k") (Sent (failed code.Forbidden) ∷ []) kept On
-  unfolding command_named request_of rule_named
+  unfolding command_named request_of
   asks_for_cached = forbidden refl
 
 -- statuses

@@ -1,10 +1,6 @@
 -- The cache of the one session that is served: the desk that it begins with. This is this project's own.
 use Rattle.std.specs.Prelude.{[], ◌∷◌, None}
-use Rattle.agent_ports.specs.Readings.{Readings}
-use Rattle.agent_ports.specs.declared.session.SessionId.{SessionId}
-use Rattle.agent_core.specs.Solos.{AtSolo}
-use Rattle.cache_policy.specs.declared.life.Limits.{Limits}
-use Rattle.cache_policy.specs.Replay.{first_history}
+use Rattle.{agent_ports.specs.{Readings.Readings, declared.session.SessionId.SessionId}, agent_core.specs.Solos.AtSolo, cache_policy.specs.{declared.life.Limits.Limits, Replay.first_history}}
 use Rattle.session_options.specs.declared.rules.Rules.{Rules}
 
 -- the lifetimes that the rules say

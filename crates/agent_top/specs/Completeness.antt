@@ -1,18 +1,8 @@
 -- Runs in which nothing failed: their statuses, and that their requests are answered. This is the project's own.
-use Rattle.std.specs.List.{AllByRecursion}
-use Rattle.std.specs.Prelude.{ℕ, List, ⊤}
-use Rattle.agent_commands.specs.Talks.{Session}
-use Rattle.agent_commands.specs.declared.went.SessionEnd.{SessionEnd}
-use Rattle.agent_ports.specs.Counts.{Rose}
-use Rattle.agent_ports.specs.HostParts.{Views}
-use Rattle.agent_ports.specs.TrustFiles.{TrustState}
-use Rattle.agent_ports.specs.declared.session.SessionId.{SessionId}
-use Rattle.agent_serve.specs.Serves.{LinkSides, ServesOne}
-use Rattle.agent_session.specs.Completeness.{Remembers, AnswersAll, CausedInSession, FaultlessInSession}
-use Rattle.agent_origin.specs.SessionExchanges.{kept_at_start}
-use Rattle.agent_origin.specs.declared.door.Door.{Door}
-use Rattle.counted_lock.specs.Passes.{AtPass}
-use Rattle.session_options.specs.declared.rules.Rules.{Rules}
+use Rattle.std.specs.{List.AllByRecursion, Prelude.{ℕ, List, ⊤}}
+use Rattle.{agent_commands.specs.{Talks.Session, declared.went.SessionEnd.SessionEnd}, agent_ports.specs.{Counts.Rose, HostParts.Views, TrustFiles.TrustState, declared.session.SessionId.SessionId}}
+use Rattle.{agent_serve.specs.Serves.{LinkSides, ServesOne}, agent_session.specs.Completeness.{Remembers, AnswersAll, CausedInSession, FaultlessInSession}, agent_origin.specs.{SessionExchanges.kept_at_start, declared.door.Door.Door}}
+use Rattle.{counted_lock.specs.Passes.AtPass, session_options.specs.declared.rules.Rules.Rules}
 use Rattle.agent_top.specs.Top.{Machine, RunsSession, RunsServer, ran, exit_number}
 use Rattle.agent_top.specs.Top as top
 use Rattle.agent_top.specs.declared.status.Status.TheVariants as status

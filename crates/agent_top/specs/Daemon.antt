@@ -1,20 +1,8 @@
 -- What a run of the daemon leaves, and its status. This is the project's own.
-use Rattle.std.specs.Prelude.{◌≡◌, ◌≤◌, ◌<◌, ◌⊎◌, ◌+◌, ℕ, Bool, true, false, List, [], ◌∷◌, ◌++◌, length, sum_by, Any, codes, decimal, is_some, IfSome, Option, ⊤}
-use Rattle.std.specs.List.{AllByRecursion}
-use Rattle.agent_ports.specs.Counts.{Rose, RoseBy}
-use Rattle.agent_ports.specs.Sides.{Side, with_bytes, sent_part, IsCut}
-use Rattle.agent_ports.specs.declared.link.Sent.{Sent}
-use Rattle.agent_ports.specs.declared.link.Sent.TheVariants.{All, Failed}
-use Rattle.assuan_text.specs.LineEnds.{line_of}
-use Rattle.cache_policy.specs.declared.tally.Tally.{Tally}
-use Rattle.counted_lock.specs.Logs.{is_stopped}
-use Rattle.counted_lock.specs.Passes.{AtCounted, AtPass, AreNewPasses, IsClosed, HasLooked}
-use Rattle.session_options.specs.declared.rules.Rules.{Rules}
-use Rattle.agent_serve.specs.Pairs.{ByPlace}
-use Rattle.agent_serve.specs.Working.{HostViews, WorkEach, last_post}
-use Rattle.agent_top.specs.Cache.{limits_of}
-use Rattle.agent_top.specs.Top.{exit_number}
-use Rattle.agent_top.specs.declared.status.Status.{Status}
+use Rattle.std.specs.{Prelude.{◌≡◌, ◌≤◌, ◌<◌, ◌⊎◌, ◌+◌, ℕ, Bool, true, false, List, [], ◌∷◌, ◌++◌, length, sum_by, Any, codes, decimal, is_some, IfSome, Option, ⊤}, List.AllByRecursion}
+use Rattle.{agent_ports.specs.{Counts.{Rose, RoseBy}, Sides.{Side, with_bytes, sent_part, IsCut}, declared.link.Sent.{Sent, TheVariants.{All, Failed}}}, assuan_text.specs.LineEnds.line_of, cache_policy.specs.declared.tally.Tally.Tally}
+use Rattle.{counted_lock.specs.{Logs.is_stopped, Passes.{AtCounted, AtPass, AreNewPasses, IsClosed, HasLooked}}, session_options.specs.declared.rules.Rules.Rules, agent_serve.specs.{Pairs.ByPlace, Working.{HostViews, WorkEach, last_post}}}
+use Rattle.agent_top.specs.{Cache.limits_of, Top.exit_number, declared.status.Status.Status}
 use Rattle.agent_top.specs.declared.status.Status.TheVariants as status
 
 -- what was done, in numbers

@@ -1,8 +1,6 @@
 -- What an error of clap's is as a fault of the words: this project's own.
-use Rattle.clap.specs.declared.error.kind.ErrorKind.{ErrorKind}
-use Rattle.clap.specs.declared.error.kind.ErrorKind.TheVariants.{OutOfMemory}
-use Rattle.agent_top.specs.declared.words.WordsFault.{WordsFault}
-use Rattle.agent_top.specs.declared.words.WordsFault.TheVariants.{Bad, NoMemory}
+use Rattle.clap.specs.declared.error.kind.ErrorKind.{ErrorKind, TheVariants.OutOfMemory}
+use Rattle.agent_top.specs.declared.words.WordsFault.{WordsFault, TheVariants.{Bad, NoMemory}}
 
 abbrev pub fault_by : ErrorKind → WordsFault
 fault_by OutOfMemory = NoMemory

@@ -1,15 +1,9 @@
 -- The options of the agent and what each takes. `--workers` and `--load` are this project's own, and so are that `--extra-socket` takes
 -- no name, the bounds of the numbers and the length of a path; the other names are gpg-agent's (GnuPG manual, "agent options").
-use Rattle.std.specs.Prelude.{ℕ, ◌&&◌, nat_le, Bool, true, false, List, [], ◌∷◌, length, codes, is_some, unwrap_or, Option, Some, None, if◌then◌else◌}
-use Rattle.std.specs.Option.{option_and_then, option_map_or}
-use Rattle.assuan_text.specs.Rows.{found}
-use Rattle.assuan_text.specs.Numbers.{number_of}
-use Rattle.cache_policy.specs.declared.life.TheConstants.{MAX_SECONDS}
-use Rattle.cache_policy.specs.declared.secret.TheConstants.{MAX_SECRET_LEN}
+use Rattle.std.specs.{Prelude.{ℕ, ◌&&◌, nat_le, Bool, true, false, List, [], ◌∷◌, length, codes, is_some, unwrap_or, Option, Some, None, if◌then◌else◌}, Option.{option_and_then, option_map_or}}
+use Rattle.{assuan_text.specs.{Rows.found, Numbers.number_of}, cache_policy.specs.declared.{life.TheConstants.MAX_SECONDS, secret.TheConstants.MAX_SECRET_LEN}}
 use Rattle.session_options.specs.declared.rules.TheConstants.{MIN_S2K_COUNT, MAX_S2K_COUNT, MIN_WORKERS, MAX_WORKERS}
-use Rattle.agent_top.specs.Settings.{Setting, value_given}
-use Rattle.agent_top.specs.declared.words.forms.Form.{Form}
-use Rattle.agent_top.specs.declared.words.forms.Form.TheVariants.{Flag, Path, Number}
+use Rattle.agent_top.specs.{Settings.{Setting, value_given}, declared.words.forms.Form.{Form, TheVariants.{Flag, Path, Number}}}
 
 -- a number of seconds
 abbrev pub seconds : Form

@@ -1,46 +1,14 @@
 -- What the laws on whole runs say of what the agent does: of a run of a server, of a daemon with each of its workers and each of their sessions, and of a load. This is the project's own.
-use Rattle.std.specs.List.{AllByRecursion}
-use Rattle.std.specs.Prelude.{◌<◌, ◌+◌, ◌-◌, ◌^◌, ℕ, List, [], ◌∷◌, Option, None, ⊤}
-use Rattle.agent_ask.specs.SessionEvents.{turns_in}
-use Rattle.agent_commands.specs.Requests.{request_of}
-use Rattle.agent_commands.specs.Talks.{Session}
-use Rattle.agent_commands.specs.declared.went.SessionEnd.{SessionEnd}
-use Rattle.agent_origin.specs.DoorSessions.{DoorExchange}
-use Rattle.agent_origin.specs.FurtherStates.{FurtherWorld}
-use Rattle.agent_origin.specs.OuterPrompts.{no_words, PromptsName}
-use Rattle.agent_origin.specs.OuterRuns.{LeavesDesk}
-use Rattle.agent_origin.specs.OuterTurns.{LeavesCache}
-use Rattle.agent_origin.specs.SessionExchanges.{kept_at_start}
-use Rattle.agent_origin.specs.Sessions.{supply_of}
-use Rattle.agent_origin.specs.declared.door.Door.{Door}
-use Rattle.agent_origin.specs.declared.door.Door.TheVariants.{Home, Outer}
-use Rattle.agent_origin.specs.declared.kept.Kept.{Kept}
-use Rattle.agent_ports.specs.Counts.{Rose}
-use Rattle.agent_ports.specs.HostParts.{Views}
-use Rattle.agent_ports.specs.Sides.{Side}
-use Rattle.agent_ports.specs.TrustFiles.{TrustState}
-use Rattle.agent_ports.specs.declared.listener.Next.TheVariants.{Stopped}
-use Rattle.agent_ports.specs.declared.session.SessionId.{SessionId}
-use Rattle.agent_serve.specs.Prompts.{HavePrompts}
-use Rattle.agent_serve.specs.Serves.{LinkSides, ServesOne, at_pass}
-use Rattle.agent_serve.specs.Working.{HostViews, Post, ServesLinks, none, one_more, Works, WorkEach}
-use Rattle.agent_session.specs.Causes.{Has}
-use Rattle.agent_session.specs.Completeness.{AnswersAll, CausedAtDoor, FaultlessAtDoor, IsStopped, Remembers}
-use Rattle.agent_session.specs.OwnPassphrases.{HandsIn}
-use Rattle.agent_session.specs.Refusals.{AnswersAlone}
-use Rattle.agent_session.specs.RunExchanges.{ExchangeBetween, Saying}
-use Rattle.cache_policy.specs.declared.mark.Mark.{Mark}
-use Rattle.counted_lock.specs.Passes.{AtPass}
-use Rattle.counted_lock.specs.Turns.{CountedTurn, at_counted}
-use Rattle.pinentry_client.specs.Dialogues.{PinentryDoes}
-use Rattle.session_options.specs.declared.rules.Rules.{Rules}
-use Rattle.agent_top.specs.Completeness.{NoLinkFault, NoFault, NoFaultOfOne, SessionEndsWell, IsAnsweredRun, IsCausedRun, DaemonEndsWell, LoadEndsWell}
-use Rattle.agent_top.specs.Daemon.{Rounds, one_round, one_more_round, SumsUp, RunsDaemon, summed, no_listener}
+use Rattle.std.specs.{List.AllByRecursion, Prelude.{◌<◌, ◌+◌, ◌-◌, ◌^◌, ℕ, List, [], ◌∷◌, Option, None, ⊤}}
+use Rattle.{agent_ask.specs.SessionEvents.turns_in, agent_commands.specs.{Requests.request_of, Talks.Session, declared.went.SessionEnd.SessionEnd}, agent_origin.specs.{DoorSessions.DoorExchange, FurtherStates.FurtherWorld}}
+use Rattle.agent_origin.specs.{OuterPrompts.{no_words, PromptsName}, OuterRuns.LeavesDesk, OuterTurns.LeavesCache, SessionExchanges.kept_at_start, Sessions.supply_of, declared.{door.Door.{Door, TheVariants.{Home, Outer}}, kept.Kept.Kept}}
+use Rattle.{agent_ports.specs.{Counts.Rose, HostParts.Views, Sides.Side, TrustFiles.TrustState, declared.{listener.Next.TheVariants.Stopped, session.SessionId.SessionId}}, agent_serve.specs.Prompts.HavePrompts}
+use Rattle.{agent_serve.specs.{Serves.{LinkSides, ServesOne, at_pass}, Working.{HostViews, Post, ServesLinks, none, one_more, Works, WorkEach}}, agent_session.specs.Causes.Has}
+use Rattle.agent_session.specs.{Completeness.{AnswersAll, CausedAtDoor, FaultlessAtDoor, IsStopped, Remembers}, OwnPassphrases.HandsIn, Refusals.AnswersAlone, RunExchanges.{ExchangeBetween, Saying}}
+use Rattle.{cache_policy.specs.declared.mark.Mark.Mark, counted_lock.specs.{Passes.AtPass, Turns.{CountedTurn, at_counted}}, pinentry_client.specs.Dialogues.PinentryDoes, session_options.specs.declared.rules.Rules.Rules}
+use Rattle.agent_top.specs.{Completeness.{NoLinkFault, NoFault, NoFaultOfOne, SessionEndsWell, IsAnsweredRun, IsCausedRun, DaemonEndsWell, LoadEndsWell}, Daemon.{Rounds, one_round, one_more_round, SumsUp, RunsDaemon, summed, no_listener}}
+use Rattle.agent_top.specs.{Load.RunsLoad, OwnPassphrases.{IsOwnTurn, IsOfSession}, Runs.{IsLawfulRun, IsLawfulSession, IsOfEverySession, RunHasPrompts, first_state}, Top.{Machine, RunsServer}}
 use Rattle.agent_top.specs.Daemon as daemon
-use Rattle.agent_top.specs.Load.{RunsLoad}
-use Rattle.agent_top.specs.OwnPassphrases.{IsOwnTurn, IsOfSession}
-use Rattle.agent_top.specs.Runs.{IsLawfulRun, IsLawfulSession, IsOfEverySession, RunHasPrompts, first_state}
-use Rattle.agent_top.specs.Top.{Machine, RunsServer}
 
 -- a run of a server, and what the laws say of it
 pub record LawfulServer (rules : Rules) (before : Machine) (number : ℕ) (after : Machine) : Type 0 where

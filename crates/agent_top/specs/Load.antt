@@ -1,33 +1,10 @@
 -- A load: sessions whose requests are made from a number, the steps of their turns, and what a run of it leaves. This is the project's own.
-use Rattle.std.specs.Prelude.{◌≡◌, ℕ, ◌+◌, ◌/◌, ◌%◌, ◌==◌, zero, suc, nat_lt, List, [], ◌∷◌, ◌++◌, length, codes, decimal, map, Option, Some, None, if◌then◌else◌}
-use Rattle.std.specs.Int.{w32, to_be_bytes}
-use Rattle.std.specs.List.{filter_map, AllByRecursion}
-use Rattle.rand_core.specs.Pcg32Seed.{pcg32_seed}
-use Rattle.rand_pcg.specs.Lcg.{Lcg}
-use Rattle.rand_pcg.specs.Pcg.{pcg32, pcg32_of_seed}
-use Rattle.agent_core.specs.Tallies.{tally_of}
-use Rattle.agent_ports.specs.Counts.{Rose}
-use Rattle.agent_ports.specs.Sides.{Side, with_bytes, sent_part, IsCut}
-use Rattle.agent_ports.specs.declared.link.Sent.{Sent}
-use Rattle.agent_ports.specs.declared.link.Sent.TheVariants.{All, Failed}
-use Rattle.assuan_text.specs.LineEnds.{line_of}
-use Rattle.cache_policy.specs.Histories.{History, moments}
-use Rattle.agent_core.specs.Solos.{SoloState}
-use Rattle.cache_policy.specs.Legal.{IsLegalRun}
-use Rattle.cache_policy.specs.Replay.{Replays}
-use Rattle.cache_policy.specs.Runs.{start_of_run}
-use Rattle.cache_policy.specs.declared.life.Life.TheVariants.{Seconds}
-use Rattle.cache_policy.specs.declared.mark.Mark.{Mark}
-use Rattle.cache_policy.specs.declared.mark.MarkStep.{MarkStep}
-use Rattle.cache_policy.specs.declared.mark.MarkStep.TheVariants.{Ask, Put, Clear}
-use Rattle.cache_policy.specs.declared.mark.Way.TheVariants.{Quiet}
-use Rattle.cache_policy.specs.declared.mode.Mode.TheVariants.{Any, User}
-use Rattle.cache_policy.specs.declared.tally.Tally.{Tally}
+use Rattle.std.specs.{Prelude.{◌≡◌, ℕ, ◌+◌, ◌/◌, ◌%◌, ◌==◌, zero, suc, nat_lt, List, [], ◌∷◌, ◌++◌, length, codes, decimal, map, Option, Some, None, if◌then◌else◌}, Int.{w32, to_be_bytes}, List.{filter_map, AllByRecursion}}
+use Rattle.{rand_core.specs.Pcg32Seed.pcg32_seed, rand_pcg.specs.{Lcg.Lcg, Pcg.{pcg32, pcg32_of_seed}}, agent_core.specs.{Tallies.tally_of, Solos.SoloState}, agent_ports.specs.{Counts.Rose, Sides.{Side, with_bytes, sent_part, IsCut}}}
+use Rattle.{agent_ports.specs.declared.link.Sent.{Sent, TheVariants.{All, Failed}}, assuan_text.specs.LineEnds.line_of, cache_policy.specs.{Histories.{History, moments}, Legal.IsLegalRun, Replay.Replays, Runs.start_of_run}}
+use Rattle.cache_policy.specs.declared.{life.Life.TheVariants.Seconds, mark.{Mark.Mark, MarkStep.{MarkStep, TheVariants.{Ask, Put, Clear}}, Way.TheVariants.Quiet}, mode.Mode.TheVariants.{Any, User}, tally.Tally.Tally}
 use Rattle.session_options.specs.Defaults.{default_rules}
-use Rattle.agent_top.specs.Cache.{limits_of, session}
-use Rattle.agent_top.specs.Daemon.{summary}
-use Rattle.agent_top.specs.Top.{exit_number}
-use Rattle.agent_top.specs.declared.status.Status.{Status}
+use Rattle.agent_top.specs.{Cache.{limits_of, session}, Daemon.summary, Top.exit_number, declared.status.Status.Status}
 use Rattle.agent_top.specs.declared.status.Status.TheVariants as status
 
 -- the cache id of a word: `k` and a number below 32

@@ -1,20 +1,9 @@
 -- Private: the options as a command of clap, and the settings that its matches hold.
-use Rattle.std.specs.Prelude.{◌≡◌, ℕ, ◌&&◌, ◌||◌, not, Bool, true, false, List, [], ◌∷◌, codes, fold, map, slice_get, is_some, unwrap_or, Option, Some, None, if◌then◌else◌}
-use Rattle.std.specs.List.{list_all, list_any}
-use Rattle.std.specs.Option.{option_and_then, option_map_or}
-use Rattle.std.specs.Str.{bytes_eq}
-use Rattle.clap.specs.Lexer.{long_of, strip_byte}
-use Rattle.clap.specs.Facts.{explicit_source}
-use Rattle.clap.specs.Simple.{App, filled, new_rule, new_shape}
-use Rattle.clap.specs.Walk.{Row, Rule, first_of, with_default}
-use Rattle.clap.specs.declared.builder.action.ArgAction.{ArgAction}
-use Rattle.clap.specs.declared.builder.action.ArgAction.TheVariants.{Set, SetTrue}
-use Rattle.clap.specs.declared.builder.value_parser.Reading.TheVariants.{AsWritten}
-use Rattle.clap.specs.declared.parser.matches.ValueSource.TheVariants.{CommandLine}
-use Rattle.agent_top.specs.Settings.{Setting, begins_with_dash, are_distinct}
-use Rattle.agent_top.specs.Forms.{forms, form_of, is_of_form}
-use Rattle.agent_top.specs.declared.words.forms.Form.{Form}
-use Rattle.agent_top.specs.declared.words.forms.Form.TheVariants.{Flag, Path, Number}
+use Rattle.std.specs.{Prelude.{◌≡◌, ℕ, ◌&&◌, ◌||◌, not, Bool, true, false, List, [], ◌∷◌, codes, fold, map, slice_get, is_some, unwrap_or, Option, Some, None, if◌then◌else◌}, List.{list_all, list_any}}
+use Rattle.std.specs.{Option.{option_and_then, option_map_or}, Str.bytes_eq}
+use Rattle.clap.specs.{Lexer.{long_of, strip_byte}, Facts.explicit_source, Simple.{App, filled, new_rule, new_shape}, Walk.{Row, Rule, first_of, with_default}, declared.builder.action.ArgAction.{ArgAction, TheVariants.{Set, SetTrue}}}
+use Rattle.clap.specs.declared.{builder.value_parser.Reading.TheVariants.AsWritten, parser.matches.ValueSource.TheVariants.CommandLine}
+use Rattle.agent_top.specs.{Settings.{Setting, begins_with_dash, are_distinct}, Forms.{forms, form_of, is_of_form}, declared.words.forms.Form.{Form, TheVariants.{Flag, Path, Number}}}
 
 -- a flag is set, and any other option is given its value
 abbrev pub action_for : Form → ArgAction

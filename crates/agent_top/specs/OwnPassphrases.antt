@@ -1,17 +1,8 @@
 -- Whose the passphrases are that the daemon's sessions hand to the cache: each mark of the run by which one is handed in is the turn of one session, and
 -- the passphrase is of that session's own line. This is the project's own.
 use Rattle.std.specs.Prelude.{◌≡◌, List, ◌∷◌, ◌++◌}
-use Rattle.agent_ask.specs.SessionEvents.{cache_turn}
-use Rattle.agent_origin.specs.DoorSessions.{DoorExchange}
-use Rattle.agent_origin.specs.SessionExchanges.{kept_at_start}
-use Rattle.agent_origin.specs.declared.door.Door.{Door}
-use Rattle.agent_serve.specs.Working.{HostViews, Post, ServesNext, next_session}
-use Rattle.agent_session.specs.Causes.{Has}
-use Rattle.agent_session.specs.OwnPassphrases.{StoresOwnIn}
-use Rattle.cache_policy.specs.Turns.{Turn}
-use Rattle.cache_policy.specs.declared.mark.Mark.{Mark}
-use Rattle.counted_lock.specs.Passes.{AtPass}
-use Rattle.key_commands.specs.Events.{Event}
+use Rattle.{agent_ask.specs.SessionEvents.cache_turn, agent_origin.specs.{DoorSessions.DoorExchange, SessionExchanges.kept_at_start, declared.door.Door.Door}, agent_serve.specs.Working.{HostViews, Post, ServesNext, next_session}}
+use Rattle.{agent_session.specs.{Causes.Has, OwnPassphrases.StoresOwnIn}, cache_policy.specs.{Turns.Turn, declared.mark.Mark.Mark}, counted_lock.specs.Passes.AtPass, key_commands.specs.Events.Event}
 use Rattle.session_options.specs.declared.rules.Rules.{Rules}
 
 -- the mark is a turn among the events of a session at this door, and what its step hands to the cache is of the last line that was read before

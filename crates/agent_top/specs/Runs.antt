@@ -1,34 +1,11 @@
 -- Runs of `--server`, and sessions of a daemon: what the laws on single requests say of each of their exchanges, and their prompts. This is the project's own.
 use Rattle.std.specs.Prelude.{◌≡◌, ◌<◌, ◌+◌, ℕ, List, true, length, IfSome, None, ⊤}
-use Rattle.agent_commands.specs.Talks.{Session}
-use Rattle.agent_commands.specs.declared.went.SessionEnd.{SessionEnd}
-use Rattle.agent_core.specs.Solos.{AtSolo, TurnsSolo}
-use Rattle.agent_origin.specs.DoorSessions.{DoorExchange}
-use Rattle.agent_origin.specs.Doors.{allowed}
-use Rattle.agent_origin.specs.FurtherStates.{FurtherWorld}
-use Rattle.agent_origin.specs.DoorSessions.{door_command}
-use Rattle.agent_origin.specs.SessionExchanges.{SessionExchange, kept_at_start}
-use Rattle.agent_origin.specs.Sessions.{Surroundings, supply_of}
-use Rattle.agent_origin.specs.declared.door.Door.{Door}
-use Rattle.agent_ports.specs.HostParts.{Views}
-use Rattle.agent_ports.specs.Readings.{Readings}
-use Rattle.agent_ports.specs.TrustFiles.{TrustState}
-use Rattle.agent_ports.specs.declared.session.SessionId.{SessionId}
-use Rattle.agent_serve.specs.Prompts.{HavePrompts}
-use Rattle.agent_serve.specs.Serves.{LinkSides, ServesOne, at_pass}
-use Rattle.agent_session.specs.Completeness.{SessionCauses}
-use Rattle.agent_session.specs.DoorCauses.{IsCausedAtDoor}
-use Rattle.agent_session.specs.RunExchanges.{Between, ExchangeBetween, LawfulExchange, LawfulSession}
-use Rattle.agent_commands.specs.Outside.{World}
-use Rattle.cache_policy.specs.Runs.{last_history}
-use Rattle.cache_policy.specs.declared.bounds.TheConstants.{MAX_MARKS}
-use Rattle.counted_lock.specs.Passes.{AtPass}
-use Rattle.counted_lock.specs.Turns.{AtCountedDesk, CountedTurn}
-use Rattle.pinentry_client.specs.Dialogues.{PinentryDoes}
-use Rattle.pinentry_client.specs.States.{at_prompter}
-use Rattle.session_options.specs.declared.rules.Rules.{Rules}
-use Rattle.agent_top.specs.Cache.{limits_of, fresh_desk}
-use Rattle.agent_top.specs.Top.{Machine, RunsServer, ran, with_desk}
+use Rattle.{agent_commands.specs.{Talks.Session, declared.went.SessionEnd.SessionEnd, Outside.World}, agent_core.specs.Solos.{AtSolo, TurnsSolo}, agent_origin.specs.{DoorSessions.{DoorExchange, door_command}, Doors.allowed}}
+use Rattle.{agent_origin.specs.{FurtherStates.FurtherWorld, SessionExchanges.{SessionExchange, kept_at_start}, Sessions.{Surroundings, supply_of}, declared.door.Door.Door}, agent_ports.specs.{HostParts.Views, Readings.Readings}}
+use Rattle.{agent_ports.specs.{TrustFiles.TrustState, declared.session.SessionId.SessionId}, agent_serve.specs.{Prompts.HavePrompts, Serves.{LinkSides, ServesOne, at_pass}}, agent_session.specs.Completeness.SessionCauses}
+use Rattle.{agent_session.specs.{DoorCauses.IsCausedAtDoor, RunExchanges.{Between, ExchangeBetween, LawfulExchange, LawfulSession}}, cache_policy.specs.{Runs.last_history, declared.bounds.TheConstants.MAX_MARKS}}
+use Rattle.{counted_lock.specs.{Passes.AtPass, Turns.{AtCountedDesk, CountedTurn}}, pinentry_client.specs.{Dialogues.PinentryDoes, States.at_prompter}, session_options.specs.declared.rules.Rules.Rules}
+use Rattle.agent_top.specs.{Cache.{limits_of, fresh_desk}, Top.{Machine, RunsServer, ran, with_desk}}
 use Rattle.agent_top.specs.Top as top
 
 -- what stands before the first exchange of a session

@@ -1,8 +1,6 @@
 -- The words of the command line, read as settings: `--name`, `--name=value` or `--name value`. That a word which begins with a
 -- dash is a value only after `=` is this project's own.
-use Rattle.std.specs.Prelude.{◌≡◌, ℕ, ◌==◌, ◌&&◌, not, Bool, true, false, List, [], ◌∷◌, ◌++◌, Option, Some, None, is_some, slice_index, if◌then◌else◌}
-use Rattle.std.specs.List.{list_any, before_first, after_first}
-use Rattle.std.specs.Option.{option_and_then}
+use Rattle.std.specs.{Prelude.{◌≡◌, ℕ, ◌==◌, ◌&&◌, not, Bool, true, false, List, [], ◌∷◌, ◌++◌, Option, Some, None, is_some, slice_index, if◌then◌else◌}, List.{list_any, before_first, after_first}, Option.option_and_then}
 use Rattle.assuan_text.specs.Rows.{found}
 
 -- what a word names, and its value, if it has one

@@ -1,33 +1,11 @@
 -- What a run of the agent leaves, and its status. The statuses are this project's own.
-use Rattle.std.specs.Prelude.{◌≡◌, ◌⊎◌, ℕ, List, [], ◌∷◌, Option, None, Some, ⊤}
-use Rattle.std.specs.List.{AllByRecursion}
-use Rattle.agent_core.specs.Solos.{AtSolo, TurnsSolo}
-use Rattle.agent_ports.specs.HostParts.{Views, AreSettled, settled_at}
-use Rattle.agent_ports.specs.KeyFiles.{KeyFiles}
-use Rattle.agent_ports.specs.Readings.{Readings, HasGiven}
-use Rattle.agent_ports.specs.Sides.{Side}
-use Rattle.agent_ports.specs.Launches.{Launches}
-use Rattle.agent_ports.specs.declared.host.Parts.{Parts}
-use Rattle.cache_policy.specs.Histories.{History}
-use Rattle.cache_policy.specs.declared.life.Limits.{Limits}
-use Rattle.cache_policy.specs.declared.mark.MarkStep.{MarkStep}
-use Rattle.cache_policy.specs.Extending.{Taken, IsExtended}
-use Rattle.cache_policy.specs.Legal.{IsLegalRun}
-use Rattle.cache_policy.specs.Replay.{first_history, Replays, Marked}
-use Rattle.cache_policy.specs.Turns.{since_of}
-use Rattle.session_options.specs.declared.rules.Rules.{Rules}
-use Rattle.session_options.specs.declared.rules.RunMode.{RunMode}
-use Rattle.session_options.specs.declared.rules.RunMode.TheVariants.{Server, Daemon, Load}
-use Rattle.agent_ask.specs.SessionEvents.{turns_in}
-use Rattle.agent_commands.specs.declared.went.SessionEnd.{SessionEnd}
-use Rattle.agent_commands.specs.declared.went.SessionEnd.TheVariants.{Bye, Killed, Ended, TooLong, Spent, ReadFault, WriteFault}
-use Rattle.agent_origin.specs.Sessions.{Surroundings}
-use Rattle.agent_session.specs.Sessions.{without_trust, ServesRules}
-use Rattle.agent_origin.specs.FurtherStates.{FurtherWorld}
-use Rattle.pinentry_client.specs.Dialogues.{PinentryDoes}
-use Rattle.pinentry_client.specs.States.{AtPinentry, idle}
-use Rattle.agent_top.specs.Cache.{limits_of, session, fresh_desk}
-use Rattle.agent_top.specs.declared.status.Status.{Status}
+use Rattle.std.specs.{Prelude.{◌≡◌, ◌⊎◌, ℕ, List, [], ◌∷◌, Option, None, Some, ⊤}, List.AllByRecursion}
+use Rattle.{agent_core.specs.Solos.{AtSolo, TurnsSolo}, agent_ports.specs.{HostParts.{Views, AreSettled, settled_at}, KeyFiles.KeyFiles, Readings.{Readings, HasGiven}, Sides.Side, Launches.Launches, declared.host.Parts.Parts}}
+use Rattle.cache_policy.specs.{Histories.History, declared.{life.Limits.Limits, mark.MarkStep.MarkStep}, Extending.{Taken, IsExtended}, Legal.IsLegalRun, Replay.{first_history, Replays, Marked}, Turns.since_of}
+use Rattle.{session_options.specs.declared.rules.{Rules.Rules, RunMode.{RunMode, TheVariants.{Server, Daemon, Load}}}, agent_ask.specs.SessionEvents.turns_in, agent_commands.specs.declared.went.SessionEnd.SessionEnd}
+use Rattle.{agent_commands.specs.declared.went.SessionEnd.TheVariants.{Bye, Killed, Ended, TooLong, Spent, ReadFault, WriteFault}, agent_origin.specs.{Sessions.Surroundings, FurtherStates.FurtherWorld}}
+use Rattle.{agent_session.specs.Sessions.{without_trust, ServesRules}, pinentry_client.specs.{Dialogues.PinentryDoes, States.{AtPinentry, idle}}}
+use Rattle.agent_top.specs.{Cache.{limits_of, session, fresh_desk}, declared.status.Status.Status}
 use Rattle.agent_top.specs.declared.status.Status.TheVariants as status
 
 -- the number that the process ends with

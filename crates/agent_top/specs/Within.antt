@@ -1,16 +1,8 @@
 -- What an option is given, or else its default, lies within the bounds of its numbers, which are this project's own: so the rules
 -- that are read have the facts that their type keeps.
-use Rattle.std.specs.Prelude.{◌≤◌, ℕ, ◌&&◌, nat_le, List, codes, unwrap_or, Option, Some, None}
-use Rattle.std.specs.Option.{option_and_then}
-use Rattle.std.proofs.Common.{lit≤}
-use Rattle.std.proofs.lemmas.Bool.{leb-true, and_parts, cond_both}
-use Rattle.session_options.specs.Counts.{IsS2kCount, IsWorkers}
-use Rattle.session_options.specs.Defaults.{default_rules}
-use Rattle.assuan_text.specs.Numbers.{number_of}
-use Rattle.agent_top.specs.Settings.{Setting, value_given}
-use Rattle.agent_top.specs.Forms.{form_of, if_between, number_for, number_or}
-use Rattle.agent_top.specs.declared.words.forms.Form.{Form}
-use Rattle.agent_top.specs.declared.words.forms.Form.TheVariants.{Flag, Path, Number}
+use Rattle.std.{specs.{Prelude.{◌≤◌, ℕ, ◌&&◌, nat_le, List, codes, unwrap_or, Option, Some, None}, Option.option_and_then}, proofs.{Common.lit≤, lemmas.Bool.{leb-true, and_parts, cond_both}}}
+use Rattle.{session_options.specs.{Counts.{IsS2kCount, IsWorkers}, Defaults.default_rules}, assuan_text.specs.Numbers.number_of}
+use Rattle.agent_top.specs.{Settings.{Setting, value_given}, Forms.{form_of, if_between, number_for, number_or}, declared.words.forms.Form.{Form, TheVariants.{Flag, Path, Number}}}
 
 -- a number that an option of this form may be given
 abbrev pub IsWithin : Option Form → ℕ → Type 0

@@ -1,16 +1,8 @@
 -- The words of the command line, and the rules that they mean. That an option is given once, that nothing else is given, and
 -- the defaults that the GnuPG manual doesn't name are this project's own.
-use Rattle.std.specs.Prelude.{ℕ, ◌&&◌, not, Bool, true, false, List, codes, Option, Some, None, if◌then◌else◌}
-use Rattle.std.specs.List.{list_all}
-use Rattle.std.specs.Option.{option_map, option_and_then}
-use Rattle.arrayvec.specs.ArrayVec.{ArrayVec}
-use Rattle.session_options.specs.Defaults.{default_rules}
-use Rattle.session_options.specs.declared.rules.Rules.{Rules}
-use Rattle.session_options.specs.declared.rules.RunMode.{RunMode}
-use Rattle.session_options.specs.declared.rules.RunMode.TheVariants.{Server, Daemon, Load}
-use Rattle.agent_top.specs.Settings.{Setting, settings, is_set, are_distinct}
-use Rattle.agent_top.specs.Forms.{fits, number_or, path_or}
-use Rattle.agent_top.specs.Within.{count_is_within, workers_are_within}
+use Rattle.std.specs.{Prelude.{ℕ, ◌&&◌, not, Bool, true, false, List, codes, Option, Some, None, if◌then◌else◌}, List.list_all, Option.{option_map, option_and_then}}
+use Rattle.{arrayvec.specs.ArrayVec.ArrayVec, session_options.specs.{Defaults.default_rules, declared.rules.{Rules.Rules, RunMode.{RunMode, TheVariants.{Server, Daemon, Load}}}}}
+use Rattle.agent_top.specs.{Settings.{Setting, settings, is_set, are_distinct}, Forms.{fits, number_or, path_or}, Within.{count_is_within, workers_are_within}}
 
 -- exactly one of them is given, and this is the number of the third
 abbrev pub one_run : Bool → Bool → Bool → ℕ → Option RunMode

@@ -2,41 +2,26 @@
 //! causes, without faults well. Nothing runs; each contract is a fact about the definitions. Begin
 //! with `a_server_without_faults_is_answered`; definitions are in `specs/Completeness`.
 
-ghost use Rattle.std.specs.List.{AllByRecursion};
-ghost use Rattle.std.specs.Prelude.{◌≡◌, List, ℕ, None, true};
-ghost use Rattle.agent_ask.specs.Worlds.{Outside, Does};
-ghost use Rattle.agent_commands.specs.Requests.{request_of};
-ghost use Rattle.agent_commands.specs.Talks.{Session};
-ghost use Rattle.agent_commands.specs.declared.went.SessionEnd.{SessionEnd as Ends};
+ghost use Rattle.std.specs.{List.AllByRecursion, Prelude.{◌≡◌, List, ℕ, None, true}};
+ghost use Rattle.{agent_ask.specs.Worlds.{Outside, Does}, agent_commands.specs.Requests.request_of};
+ghost use Rattle.agent_commands.specs.{Talks.Session, declared.went.SessionEnd.SessionEnd as Ends};
 ghost use Rattle.agent_commands.specs.declared.went.Went.{Went};
-ghost use Rattle.agent_origin.specs.DoorSessions.{DoorExchange};
-ghost use Rattle.agent_origin.specs.Doors.{allowed};
-ghost use Rattle.agent_origin.specs.DoorSessions.{door_command};
-ghost use Rattle.agent_origin.specs.FurtherStates.{FurtherWorld};
-ghost use Rattle.agent_origin.specs.SessionExchanges.{kept_at_start};
-ghost use Rattle.agent_origin.specs.declared.door.Door.{Door};
-ghost use Rattle.agent_origin.specs.declared.kept.Kept.{Kept};
-ghost use Rattle.agent_ports.specs.Counts.{Rose};
-ghost use Rattle.agent_ports.specs.Leads.{Leads};
-ghost use Rattle.agent_ports.specs.Sides.{Side};
+ghost use Rattle.agent_origin.specs.{DoorSessions.{DoorExchange, door_command}, Doors.allowed};
+ghost use Rattle.agent_origin.specs.{FurtherStates.FurtherWorld, SessionExchanges.kept_at_start};
+ghost use Rattle.agent_origin.specs.declared.{door.Door.Door, kept.Kept.Kept};
+ghost use Rattle.agent_ports.specs.{Counts.Rose, Leads.Leads, Sides.Side};
 ghost use Rattle.agent_ports.specs.declared.session.SessionId.{SessionId};
 ghost use Rattle.agent_serve.specs.Serves.{LinkSides, ServesOne};
-ghost use Rattle.agent_session.specs.Completeness.{AnswersAll, IsStopped, Remembers};
-ghost use Rattle.agent_session.specs.Completeness.{CausedAtDoor, FaultlessAtDoor};
-ghost use Rattle.agent_session.specs.Refusals.{AnswersAlone};
+ghost use Rattle.agent_session.specs.Completeness.{AnswersAll, IsStopped, Remembers, CausedAtDoor};
+ghost use Rattle.agent_session.specs.{Completeness.FaultlessAtDoor, Refusals.AnswersAlone};
+ghost use Rattle.{assuan_server.specs.Reading.Supply, assuan_text.specs.Words.command_of};
+ghost use Rattle.counted_lock.specs.{Passes.AtPass, Turns.CountedTurn};
+ghost use Rattle.{key_commands.specs.Events.Event, pinentry_client.specs.Dialogues.PinentryDoes};
+ghost use Rattle.session_options.specs.declared.rules.Rules.{Rules};
 ghost use Rattle.agent_top.specs.Completeness.{NoLinkFault, NoFault, NoFaultOfOne, SessionEndsWell};
 ghost use Rattle.agent_top.specs.Completeness.{IsAnsweredRun, IsCausedRun, DaemonEndsWell};
-ghost use Rattle.agent_top.specs.Completeness.{LoadEndsWell};
-ghost use Rattle.agent_top.specs.Daemon.{RunsDaemon};
-ghost use Rattle.agent_top.specs.Load.{RunsLoad};
+ghost use Rattle.agent_top.specs.{Completeness.LoadEndsWell, Daemon.RunsDaemon, Load.RunsLoad};
 ghost use Rattle.agent_top.specs.Top.{Machine, RunsServer};
-ghost use Rattle.assuan_server.specs.Reading.{Supply};
-ghost use Rattle.assuan_text.specs.Words.{command_of};
-ghost use Rattle.counted_lock.specs.Passes.{AtPass};
-ghost use Rattle.counted_lock.specs.Turns.{CountedTurn};
-ghost use Rattle.key_commands.specs.Events.{Event};
-ghost use Rattle.pinentry_client.specs.Dialogues.{PinentryDoes};
-ghost use Rattle.session_options.specs.declared.rules.Rules.{Rules};
 
 use agent_ports::Host;
 use agent_serve::ViewedHost;

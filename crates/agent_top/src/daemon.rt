@@ -6,14 +6,12 @@
 ghost use Rattle.std.specs.Prelude.{◌≡◌, ◌≤◌, ◌<◌, ◌+◌, ◌⊎◌, ◌++◌, IfSome, IsNone, decimal};
 ghost use Rattle.std.specs.Prelude.{is_some, length, sum_by, vec_len, vec_capacity, true, false};
 ghost use Rattle.std.specs.Option.{option_copied};
-ghost use Rattle.agent_ports.specs.Counts.{Rose, RoseBy};
-ghost use Rattle.agent_ports.specs.Sides.{with_bytes, sent_part, IsCut};
-ghost use Rattle.arrayvec.specs.ArrayVec.{array_vec_len};
-ghost use Rattle.counted_lock.specs.Passes.{AreOf};
+ghost use Rattle.agent_ports.specs.{Counts.{Rose, RoseBy}, Sides.{with_bytes, sent_part, IsCut}};
+ghost use Rattle.{arrayvec.specs.ArrayVec.array_vec_len, counted_lock.specs.Passes.AreOf};
 ghost use Rattle.agent_serve.specs.Working.{WorkEach};
 ghost use Rattle.agent_top.specs.Daemon.{AnyFailed, NoneFailed, AreEarsOf, FirstLooks, Rounds};
-ghost use Rattle.agent_top.specs.Daemon.{RunsDaemon, summary_line};
-ghost use Rattle.agent_top.specs.Daemon.{status_after, IsFirstStopped, workers_with};
+ghost use Rattle.agent_top.specs.Daemon.{RunsDaemon, summary_line, status_after, IsFirstStopped};
+ghost use Rattle.agent_top.specs.Daemon.{workers_with};
 
 use crate::Status;
 use crate::top::limits_of;

@@ -4,17 +4,14 @@
 
 ghost use Rattle.std.specs.Prelude.{◌≡◌, ◌++◌, ◌∷◌, ℕ, List, [], None, Some, true, codes, IfOk};
 ghost use Rattle.std.specs.Prelude.{IfSome, decimal};
-ghost use Rattle.agent_ask.specs.Prompters.{IsShut};
-ghost use Rattle.agent_core.specs.Tallies.{tally_of};
-ghost use Rattle.agent_ports.specs.Counts.{Rose};
-ghost use Rattle.agent_ports.specs.Sides.{with_bytes, sent_part, IsCut};
-ghost use Rattle.agent_top.specs.Cache.{limits_of, session, fresh_desk};
-ghost use Rattle.agent_top.specs.Daemon.{summary_line};
+ghost use Rattle.{agent_ask.specs.Prompters.IsShut, agent_core.specs.Tallies.tally_of};
+ghost use Rattle.agent_ports.specs.{Counts.Rose, Sides.{with_bytes, sent_part, IsCut}};
+ghost use Rattle.cache_policy.specs.Histories.{run_of};
+ghost use Rattle.session_options.specs.Defaults.{default_rules};
+ghost use Rattle.agent_top.specs.{Cache.{limits_of, session, fresh_desk}, Daemon.summary_line};
 ghost use Rattle.agent_top.specs.Load.{AreOfWords, IsLoadTally, IsOfWord, RunsLoad, IsMadeByLoad};
 ghost use Rattle.agent_top.specs.Load.{KeepsRun, generator_of, load_line, load_status, load_words};
 ghost use Rattle.agent_top.specs.Load.{key, step_of};
-ghost use Rattle.cache_policy.specs.Histories.{run_of};
-ghost use Rattle.session_options.specs.Defaults.{default_rules};
 
 use crate::Status;
 use crate::daemon::{SUMMARY_ROOM, summary_line};

@@ -4,17 +4,13 @@
 
 ghost use Rattle.std.specs.Prelude.{List, ℕ};
 ghost use Rattle.agent_commands.specs.declared.went.SessionEnd.{SessionEnd as Ends};
-ghost use Rattle.agent_origin.specs.declared.door.Door.{Door};
-ghost use Rattle.agent_ports.specs.Sides.{Side};
+ghost use Rattle.{agent_origin.specs.declared.door.Door.Door, agent_ports.specs.Sides.Side};
 ghost use Rattle.agent_ports.specs.declared.session.SessionId.{SessionId};
-ghost use Rattle.agent_serve.specs.Serves.{LinkSides, ServesOne};
-ghost use Rattle.agent_session.specs.Causes.{Has};
+ghost use Rattle.{agent_serve.specs.Serves.{LinkSides, ServesOne}, agent_session.specs.Causes.Has};
 ghost use Rattle.agent_session.specs.OwnPassphrases.{HandsIn};
-ghost use Rattle.agent_top.specs.Daemon.{SumsUp};
-ghost use Rattle.agent_top.specs.OwnPassphrases.{IsOfSession, IsOwnTurn};
-ghost use Rattle.cache_policy.specs.declared.mark.Mark.{Mark};
-ghost use Rattle.counted_lock.specs.Passes.{AtPass};
+ghost use Rattle.{cache_policy.specs.declared.mark.Mark.Mark, counted_lock.specs.Passes.AtPass};
 ghost use Rattle.session_options.specs.declared.rules.Rules.{Rules};
+ghost use Rattle.agent_top.specs.{Daemon.SumsUp, OwnPassphrases.{IsOfSession, IsOwnTurn}};
 
 use agent_ports::Host;
 use agent_serve::ViewedHost;

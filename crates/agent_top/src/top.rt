@@ -4,12 +4,9 @@
 
 ghost use Rattle.std.specs.Prelude.{◌≡◌, ◌⊎◌, map, string_bytes, IfSome, IfNone, IsSome, is_some};
 ghost use Rattle.std.specs.Prelude.{false};
-ghost use Rattle.agent_core.specs.Solos.{seen};
-ghost use Rattle.pinentry_client.specs.States.{at_pinentry};
-ghost use Rattle.agent_top.specs.Cache.{limits_of, fresh_desk};
-ghost use Rattle.agent_top.specs.Words.{rules_of};
+ghost use Rattle.{agent_core.specs.Solos.seen, pinentry_client.specs.States.at_pinentry};
 ghost use Rattle.agent_ports.specs.HostParts.{AreSettled};
-ghost use Rattle.agent_top.specs.Daemon.{RunsDaemon};
+ghost use Rattle.agent_top.specs.{Cache.{limits_of, fresh_desk}, Words.rules_of, Daemon.RunsDaemon};
 ghost use Rattle.agent_top.specs.Load.{RunsLoad};
 ghost use Rattle.agent_top.specs.Top.{exit_number, machine, with_pid, IsRefusal, no_child};
 ghost use Rattle.agent_top.specs.Top.{UsesParts, KeepsParts, RunsServer, RunsInFolder, HadNoMemory};

@@ -5,8 +5,7 @@
 ghost use Rattle.std.specs.Prelude.{◌≡◌, ◌≤◌, IfOk, IfErr, Some, None, true, false, length, map};
 ghost use Rattle.std.specs.Prelude.{string_bytes};
 ghost use Rattle.agent_top.specs.Forms.{form_of, forms, number_or, path_or};
-ghost use Rattle.agent_top.specs.Options.{are_readable, flag_in};
-ghost use Rattle.agent_top.specs.Settings.{settings};
+ghost use Rattle.agent_top.specs.{Options.{are_readable, flag_in}, Settings.settings};
 ghost use Rattle.agent_top.specs.Within.{IsWithin};
 ghost use Rattle.agent_top.specs.Words.{rules_of, rules_from, rules_with, run_of, if_extra_fits};
 

@@ -1,4 +1,3 @@
-pub mod Names
 pub mod Requests
 pub mod Events
 pub mod Lines

@@ -2,11 +2,12 @@
 -- refusal has, and which words are passed over, is this project's own.
 use Rattle.std.specs.Prelude.{ℕ, ◌==◌, nat_le, nat_lt, ◌&&◌, Bool, true, false, List, [], ◌∷◌, length, codes, Option, Some, None, Result, Ok, Err, if◌then◌else◌}
 use Rattle.{agent_ports.specs.declared.grip.Grip.Grip, session_client.specs.{Fields.{◌>>=◌, in_form}, declared.code.Code.{Code, TheVariants.{NotSupported, UnknownCommand, Parameter}}}}
-use Rattle.{assuan_text.specs.{Options.{options_of, arguments_of, has_option, last_value}, Words.{command_of, rest_of, words}}, cache_policy.specs.declared.id.TheConstants.MAX_ID_LEN, hex.specs.Hex.decode_of}
-use Rattle.hex.specs.declared.error.FromHexError.{FromHexError}
-use Rattle.key_commands.specs.{Names.key_command_named, declared.{grips.TheConstants.MAX_GRIPS, names.KeyCommandName.KeyCommandName, request.{Direction.{Direction, TheVariants.{Import, Export}}, KeyRequest.KeyRequest}}}
+use Rattle.{assuan_text.specs.{Options.{options_of, arguments_of, has_option, last_value}, Words.{rest_of, words}}, cache_policy.specs.declared.id.TheConstants.MAX_ID_LEN, command_table.specs.Commands.command_in}
+use Rattle.{command_table.specs.declared.commands.{Command.Command, KeyCommandName.KeyCommandName}, hex.specs.{Hex.decode_of, declared.error.FromHexError.FromHexError}}
+use Rattle.key_commands.specs.declared.{grips.TheConstants.MAX_GRIPS, request.{Direction.{Direction, TheVariants.{Import, Export}}, KeyRequest.KeyRequest}}
 use Rattle.key_commands.specs.declared.request.KeyRequest.TheVariants.{HaveKey, KeyInfo, ListKeys, KeyWrap, ImportKey, ExportKey, Passwd, DeleteKey, Bad}
-use Rattle.key_commands.specs.declared.names.KeyCommandName.TheVariants as name
+use Rattle.command_table.specs.declared.commands.Command.TheVariants as on
+use Rattle.command_table.specs.declared.commands.KeyCommandName.TheVariants as name
 
 abbrev pub grip_of_bytes : Result (List ℕ) FromHexError → Option Grip
 grip_of_bytes (Ok bytes) = Some (record { 0 = bytes })
@@ -109,21 +110,9 @@ key_or_bad (Ok request) = request
 key_or_bad (Err code) = Bad code
 
 -- the command that the line begins with, with the rest of the line
-abbrev pub key_request_by : Option KeyCommandName → List ℕ → KeyRequest
-key_request_by (Some name) line = key_or_bad (key_asked_by name (rest_of line))
-key_request_by None line = Bad UnknownCommand
+abbrev pub key_request_by : Option Command → List ℕ → KeyRequest
+key_request_by (Some (on.Key name)) rest = key_or_bad (key_asked_by name rest)
+key_request_by _ rest = Bad UnknownCommand
 
 unfoldable pub key_request_of : List ℕ → KeyRequest
-key_request_of line = key_request_by (key_command_named (command_of line)) line
-
--- The commands that may prompt, each of which ends what its client described for prompts (SETKEYDESC of gpg-agent). The others ask nobody.
-abbrev pub may_prompt : Option KeyCommandName → Bool
-may_prompt (Some name.ImportKey) = true
-may_prompt (Some name.ExportKey) = true
-may_prompt (Some name.Passwd) = true
-may_prompt (Some name.DeleteKey) = true
-may_prompt _ = false
-
--- a line with such a command, in form or not, ends the description
-unfoldable pub ends_description : List ℕ → Bool
-ends_description line = may_prompt (key_command_named (command_of line))
+key_request_of line = key_request_by (command_in line) (rest_of line)

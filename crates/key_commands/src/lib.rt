@@ -19,7 +19,6 @@ mod importing;
 mod inquiries;
 mod key_calls;
 mod listing;
-mod names;
 mod new;
 mod nonces;
 mod old;
@@ -40,8 +39,7 @@ mod wrapping;
 
 pub use drawing::Drawn;
 pub use grips::{Grips, MAX_GRIPS};
-pub use names::{KEY_COMMANDS, KeyCommandName, key_commands_are_as_defined};
-pub use read::{may_prompt, read_key, read_key_cut};
+pub use read::{read_key, read_key_cut};
 pub use request::{Direction, KeyRequest};
 pub use run::run_key;
 pub use went::KeyWent;

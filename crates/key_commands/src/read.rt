@@ -2,63 +2,53 @@
 //! "Agent's Assuan protocol"). Pure. Begin with `read_key`, or with `read_key_cut` for a line that
 //! is cut already; both give `key_request_of` the line (`specs/Requests`).
 
-ghost use Rattle.std.specs.{Prelude.{◌≡◌, ℕ, List}, Option.option_map};
-ghost use Rattle.assuan_text.specs.Options.{options_of, arguments_of};
-ghost use Rattle.assuan_text.specs.Words.{command_of, rest_of, words};
+ghost use Rattle.std.specs.{Prelude.◌≡◌, Option.option_map};
+ghost use Rattle.assuan_text.specs.{Options.{options_of, arguments_of}, Words.words};
 ghost use Rattle.session_client.specs.Fields.{in_form};
-ghost use Rattle.key_commands.specs.Names.{key_command_named};
 ghost use Rattle.key_commands.specs.Requests.{grip, first_grip, some_grips, nonce, have_of};
 ghost use Rattle.key_commands.specs.Requests.{key_info_of, wrap_of, import_of, export_of};
-ghost use Rattle.key_commands.specs.Requests.{passwd_of, delete_of, key_asked_by, key_request_of};
-ghost use Rattle.key_commands.specs.Requests.{may_prompt};
+ghost use Rattle.key_commands.specs.Requests.{passwd_of, delete_of, key_asked_by, key_request_by};
+ghost use Rattle.key_commands.specs.Requests.{key_request_of};
 
-use crate::names::{KeyCommandName, command_named};
 use crate::{Direction, Grips, KeyRequest};
 use agent_ports::Grip;
 use assuan_server::Code;
 use assuan_text::{arguments, command_and_rest, has_option, last_value, next_word};
 use cache_policy::CacheId;
+use command_table::{Command, CutLine, KeyCommandName, command_named};
 
 const CACHE_NONCE: &[u8] = b"--cache-nonce";
 
 const PASSWD_NONCE: &[u8] = b"--passwd-nonce";
 
 /// Reads a line whose word is a command on keys. Another line is refused as an unknown command.
+#[tactic(auto, unfolding(crate::specs::Requests::key_request_of))]
 pub fn read_key(line: &[u8]) -> KeyRequest
     ensures { result ≡ key_request_of line.now }
 {
     let (word, rest) = command_and_rest(line);
-    read_key_cut(word, rest)
+    read_found(command_named(word), rest)
 }
 
-/// Reads one that is cut into its first word and what comes after it.
-pub fn read_key_cut(word: &[u8], rest: &[u8]) -> KeyRequest
-    ensures { (line : List ℕ) → word.now ≡ command_of line → rest.now ≡ rest_of line
-        → result ≡ key_request_of line }
+/// Reads one whose command is found.
+#[tactic(auto, unfolding(crate::specs::Requests::key_request_of))]
+pub fn read_key_cut(line: &CutLine<'_>) -> KeyRequest
+    ensures { result ≡ key_request_of line.now }
 {
-    let Some(name) = command_named(word) else {
+    read_found(line.command(), line.rest())
+}
+
+/// What comes after the command that was found.
+fn read_found(command: Option<Command>, rest: &[u8]) -> KeyRequest
+    ensures { result ≡ key_request_by command rest.now }
+{
+    let Some(Command::Key(name)) = command else {
         return KeyRequest::Bad(Code::UnknownCommand);
     };
     match read_command(name, rest) {
         Ok(request) => request,
         Err(code) => KeyRequest::Bad(code),
     }
-}
-
-/// Whether a line's first word is a command that may prompt, in form or not. Such a line ends what
-/// its client described for prompts (SETKEYDESC of gpg-agent), whatever it is answered.
-pub fn may_prompt(word: &[u8]) -> bool
-    ensures { result ≡ may_prompt (key_command_named word.now) }
-{
-    matches!(
-        command_named(word),
-        Some(
-            KeyCommandName::ImportKey
-                | KeyCommandName::ExportKey
-                | KeyCommandName::Passwd
-                | KeyCommandName::DeleteKey
-        )
-    )
 }
 
 /// What comes after a command of this name.

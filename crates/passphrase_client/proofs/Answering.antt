@@ -1,27 +1,13 @@
 -- A passphrase that is given was one of the replies.
-use Rattle.std.proofs.Common.{◌≡◌, ◌⊎◌, inl, inr, ◌∷◌, [], ℕ, List, Bool, true, false, Option, refl, subst, arith, rules, Contains}
-use Rattle.std.specs.Option.{is_some}
-use Rattle.std.proofs.lemmas.Bool.{false≢true}
-use Rattle.std.proofs.lemmas.List.Elements.{Contains-append_right}
-use Rattle.passphrase_client.specs.Laws.{is_question}
-use Rattle.passphrase_client.specs.Runs.{ComesTo, DoesStep, Reply, Settles, gives, goes_on, notes, holds}
-use Rattle.passphrase_client.specs.Steps.{steps_of, steps_to_give, looks}
-use Rattle.passphrase_client.specs.Verdicts.{verdict, is_one_line, emptied_verdict}
-use Rattle.passphrase_client.specs.declared.course.Course.TheVariants.{Gives}
-use Rattle.passphrase_client.specs.declared.ending.Ending.{Ending}
-use Rattle.passphrase_client.specs.declared.steps.Step.{Step}
-use Rattle.passphrase_client.specs.declared.steps.Step.TheVariants as step
-use Rattle.passphrase_client.specs.declared.verdict.Verdict.{Verdict}
-use Rattle.passphrase_client.specs.declared.verdict.Verdict.TheVariants as verdict_is
-use Rattle.passphrase_talk.specs.Contacts.{Contacts}
-use Rattle.passphrase_talk.specs.declared.connector.Agents.{Agents}
-use Rattle.passphrase_talk.specs.declared.connector.Agents.TheVariants.{One, Both}
-use Rattle.passphrase_talk.specs.declared.told.Told.{Told}
-use Rattle.passphrase_talk.specs.declared.told.Told.TheVariants as told
-use Rattle.passphrase_words.specs.Tasks.{TaskValue}
-use Rattle.passphrase_words.specs.declared.task.Act.{Act}
-use Rattle.passphrase_words.specs.declared.task.Act.TheVariants as act
+use Rattle.std.{proofs.{Common.{◌≡◌, ◌⊎◌, inl, inr, ◌∷◌, [], ℕ, List, Bool, true, false, Option, refl, subst, arith, rules, Contains}, lemmas.{Bool.false≢true, List.Elements.Contains-append_right}}, specs.Option.is_some}
+use Rattle.{passphrase_talk.specs.{Contacts.Contacts, declared.{connector.Agents.{Agents, TheVariants.{One, Both}}, told.Told.Told}}, passphrase_words.specs.{Tasks.TaskValue, declared.task.Act.Act}}
 use Rattle.session_options.specs.OptionValues.{EnvWords}
+use Rattle.passphrase_client.specs.{Laws.is_question, Runs.{ComesTo, DoesStep, Reply, Settles, gives, goes_on, notes, holds}, Steps.{steps_of, steps_to_give, looks}, Verdicts.{verdict, is_one_line, emptied_verdict}}
+use Rattle.passphrase_client.specs.declared.{course.Course.TheVariants.Gives, ending.Ending.Ending, steps.Step.Step, verdict.Verdict.Verdict}
+use Rattle.passphrase_client.specs.declared.steps.Step.TheVariants as step
+use Rattle.passphrase_client.specs.declared.verdict.Verdict.TheVariants as verdict_is
+use Rattle.passphrase_talk.specs.declared.told.Told.TheVariants as told
+use Rattle.passphrase_words.specs.declared.task.Act.TheVariants as act
 
 -- what is held is kept behind a question alone
 abbrev pub asks_first : List Step → Bool

@@ -1,7 +1,5 @@
 -- A buffer that is filled from its front, a read at a time.
-use Rattle.std.proofs.Common.{append_assoc, ◌≡◌, ◌≤◌, ◌+◌, ◌++◌, ◌∙◌, ℕ, List, length, take, drop, sym, ap, refl, Option, Some, None}
-use Rattle.std.proofs.lemmas.List.{length-take-le, take-append-le, take-append-drop}
-use Rattle.std.proofs.Math.Seq.{take-append-add}
+use Rattle.std.proofs.{Common.{append_assoc, ◌≡◌, ◌≤◌, ◌+◌, ◌++◌, ◌∙◌, ℕ, List, length, take, drop, sym, ap, refl, Option, Some, None}, lemmas.List.{length-take-le, take-append-le, take-append-drop}, Math.Seq.take-append-add}
 use Rattle.agent_ports.specs.Sides.{followed_by}
 
 pub filled : (count more : ℕ) (xs ys zs : List ℕ) → count ≤ length xs → more ≤ length ys → take (count + length ys) zs ≡ take count xs ++ ys

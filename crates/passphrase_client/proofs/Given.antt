@@ -1,24 +1,13 @@
 -- What a run gives, by its end.
 use Rattle.std.proofs.Common.{◌≡◌, ◌≢◌, ◌⊎◌, inl, inr, ℕ, List, Bool, true, false, Option, Some, None, Ok, Result, refl, subst, arith, rules}
-use Rattle.agent_ports.specs.declared.link.WriteFault.{WriteFault}
-use Rattle.passphrase_client.proofs.Answering.{answered, lists_ask_first}
-use Rattle.passphrase_client.specs.Laws.{WasAnswered}
-use Rattle.passphrase_client.specs.Runs.{GoesTo, refused_input, not_found, ended, given, ending_of, ending_of_unmet, World, ComesTo, Settles, Reply, behind_all, stops, ends, goes_on, notes, holds}
-use Rattle.passphrase_client.specs.Steps.{place_of}
-use Rattle.passphrase_client.specs.Verdicts.{verdict, end_of, failure, emptied_verdict, first_of, stops_at}
-use Rattle.passphrase_client.specs.declared.course.Course.TheVariants.{Ends}
-use Rattle.passphrase_client.specs.declared.ending.Ending.{Ending}
-use Rattle.passphrase_client.specs.declared.ending.Ending.TheVariants as ending
-use Rattle.passphrase_client.specs.declared.input.InputFault.{InputFault}
-use Rattle.passphrase_client.specs.declared.steps.Step.{Step}
-use Rattle.passphrase_client.specs.declared.steps.Step.TheVariants.{Forget}
-use Rattle.passphrase_client.specs.declared.verdict.Verdict.TheVariants as verdict_is
-use Rattle.passphrase_talk.specs.Contacts.{Contacts}
-use Rattle.passphrase_talk.specs.declared.connector.Unmet.{Unmet}
-use Rattle.passphrase_talk.specs.declared.told.Told.{Told}
-use Rattle.passphrase_words.specs.Tasks.{TaskValue}
-use Rattle.passphrase_words.specs.declared.task.Act.{Act}
+use Rattle.{agent_ports.specs.declared.link.WriteFault.WriteFault, passphrase_talk.specs.{Contacts.Contacts, declared.{connector.Unmet.Unmet, told.Told.Told}}, passphrase_words.specs.{Tasks.TaskValue, declared.task.Act.Act}}
 use Rattle.session_options.specs.OptionValues.{EnvWords}
+use Rattle.passphrase_client.{proofs.Answering.{answered, lists_ask_first}, specs.Laws.WasAnswered}
+use Rattle.passphrase_client.specs.{Runs.{GoesTo, refused_input, not_found, ended, given, ending_of, ending_of_unmet, World, ComesTo, Settles, Reply, behind_all, stops, ends, goes_on, notes, holds}, Steps.place_of}
+use Rattle.passphrase_client.specs.{Verdicts.{verdict, end_of, failure, emptied_verdict, first_of, stops_at}, declared.{course.Course.TheVariants.Ends, ending.Ending.Ending, input.InputFault.InputFault, steps.Step.Step}}
+use Rattle.passphrase_client.specs.declared.steps.Step.TheVariants.{Forget}
+use Rattle.passphrase_client.specs.declared.ending.Ending.TheVariants as ending
+use Rattle.passphrase_client.specs.declared.verdict.Verdict.TheVariants as verdict_is
 
 -- no end of steps says that a passphrase was given, or that none could be written
 pub record IsOfSteps (it : Ending) : Type 0 where

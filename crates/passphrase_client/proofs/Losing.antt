@@ -1,36 +1,17 @@
 -- What failed where a run ends without an agent, or with one that was lost.
 use Rattle.std.proofs.Common.{◌≡◌, ◌≤◌, ◌⊎◌, inl, inr, ℕ, List, Bool, true, false, Option, Some, None, Ok, Err, Result, refl, arith, rules, sym, ap, ◌∙◌}
-use Rattle.agent_ports.specs.Counts.{Rose}
-use Rattle.agent_ports.specs.Sides.{Side}
-use Rattle.agent_ports.specs.Writing.{Writes}
-use Rattle.agent_ports.specs.declared.link.WriteFault.{WriteFault}
+use Rattle.{agent_ports.specs.{Counts.Rose, Sides.Side, Writing.Writes, declared.link.WriteFault.WriteFault}, passphrase_talk.{proofs.Connected.never_unmet, specs.{Contacts.Contacts, Visits.{Visits, no_memory, unmet, met}}}}
+use Rattle.{passphrase_talk.specs.declared.{connector.{Place.Place, Unmet.Unmet, Waits.Waits}, told.{Loss.Loss, Told.Told}}, passphrase_words.specs.{Requests.line_of_request, Tasks.TaskValue, declared.task.Act.Act}}
+use Rattle.session_options.specs.OptionValues.{EnvWords}
 use Rattle.passphrase_client.proofs.Given.{steps_end, none_noted}
 use Rattle.passphrase_client.specs.Runs.{GoesTo, refused_input, not_found, ended, given, ending_of, ending_of_unmet, World, ComesTo, Reply, Settles, behind_all, stops, ends, goes_on, notes, holds, DoesStep}
-use Rattle.passphrase_client.specs.Steps.{place_of, waits_of, request_of}
-use Rattle.passphrase_client.specs.Verdicts.{verdict, end_of, failure, emptied_verdict, stops_at, first_of}
-use Rattle.passphrase_client.specs.declared.course.Course.TheVariants.{Ends}
-use Rattle.passphrase_client.specs.declared.ending.Ending.{Ending}
+use Rattle.passphrase_client.specs.{Steps.{place_of, waits_of, request_of}, Verdicts.{verdict, end_of, failure, emptied_verdict, stops_at, first_of}, declared.{course.Course.TheVariants.Ends, ending.Ending.Ending}}
+use Rattle.passphrase_client.specs.declared.{input.InputFault.InputFault, steps.Step.{Step, TheVariants.Forget}, verdict.Verdict.Verdict}
 use Rattle.passphrase_client.specs.declared.ending.Ending.TheVariants as ending
-use Rattle.passphrase_client.specs.declared.input.InputFault.{InputFault}
-use Rattle.passphrase_client.specs.declared.steps.Step.{Step}
-use Rattle.passphrase_client.specs.declared.steps.Step.TheVariants.{Forget}
-use Rattle.passphrase_client.specs.declared.verdict.Verdict.{Verdict}
 use Rattle.passphrase_client.specs.declared.verdict.Verdict.TheVariants as verdict_is
-use Rattle.passphrase_talk.proofs.Connected.{never_unmet}
-use Rattle.passphrase_talk.specs.Contacts.{Contacts}
-use Rattle.passphrase_talk.specs.Visits.{Visits, no_memory, unmet, met}
-use Rattle.passphrase_talk.specs.declared.connector.Place.{Place}
-use Rattle.passphrase_talk.specs.declared.connector.Unmet.{Unmet}
 use Rattle.passphrase_talk.specs.declared.connector.Unmet.TheVariants as why
-use Rattle.passphrase_talk.specs.declared.connector.Waits.{Waits}
-use Rattle.passphrase_talk.specs.declared.told.Loss.{Loss}
 use Rattle.passphrase_talk.specs.declared.told.Loss.TheVariants as loss
-use Rattle.passphrase_talk.specs.declared.told.Told.{Told}
 use Rattle.passphrase_talk.specs.declared.told.Told.TheVariants as told
-use Rattle.passphrase_words.specs.Requests.{line_of_request}
-use Rattle.passphrase_words.specs.Tasks.{TaskValue}
-use Rattle.passphrase_words.specs.declared.task.Act.{Act}
-use Rattle.session_options.specs.OptionValues.{EnvWords}
 
 -- the agent broke the protocol or ended, or a count rose
 pub data IsCounted (it : Loss) (before after : Contacts) : Type 0 where

@@ -1,10 +1,6 @@
 -- What a write of bytes leaves, whole or in part.
 use Rattle.std.proofs.Common.{◌≡◌, ◌≤◌, ℕ, List, take, drop, sym, take-append-drop}
-use Rattle.agent_ports.specs.Counts.{Rose}
-use Rattle.agent_ports.specs.Sides.{Side, with_bytes, sent_part, IsCut}
-use Rattle.agent_ports.specs.Writing.{Writes, whole_of}
-use Rattle.agent_ports.specs.declared.link.Sent.{Sent}
-use Rattle.agent_ports.specs.declared.link.Sent.TheVariants.{All, Failed}
+use Rattle.agent_ports.specs.{Counts.Rose, Sides.{Side, with_bytes, sent_part, IsCut}, Writing.{Writes, whole_of}, declared.link.Sent.{Sent, TheVariants.{All, Failed}}}
 
 pub put_writes : (bytes : List ℕ) (before after : Side) (sent : Sent) → after.bytes ≡ with_bytes before.bytes (sent_part bytes sent)
     → (IsCut sent → Rose before.faults after.faults) → before.faults ≤ after.faults → Writes bytes before (whole_of sent) after

@@ -1,37 +1,17 @@
 -- What a run needs to end with status 1.
-use Rattle.std.proofs.Common.{◌≡◌, ◌⊎◌, inl, inr, ℕ, List, [], ◌∷◌, Bool, true, false, Option, Some, None, Err, Result, refl, ap, sym, ◌∙◌, arith, rules}
-use Rattle.std.specs.Prelude.{◌||◌, ◌&&◌, not}
-use Rattle.std.specs.List.{list_all, list_any}
-use Rattle.std.specs.Option.{is_some}
-use Rattle.std.proofs.lemmas.Bool.{false≢true}
-use Rattle.agent_ports.specs.declared.link.WriteFault.{WriteFault}
-use Rattle.passphrase_client.proofs.Answering.{emptied_notes, emptied_holds}
-use Rattle.passphrase_client.proofs.Given.{first_noted, stop_is_noted}
-use Rattle.passphrase_client.specs.Endings.{status_of}
-use Rattle.passphrase_client.specs.Laws.{refuses, misses, is_refusal, is_missed, WasRefused, unfound, refused_step, nothing_kept}
+use Rattle.std.{proofs.{Common.{◌≡◌, ◌⊎◌, inl, inr, ℕ, List, [], ◌∷◌, Bool, true, false, Option, Some, None, Err, Result, refl, ap, sym, ◌∙◌, arith, rules}, lemmas.Bool.false≢true}, specs.Prelude.{◌||◌, ◌&&◌, not}}
+use Rattle.std.specs.{List.{list_all, list_any}, Option.is_some}
+use Rattle.{agent_ports.specs.declared.link.WriteFault.WriteFault, passphrase_talk.specs.{Contacts.Contacts, declared.{connector.{Agents.{Agents, TheVariants.{One, Both}}, Place.Place, Unmet.Unmet}, told.Told.Told}}}
+use Rattle.{passphrase_words.specs.{Requests.act_ttl, Tasks.TaskValue, declared.task.Act.Act}, session_options.specs.OptionValues.EnvWords}
+use Rattle.passphrase_client.{proofs.{Answering.{emptied_notes, emptied_holds}, Given.{first_noted, stop_is_noted}}, specs.{Endings.status_of, Laws.{refuses, misses, is_refusal, is_missed, WasRefused, unfound, refused_step, nothing_kept}}}
 use Rattle.passphrase_client.specs.Runs.{GoesTo, refused_input, not_found, ended, given, ending_of, ending_of_unmet, World, HasRun, ComesTo, Reply, Settles, TakesSteps, Finds, behind_all, stops, ends, goes_on, notes, holds}
-use Rattle.passphrase_client.specs.Steps.{steps_of, steps_to_give, looks}
-use Rattle.passphrase_client.specs.Verdicts.{verdict, end_of, emptied_verdict, first_of, stops_at, empties, looks_alone}
-use Rattle.passphrase_client.specs.declared.course.Course.TheVariants.{Ends}
-use Rattle.passphrase_client.specs.declared.ending.Ending.{Ending}
+use Rattle.passphrase_client.specs.{Steps.{steps_of, steps_to_give, looks}, Verdicts.{verdict, end_of, emptied_verdict, first_of, stops_at, empties, looks_alone}, declared.{course.Course.TheVariants.Ends, ending.Ending.Ending}}
+use Rattle.passphrase_client.specs.declared.{input.InputFault.InputFault, steps.Step.Step, verdict.Verdict.Verdict}
 use Rattle.passphrase_client.specs.declared.ending.Ending.TheVariants as ending
-use Rattle.passphrase_client.specs.declared.input.InputFault.{InputFault}
-use Rattle.passphrase_client.specs.declared.steps.Step.{Step}
 use Rattle.passphrase_client.specs.declared.steps.Step.TheVariants as step
-use Rattle.passphrase_client.specs.declared.verdict.Verdict.{Verdict}
 use Rattle.passphrase_client.specs.declared.verdict.Verdict.TheVariants as verdict_is
-use Rattle.passphrase_talk.specs.Contacts.{Contacts}
-use Rattle.passphrase_talk.specs.declared.connector.Agents.{Agents}
-use Rattle.passphrase_talk.specs.declared.connector.Agents.TheVariants.{One, Both}
-use Rattle.passphrase_talk.specs.declared.connector.Place.{Place}
-use Rattle.passphrase_talk.specs.declared.connector.Unmet.{Unmet}
 use Rattle.passphrase_talk.specs.declared.connector.Unmet.TheVariants as unmet
-use Rattle.passphrase_talk.specs.declared.told.Told.{Told}
-use Rattle.passphrase_words.specs.Requests.{act_ttl}
-use Rattle.passphrase_words.specs.Tasks.{TaskValue}
-use Rattle.passphrase_words.specs.declared.task.Act.{Act}
 use Rattle.passphrase_words.specs.declared.task.Act.TheVariants as act
-use Rattle.session_options.specs.OptionValues.{EnvWords}
 
 verdict_refuses : (act : Act) (held : List ℕ) (at : Step) (reply : Told) (it : Ending) → verdict_is.Ends it ≡ verdict act held at reply → status_of it ≡ 1 → refuses at reply ≡ true
 verdict_refuses act held at reply it is one = grind (arith, rules)

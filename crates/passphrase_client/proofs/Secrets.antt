@@ -1,12 +1,8 @@
 -- The passphrase on the input, of which not all bytes are read where they are too many.
 use Rattle.std.proofs.Common.{◌≡◌, ◌⊎◌, inl, inr, ◌≤◌, ◌<◌, ◌++◌, ◌∙◌, ℕ, List, [], length, take, sym, ap, arith, rules, append-nil, Option, Some, None, IfSome, IfOk, IfErr, MatchResult, Result, Ok, Err}
-use Rattle.std.proofs.lemmas.List.{length-take-le, length-append}
-use Rattle.std.proofs.Math.Nat.{eq-or-lt_of_le}
-use Rattle.agent_ports.specs.Sides.{Side, followed_by}
-use Rattle.agent_ports.specs.Counts.{Rose}
-use Rattle.passphrase_client.specs.Inputs.{TakesSecret, secret_of, without_end}
-use Rattle.passphrase_client.specs.declared.input.InputFault.{InputFault}
-use Rattle.passphrase_client.specs.declared.input.InputFault.TheVariants.{Unread, TooLong}
+use Rattle.std.proofs.{lemmas.List.{length-take-le, length-append}, Math.Nat.eq-or-lt_of_le}
+use Rattle.agent_ports.specs.{Sides.{Side, followed_by}, Counts.Rose}
+use Rattle.passphrase_client.specs.{Inputs.{TakesSecret, secret_of, without_end}, declared.input.InputFault.{InputFault, TheVariants.{Unread, TooLong}}}
 
 -- the bytes decide, and never that they weren't read
 pub never_unread : (text : List ℕ) → secret_of text ≡ Err Unread → ⊥

@@ -1,11 +1,8 @@
 -- What a run comes to, and the status of the process for it.
 use Rattle.std.specs.Prelude.{ℕ, ◌||◌, ◌%◌, ◌^◌, ◌==◌, Bool, nat_le, if◌then◌else◌}
-use Rattle.passphrase_client.specs.declared.ending.Cause.{Cause}
+use Rattle.passphrase_client.specs.declared.{ending.{Cause.Cause, Ending.Ending}, steps.Step.{Step, TheVariants.{Look, Ask, Forget, Store, Probe, Keep}}}
 use Rattle.passphrase_client.specs.declared.ending.Cause.TheVariants as cause
-use Rattle.passphrase_client.specs.declared.ending.Ending.{Ending}
 use Rattle.passphrase_client.specs.declared.ending.Ending.TheVariants as ending
-use Rattle.passphrase_client.specs.declared.steps.Step.{Step}
-use Rattle.passphrase_client.specs.declared.steps.Step.TheVariants.{Look, Ask, Forget, Store, Probe, Keep}
 
 -- The status: 0 where all was done, 1 where the agent refused or the passphrase can't be given, 2 where the input is refused or the output
 -- can't be written, and 3 where there is no agent, or it was lost.

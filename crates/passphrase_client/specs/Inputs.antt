@@ -1,11 +1,7 @@
 -- The passphrase on standard input, which is to be stored: one line, whose line feed may be missing. What may stand in it is this project's own rule.
 use Rattle.std.specs.Prelude.{◌≡◌, ◌≤◌, ℕ, ◌-◌, ◌==◌, List, length, take, slice_index, nat_lt, if◌then◌else◌, Result, Ok, Err, IfSome}
-use Rattle.agent_ports.specs.Counts.{Rose}
-use Rattle.agent_ports.specs.Sides.{Side}
-use Rattle.cache_policy.specs.declared.secret.TheConstants.{MAX_SECRET_LEN}
-use Rattle.passphrase_client.specs.Verdicts.{is_one_line}
-use Rattle.passphrase_client.specs.declared.input.InputFault.{InputFault}
-use Rattle.passphrase_client.specs.declared.input.InputFault.TheVariants.{Unread, Empty, TooLong, NotOneLine}
+use Rattle.{agent_ports.specs.{Counts.Rose, Sides.Side}, cache_policy.specs.declared.secret.TheConstants.MAX_SECRET_LEN}
+use Rattle.passphrase_client.specs.{Verdicts.is_one_line, declared.input.InputFault.{InputFault, TheVariants.{Unread, Empty, TooLong, NotOneLine}}}
 
 -- the bytes without a line feed at their end
 abbrev pub without_end : List ℕ → List ℕ

@@ -1,19 +1,10 @@
 -- What holds of every run.
-use Rattle.std.specs.Prelude.{◌≡◌, ◌&&◌, ◌%◌, ◌^◌, ◌==◌, not, ℕ, Bool, true, false, List, Contains, Some, Err}
-use Rattle.std.specs.List.{list_all, list_any}
-use Rattle.agent_ports.specs.Sides.{with_bytes}
-use Rattle.passphrase_client.specs.Runs.{World, TakesSteps, Finds, Reply, given_text}
-use Rattle.passphrase_client.specs.Verdicts.{is_one_line, looks_alone}
-use Rattle.passphrase_client.specs.declared.course.Course.TheVariants.{Gives, Ends}
-use Rattle.passphrase_client.specs.declared.ending.Ending.{Ending}
-use Rattle.passphrase_client.specs.declared.steps.Step.{Step}
+use Rattle.std.specs.{Prelude.{◌≡◌, ◌&&◌, ◌%◌, ◌^◌, ◌==◌, not, ℕ, Bool, true, false, List, Contains, Some, Err}, List.{list_all, list_any}}
+use Rattle.{agent_ports.specs.Sides.with_bytes, passphrase_talk.specs.declared.told.Told.{Told, TheVariants.Passphrase}, passphrase_words.specs.Tasks.TaskValue, session_options.specs.OptionValues.EnvWords}
+use Rattle.passphrase_client.specs.{Runs.{World, TakesSteps, Finds, Reply, given_text}, Verdicts.{is_one_line, looks_alone}, declared.{course.Course.TheVariants.{Gives, Ends}, ending.Ending.Ending, steps.Step.Step}}
 use Rattle.passphrase_client.specs.declared.steps.Step.TheVariants as step
 use Rattle.passphrase_talk.specs.declared.connector.Unmet.TheVariants as unmet
-use Rattle.passphrase_talk.specs.declared.told.Told.{Told}
-use Rattle.passphrase_talk.specs.declared.told.Told.TheVariants.{Passphrase}
 use Rattle.passphrase_talk.specs.declared.told.Told.TheVariants as told
-use Rattle.passphrase_words.specs.Tasks.{TaskValue}
-use Rattle.session_options.specs.OptionValues.{EnvWords}
 
 -- what is kept is asked for, or the user is asked for it
 abbrev pub is_question : Step → Bool

@@ -1,13 +1,10 @@
 -- What the error stream says of a run's end, in words for a user: this project's own.
 use Rattle.std.specs.Prelude.{ℕ, List, [], ◌∷◌, ◌++◌, codes, decimal}
-use Rattle.passphrase_client.specs.declared.ending.Cause.{Cause}
-use Rattle.passphrase_client.specs.declared.ending.Cause.TheVariants as cause
-use Rattle.passphrase_client.specs.declared.ending.Ending.{Ending}
-use Rattle.passphrase_client.specs.declared.ending.Ending.TheVariants as ending
-use Rattle.passphrase_client.specs.declared.input.InputFault.{InputFault}
-use Rattle.passphrase_client.specs.declared.input.InputFault.TheVariants as input
-use Rattle.passphrase_client.specs.declared.message.Sentence.{Sentence}
 use Rattle.passphrase_talk.specs.declared.told.Loss.{Loss}
+use Rattle.passphrase_client.specs.declared.{ending.{Cause.Cause, Ending.Ending}, input.InputFault.InputFault, message.Sentence.Sentence}
+use Rattle.passphrase_client.specs.declared.ending.Cause.TheVariants as cause
+use Rattle.passphrase_client.specs.declared.ending.Ending.TheVariants as ending
+use Rattle.passphrase_client.specs.declared.input.InputFault.TheVariants as input
 use Rattle.passphrase_talk.specs.declared.told.Loss.TheVariants as loss
 
 -- why the agent refused, where this is the id

@@ -1,40 +1,14 @@
 -- A run of the command: from its words to what it wrote, with its status.
 use Rattle.std.specs.Prelude.{◌≡◌, ◌≤◌, ◌∷◌, ℕ, Bool, true, false, List, [], Option, Some, None, Result, Ok, Err}
-use Rattle.agent_ports.specs.Counts.{Rose}
-use Rattle.agent_ports.specs.Sides.{Side}
-use Rattle.agent_ports.specs.Writing.{Writes}
-use Rattle.agent_ports.specs.declared.link.WriteFault.{WriteFault}
-use Rattle.session_options.specs.OptionValues.{EnvWords}
-use Rattle.passphrase_client.specs.Endings.{status_of}
-use Rattle.passphrase_client.specs.Inputs.{TakesSecret}
-use Rattle.passphrase_client.specs.Messages.{message_of, said}
-use Rattle.passphrase_client.specs.Steps.{steps_of, place_of, waits_of, request_of}
-use Rattle.passphrase_client.specs.Verdicts.{verdict, end_of, failure, empties, emptied_verdict, stops_at, first_of}
-use Rattle.passphrase_client.specs.declared.course.Course.{Course}
-use Rattle.passphrase_client.specs.declared.course.Course.TheVariants.{Gives, Ends}
-use Rattle.passphrase_client.specs.declared.ending.Ending.{Ending}
+use Rattle.{agent_ports.specs.{Counts.Rose, Sides.Side, Writing.Writes, declared.link.WriteFault.WriteFault}, session_options.specs.OptionValues.EnvWords, passphrase_talk.specs.{Contacts.{Contacts, then_sought}, Visits.Visits}}
+use Rattle.{passphrase_talk.specs.declared.{connector.{Agents.Agents, Unmet.Unmet, Waits.TheVariants.Answer}, told.Told.Told}, passphrase_words.specs.{Refusals.{Refuses, askpass_fault}, Requests.{line_of_request, Clears as ClearsRequest}}}
+use Rattle.{passphrase_words.specs.{Tasks.{TaskValue, WantedValue, WantsHelp, WantsVersion, WantsTask}, Words.{Reads, ReadsAskpass}, declared.{task.Act.Act, words.TheConstants.USAGE}}, assuan_text.specs.LineEnds.line_of}
+use Rattle.passphrase_client.specs.{Endings.status_of, Inputs.TakesSecret, Messages.{message_of, said}, Steps.{steps_of, place_of, waits_of, request_of}, Verdicts.{verdict, end_of, failure, empties, emptied_verdict, stops_at, first_of}}
+use Rattle.passphrase_client.specs.declared.{course.Course.{Course, TheVariants.{Gives, Ends}}, ending.Ending.Ending, input.InputFault.InputFault, run.TheConstants.VERSION, steps.Step.{Step, TheVariants.Forget}, verdict.Verdict.Verdict}
 use Rattle.passphrase_client.specs.declared.ending.Ending.TheVariants as ending
-use Rattle.passphrase_client.specs.declared.input.InputFault.{InputFault}
-use Rattle.passphrase_client.specs.declared.run.TheConstants.{VERSION}
-use Rattle.passphrase_client.specs.declared.steps.Step.{Step}
-use Rattle.passphrase_client.specs.declared.steps.Step.TheVariants.{Forget}
-use Rattle.passphrase_client.specs.declared.verdict.Verdict.{Verdict}
 use Rattle.passphrase_client.specs.declared.verdict.Verdict.TheVariants as verdict_is
-use Rattle.passphrase_talk.specs.Contacts.{Contacts, then_sought}
-use Rattle.passphrase_talk.specs.Visits.{Visits}
-use Rattle.passphrase_talk.specs.declared.connector.Agents.{Agents}
-use Rattle.passphrase_talk.specs.declared.connector.Unmet.{Unmet}
 use Rattle.passphrase_talk.specs.declared.connector.Unmet.TheVariants as unmet
-use Rattle.passphrase_talk.specs.declared.connector.Waits.TheVariants.{Answer}
-use Rattle.passphrase_talk.specs.declared.told.Told.{Told}
-use Rattle.passphrase_words.specs.Refusals.{Refuses, askpass_fault}
-use Rattle.passphrase_words.specs.Requests.{line_of_request, Clears as ClearsRequest}
-use Rattle.passphrase_words.specs.Tasks.{TaskValue, WantedValue, WantsHelp, WantsVersion, WantsTask}
-use Rattle.passphrase_words.specs.Words.{Reads, ReadsAskpass}
-use Rattle.passphrase_words.specs.declared.task.Act.{Act}
 use Rattle.passphrase_words.specs.declared.task.Act.TheVariants as act
-use Rattle.passphrase_words.specs.declared.words.TheConstants.{USAGE}
-use Rattle.assuan_text.specs.LineEnds.{line_of}
 
 -- what a step's reply makes of the run: where it is an empty passphrase that would have been given, the agent is asked to forget it
 abbrev pub Settles : Bool → TaskValue → EnvWords → Step → List ℕ → Told → Verdict → Contacts → Contacts → Type 0

@@ -1,18 +1,10 @@
 -- What a run does at the agents that answer, in order. Which steps an act has is this project's own rule.
-use Rattle.std.specs.Prelude.{Bool, true, false, List, [], ◌∷◌, ℕ, None}
-use Rattle.std.specs.Option.{is_some}
-use Rattle.passphrase_talk.specs.declared.connector.Agents.{Agents}
-use Rattle.passphrase_talk.specs.declared.connector.Agents.TheVariants.{One, Both}
-use Rattle.passphrase_talk.specs.declared.connector.Place.{Place}
-use Rattle.passphrase_talk.specs.declared.connector.Place.TheVariants.{Home, Beside}
-use Rattle.passphrase_talk.specs.declared.connector.Waits.{Waits}
-use Rattle.passphrase_talk.specs.declared.connector.Waits.TheVariants.{Answer, Prompt}
-use Rattle.passphrase_words.specs.Requests.{RequestValue, act_ttl}
+use Rattle.std.specs.{Prelude.{Bool, true, false, List, [], ◌∷◌, ℕ, None}, Option.is_some}
+use Rattle.passphrase_talk.specs.declared.connector.{Agents.{Agents, TheVariants.{One, Both}}, Place.{Place, TheVariants.{Home, Beside}}, Waits.{Waits, TheVariants.{Answer, Prompt}}}
+use Rattle.passphrase_words.specs.{Requests.{RequestValue, act_ttl}, declared.task.Act.Act}
+use Rattle.passphrase_client.specs.declared.steps.Step.{Step, TheVariants.{Look, Ask, Forget, Store, Probe, Keep}}
 use Rattle.passphrase_words.specs.Requests as request
-use Rattle.passphrase_words.specs.declared.task.Act.{Act}
 use Rattle.passphrase_words.specs.declared.task.Act.TheVariants as act
-use Rattle.passphrase_client.specs.declared.steps.Step.{Step}
-use Rattle.passphrase_client.specs.declared.steps.Step.TheVariants.{Look, Ask, Forget, Store, Probe, Keep}
 
 -- what is kept is asked for, at each agent that answers
 abbrev pub looks : Agents → List Step

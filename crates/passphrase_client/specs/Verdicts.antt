@@ -1,21 +1,12 @@
 -- What the reply to a step makes of a run: this project's own rules.
-use Rattle.std.specs.Prelude.{ℕ, ◌&&◌, not, ◌==◌, Bool, true, false, List, Option, Some, None, if◌then◌else◌}
-use Rattle.std.specs.List.{list_all}
-use Rattle.passphrase_client.specs.Endings.{cause_of}
+use Rattle.std.specs.{Prelude.{ℕ, ◌&&◌, not, ◌==◌, Bool, true, false, List, Option, Some, None, if◌then◌else◌}, List.list_all}
+use Rattle.{passphrase_talk.specs.declared.{connector.Place.{Place, TheVariants.{Home, Beside}}, told.Told.Told}, passphrase_words.specs.{Requests.act_ttl, declared.task.Act.Act}}
+use Rattle.passphrase_client.specs.{Endings.cause_of, declared.{ending.Ending.Ending, steps.Step.Step, verdict.Verdict.{Verdict, TheVariants.{GoesOn, Notes, Holds, Gives, Ends}}}}
 use Rattle.passphrase_client.specs.declared.ending.Cause.TheVariants as cause
-use Rattle.passphrase_client.specs.declared.ending.Ending.{Ending}
 use Rattle.passphrase_client.specs.declared.ending.Ending.TheVariants as ending
-use Rattle.passphrase_client.specs.declared.steps.Step.{Step}
 use Rattle.passphrase_client.specs.declared.steps.Step.TheVariants as step
-use Rattle.passphrase_client.specs.declared.verdict.Verdict.{Verdict}
-use Rattle.passphrase_client.specs.declared.verdict.Verdict.TheVariants.{GoesOn, Notes, Holds, Gives, Ends}
-use Rattle.passphrase_talk.specs.declared.connector.Place.{Place}
-use Rattle.passphrase_talk.specs.declared.connector.Place.TheVariants.{Home, Beside}
 use Rattle.passphrase_talk.specs.declared.told.Loss.TheVariants as loss
-use Rattle.passphrase_talk.specs.declared.told.Told.{Told}
 use Rattle.passphrase_talk.specs.declared.told.Told.TheVariants as told
-use Rattle.passphrase_words.specs.Requests.{act_ttl}
-use Rattle.passphrase_words.specs.declared.task.Act.{Act}
 use Rattle.passphrase_words.specs.declared.task.Act.TheVariants as act
 
 -- a passphrase that can be given has neither a NUL nor a line feed

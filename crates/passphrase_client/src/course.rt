@@ -3,11 +3,9 @@
 //! `ComesTo` (`specs/Runs`), and what each reply makes of it is in `verdict.rt`.
 
 ghost use Rattle.std.specs.Prelude.{◌≡◌, List};
+ghost use Rattle.passphrase_talk.specs.{Visits.Visits, declared.connector.Waits.TheVariants.Answer};
+ghost use Rattle.passphrase_words.specs.{Requests.{line_of_request, Clears}, Tasks.task_value};
 ghost use Rattle.passphrase_client.specs.Runs.{ComesTo, DoesStep, Reply};
-ghost use Rattle.passphrase_talk.specs.Visits.{Visits};
-ghost use Rattle.passphrase_talk.specs.declared.connector.Waits.TheVariants.{Answer};
-ghost use Rattle.passphrase_words.specs.Requests.{line_of_request, Clears};
-ghost use Rattle.passphrase_words.specs.Tasks.{task_value};
 
 use crate::ending::Ending;
 use crate::steps::Step;

@@ -2,10 +2,9 @@
 //! and overwrites what it read. Begin with `take_secret`; what it takes is `TakesSecret`
 //! (`specs/Inputs`).
 
-ghost use Rattle.std.specs.Prelude.{◌≡◌, ◌≤◌, ◌<◌, ◌++◌, length, take, [], MatchResult, IfSome, IfOk};
-ghost use Rattle.std.specs.Prelude.{IfErr, Err};
-ghost use Rattle.agent_ports.specs.Counts.{Rose};
-ghost use Rattle.agent_ports.specs.Sides.{followed_by};
+ghost use Rattle.std.specs.Prelude.{◌≡◌, ◌≤◌, ◌<◌, ◌++◌, length, take, [], MatchResult, IfSome};
+ghost use Rattle.std.specs.Prelude.{IfOk, IfErr, Err};
+ghost use Rattle.agent_ports.specs.{Counts.Rose, Sides.followed_by};
 ghost use Rattle.passphrase_client.specs.Inputs.{TakesSecret, without_end, secret_of};
 
 use crate::verdict::is_one_line;

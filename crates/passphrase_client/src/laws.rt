@@ -3,12 +3,11 @@
 //! `what_is_given_was_answered`; definitions are in `specs/Laws` and `specs/Runs`.
 
 ghost use Rattle.std.specs.Prelude.{◌≡◌, ◌≢◌, ◌⊎◌, List, ℕ};
-ghost use Rattle.agent_ports.specs.Counts.{Rose};
-ghost use Rattle.passphrase_client.specs.Laws.{WasAnswered, WasRefused};
-ghost use Rattle.passphrase_client.specs.Runs.{GoesTo, HasRun, World};
-ghost use Rattle.passphrase_talk.specs.declared.told.Loss.{Loss};
+ghost use Rattle.{agent_ports.specs.Counts.Rose, passphrase_talk.specs.declared.told.Loss.Loss};
 ghost use Rattle.passphrase_words.specs.Tasks.{TaskValue};
 ghost use Rattle.session_options.specs.OptionValues.{EnvWords};
+ghost use Rattle.passphrase_client.specs.Laws.{WasAnswered, WasRefused};
+ghost use Rattle.passphrase_client.specs.Runs.{GoesTo, HasRun, World};
 
 use crate::Ending;
 use passphrase_talk::Loss;

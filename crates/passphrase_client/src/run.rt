@@ -2,18 +2,13 @@
 //! passphrase written. It works on the connector and the three standard streams. Begin with
 //! `run_passphrase`; what a run is says `RunsBy` (`specs/Runs`), and its status `specs/Endings`.
 
-ghost use Rattle.std.specs.Prelude.{◌≡◌, ◌≤◌, cond, map, string_bytes};
-ghost use Rattle.agent_ports.specs.Writing.{Writes};
+ghost use Rattle.std.specs.Prelude.{◌≡◌, ◌≤◌, cond, map, string_bytes, List, ℕ};
+ghost use Rattle.agent_ports.specs.{Writing.Writes, Sides.Side};
+ghost use Rattle.{assuan_text.specs.LineEnds.line_of, passphrase_talk.specs.Contacts.Contacts};
+ghost use Rattle.passphrase_words.specs.{Faults.fault_text, Tasks.task_value};
 ghost use Rattle.passphrase_client.specs.Runs.{RunsBy, RunsAskpass, HasRun, HasTold, HasRefused};
 ghost use Rattle.passphrase_client.specs.Runs.{GoesTo, TakesHeld, Says, given_text, ending_of};
-ghost use Rattle.passphrase_client.specs.Runs.{ending_of_unmet};
-ghost use Rattle.std.specs.Prelude.{List, ℕ};
-ghost use Rattle.agent_ports.specs.Sides.{Side};
-ghost use Rattle.assuan_text.specs.LineEnds.{line_of};
-ghost use Rattle.passphrase_talk.specs.Contacts.{Contacts};
-ghost use Rattle.passphrase_client.specs.Messages.{said};
-ghost use Rattle.passphrase_words.specs.Faults.{fault_text};
-ghost use Rattle.passphrase_words.specs.Tasks.{task_value};
+ghost use Rattle.passphrase_client.specs.{Runs.ending_of_unmet, Messages.said};
 
 use crate::course::{Course, come_to};
 use crate::ending::Ending;

@@ -1,11 +1,10 @@
 //! The steps of an act: which requests are made, of which agent, in which order. Pure. Begin with
 //! `steps_of`, which `specs/Steps` defines; `course.rt` takes them.
 
-ghost use Rattle.std.specs.Prelude.{◌≡◌, Bool};
-ghost use Rattle.std.specs.Option.{is_some};
-ghost use Rattle.passphrase_client.specs.Steps.{steps_of, steps_to_give, looks, forgets};
-ghost use Rattle.passphrase_client.specs.Steps.{place_of, waits_of, request_of};
+ghost use Rattle.std.specs.{Prelude.{◌≡◌, Bool}, Option.is_some};
 ghost use Rattle.passphrase_words.specs.Requests.{request_value};
+ghost use Rattle.passphrase_client.specs.Steps.{steps_of, steps_to_give, looks, forgets, place_of};
+ghost use Rattle.passphrase_client.specs.Steps.{waits_of, request_of};
 
 use Step::{Ask, Forget, Keep, Look, Probe, Store};
 use cache_policy::Secret;

@@ -4,8 +4,7 @@
 //! are found is in `asked.rt`.
 
 ghost use Rattle.std.specs.Prelude.{◌≡◌, ◌≤◌, None, string_bytes};
-ghost use Rattle.agent_ports.specs.Counts.{Rose};
-ghost use Rattle.session_options.specs.OptionValues.{words_of};
+ghost use Rattle.{agent_ports.specs.Counts.Rose, session_options.specs.OptionValues.words_of};
 
 use crate::asked::{Asked, Found, Opened, find_agents};
 use crate::failure::{Failure, said};

@@ -2,7 +2,7 @@
 use Rattle.std.proofs.Common.{◌≡◌, ◌≢◌, ℕ, Bool, true, false, cond, List, [], ◌∷◌, ◌++◌, codes, Option, Some, None, Ok, refl, ap, sym, ◌∙◌, arith, append_assoc}
 use Rattle.agent_ask.specs.Plans.{text}
 use Rattle.agent_commands.specs.Fields.{text_or}
-use Rattle.agent_commands.specs.Names.{command_named}
+use Rattle.command_table.specs.Commands.{command_named}
 use Rattle.agent_commands.specs.Requests.{GetFields, get_passphrase, get_of, request_of, either}
 use Rattle.agent_commands.specs.declared.request.Request.TheVariants.{Cache}
 use Rattle.arrayvec.specs.ArrayVec.{ArrayVec}

@@ -7,7 +7,7 @@ use Rattle.agent_ask.specs.Parts.{returns, refuses}
 use Rattle.agent_ask.specs.TurnParts as turn
 use Rattle.agent_commands.specs.Endings.{went_after}
 use Rattle.agent_commands.specs.Exchanges.{CacheExchange, option_replies}
-use Rattle.agent_commands.specs.Names.{command_named}
+use Rattle.command_table.specs.Commands.{command_named}
 use Rattle.agent_commands.specs.Parts.{CacheEvent}
 use Rattle.agent_commands.specs.Requests.{request_of}
 use Rattle.agent_commands.specs.declared.request.CacheCommand.{CacheCommand}

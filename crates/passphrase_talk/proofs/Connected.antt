@@ -1,11 +1,8 @@
 -- A dialogue never says that there was no connection.
 use Rattle.std.proofs.Common.{◌≡◌, ◌∷◌, [], List, arith, rules}
 use Rattle.assuan_client.specs.declared.answer.Answer.{Answer}
-use Rattle.passphrase_talk.specs.declared.dialogue.Course.{Course}
-use Rattle.passphrase_talk.specs.Dialogues.{told_of, told_from, told_behind, told_by, loss_of, quiet, after_said}
-use Rattle.passphrase_talk.specs.Turns.{Said, Hello, OptionLine, Request, End, Cancel, Turn}
+use Rattle.passphrase_talk.specs.{declared.{dialogue.Course.Course, told.Told.Told}, Dialogues.{told_of, told_from, told_behind, told_by, loss_of, quiet, after_said}, Turns.{Said, Hello, OptionLine, Request, End, Cancel, Turn}}
 use Rattle.passphrase_talk.specs.declared.told.Loss.TheVariants as loss
-use Rattle.passphrase_talk.specs.declared.told.Told.{Told}
 use Rattle.passphrase_talk.specs.declared.told.Told.TheVariants as told
 
 by_answer : (course : Course) (last : Answer) → told_by course last ≡ told.Lost loss.Unmet → ⊥

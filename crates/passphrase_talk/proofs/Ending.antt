@@ -1,14 +1,10 @@
 -- What is told of a dialogue, by its last answer.
 use Rattle.std.proofs.Common.{◌≡◌, ℕ, Bool, true, false, if◌then◌else◌, List, [], ◌∷◌, Ok, refl, sym, subst, ◌∙◌, arith, rules}
 use Rattle.assuan_client.specs.declared.answer.Answer.{Answer}
-use Rattle.assuan_client.specs.declared.answer.Answer.TheVariants as answer
 use Rattle.passphrase_talk.specs.Dialogues.{Replies, Requests, IsDialogue, stopped, goes_on, requested, ended, asked, not_greeted, greeted, told_of, told_behind, told_by, loss_of, passed, quiet, after_said, reply_to}
-use Rattle.passphrase_talk.specs.Turns.{Said, Hello, OptionLine, Request, Turn, turn_of}
-use Rattle.passphrase_talk.proofs.Leading.{behind_option, behind_greeting}
-use Rattle.passphrase_talk.specs.declared.dialogue.Course.{Course}
-use Rattle.passphrase_talk.specs.declared.told.Loss.{Loss}
+use Rattle.passphrase_talk.{specs.{Turns.{Said, Hello, OptionLine, Request, Turn, turn_of}, declared.{dialogue.Course.Course, told.{Loss.Loss, Told.Told}}}, proofs.Leading.{behind_option, behind_greeting}}
+use Rattle.assuan_client.specs.declared.answer.Answer.TheVariants as answer
 use Rattle.passphrase_talk.specs.declared.told.Loss.TheVariants as loss
-use Rattle.passphrase_talk.specs.declared.told.Told.{Told}
 use Rattle.passphrase_talk.specs.declared.told.Told.TheVariants as told
 
 -- the last answer, where this one comes before the turns

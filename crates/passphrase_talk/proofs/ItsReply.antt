@@ -1,15 +1,10 @@
 -- A passphrase that is told is the data of the last reply.
-use Rattle.std.proofs.Common.{◌≡◌, ℕ, Bool, true, false, if◌then◌else◌, List, [], ◌∷◌, ◌++◌, None, refl, ap, ◌∙◌}
-use Rattle.std.proofs.lemmas.Bool.{or_from}
+use Rattle.std.proofs.{Common.{◌≡◌, ℕ, Bool, true, false, if◌then◌else◌, List, [], ◌∷◌, ◌++◌, None, refl, ap, ◌∙◌}, lemmas.Bool.or_from}
 use Rattle.assuan_client.specs.declared.answer.Answer.{Answer}
-use Rattle.assuan_client.specs.declared.answer.Answer.TheVariants as answer
 use Rattle.passphrase_talk.specs.Dialogues.{Requests, IsDialogue, stopped, goes_on, requested, not_greeted, greeted, told_of, told_behind, told_by, quiet, after_said, is_cancel, has_cancel}
-use Rattle.passphrase_talk.specs.Turns.{Said, Hello, OptionLine, Request, End, Cancel, Turn, turn_of}
-use Rattle.passphrase_talk.specs.declared.dialogue.Course.{Course}
-use Rattle.passphrase_talk.specs.declared.told.Told.{Told}
+use Rattle.passphrase_talk.{specs.{Turns.{Said, Hello, OptionLine, Request, End, Cancel, Turn, turn_of}, declared.{dialogue.Course.Course, told.Told.Told}}, proofs.{Ending.last_of, Leading.{behind_option, behind_greeting}}}
+use Rattle.assuan_client.specs.declared.answer.Answer.TheVariants as answer
 use Rattle.passphrase_talk.specs.declared.told.Told.TheVariants as told
-use Rattle.passphrase_talk.proofs.Ending.{last_of}
-use Rattle.passphrase_talk.proofs.Leading.{behind_option, behind_greeting}
 
 neither : {this that what : Told} (cancelled : Bool) → (this ≡ what → ⊥) → (that ≡ what → ⊥) → (if cancelled then this else that) ≡ what → ⊥
 neither true not never is = not is

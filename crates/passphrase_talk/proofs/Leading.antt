@@ -1,21 +1,12 @@
 -- A dialogue that goes on, from one turn to the next.
-use Rattle.std.proofs.Common.{◌≡◌, ◌<◌, ◌≤◌, ◌+◌, ℕ, suc, false, drop, get_or, arith, drop-cons, List, [], ◌∷◌, ◌++◌, Option, Some, None, Result, Ok, Err, refl, ap, sym, subst, ◌∙◌}
-use Rattle.std.proofs.lemmas.List.{append-nil, append_assoc}
-use Rattle.std.proofs.Math.ListN.{drop_of_length-le}
-use Rattle.std.specs.List.{flat_map}
-use Rattle.assuan_client.specs.Connections.{Connection}
-use Rattle.assuan_client.specs.declared.answer.Answer.{Answer}
-use Rattle.assuan_client.specs.declared.answer.Answer.TheVariants as answer
-use Rattle.session_options.specs.OptionValues.{EnvWords}
+use Rattle.std.proofs.{Common.{◌≡◌, ◌<◌, ◌≤◌, ◌+◌, ℕ, suc, false, drop, get_or, arith, drop-cons, List, [], ◌∷◌, ◌++◌, Option, Some, None, Result, Ok, Err, refl, ap, sym, subst, ◌∙◌}, lemmas.List.{append-nil, append_assoc}}
+use Rattle.std.{proofs.Math.ListN.drop_of_length-le, specs.List.flat_map}
+use Rattle.{assuan_client.specs.{Connections.Connection, declared.answer.Answer.Answer}, session_options.specs.OptionValues.EnvWords}
 use Rattle.passphrase_talk.specs.Contacts.{HasLaunched}
-use Rattle.passphrase_talk.specs.Dialogues.{all_settings, option_lines, Replies, Requests, IsDialogue, Leads, Tells, stopped, goes_on, requested, ended, asked, not_greeted, greeted}
-use Rattle.passphrase_talk.specs.Dialogues.{launch_in, launches_behind, launches_of, told_of, told_behind, told_by, loss_of, passed, quiet, reply_to, after_said, is_inquiry, is_ok}
-use Rattle.passphrase_talk.specs.Turns.{Hello, OptionLine, Request, Turn, turn_of, IsAnswered, none, one}
-use Rattle.passphrase_talk.specs.declared.dialogue.Course.{Course}
-use Rattle.passphrase_talk.specs.declared.options.Setting.{Setting}
-use Rattle.passphrase_talk.specs.declared.options.Setting.TheVariants.{Notify}
-use Rattle.passphrase_talk.specs.declared.told.Loss.{Loss}
-use Rattle.passphrase_talk.specs.declared.told.Told.{Told}
+use Rattle.passphrase_talk.specs.Dialogues.{all_settings, option_lines, Replies, Requests, IsDialogue, Leads, Tells, stopped, goes_on, requested, ended, asked, not_greeted, greeted, launch_in, launches_behind, launches_of, told_of}
+use Rattle.passphrase_talk.specs.{Dialogues.{told_behind, told_by, loss_of, passed, quiet, reply_to, after_said, is_inquiry, is_ok}, Turns.{Hello, OptionLine, Request, Turn, turn_of, IsAnswered, none, one}, declared.dialogue.Course.Course}
+use Rattle.passphrase_talk.specs.declared.{options.Setting.{Setting, TheVariants.Notify}, told.{Loss.Loss, Told.Told}}
+use Rattle.assuan_client.specs.declared.answer.Answer.TheVariants as answer
 use Rattle.passphrase_talk.specs.declared.told.Told.TheVariants as told
 
 pub not_asked : (said : Answer) → ((word text : List ℕ) → said ≡ answer.Asked word text → ⊥) → is_inquiry said ≡ false

@@ -1,19 +1,12 @@
 -- The bytes of an agent decide the turns of a dialogue.
 use Rattle.std.proofs.Common.{◌≡◌, ◌+◌, ℕ, true, false, List, [], ◌∷◌, ◌++◌, length, Option, Some, Ok, Err, refl, ap, sym, subst, ◌∙◌}
-use Rattle.assuan_client.specs.Connections.{Connection}
-use Rattle.assuan_client.specs.Skipping.{Tally}
-use Rattle.assuan_client.specs.Writing.{Command, reply_text, cancel_text}
-use Rattle.assuan_client.specs.declared.answer.Answer.{Answer}
-use Rattle.assuan_client.specs.declared.answer.Answer.TheVariants as answer
+use Rattle.assuan_client.{specs.{Connections.Connection, Skipping.Tally, Writing.{Command, reply_text, cancel_text}, declared.answer.Answer.Answer}, proofs.Alike.{Alike, is_fault, SaidAlike, answered_alike, exchanged_alike}}
 use Rattle.assuan_line.specs.Next.{Reader}
 use Rattle.passphrase_talk.specs.Dialogues.{Replies, Requests, IsDialogue, stopped, goes_on, requested, ended, asked, not_greeted, greeted, told_of, passed, is_ok, is_failure, reply_to}
-use Rattle.passphrase_talk.specs.Turns.{Said, Hello, OptionLine, Request, End, Cancel, Turn, turn_of, IsAnswered, AreTaken, one}
-use Rattle.passphrase_talk.specs.Visits.{Talk}
-use Rattle.passphrase_talk.specs.declared.told.Loss.{Loss}
-use Rattle.passphrase_talk.specs.declared.told.Told.{Told}
-use Rattle.assuan_client.proofs.Alike.{Alike, is_fault, SaidAlike, answered_alike, exchanged_alike}
-use Rattle.assuan_client.proofs.Alike as alike
+use Rattle.passphrase_talk.specs.{Turns.{Said, Hello, OptionLine, Request, End, Cancel, Turn, turn_of, IsAnswered, AreTaken, one}, Visits.Talk, declared.told.{Loss.Loss, Told.Told}}
 use Rattle.passphrase_talk.proofs.Ending.{EndsBy, behind, before, Ends, last_of, dialogue_ends}
+use Rattle.assuan_client.specs.declared.answer.Answer.TheVariants as answer
+use Rattle.assuan_client.proofs.Alike as alike
 
 -- the last answer is no failure
 abbrev Fine : List Turn → Type 0

@@ -1,9 +1,6 @@
 -- The contacts of a connector in memory, one before another.
-use Rattle.std.proofs.Common.{◌≡◌, ℕ, zero, suc, ◌-◌, Some, ◌∷◌, slice_get, ap, refl, sym, ◌∙◌, arith}
-use Rattle.std.specs.Prelude.{Box}
-use Rattle.std.specs.declared.alloc.Global.{Global}
-use Rattle.passphrase_talk.specs.declared.mem_connector.MemContact.{MemContact, MemContact', None', Some', out-MemContact}
-use Rattle.passphrase_talk.specs.MemContacts.{latest_of, latest_first, contact_of}
+use Rattle.std.{proofs.Common.{◌≡◌, ℕ, zero, suc, ◌-◌, Some, ◌∷◌, slice_get, ap, refl, sym, ◌∙◌, arith}, specs.{Prelude.Box, declared.alloc.Global.Global}}
+use Rattle.passphrase_talk.specs.{declared.mem_connector.MemContact.{MemContact, MemContact', None', Some', out-MemContact}, MemContacts.{latest_of, latest_first, contact_of}}
 
 pub latest_of_out : (contact : MemContact) → latest_of contact ≡ contact_of contact ∷ latest_first (out-MemContact contact).earlier
 unfolding out-MemContact denote.Hole.Carrier.out

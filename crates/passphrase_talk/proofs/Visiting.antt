@@ -1,24 +1,11 @@
 -- A contact, from its connection to its end.
 use Rattle.std.proofs.Common.{◌≡◌, ◌≤◌, ◌+◌, ℕ, List, [], ◌∷◌, Option, None, IfSome, refl, ap, sym, ◌∙◌, arith}
-use Rattle.agent_ports.specs.Counts.{RoseBy}
-use Rattle.agent_ports.specs.Launches.{IsFresh, child_then}
-use Rattle.agent_ports.specs.Sides.{Side}
-use Rattle.assuan_client.specs.Connections.{Connection}
-use Rattle.assuan_client.specs.Skipping.{nothing}
-use Rattle.assuan_client.specs.declared.answer.State.TheVariants.{Ready}
-use Rattle.session_options.specs.OptionValues.{EnvWords}
-use Rattle.passphrase_talk.specs.Contacts.{Contact, Contacts, HasLaunched, then_met, then_opened}
-use Rattle.passphrase_talk.specs.Dialogues.{IsDialogue, Leads, options_of, told_of, launches_of}
-use Rattle.passphrase_talk.specs.Turns.{Turn, AreTaken, texts_of}
-use Rattle.passphrase_talk.specs.Visits.{AreWritten, Visits, IsMet, HandsOn, met}
-use Rattle.passphrase_talk.specs.declared.connector.Place.{Place}
-use Rattle.passphrase_talk.specs.declared.connector.Waits.{Waits}
+use Rattle.{agent_ports.specs.{Counts.RoseBy, Launches.{IsFresh, child_then}, Sides.Side}, assuan_client.specs.{Connections.Connection, Skipping.nothing, declared.answer.State.TheVariants.Ready}, session_options.specs.OptionValues.EnvWords}
+use Rattle.passphrase_talk.specs.{Contacts.{Contact, Contacts, HasLaunched, then_met, then_opened}, Dialogues.{IsDialogue, Leads, options_of, told_of, launches_of}, Turns.{Turn, AreTaken, texts_of}}
+use Rattle.passphrase_talk.specs.{Visits.{AreWritten, Visits, IsMet, HandsOn, met}, declared.{connector.{Place.Place, Waits.Waits}, told.Told.Told, visits.TheConstants.BUDGET}}
+use Rattle.passphrase_talk.proofs.{Ending.{Ends, wrote, last_of, dialogue_ends, lost_at, read_lost, write_lost, unwritten_told}, Writing.{turns_wrote, texts_written, last_read, last_write}}
 use Rattle.passphrase_talk.specs.declared.told.Loss.TheVariants as loss
-use Rattle.passphrase_talk.specs.declared.told.Told.{Told}
 use Rattle.passphrase_talk.specs.declared.told.Told.TheVariants as told
-use Rattle.passphrase_talk.specs.declared.visits.TheConstants.{BUDGET}
-use Rattle.passphrase_talk.proofs.Ending.{Ends, wrote, last_of, dialogue_ends, lost_at, read_lost, write_lost, unwritten_told}
-use Rattle.passphrase_talk.proofs.Writing.{turns_wrote, texts_written, last_read, last_write}
 
 -- what becomes of the turns, besides what is told
 pub record Effects (what : Told) (turns : List Turn) (last : Connection) : Type 0 where

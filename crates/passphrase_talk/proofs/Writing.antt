@@ -1,21 +1,11 @@
 -- What the turns of a dialogue write, and where the link's counts rise.
-use Rattle.std.proofs.Common.{◌≡◌, ◌≢◌, ◌≤◌, ℕ, Bool, true, false, List, [], ◌∷◌, ◌++◌, Option, Some, None, All, IfSome, refl, ap, sym, subst, ◌∙◌, arith, append-nil, append_assoc}
-use Rattle.std.specs.List.{flat_map}
-use Rattle.agent_ports.specs.Sides.{Side, with_bytes}
-use Rattle.agent_ports.proofs.Known.{with_bytes_append}
-use Rattle.assuan_client.specs.Answers.{ReadOn}
-use Rattle.assuan_client.specs.Connections.{Connection}
-use Rattle.assuan_client.specs.Skipping.{Tally}
-use Rattle.assuan_client.specs.Writing.{Command, reply_text}
-use Rattle.assuan_client.specs.declared.answer.Answer.{Answer}
-use Rattle.assuan_client.specs.declared.answer.Answer.TheVariants as answer
+use Rattle.std.{proofs.Common.{◌≡◌, ◌≢◌, ◌≤◌, ℕ, Bool, true, false, List, [], ◌∷◌, ◌++◌, Option, Some, None, All, IfSome, refl, ap, sym, subst, ◌∙◌, arith, append-nil, append_assoc}, specs.List.flat_map}
+use Rattle.{agent_ports.{specs.Sides.{Side, with_bytes}, proofs.Known.with_bytes_append}, assuan_client.specs.{Answers.ReadOn, Connections.Connection, Skipping.Tally, Writing.{Command, reply_text}, declared.answer.Answer.Answer}}
 use Rattle.assuan_escape.specs.DataLines.{IsPiece}
-use Rattle.passphrase_talk.specs.Turns.{Said, Hello, OptionLine, Request, End, Cancel, Turn, text_of, texts_of, IsAnswered, AreTaken, none, one}
-use Rattle.passphrase_talk.specs.Visits.{AreWritten}
+use Rattle.passphrase_talk.{specs.{Turns.{Said, Hello, OptionLine, Request, End, Cancel, Turn, text_of, texts_of, IsAnswered, AreTaken, none, one}, Visits.AreWritten, declared.told.Told.Told}, proofs.Ending.{wrote, last_of, GoOn}}
+use Rattle.assuan_client.specs.declared.answer.Answer.TheVariants as answer
 use Rattle.passphrase_talk.specs.declared.told.Loss.TheVariants as loss
-use Rattle.passphrase_talk.specs.declared.told.Told.{Told}
 use Rattle.passphrase_talk.specs.declared.told.Told.TheVariants as told
-use Rattle.passphrase_talk.proofs.Ending.{wrote, last_of, GoOn}
 
 -- all bytes of a text were written, or some first ones
 pub record Wrote (text : List ℕ) (whole_is : Bool) (before after : Option (List ℕ)) : Type 0 where

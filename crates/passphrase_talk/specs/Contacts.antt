@@ -1,9 +1,6 @@
 -- The contacts of a connector with agents. This is the project's own.
-use Rattle.std.specs.Prelude.{◌≡◌, ℕ, List, [], ◌∷◌, ◌++◌, Option, Some, None, IfSome}
-use Rattle.std.specs.Option.{option_map}
-use Rattle.passphrase_talk.specs.declared.connector.Agents.{Agents}
-use Rattle.passphrase_talk.specs.declared.connector.Place.{Place}
-use Rattle.passphrase_talk.specs.declared.connector.Waits.{Waits}
+use Rattle.std.specs.{Prelude.{◌≡◌, ℕ, List, [], ◌∷◌, ◌++◌, Option, Some, None, IfSome}, Option.option_map}
+use Rattle.passphrase_talk.specs.declared.connector.{Agents.Agents, Place.Place, Waits.Waits}
 
 -- a contact that was left: which agent it was, the bytes that it still had to give, and those that it was written
 pub record Contact : Type 0 where

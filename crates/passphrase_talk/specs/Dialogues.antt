@@ -1,23 +1,14 @@
 -- The dialogue of one request (Assuan manual, "client requests" and "server responses"; GnuPG manual, "agent protocol"): its turns in their
 -- order, and what is told of them. Which options are said, and what breaks the protocol, is this project's own.
-use Rattle.std.specs.Prelude.{◌≡◌, ℕ, Bool, true, false, if◌then◌else◌, List, [], ◌∷◌, ◌++◌, codes, Option, Some, None, Result, Ok, Err}
-use Rattle.std.specs.List.{flat_map, list_any}
-use Rattle.std.specs.Str.{bytes_eq}
-use Rattle.assuan_client.specs.Connections.{Connection}
-use Rattle.assuan_client.specs.declared.answer.Answer.{Answer}
+use Rattle.std.specs.{Prelude.{◌≡◌, ℕ, Bool, true, false, if◌then◌else◌, List, [], ◌∷◌, ◌++◌, codes, Option, Some, None, Result, Ok, Err}, List.{flat_map, list_any}, Str.bytes_eq}
+use Rattle.{assuan_client.specs.{Connections.Connection, declared.answer.Answer.Answer}, session_options.specs.OptionValues.EnvWords}
+use Rattle.passphrase_talk.specs.{Contacts.HasLaunched, Turns.{Said, Hello, OptionLine, Request, End, Cancel, Turn, turn_of, IsAnswered, AreTaken}, declared.{connector.Waits.Waits, dialogue.Course.Course, options.Setting.Setting}}
+use Rattle.passphrase_talk.specs.declared.told.{Loss.Loss, Told.Told}
 use Rattle.assuan_client.specs.declared.answer.Answer.TheVariants as answer
 use Rattle.assuan_line.specs.declared.breach.Breach.TheVariants as breach
-use Rattle.session_options.specs.OptionValues.{EnvWords}
-use Rattle.passphrase_talk.specs.Contacts.{HasLaunched}
-use Rattle.passphrase_talk.specs.Turns.{Said, Hello, OptionLine, Request, End, Cancel, Turn, turn_of, IsAnswered, AreTaken}
-use Rattle.passphrase_talk.specs.declared.connector.Waits.{Waits}
 use Rattle.passphrase_talk.specs.declared.connector.Waits.TheVariants as waits
-use Rattle.passphrase_talk.specs.declared.dialogue.Course.{Course}
-use Rattle.passphrase_talk.specs.declared.options.Setting.{Setting}
 use Rattle.passphrase_talk.specs.declared.options.Setting.TheVariants as setting
-use Rattle.passphrase_talk.specs.declared.told.Loss.{Loss}
 use Rattle.passphrase_talk.specs.declared.told.Loss.TheVariants as loss
-use Rattle.passphrase_talk.specs.declared.told.Told.{Told}
 use Rattle.passphrase_talk.specs.declared.told.Told.TheVariants as told
 
 -- an option with its value as it stands, where that isn't empty

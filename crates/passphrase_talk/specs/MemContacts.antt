@@ -1,18 +1,8 @@
 -- The contacts of a connector in memory, from its fields.
-use Rattle.std.specs.Prelude.{ℕ, List, [], ◌∷◌, map, drop, Option, Some, None, Box}
-use Rattle.std.specs.Option.{option_map}
-use Rattle.std.specs.declared.alloc.Global.{Global}
-use Rattle.agent_ports.specs.Plans.{Plan}
-use Rattle.agent_ports.specs.Sides.{Side}
-use Rattle.agent_ports.specs.declared.mem.link.MemLink.{MemLink}
-use Rattle.agent_ports.specs.declared.mem.link.PlannedLink.{PlannedLink}
-use Rattle.passphrase_talk.specs.Contacts.{Contact, Sought, Opening}
-use Rattle.passphrase_talk.specs.declared.connector.Place.{Place}
-use Rattle.passphrase_talk.specs.declared.connector.Waits.{Waits}
-use Rattle.passphrase_talk.specs.declared.mem_connector.MemConnector.{MemConnector}
-use Rattle.passphrase_talk.specs.declared.mem_connector.MemContact.{MemContact, MemContact', Held-MemContact-earlier, None', Some', out-MemContact}
-use Rattle.passphrase_talk.specs.declared.mem_connector.MemMeeting.{MemMeeting}
-use Rattle.passphrase_talk.specs.declared.mem_connector.MemSought.{MemSought}
+use Rattle.std.specs.{Prelude.{ℕ, List, [], ◌∷◌, map, drop, Option, Some, None, Box}, Option.option_map, declared.alloc.Global.Global}
+use Rattle.agent_ports.specs.{Plans.Plan, Sides.Side, declared.mem.link.{MemLink.MemLink, PlannedLink.PlannedLink}}
+use Rattle.passphrase_talk.specs.{Contacts.{Contact, Sought, Opening}, declared.{connector.{Place.Place, Waits.Waits}, mem_connector.MemConnector.MemConnector}}
+use Rattle.passphrase_talk.specs.declared.mem_connector.{MemContact.{MemContact, MemContact', Held-MemContact-earlier, None', Some', out-MemContact}, MemMeeting.MemMeeting, MemSought.MemSought}
 
 -- all the bytes that each link gives
 abbrev pub gives_of : List PlannedLink → List (List ℕ)

@@ -1,12 +1,6 @@
 -- What is said to an agent in turn, and answered (Assuan manual, "client requests" and "server responses").
-use Rattle.std.specs.Prelude.{ℕ, List, [], ◌∷◌, codes}
-use Rattle.std.specs.List.{flat_map}
-use Rattle.assuan_client.specs.Answers.{ReadOn}
-use Rattle.assuan_client.specs.Connections.{Connection}
-use Rattle.assuan_client.specs.Skipping.{nothing}
-use Rattle.assuan_client.specs.Writing.{Command, Reply, cancel_text}
-use Rattle.assuan_client.specs.declared.answer.Answer.{Answer}
-use Rattle.assuan_text.specs.LineEnds.{line_of}
+use Rattle.std.specs.{Prelude.{ℕ, List, [], ◌∷◌, codes}, List.flat_map}
+use Rattle.{assuan_client.specs.{Answers.ReadOn, Connections.Connection, Skipping.nothing, Writing.{Command, Reply, cancel_text}, declared.answer.Answer.Answer}, assuan_text.specs.LineEnds.line_of}
 
 pub data Said : Type 0 where
   -- nothing: the greeting is waited for

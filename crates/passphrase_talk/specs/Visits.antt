@@ -1,20 +1,10 @@
 -- One contact with an agent: the connection, its turns, and what is told of it.
 use Rattle.std.specs.Prelude.{◌≡◌, ◌≢◌, ◌≤◌, ℕ, List, [], ◌++◌, Option, None, IfSome}
-use Rattle.agent_ports.specs.Counts.{Rose}
-use Rattle.agent_ports.specs.Launches.{IsFresh, child_then}
-use Rattle.assuan_client.specs.Connections.{Connection}
-use Rattle.assuan_client.specs.Skipping.{nothing}
-use Rattle.assuan_client.specs.declared.answer.State.TheVariants.{Ready}
-use Rattle.session_options.specs.OptionValues.{EnvWords}
-use Rattle.passphrase_talk.specs.Contacts.{Contacts, HasLaunched, then_met, then_opened}
-use Rattle.passphrase_talk.specs.Dialogues.{IsDialogue, options_of, told_of, launches_of}
-use Rattle.passphrase_talk.specs.Turns.{Turn, AreTaken, texts_of}
-use Rattle.passphrase_talk.specs.declared.connector.Place.{Place}
-use Rattle.passphrase_talk.specs.declared.connector.Waits.{Waits}
+use Rattle.{agent_ports.specs.{Counts.Rose, Launches.{IsFresh, child_then}}, assuan_client.specs.{Connections.Connection, Skipping.nothing, declared.answer.State.TheVariants.Ready}, session_options.specs.OptionValues.EnvWords}
+use Rattle.passphrase_talk.specs.{Contacts.{Contacts, HasLaunched, then_met, then_opened}, Dialogues.{IsDialogue, options_of, told_of, launches_of}, Turns.{Turn, AreTaken, texts_of}, declared.connector.{Place.Place, Waits.Waits}}
+use Rattle.passphrase_talk.specs.declared.{told.Told.Told, visits.TheConstants.BUDGET}
 use Rattle.passphrase_talk.specs.declared.told.Loss.TheVariants as loss
-use Rattle.passphrase_talk.specs.declared.told.Told.{Told}
 use Rattle.passphrase_talk.specs.declared.told.Told.TheVariants as told
-use Rattle.passphrase_talk.specs.declared.visits.TheConstants.{BUDGET}
 
 -- All bytes of these were written, or some first ones of them where a write failed.
 pub record AreWritten (texts : List ℕ) (what : Told) (written : List ℕ) : Type 0 where

@@ -2,14 +2,12 @@
 //! may take. A trait and what it speaks of; `SystemConnector` (`passphrase_host`) is the real one.
 //! Begin with `Connector`; `specs/Contacts` says what its calls do to what contracts see.
 
-ghost use Rattle.std.specs.Prelude.{◌≡◌, ◌≤◌, ◌+◌, ◌∷◌, [], IfOk, Err, MatchResult};
-ghost use Rattle.std.specs.Prelude.{List, ℕ, Option};
-ghost use Rattle.std.specs.Option.{option_map};
-ghost use Rattle.agent_ports.specs.Counts.{Rose, RoseBy};
-ghost use Rattle.agent_ports.specs.Launches.{IsFresh, child_then};
-ghost use Rattle.passphrase_talk.specs.Contacts.{Contacts, HasLaunched, then_met};
-ghost use Rattle.passphrase_talk.specs.Contacts.{then_sought, then_opened};
+ghost use Rattle.std.specs.Prelude.{◌≡◌, ◌≤◌, ◌+◌, ◌∷◌, [], IfOk, Err, MatchResult, List, ℕ};
+ghost use Rattle.std.specs.{Prelude.Option, Option.option_map};
+ghost use Rattle.agent_ports.specs.{Counts.{Rose, RoseBy}, Launches.{IsFresh, child_then}};
 ghost use Rattle.session_options.specs.OptionValues.{EnvWords, words_of};
+ghost use Rattle.passphrase_talk.specs.Contacts.{Contacts, HasLaunched, then_met, then_sought};
+ghost use Rattle.passphrase_talk.specs.Contacts.{then_opened};
 
 use agent_ports::Link;
 use session_options::Env;

@@ -3,19 +3,17 @@
 //! tells the connector of a pinentry. Begin with `lead`; its rule is `IsDialogue`
 //! (`specs/Dialogues`).
 
-ghost use Rattle.std.specs.Prelude.{◌≡◌, ◌<◌, [], true, OnOk};
-ghost use Rattle.std.specs.List.{flat_map};
-ghost use Rattle.assuan_client.specs.Answers.{state_after};
-ghost use Rattle.assuan_client.specs.declared.answer.State.TheVariants as state;
-ghost use Rattle.assuan_line.specs.Next.{held};
+ghost use Rattle.std.specs.{Prelude.{◌≡◌, ◌<◌, [], true, OnOk}, List.flat_map};
+ghost use Rattle.{assuan_client.specs.Answers.state_after, assuan_line.specs.Next.held};
 ghost use Rattle.session_options.specs.OptionValues.{words_of};
 ghost use Rattle.passphrase_talk.specs.Turns.{IsAnswered};
-ghost use Rattle.passphrase_talk.specs.Dialogues.{IsDialogue, Requests, Replies, Leads};
-ghost use Rattle.passphrase_talk.specs.Dialogues.{told_of, told_behind, told_by, loss_of, quiet};
-ghost use Rattle.passphrase_talk.specs.Dialogues.{is_inquiry, passed, options_of, option_lines};
+ghost use Rattle.passphrase_talk.specs.Dialogues.{IsDialogue, Requests, Replies, Leads, told_of};
+ghost use Rattle.passphrase_talk.specs.Dialogues.{told_behind, told_by, loss_of, quiet, is_inquiry};
+ghost use Rattle.passphrase_talk.specs.Dialogues.{passed, options_of, option_lines, launch_in};
+ghost use Rattle.passphrase_talk.specs.Dialogues.{launches_behind, launches_of, all_settings};
+ghost use Rattle.passphrase_talk.specs.Dialogues.{reply_to, after_said, Tells};
 ghost use Rattle.passphrase_talk.specs.Contacts.{HasLaunched};
-ghost use Rattle.passphrase_talk.specs.Dialogues.{launch_in, launches_behind, launches_of};
-ghost use Rattle.passphrase_talk.specs.Dialogues.{all_settings, reply_to, after_said, Tells};
+ghost use Rattle.assuan_client.specs.declared.answer.State.TheVariants as state;
 
 use crate::options::{SETTINGS, Setting, setting_line};
 use crate::{Connector, Loss, Told, Waits};

@@ -4,8 +4,7 @@
 
 ghost use Rattle.std.specs.Prelude.{◌≡◌, ◌++◌, ◌∷◌, [], ℕ, false, List, Option, Some};
 ghost use Rattle.passphrase_talk.specs.Dialogues.{IsDialogue, told_of, is_failure, has_cancel};
-ghost use Rattle.passphrase_talk.specs.Turns.{Said, Turn, turn_of};
-ghost use Rattle.passphrase_talk.specs.Visits.{Talk};
+ghost use Rattle.passphrase_talk.specs.{Turns.{Said, Turn, turn_of}, Visits.Talk};
 
 use crate::Told;
 use assuan_client::Answer;

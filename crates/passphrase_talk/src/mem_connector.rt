@@ -3,18 +3,15 @@
 //! shows to contracts is `specs/MemContacts`.
 
 ghost use Rattle.std.specs.Prelude.{◌≡◌, ◌≤◌, ◌↔◌, ◌⊎◌, IsTrue, IsErr, IfOk, MatchResult, Some};
-ghost use Rattle.std.specs.Prelude.{None, if◌then◌else◌};
-ghost use Rattle.std.specs.Prelude.{Err, IfSome, [], map, reverse, slice_get, codes, refl};
-ghost use Rattle.std.specs.Bool.{OnTrue, OnFalse};
-ghost use Rattle.std.specs.Option.{option_map};
-ghost use Rattle.agent_ports.specs.Counts.{Rose};
-ghost use Rattle.agent_ports.specs.Launches.{IsFresh, child_then};
+ghost use Rattle.std.specs.Prelude.{None, if◌then◌else◌, Err, IfSome, [], map, reverse, slice_get};
+ghost use Rattle.std.specs.{Prelude.{codes, refl}, Bool.{OnTrue, OnFalse}, Option.option_map};
+ghost use Rattle.agent_ports.specs.{Counts.Rose, Launches.{IsFresh, child_then}};
 ghost use Rattle.agent_ports.specs.Plans.{Fails, after_call};
 ghost use Rattle.session_options.specs.OptionValues.{words_of};
 ghost use Rattle.passphrase_talk.specs.MemContacts.{gives_of, contact_of, latest_of, latest_first};
-ghost use Rattle.passphrase_talk.specs.MemContacts.{sought_of, opening_of};
+ghost use Rattle.passphrase_talk.specs.MemContacts.{sought_of, opening_of, meeting_input};
+ghost use Rattle.passphrase_talk.specs.MemContacts.{meeting_output, call_plan};
 ghost use Rattle.passphrase_talk.specs.Contacts.{then_sought, then_opened};
-ghost use Rattle.passphrase_talk.specs.MemContacts.{meeting_input, meeting_output, call_plan};
 
 use crate::{Agents, Connector, Place, Unmet, Waits};
 use agent_ports::{Got, Link, MemLink, MemSink, MemSource, PlannedLink, Sent, Sink, Source};

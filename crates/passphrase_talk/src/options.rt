@@ -3,11 +3,9 @@
 //! the lines are `option_lines` (`specs/Dialogues`).
 
 ghost use Rattle.std.specs.Prelude.{◌≡◌, ◌≤◌, ◌+◌, ◌++◌, length, false};
-ghost use Rattle.assuan_line.specs.Lines.{IsLine};
-ghost use Rattle.assuan_text.specs.LineEnds.{has_lf};
+ghost use Rattle.{assuan_line.specs.Lines.IsLine, assuan_text.specs.LineEnds.has_lf};
 ghost use Rattle.assuan_text.specs.declared.TheConstants.{MAX_LINE_LEN};
-ghost use Rattle.session_options.specs.OptionValues.{words_of};
-ghost use Rattle.session_options.specs.Text.{has_line_end};
+ghost use Rattle.session_options.specs.{OptionValues.words_of, Text.has_line_end};
 ghost use Rattle.passphrase_talk.specs.Dialogues.{option_lines, option_with, lines_of};
 
 use assuan_line::Line;

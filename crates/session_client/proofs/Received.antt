@@ -1,6 +1,5 @@
 -- A read of a request, as proofs speak of it.
-use Rattle.session_client.specs.Asking.{HasRead}
-use Rattle.session_client.specs.Lines.{Lines, Views}
+use Rattle.session_client.specs.{Asking.HasRead, Lines.{Lines, Views}}
 
 module _ {lines : Lines} {C : Type 0} (views : Views lines C) where
   -- the next request was read, or this came in its place

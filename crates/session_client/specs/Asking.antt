@@ -1,14 +1,8 @@
 -- What is done with a connection: a read, a write, an inquiry; and how it is left. This is the project's own.
 use Rattle.std.specs.Prelude.{◌≡◌, ◌≤◌, ℕ, Bool, true, false, List, [], codes, decimal, Option, Some, None, Result, Ok, Err, ⊤}
-use Rattle.agent_ports.specs.Counts.{Rose}
-use Rattle.agent_ports.specs.Sides.{with_bytes, WhereKnown}
-use Rattle.agent_ports.specs.Writing.{Writes, StopsWriting}
-use Rattle.agent_ports.specs.declared.link.WriteFault.{WriteFault as Fault}
-use Rattle.session_client.specs.Lines.{Lines, Views, TakesNeeded, IsOpen, unread_at}
-use Rattle.session_client.specs.declared.client.TheConstants.{MAX_NOTE_LEN}
-use Rattle.session_client.specs.declared.unheard.Gone.{Gone}
+use Rattle.agent_ports.specs.{Counts.Rose, Sides.{with_bytes, WhereKnown}, Writing.{Writes, StopsWriting}, declared.link.WriteFault.WriteFault as Fault}
+use Rattle.session_client.specs.{Lines.{Lines, Views, TakesNeeded, IsOpen, unread_at}, declared.{client.TheConstants.MAX_NOTE_LEN, unheard.{Gone.Gone, Unheard.Unheard}}}
 use Rattle.session_client.specs.declared.unheard.Gone.TheVariants as gone
-use Rattle.session_client.specs.declared.unheard.Unheard.{Unheard}
 use Rattle.session_client.specs.declared.unheard.Unheard.TheVariants as unheard
 
 -- what an inquiry came to: its line was written, and the client's lines came to this, or the write failed after these bytes of it

@@ -1,7 +1,6 @@
 -- How the fields of a request's line are read, one after another: the first fault refuses the request. This is the project's own.
 use Rattle.std.specs.Prelude.{ok_or, Option, Result, Ok, Err}
-use Rattle.session_client.specs.declared.code.Code.{Code}
-use Rattle.session_client.specs.declared.code.Code.TheVariants.{Parameter}
+use Rattle.session_client.specs.declared.code.Code.{Code, TheVariants.Parameter}
 
 infixl 10 ◌>>=◌
 -- what is read, and then what follows it; or else the first fault

@@ -1,10 +1,7 @@
 -- How requests and inquiries stand in the bytes of a link, and what is seen of a connection over it. This is the project's own.
-use Rattle.std.specs.Prelude.{◌≡◌, ◌⊎◌, ℕ, Bool, List, ◌++◌, Option, Some, None, Result}
-use Rattle.std.specs.Borrow.{GName}
-use Rattle.std.specs.Option.{option_map}
+use Rattle.std.specs.{Prelude.{◌≡◌, ◌⊎◌, ℕ, Bool, List, ◌++◌, Option, Some, None, Result}, Borrow.GName, Option.option_map}
 use Rattle.agent_ports.specs.Sides.{Side, WhereKnown}
-use Rattle.session_client.specs.declared.unheard.Gone.{Gone}
-use Rattle.session_client.specs.declared.unheard.Unheard.{Unheard}
+use Rattle.session_client.specs.declared.unheard.{Gone.Gone, Unheard.Unheard}
 
 -- How requests and inquiries stand in the bytes of a link. A read needed the bytes that it took where they were undecided before its last
 -- piece: of the bytes ahead, those that the source held before it, and those that it holds after it.

@@ -1,13 +1,8 @@
 -- How a request is refused once it was read, and what its client has to do with that. This is the project's own.
 use Rattle.std.specs.Prelude.{Option, Some, None}
-use Rattle.session_client.specs.Asking.{gone_of}
-use Rattle.session_client.specs.declared.code.Code.{Code}
+use Rattle.session_client.specs.{Asking.gone_of, declared.{code.Code.Code, refusal.Refusal.{Refusal, TheVariants.Client}, unheard.{Gone.Gone, Unheard.Unheard}}}
 use Rattle.session_client.specs.declared.code.Code.TheVariants as code
-use Rattle.session_client.specs.declared.refusal.Refusal.{Refusal}
-use Rattle.session_client.specs.declared.refusal.Refusal.TheVariants.{Client}
-use Rattle.session_client.specs.declared.unheard.Gone.{Gone}
 use Rattle.session_client.specs.declared.unheard.Gone.TheVariants as gone
-use Rattle.session_client.specs.declared.unheard.Unheard.{Unheard}
 use Rattle.session_client.specs.declared.unheard.Unheard.TheVariants as unheard
 
 -- the code by which a request is refused whose client has said this: one that is gone is told no more, but that its line was too long

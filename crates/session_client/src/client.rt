@@ -2,8 +2,7 @@
 //! writes the client's connection, whatever that is. Begin with `Client::ask` and the promise below
 //! it; `LeftBy` of `specs/Asking` says how an answer leaves the connection.
 
-ghost use Rattle.session_client.specs.Lines.{Lines, Views, IsOpen};
-ghost use Rattle.session_client.specs.Asking.{TellsClient, LeftBy};
+ghost use Rattle.session_client.specs.{Lines.{Lines, Views, IsOpen}, Asking.{TellsClient, LeftBy}};
 
 use crate::Unheard;
 

@@ -2,8 +2,7 @@
 //! with `Code`, whose variants say when each is answered; `specs/Codes` has the numbers and texts.
 
 ghost use Rattle.std.specs.Prelude.{◌≡◌, ◌≤◌, ◌<◌, ◌^◌, length};
-ghost use Rattle.session_client.specs.Codes.{code_of, error_description};
-ghost use Rattle.session_client.specs.Refusals.{refusal_code};
+ghost use Rattle.session_client.specs.{Codes.{code_of, error_description}, Refusals.refusal_code};
 
 use crate::{Gone, Unheard};
 use std::error::Error;

@@ -9,14 +9,13 @@ ghost use Rattle.{key_commands.specs.Requests.grip, session_client.specs.Fields.
 ghost use Rattle.agent_origin.specs.TrustRequests.{purpose, owner, is_trusted_of, mark_trusted_of};
 ghost use Rattle.agent_origin.specs.TrustRequests.{trust_asked_by, trust_request_of};
 
-use super::names::{TrustCommandName, trust_command_named};
 use super::{OwnerName, TrustPurpose, TrustRequest};
-use agent_commands::CutLine;
 use agent_ports::Grip;
 use assuan_escape::unescape;
 use assuan_line::Line;
 use assuan_server::Code;
 use assuan_text::{arguments, next_word};
+use command_table::{Command, CutLine, TrustCommandName};
 
 /// Reads a line whose word is a command on the trust list. Another line is refused as an unknown
 /// command.
@@ -26,12 +25,12 @@ pub fn read_trust(line: &Line) -> TrustRequest
     read_trust_cut(&CutLine::of(line))
 }
 
-/// Reads one that is cut into its first word and what comes after it.
+/// Reads one whose command is found.
 #[tactic(auto, unfolding(crate::specs::TrustRequests::trust_request_of))]
 pub(crate) fn read_trust_cut(line: &CutLine<'_>) -> TrustRequest
     ensures { result ≡ trust_request_of line.now }
 {
-    let Some(name) = trust_command_named(line.word()) else {
+    let Some(Command::Trust(name)) = line.command() else {
         return TrustRequest::Bad(Code::UnknownCommand);
     };
     match read_command(name, line.rest()) {

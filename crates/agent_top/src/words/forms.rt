@@ -2,8 +2,7 @@
 //! between bounds. Pure. Begin with the table `FORMS`; `specs/Forms` has it again, with what a
 //! value of each form is.
 
-ghost use Rattle.std.specs.Prelude.{◌≡◌, Some};
-ghost use Rattle.std.specs.Option.{option_map};
+ghost use Rattle.std.specs.{Prelude.{◌≡◌, Some}, Option.option_map};
 ghost use Rattle.assuan_text.specs.Rows.{found, rows_of};
 ghost use Rattle.agent_top.specs.Forms.{form_of, is_of_form, path_of, number_between, number_for};
 

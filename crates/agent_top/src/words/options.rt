@@ -3,16 +3,12 @@
 //! says `specs/Options`.
 
 ghost use Rattle.std.specs.Prelude.{◌≡◌, ◌&&◌, ℕ, IfOk, IfErr, true, false, List, [], map};
-ghost use Rattle.std.specs.Prelude.{string_bytes, is_some};
-ghost use Rattle.std.specs.List.{list_all};
-ghost use Rattle.std.specs.Option.{option_map};
-ghost use Rattle.clap.specs.Matches.{found_of};
-ghost use Rattle.clap.specs.Simple.{app_of};
-ghost use Rattle.clap.specs.Walk.{rows_of, rule_of};
+ghost use Rattle.std.specs.{Prelude.{string_bytes, is_some}, List.list_all, Option.option_map};
+ghost use Rattle.clap.specs.{Matches.found_of, Simple.app_of, Walk.{rows_of, rule_of}};
+ghost use Rattle.assuan_text.specs.Rows.{rows_of as table};
 ghost use Rattle.agent_top.specs.Forms.{forms, fits};
 ghost use Rattle.agent_top.specs.Options.{command_of, rule_for, action_for, after_dashes, is_plain};
 ghost use Rattle.agent_top.specs.Options.{are_readable, flag_in, takes, takes_row};
-ghost use Rattle.assuan_text.specs.Rows.{rows_of as table};
 ghost use Rattle.agent_top.specs.Settings.{Setting, settings, is_set, value_given};
 
 use super::WordsFault;
@@ -30,10 +26,8 @@ pub(crate) struct Given<'a> {
 
 impl<'a> Model for Given<'a> {
     ghost use Rattle.std.specs.Prelude.{List};
-    ghost use Rattle.clap.specs.Matches.{found_of};
-    ghost use Rattle.clap.specs.Walk.{rows_of};
-    ghost use Rattle.agent_top.specs.Settings.{Setting};
-    ghost use Rattle.agent_top.specs.Options.{given_in, IsRead};
+    ghost use Rattle.clap.specs.{Matches.found_of, Walk.rows_of};
+    ghost use Rattle.agent_top.specs.{Settings.Setting, Options.{given_in, IsRead}};
 
     ghost Value = { List Setting };
 

@@ -10,4 +10,4 @@ returns-in-Some-clause-answers g c = λ file.
     (c.run_quiet.ensures.answers c.args.rules.now c.args.kept.now.options c.args.line.now (sym (rw c.of_cut-request.ensures at c.quiet.ensures) ∙ c.in-Some.is)))
 
 pub returns-in-None-clause-answers : goal.returns-in-None-clause-answers
-returns-in-None-clause-answers g c = λ file. trust_beside g.D.Desk.turned g.P.Prompter.prompted file (rw c.of_cut-request.ensures at c.answer_whole-went.ensures.answers)
+returns-in-None-clause-answers g c = λ file. trust_beside g.D.Desk.turned g.P.Prompter.prompted file c.answer_whole-went.ensures.answers

@@ -8,4 +8,4 @@ pub returns-clause-trust : goal.returns-clause-trust
 returns-clause-trust c = λ rules options line events went allows exchanged. trust_leaves rules options line allows exchanged
 
 pub returns-clause-keys : goal.returns-clause-keys
-returns-clause-keys c = λ rules options before after line handed events went allows key exchanged. key_leaves rules options before line allows handed key exchanged
+returns-clause-keys c = λ rules options before after line handed events went allows key exchanged. key_leaves rules options before line allows exchanged

@@ -1,8 +1,5 @@
 use Rattle.std.proofs.Common.{refl, ap, subst, ◌∙◌, arith}
-use Rattle.agent_top.proofs.Rounds.{by_extra, ears_stay_own}
-use Rattle.agent_top.proofs.Running.{listens_rose}
-use Rattle.agent_top.specs.Daemon.{AreEarsOf, summed, no_listener, no_memory}
-use Rattle.agent_top.specs.Top.{exit_number}
+use Rattle.agent_top.{proofs.{Rounds.{by_extra, ears_stay_own}, Running.listens_rose}, specs.{Daemon.{AreEarsOf, summed, no_listener, no_memory}, Top.exit_number}}
 use Rattle.agent_top.proofs.daemon.run_daemon.Goals as goal
 
 pub returns-in_default-clause-runs : goal.returns-in_default-clause-runs

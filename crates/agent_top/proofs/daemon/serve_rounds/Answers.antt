@@ -1,6 +1,5 @@
 use Rattle.std.proofs.Common.{inl, inr, refl, subst, arith}
-use Rattle.agent_top.specs.Daemon.{AnyFailed}
-use Rattle.agent_top.proofs.Rounds.{further_round}
+use Rattle.agent_top.{specs.Daemon.AnyFailed, proofs.Rounds.further_round}
 use Rattle.agent_top.proofs.daemon.serve_rounds.Goals as goal
 
 pub loop-init : goal.loop-init

@@ -1,7 +1,5 @@
-use Rattle.std.proofs.Common.{◌≡◌, vec_len}
-use Rattle.std.specs.Option.{option_copied}
-use Rattle.counted_lock.specs.Passes.{AreOf}
-use Rattle.agent_serve.specs.Working.{WorkEach}
+use Rattle.std.{proofs.Common.{◌≡◌, vec_len}, specs.Option.option_copied}
+use Rattle.{counted_lock.specs.Passes.AreOf, agent_serve.specs.Working.WorkEach}
 use Rattle.agent_top.proofs.Rounds.{NewOrGoOn}
 use Rattle.agent_top.proofs.daemon.serve_rounds.Given as goal
 

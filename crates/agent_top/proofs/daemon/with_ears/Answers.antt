@@ -1,7 +1,5 @@
-use Rattle.std.proofs.Common.{ap, subst, sym}
-use Rattle.std.specs.Option.{option_copied}
-use Rattle.agent_top.specs.Daemon.{AreEarsOf}
-use Rattle.agent_top.proofs.Ears.{all_at_home, last_at_extra}
+use Rattle.std.{proofs.Common.{ap, subst, sym}, specs.Option.option_copied}
+use Rattle.agent_top.{specs.Daemon.AreEarsOf, proofs.Ears.{all_at_home, last_at_extra}}
 use Rattle.agent_top.proofs.daemon.with_ears.Goals as goal
 
 pub returns-in-Some-clause-own : goal.returns-in-Some-clause-own

@@ -1,5 +1,4 @@
-use Rattle.std.proofs.Common.{◌≡◌, vec_len, vec_capacity}
-use Rattle.std.specs.List.{AllByRecursion}
+use Rattle.std.{proofs.Common.{◌≡◌, vec_len, vec_capacity}, specs.List.AllByRecursion}
 use Rattle.agent_top.specs.Daemon.{NoneFailed}
 use Rattle.agent_top.proofs.daemon.with_ears.Given as goal
 

@@ -1,7 +1,6 @@
 use Rattle.std.proofs.Common.{ap, arith}
-use Rattle.agent_top.proofs.Loading.{at_end, before_mark, before_none, next_left}
+use Rattle.agent_top.proofs.{Loading.{at_end, before_mark, before_none, next_left}, load.are_of_load.Goals.{then-word-lt7+in-Some, else-word-lt7}}
 use Rattle.agent_top.proofs.load.are_of_load.Goals as goal
-use Rattle.agent_top.proofs.load.are_of_load.Goals.{then-word-lt7+in-Some, else-word-lt7}
 
 pub loop-request-preserved : goal.loop-request-preserved
 loop-request-preserved c =

@@ -1,6 +1,5 @@
 use Rattle.std.proofs.Common.{◌∙◌, ap}
-use Rattle.agent_top.specs.Cache.{limits_of}
-use Rattle.agent_top.proofs.Loading.{load_or_none}
+use Rattle.agent_top.{specs.Cache.limits_of, proofs.Loading.load_or_none}
 use Rattle.agent_top.proofs.load.load_tally.Goals as goal
 
 pub returns : goal.returns

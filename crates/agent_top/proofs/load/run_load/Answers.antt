@@ -1,6 +1,5 @@
 use Rattle.std.proofs.Common.{◌∙◌, ap}
-use Rattle.agent_top.specs.Load.{wrote, no_memory}
-use Rattle.agent_top.specs.Top.{exit_number}
+use Rattle.agent_top.specs.{Load.{wrote, no_memory}, Top.exit_number}
 use Rattle.agent_top.proofs.load.run_load.Goals as goal
 
 pub returns-in-Ok-clause-runs : goal.returns-in-Ok-clause-runs

@@ -1,6 +1,5 @@
 use Rattle.std.proofs.Common.{ap}
-use Rattle.agent_top.specs.Top.{exit_number}
-use Rattle.agent_top.proofs.Lifting.{session_ran, clock_stays_lent, launcher_stays_lent}
+use Rattle.agent_top.{specs.Top.exit_number, proofs.Lifting.{session_ran, clock_stays_lent, launcher_stays_lent}}
 use Rattle.agent_top.proofs.top.serve.Goals as goal
 
 pub returns-clause-runs : goal.returns-clause-runs

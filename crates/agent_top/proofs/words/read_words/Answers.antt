@@ -1,5 +1,4 @@
-use Rattle.std.proofs.Common.{map}
-use Rattle.std.specs.Prelude.{string_bytes}
+use Rattle.std.{proofs.Common.map, specs.Prelude.string_bytes}
 use Rattle.agent_top.proofs.OptionReading.{fault_is, no_rules}
 use Rattle.agent_top.proofs.words.read_words.Goals as goal
 

@@ -1,8 +1,5 @@
 use Rattle.std.proofs.Common.{◌≡◌, refl, ap, sym, ◌∙◌, subst}
-use Rattle.assuan_line.specs.Ahead.{bytes_ahead}
-use Rattle.assuan_line.specs.Stops.{reader_at, ReadAhead}
-use Rattle.assuan_line.specs.declared.buffer.Ahead.{Ahead}
-use Rattle.assuan_line.proofs.Reading.{read_then, undecided_before, decides_since, decides_ahead}
+use Rattle.assuan_line.{specs.{Ahead.bytes_ahead, Stops.{reader_at, ReadAhead}, declared.buffer.Ahead.Ahead}, proofs.Reading.{read_then, undecided_before, decides_since, decides_ahead}}
 use Rattle.assuan_line.proofs.reader.take_line.Goals as goal
 
 pub returns-in_default : goal.returns-in_default

@@ -1,5 +1,4 @@
-use Rattle.std.proofs.Common.{sym, ◌≡◌, ◌∙◌, ◌∷◌, []}
-use Rattle.std.proofs.lemmas.List.{nil_from_length}
+use Rattle.std.proofs.{Common.{sym, ◌≡◌, ◌∙◌, ◌∷◌, []}, lemmas.List.nil_from_length}
 use Rattle.passphrase_client.specs.Runs.{behind_all, stops, gives, ends, goes_on, notes, holds}
 use Rattle.passphrase_client.proofs.course.+come_to.Goals as goal
 

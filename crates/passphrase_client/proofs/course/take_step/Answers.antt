@@ -1,8 +1,5 @@
 use Rattle.std.proofs.Common.{◌≡◌, ◌∙◌, sym, ap, true, Option}
-use Rattle.passphrase_client.specs.Verdicts.{empties, emptied_verdict, failure}
-use Rattle.passphrase_client.specs.Steps.{place_of}
-use Rattle.passphrase_client.specs.declared.ending.Ending.{Ending}
-use Rattle.passphrase_client.specs.declared.steps.Step.TheVariants.{Forget}
+use Rattle.passphrase_client.specs.{Verdicts.{empties, emptied_verdict, failure}, Steps.place_of, declared.{ending.Ending.Ending, steps.Step.TheVariants.Forget}}
 use Rattle.passphrase_client.proofs.course.take_step.Goals as goal
 
 pub returns-then-empties-clause-does : goal.returns-then-empties-clause-does

@@ -1,5 +1,4 @@
-use Rattle.std.proofs.Common.{ap, ◌∙◌, sym, take, length, ◌+◌, ◌-◌, List, ℕ, refl, rules}
-use Rattle.std.proofs.lemmas.Slice.{take-put_mid}
+use Rattle.std.proofs.{Common.{ap, ◌∙◌, sym, take, length, ◌+◌, ◌-◌, List, ℕ, refl, rules}, lemmas.Slice.take-put_mid}
 use Rattle.agent_ports.specs.Sides.{followed_by}
 use Rattle.passphrase_client.proofs.Filling.{filled, followed_twice}
 use Rattle.passphrase_client.proofs.input.+fill.Goals as goal

@@ -1,7 +1,6 @@
 use Rattle.std.proofs.Common.{refl, ap}
-use Rattle.passphrase_talk.specs.declared.told.Loss.{Loss}
+use Rattle.passphrase_talk.{specs.declared.told.Loss.Loss, proofs.Leading.{greets, greets_not, not_ok}}
 use Rattle.passphrase_talk.specs.declared.told.Told.TheVariants as told
-use Rattle.passphrase_talk.proofs.Leading.{greets, greets_not, not_ok}
 use Rattle.passphrase_talk.proofs.dialogue.lead.Goals as goal
 
 pub returns-in-Answer-clause-leads : goal.returns-in-Answer-clause-leads

@@ -1,10 +1,7 @@
 -- Whatever is told behind the options to come, it is told of all.
-use Rattle.std.proofs.Common.{◌≡◌, ℕ, List, Option, drop}
-use Rattle.std.specs.List.{flat_map}
-use Rattle.assuan_client.specs.Connections.{Connection}
-use Rattle.assuan_client.specs.declared.answer.State.TheVariants.{Ready}
-use Rattle.passphrase_talk.specs.Dialogues.{Requests, Leads, told_of, launches_of, option_lines, all_settings}
-use Rattle.passphrase_talk.specs.declared.told.Told.{Told}
+use Rattle.std.{proofs.Common.{◌≡◌, ℕ, List, Option, drop}, specs.List.flat_map}
+use Rattle.assuan_client.specs.{Connections.Connection, declared.answer.State.TheVariants.Ready}
+use Rattle.passphrase_talk.specs.{Dialogues.{Requests, Leads, told_of, launches_of, option_lines, all_settings}, declared.told.Told.Told}
 use Rattle.passphrase_talk.proofs.dialogue.request_with_options.Given as goal
 
 abbrev pub invariant-loop-setting : goal.invariant-loop-setting

@@ -1,10 +1,7 @@
 -- Whatever is told from here on, it is told of all. Each inquiry uses up a line.
 use Rattle.std.proofs.Common.{◌≡◌, ◌+◌, ℕ, List, Option, cond}
-use Rattle.assuan_client.specs.Answers.{state_after}
-use Rattle.assuan_client.specs.Connections.{Connection}
-use Rattle.assuan_line.specs.Next.{held}
-use Rattle.passphrase_talk.specs.Dialogues.{Replies, Leads, told_behind, launches_behind, quiet, is_inquiry}
-use Rattle.passphrase_talk.specs.declared.told.Told.{Told}
+use Rattle.{assuan_client.specs.{Answers.state_after, Connections.Connection}, assuan_line.specs.Next.held}
+use Rattle.passphrase_talk.specs.{Dialogues.{Replies, Leads, told_behind, launches_behind, quiet, is_inquiry}, declared.told.Told.Told}
 use Rattle.passphrase_talk.proofs.dialogue.settle.Given as goal
 
 abbrev pub invariant-loop-answer : goal.invariant-loop-answer

@@ -1,5 +1,4 @@
-use Rattle.passphrase_talk.specs.Visits.{no_memory, unmet}
-use Rattle.passphrase_talk.proofs.Visiting.{meets}
+use Rattle.passphrase_talk.{specs.Visits.{no_memory, unmet}, proofs.Visiting.meets}
 use Rattle.passphrase_talk.proofs.visits.visit.Goals as goal
 
 pub returns-in-Err-NoMemory-clause-visits : goal.returns-in-Err-NoMemory-clause-visits

@@ -1,6 +1,5 @@
 use Rattle.std.proofs.{Common.{rules, arith, ◌≡◌, ◌≢◌, ◌+◌, ℕ, length, ap, sym, ◌∙◌, refl}, lemmas.Grind.common_steps}
-use Rattle.cache_policy.specs.{declared.mark.MarkStep.MarkStep, Entries.stored, Histories.History, Runs.last_base, Turns.mark_step}
-use Rattle.agent_core.proofs.Counting.{stored_bare}
+use Rattle.{cache_policy.specs.{declared.mark.MarkStep.MarkStep, Entries.stored, Histories.History, Runs.last_base, Turns.mark_step}, agent_core.proofs.Counting.stored_bare}
 use Rattle.agent_lock.proofs.Stepping.{marked_step, unmade, given_up, marks_few, totals_given_up, given_at}
 use Rattle.agent_lock.proofs.state.State.step.Goals as goal
 

@@ -1,8 +1,5 @@
-use Rattle.std.proofs.Common.{◌≡◌, drop}
-use Rattle.std.specs.List.{list_all}
-use Rattle.assuan_text.specs.Rows.{rows_of as table}
-use Rattle.clap.specs.Matches.{found_of}
-use Rattle.clap.specs.Walk.{rows_of}
+use Rattle.std.{proofs.Common.{◌≡◌, drop}, specs.List.list_all}
+use Rattle.{assuan_text.specs.Rows.rows_of as table, clap.specs.{Matches.found_of, Walk.rows_of}}
 use Rattle.agent_top.specs.Options.{takes_row}
 use Rattle.agent_top.proofs.words.options.all_fit.Given as goal
 

@@ -1,6 +1,4 @@
-use Rattle.std.proofs.Common.{◌≡◌, drop, map}
-use Rattle.std.specs.Prelude.{string_bytes}
-use Rattle.std.specs.List.{list_all}
+use Rattle.std.{proofs.Common.{◌≡◌, drop, map}, specs.{Prelude.string_bytes, List.list_all}}
 use Rattle.agent_top.specs.Options.{is_plain}
 use Rattle.agent_top.proofs.words.options.all_plain.Given as goal
 

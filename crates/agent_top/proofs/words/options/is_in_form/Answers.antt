@@ -1,6 +1,5 @@
 use Rattle.std.proofs.Common.{◌∙◌, ap}
-use Rattle.clap.specs.Matches.{found_of}
-use Rattle.clap.proofs.WalkLemmas.{first_value-rows}
+use Rattle.clap.{specs.Matches.found_of, proofs.WalkLemmas.first_value-rows}
 use Rattle.agent_top.specs.Options.{takes}
 use Rattle.agent_top.proofs.words.options.is_in_form.Goals as goal
 

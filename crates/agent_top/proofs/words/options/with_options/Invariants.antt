@@ -1,6 +1,5 @@
 use Rattle.std.proofs.Common.{◌≡◌, take}
-use Rattle.assuan_text.specs.Rows.{rows_of}
-use Rattle.clap.specs.Simple.{app_of}
+use Rattle.{assuan_text.specs.Rows.rows_of, clap.specs.Simple.app_of}
 use Rattle.agent_top.specs.Options.{command_of}
 use Rattle.agent_top.proofs.words.options.with_options.Given as goal
 

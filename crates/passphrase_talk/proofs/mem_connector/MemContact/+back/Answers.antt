@@ -1,7 +1,5 @@
-use Rattle.std.proofs.Common.{◌-◌, ap, sym, ◌∙◌}
-use Rattle.std.specs.Prelude.{slice_get}
-use Rattle.passphrase_talk.specs.MemContacts.{latest_of}
-use Rattle.passphrase_talk.proofs.Places.{one_back}
+use Rattle.std.{proofs.Common.{◌-◌, ap, sym, ◌∙◌}, specs.Prelude.slice_get}
+use Rattle.passphrase_talk.{specs.MemContacts.latest_of, proofs.Places.one_back}
 use Rattle.passphrase_talk.proofs.mem_connector.MemContact.+back.Goals as goal
 
 pub returns-in-Some : goal.returns-in-Some

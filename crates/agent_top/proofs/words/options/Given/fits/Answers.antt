@@ -1,10 +1,6 @@
-use Rattle.std.proofs.Common.{◌∙◌, ap}
-use Rattle.std.specs.List.{list_all}
-use Rattle.clap.specs.Matches.{found_of}
-use Rattle.clap.specs.Walk.{rows_of}
-use Rattle.agent_top.specs.Forms.{forms}
-use Rattle.agent_top.specs.Options.{takes_row}
-use Rattle.agent_top.proofs.OptionRows.{read_as, fit_rows}
+use Rattle.std.{proofs.Common.{◌∙◌, ap}, specs.List.list_all}
+use Rattle.clap.specs.{Matches.found_of, Walk.rows_of}
+use Rattle.agent_top.{specs.{Forms.forms, Options.takes_row}, proofs.OptionRows.{read_as, fit_rows}}
 use Rattle.agent_top.proofs.words.options.Given.fits.Goals as goal
 
 pub returns : goal.returns

@@ -1,9 +1,6 @@
 use Rattle.std.proofs.Common.{◌≡◌, ◌∙◌, Bool, true, false, cond, ap, sym, refl, Some, codes}
-use Rattle.clap.specs.Matches.{found_of, one_text}
-use Rattle.clap.specs.Walk.{rows_of, one_of}
-use Rattle.clap.proofs.WalkLemmas.{one_text-rows}
-use Rattle.agent_top.specs.Settings.{is_set}
-use Rattle.agent_top.proofs.OptionRows.{read_as, flag_read}
+use Rattle.clap.{specs.{Matches.{found_of, one_text}, Walk.{rows_of, one_of}}, proofs.WalkLemmas.one_text-rows}
+use Rattle.agent_top.{specs.Settings.is_set, proofs.OptionRows.{read_as, flag_read}}
 use Rattle.agent_top.proofs.words.options.Given.is_set.Goals as goal
 
 pub returns : goal.returns

@@ -1,9 +1,5 @@
-use Rattle.std.proofs.Common.{◌∙◌, ap, sym, map}
-use Rattle.std.specs.Prelude.{string_bytes}
-use Rattle.clap.specs.Matches.{found_of}
-use Rattle.clap.specs.Simple.{is_simple}
-use Rattle.clap.specs.Faults.{is_simple_and_free}
-use Rattle.clap.specs.Walk.{rows_of}
+use Rattle.std.{proofs.Common.{◌∙◌, ap, sym, map}, specs.Prelude.string_bytes}
+use Rattle.clap.specs.{Matches.found_of, Simple.is_simple, Faults.is_simple_and_free, Walk.rows_of}
 use Rattle.agent_top.proofs.OptionReading.{refused_words, taken_words, fault_is, unplain_words, is_simple_command, is_free_command}
 use Rattle.agent_top.proofs.words.options.Given.read.Goals as goal
 

@@ -1,11 +1,6 @@
-use Rattle.std.proofs.Common.{◌≡◌, ◌∙◌, ap, ℕ, List, Option, Some, None, is_some, refl}
-use Rattle.std.specs.Option.{option_map}
-use Rattle.std.specs.Borrow.{Bor}
-use Rattle.clap.specs.Matches.{found_of}
-use Rattle.clap.specs.Walk.{rows_of, first_of}
-use Rattle.clap.proofs.WalkLemmas.{first_value-rows}
-use Rattle.agent_top.specs.Settings.{value_given}
-use Rattle.agent_top.proofs.OptionRows.{read_as, value_read}
+use Rattle.std.{proofs.Common.{◌≡◌, ◌∙◌, ap, ℕ, List, Option, Some, None, is_some, refl}, specs.{Option.option_map, Borrow.Bor}}
+use Rattle.clap.{specs.{Matches.found_of, Walk.{rows_of, first_of}}, proofs.WalkLemmas.first_value-rows}
+use Rattle.agent_top.{specs.Settings.value_given, proofs.OptionRows.{read_as, value_read}}
 use Rattle.agent_top.proofs.words.options.Given.value.Goals as goal
 
 some_now : (o : Option (Bor (List ℕ))) → is_some o ≡ is_some (option_map (λ v. v.now) o)
