@@ -26,9 +26,7 @@ pub use exactly::{
     a_line_that_ends_a_session_is_answered, a_line_that_is_too_long_ends_its_session,
     each_cause_has_its_error,
 };
-pub use laws::{
-    a_session_extends_a_run, an_exchange_at_a_door_is_a_sessions,
-};
+pub use laws::{a_session_extends_a_run, an_exchange_at_a_door_is_a_sessions};
 pub use own_passphrases::{
     a_session_stores_its_requests_own, each_passphrase_is_written_to_its_request,
     each_request_stores_its_own, no_passphrase_is_written_for_a_request_on_keys,
