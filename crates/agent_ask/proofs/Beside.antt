@@ -1,13 +1,13 @@
--- What is done at a desk and at some further ends, at another desk that holds it, and with other ends beside.
+-- What is done at a desk and at some ports, at another desk that holds it, and with other ends beside.
 use Rattle.std.proofs.Common.{List}
 use Rattle.{agent_ports.specs.Leads.{Leads, none, one}, cache_policy.specs.{declared.mark.MarkStep.MarkStep, Turns.Turn}, session_client.specs.Lines.{Lines, Views}}
-use Rattle.agent_ask.specs.{Further.{FurtherEvent, EventOf, world_with}, States.{AnyState, AnyLead}, Worlds.{Outside, Does, received, sent, cut, asked, not_asked, turned as turned_so, further}}
+use Rattle.agent_ask.specs.{PortCalls.{PortCall, EventOf, world_with}, States.{AnyState, AnyLead}, Worlds.{Outside, Does, received, sent, cut, asked, not_asked, turned as turned_so, ported}}
 
--- Each turn of a desk is one of another desk that holds it, and each event at some further ends is one at others that hold them.
+-- Each turn of a desk is one of another desk that holds it, and each event at some ports is one at others that hold them.
 module _ {lines : Lines} {C D E Whole : Type 0} (part_turned : C → MarkStep → Turn → C → Type 0) (turned : D → MarkStep → Turn → D → Type 0)
-    (does : E → FurtherEvent → E → Type 0) (whole_does : Whole → FurtherEvent → Whole → Type 0) (desk_of : C → D) (put : E → Whole)
+    (does : E → PortCall → E → Type 0) (whole_does : Whole → PortCall → Whole → Type 0) (desk_of : C → D) (put : E → Whole)
     (each_turn : (before after : C) (step : MarkStep) (turn : Turn) → part_turned before step turn after → turned (desk_of before) step turn (desk_of after))
-    (each : (before after : E) (what : FurtherEvent) → does before what after → whole_does (put before) what (put after)) where
+    (each : (before after : E) (what : PortCall) → does before what after → whole_does (put before) what (put after)) where
   abbrev outside_in : Outside (world_with {lines = lines} part_turned does) → Outside (world_with {lines = lines} turned whole_does)
   outside_in out = record { input = out.input; source = out.source; output = out.output; desk = desk_of out.desk; ends = put out.ends }
 
@@ -21,7 +21,7 @@ module _ {lines : Lines} {C D E Whole : Type 0} (part_turned : C → MarkStep �
   leads_in (one (asked known needed) more) = one (asked known needed) (leads_in more)
   leads_in (one (not_asked unsent split) more) = one (not_asked unsent split) (leads_in more)
   leads_in (one (turned_so does_so) more) = one (turned_so (each_turn _ _ _ _ does_so)) (leads_in more)
-  leads_in (one (further does_so) more) = one (further (each _ _ _ does_so)) (leads_in more)
+  leads_in (one (ported does_so) more) = one (ported (each _ _ _ does_so)) (leads_in more)
 
   module _ {L : Type 0} where
     abbrev pub state_in : AnyState (world_with {lines = lines} part_turned does) L → AnyState (world_with {lines = lines} turned whole_does) L
@@ -40,8 +40,8 @@ module _ {lines : Lines} {C D E Whole : Type 0} (part_turned : C → MarkStep �
     }
 
 -- at the same desk, with other ends beside
-module _ {lines : Lines} {D E Whole : Type 0} (turned : D → MarkStep → Turn → D → Type 0) (does : E → FurtherEvent → E → Type 0) (whole_does : Whole → FurtherEvent → Whole → Type 0)
-    (put : E → Whole) (each : (before after : E) (what : FurtherEvent) → does before what after → whole_does (put before) what (put after)) where
+module _ {lines : Lines} {D E Whole : Type 0} (turned : D → MarkStep → Turn → D → Type 0) (does : E → PortCall → E → Type 0) (whole_does : Whole → PortCall → Whole → Type 0)
+    (put : E → Whole) (each : (before after : E) (what : PortCall) → does before what after → whole_does (put before) what (put after)) where
   module _ {C : Type 0} where
     abbrev pub state_beside : AnyState (world_with {lines = lines} turned does) C → AnyState (world_with {lines = lines} turned whole_does) C
     state_beside state = record { conn = state.conn; desk = state.desk; ends = put state.ends }

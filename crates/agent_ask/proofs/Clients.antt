@@ -1,11 +1,11 @@
 -- A prompt's events at a client that is lent are those at the client, and how they leave it.
 use Rattle.std.proofs.Common.{◌≡◌, ◌≢◌, ℕ, Bool, false, List, [], ◌∷◌, Some, Result, Ok, Err, refl, sym, ◌∙◌, subst}
-use Rattle.{agent_ports.specs.Leads.{Leads, none, one}, session_client.specs.{Asking.{LeftBy, TellsClient}, Lines.{Lines, Views, IsOpen}, declared.unheard.Unheard.Unheard}}
+use Rattle.{agent_ports.specs.Leads.{Leads, none, one}, session_client.specs.{Asking.{LeftBy, TellsClient}, Lines.{Lines, Views, IsOpen}, declared.client_error.ClientError.ClientError}}
 use Rattle.agent_ask.specs.{Callers.{is_gone, unheard_of, IsUnheardBy, SaysNote, SaysWish, FitsQuestion}, Clients.{Lent, Hears, note, wish, LentHears, LeftByHeard, LeftByPin, LeftByConsent}, Consents.AsksConsent}
 use Rattle.agent_ask.specs.{Doing.{PromptEnds, ends, DoesPrompt, called, calls, notified, HasEvents}, Events.{Call, Start, Shut, Launched, Wanted, PromptEvent, Called, Notified}, Listening.{ListensAfterPin, ListensAfterConsent}}
 use Rattle.agent_ask.specs.{Prompts.AsksPin, declared.{ask.Asked.Asked, caller.Heard.{Heard, TheVariants.{Fine, Secret, Cancelled, TooMuch, Unexpected, Gone}}, consent.Agreed.Agreed, prompter.Opened.Opened, spec.AskPlan.AskPlan}}
-use Rattle.agent_ask.{specs.declared.spec.PromptSpec.PromptSpec, proofs.Unheard.{EndsByNote, pin_unheard, consent_unheard}}
-use Rattle.session_client.specs.declared.unheard.Unheard.TheVariants as unheard
+use Rattle.agent_ask.{specs.declared.spec.PromptSpec.PromptSpec, proofs.ClientError.{EndsByNote, pin_unheard, consent_unheard}}
+use Rattle.session_client.specs.declared.client_error.ClientError.TheVariants as client_error
 use Rattle.agent_ask.specs.declared.ask.Asked.TheVariants as asked
 use Rattle.agent_ask.specs.declared.consent.Agreed.TheVariants as agreed
 
@@ -13,7 +13,7 @@ some_same : {A : Type 0} {first second : A} → Some first ≡ Some second → f
 some_same is = cc is
 
 -- one that took no note gave nothing
-unheard_by : (result : Result (Unit {0}) Unheard) (heard : Heard) → SaysNote result heard → heard ≢ Fine → IsUnheardBy heard
+unheard_by : (result : Result (Unit {0}) ClientError) (heard : Heard) → SaysNote result heard → heard ≢ Fine → IsUnheardBy heard
 unheard_by (Ok noted) heard says not_fine = absurd (not_fine says)
 unheard_by (Err why) Fine says not_fine = absurd (cc says)
 unheard_by (Err why) (Secret secret) says not_fine = absurd (cc says)
@@ -22,7 +22,7 @@ unheard_by (Err why) TooMuch says not_fine = tt
 unheard_by (Err why) Unexpected says not_fine = tt
 unheard_by (Err why) (Gone how) says not_fine = tt
 
-module _ {lines : Lines} {C P : Type 0} (views : Views lines C) (Wished : C → List ℕ → Result (List ℕ) Unheard → C → Type 0) (prompted : P → Call → P → Type 0) where
+module _ {lines : Lines} {C P : Type 0} (views : Views lines C) (Wished : C → List ℕ → Result (List ℕ) ClientError → C → Type 0) (prompted : P → Call → P → Type 0) where
   abbrev at_client : PromptEnds P (Lent C) → PromptEnds P C
   at_client now = ends now.prompter now.caller.client
 
@@ -44,7 +44,7 @@ module _ {lines : Lines} {C P : Type 0} (views : Views lines C) (Wished : C → 
 
   module _ (start now : C) where
     -- how the connection is left by what the client was heard to say
-    why_left : (why : Unheard) (heard : Heard) → unheard_of heard ≡ Some why → LeftBy views {A = Unit {0}} (Err why) start now → LeftByHeard views heard start now
+    why_left : (why : ClientError) (heard : Heard) → unheard_of heard ≡ Some why → LeftBy views {A = Unit {0}} (Err why) start now → LeftByHeard views heard start now
     why_left why Fine says left = absurd (cc says)
     why_left why (Secret secret) says left = absurd (cc says)
     why_left why Cancelled says left = subst (λ w. LeftBy views {A = Unit {0}} (Err w) start now) (sym (some_same says)) left
@@ -52,17 +52,17 @@ module _ {lines : Lines} {C P : Type 0} (views : Views lines C) (Wished : C → 
     why_left why Unexpected says left = subst (λ w. LeftBy views {A = Unit {0}} (Err w) start now) (sym (some_same says)) left
     why_left why (Gone how) says left = subst (λ w. LeftBy views {A = Unit {0}} (Err w) start now) (sym (some_same says)) left
 
-    heard_left : (result : Result (Unit {0}) Unheard) (heard : Heard) → SaysNote result heard → LeftBy views result start now → LeftByHeard views heard start now
+    heard_left : (result : Result (Unit {0}) ClientError) (heard : Heard) → SaysNote result heard → LeftBy views result start now → LeftByHeard views heard start now
     heard_left (Ok noted) heard says left = subst (λ h. LeftByHeard views h start now) (sym says) left
     heard_left (Err why) heard says left = why_left why heard says left
 
-    left_err : (why : Unheard) → LeftBy views {A = List ℕ} (Err why) start now → LeftBy views {A = Unit {0}} (Err why) start now
-    left_err unheard.Cancelled left = left
-    left_err unheard.TooMuch left = left
-    left_err unheard.Unexpected left = left
-    left_err (unheard.Gone how) left = left
+    left_err : (why : ClientError) → LeftBy views {A = List ℕ} (Err why) start now → LeftBy views {A = Unit {0}} (Err why) start now
+    left_err client_error.Cancelled left = left
+    left_err client_error.TooMuch left = left
+    left_err client_error.Unexpected left = left
+    left_err (client_error.Gone how) left = left
 
-    wish_left : (result : Result (List ℕ) Unheard) (heard : Heard) → SaysWish result heard → LeftBy views result start now → LeftByHeard views heard start now
+    wish_left : (result : Result (List ℕ) ClientError) (heard : Heard) → SaysWish result heard → LeftBy views result start now → LeftByHeard views heard start now
     wish_left (Ok secret) heard says left = subst (λ h. LeftByHeard views h start now) (sym says) left
     wish_left (Err why) heard says left = why_left why heard says (left_err why left)
 
@@ -74,7 +74,7 @@ module _ {lines : Lines} {C P : Type 0} (views : Views lines C) (Wished : C → 
     left_open Unexpected left is = left
     left_open (Gone how) left is = absurd (cc is)
 
-  note_fits : (pid : ℕ) (result : Result (Unit {0}) Unheard) (heard : Heard) → SaysNote result heard → FitsQuestion (Launched pid) heard
+  note_fits : (pid : ℕ) (result : Result (Unit {0}) ClientError) (heard : Heard) → SaysNote result heard → FitsQuestion (Launched pid) heard
   note_fits pid (Ok noted) (Secret secret) says = cc says
   note_fits pid (Err why) (Secret secret) says = cc says
   note_fits pid result Fine says = tt
@@ -83,7 +83,7 @@ module _ {lines : Lines} {C P : Type 0} (views : Views lines C) (Wished : C → 
   note_fits pid result Unexpected says = tt
   note_fits pid result (Gone how) says = tt
 
-  wish_fits : (word : List ℕ) (result : Result (List ℕ) Unheard) (heard : Heard) → SaysWish result heard → FitsQuestion (Wanted word) heard
+  wish_fits : (word : List ℕ) (result : Result (List ℕ) ClientError) (heard : Heard) → SaysWish result heard → FitsQuestion (Wanted word) heard
   wish_fits word (Ok secret) Fine says = cc says
   wish_fits word (Err why) Fine says = cc says
   wish_fits word result (Secret secret) says = tt
@@ -93,7 +93,7 @@ module _ {lines : Lines} {C P : Type 0} (views : Views lines C) (Wished : C → 
   wish_fits word result (Gone how) says = tt
 
   -- the client that is lent was told, or asked
-  pub told_lent : {pid : ℕ} {before after : Lent C} (result : Result (Unit {0}) Unheard) (heard : Heard) → IsOpen views before.client
+  pub told_lent : {pid : ℕ} {before after : Lent C} (result : Result (Unit {0}) ClientError) (heard : Heard) → IsOpen views before.client
       → TellsClient views pid result before.client after.client → after.name ≡ before.name → SaysNote result heard → LentHears views Wished before (Launched pid) heard after
   told_lent {pid} {before} {after} result heard going tells name says = record {
     hears = note result going tells says;
@@ -101,7 +101,7 @@ module _ {lines : Lines} {C P : Type 0} (views : Views lines C) (Wished : C → 
     name = name;
   }
 
-  pub wished_lent : {word : List ℕ} {before after : Lent C} (result : Result (List ℕ) Unheard) (heard : Heard) → IsOpen views before.client
+  pub wished_lent : {word : List ℕ} {before after : Lent C} (result : Result (List ℕ) ClientError) (heard : Heard) → IsOpen views before.client
       → Wished before.client word result after.client → LeftBy views result before.client after.client → after.name ≡ before.name → SaysWish result heard
       → LentHears views Wished before (Wanted word) heard after
   wished_lent {word} {before} {after} result heard going wished left name says = record {

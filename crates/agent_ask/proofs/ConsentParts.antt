@@ -1,27 +1,27 @@
 -- Consent as a part of a request: its prompt, and how it leaves the client.
 use Rattle.std.{proofs.Common.{◌≡◌, ℕ, List, Some, Result, Ok, Err, refl, subst}, specs.Option.option_map}
-use Rattle.{session_client.specs.{Asking.LeftBy, Lines.{Lines, Views}, declared.{refusal.Refusal.{Refusal, TheVariants.{Agent, Pinentry, Client}}, unheard.Unheard.Unheard}}, session_options.specs.OptionValues.OptionValues}
+use Rattle.{session_client.specs.{Asking.LeftBy, Lines.{Lines, Views}, declared.{refusal.Refusal.{Refusal, TheVariants.{Agent, Pinentry, Client}}, client_error.ClientError.ClientError}}, session_options.specs.OptionValues.OptionValues}
 use Rattle.session_options.specs.declared.rules.Rules.{Rules}
 use Rattle.agent_ask.specs.{Callers.{unheard_of, IsUnheardBy}, Clients.{LeftByHeard, LeftByConsent, LeftByPart}, ConsentParts.{IsAgreed, IsConsented, AsksQuestion, IsQuestion, AgreesTo, consents, refused}, Consents.AsksConsent}
-use Rattle.agent_ask.specs.{Events.PromptEvent, Further.EventOf, SessionPrompts.AnyInSession, declared.{caller.Heard.{Heard, TheVariants.{Fine, Secret, Cancelled, TooMuch, Unexpected, Gone}}, consent.Agreed.Agreed}}
+use Rattle.agent_ask.specs.{Events.PromptEvent, PortCalls.EventOf, SessionPrompts.AnyInSession, declared.{caller.Heard.{Heard, TheVariants.{Fine, Secret, Cancelled, TooMuch, Unexpected, Gone}}, consent.Agreed.Agreed}}
 use Rattle.agent_ask.specs.declared.spec.PromptSpec.{PromptSpec}
 use Rattle.session_client.specs.declared.code.Code.TheVariants as code
-use Rattle.session_client.specs.declared.unheard.Unheard.TheVariants as unheard
+use Rattle.session_client.specs.declared.client_error.ClientError.TheVariants as client_error
 use Rattle.agent_ask.specs.declared.consent.Agreed.TheVariants as agreed
 
 module _ {lines : Lines} {C : Type 0} (views : Views lines C) (start now : C) where
   module _ (A : Type 0) where
     -- how the client is left by what was heard in place of what was wanted, and by which a request is refused
-    by_refusal : (first : Unheard) (why : Refusal) → Some (Client first) ≡ Some why → LeftBy views {A = List ℕ} (Err first) start now → LeftByPart views {A = A} (Err why) start now
+    by_refusal : (first : ClientError) (why : Refusal) → Some (Client first) ≡ Some why → LeftBy views {A = List ℕ} (Err first) start now → LeftByPart views {A = A} (Err why) start now
     by_refusal first why same left = let is : Client first ≡ why = cc same in subst (λ (r : Refusal). LeftByPart views {A = A} (Err r) start now) is left
 
     pub left_unheard : (heard : Heard) (why : Refusal) → option_map Client (unheard_of heard) ≡ Some why → LeftByHeard views heard start now → LeftByPart views {A = A} (Err why) start now
     left_unheard Fine why is left = cc is
     left_unheard (Secret secret) why is left = cc is
-    left_unheard Cancelled why is left = by_refusal unheard.Cancelled why is left
-    left_unheard TooMuch why is left = by_refusal unheard.TooMuch why is left
-    left_unheard Unexpected why is left = by_refusal unheard.Unexpected why is left
-    left_unheard (Gone how) why is left = by_refusal (unheard.Gone how) why is left
+    left_unheard Cancelled why is left = by_refusal client_error.Cancelled why is left
+    left_unheard TooMuch why is left = by_refusal client_error.TooMuch why is left
+    left_unheard Unexpected why is left = by_refusal client_error.Unexpected why is left
+    left_unheard (Gone how) why is left = by_refusal (client_error.Gone how) why is left
 
     -- a refusal that isn't the client's
     pub left_open : (first why : Refusal) → Some first ≡ Some why → LeftByPart views {A = A} (Err first) start now → LeftByPart views {A = A} (Err why) start now

@@ -2,8 +2,8 @@
 use Rattle.std.proofs.Common.{ℕ, List, [], ◌∷◌, ◌++◌, Ok, Err, refl, ap, ◌∙◌, arith}
 use Rattle.{agent_ports.{specs.{Leads.{none, one}, Sides.Side, Writing.StopsWriting, declared.link.WriteFault.WriteFault}, proofs.Leading.leads_then}, cache_policy.specs.{declared.mark.MarkStep.MarkStep, Turns.Turn}}
 use Rattle.session_client.{specs.{Asking.{AnyInquired, Asked, NotAsked, HasSaid, HasInquired}, Lines.{Lines, Views}}, proofs.Received.HasReceived}
-use Rattle.agent_ask.specs.{LinkFaults.{fails_at_input, fails_at_output}, SessionEvents.{AnyEvent, Received, Sent, Cut, Inquiry, Further, cache_turn}, States.{AnyState, AnyLead}}
-use Rattle.agent_ask.{specs.Worlds.{AnyWorld, received, sent, cut, asked as asked_so, not_asked, turned, further}, proofs.Counting.{one_is_counted, both_are_counted}}
+use Rattle.agent_ask.specs.{LinkFaults.{fails_at_input, fails_at_output}, SessionEvents.{AnyEvent, Received, Sent, Cut, Inquiry, Port, cache_turn}, States.{AnyState, AnyLead}}
+use Rattle.agent_ask.{specs.Worlds.{AnyWorld, received, sent, cut, asked as asked_so, not_asked, turned, ported}, proofs.Counting.{one_is_counted, both_are_counted}}
 
 -- the bytes of a text that went before its write stopped
 abbrev pub stopped_at : {lines : Lines} {C : Type 0} {views : Views lines C} {text : List ℕ} {start now : C} {why : WriteFault} → HasSaid views text start (Err why) now → List ℕ
@@ -24,7 +24,7 @@ module _ {lines : Lines} {w : AnyWorld lines} {C : Type 0} {views : Views lines 
     link = refl;
   }
 
-  pub done_then : {first second : List (AnyEvent lines.Took lines.Outcome w.Further)} {start mid now : AnyState w C} → AnyLead views first start mid → AnyLead views second mid now
+  pub done_then : {first second : List (AnyEvent lines.Took lines.Outcome w.Port)} {start mid now : AnyState w C} → AnyLead views first start mid → AnyLead views second mid now
       → AnyLead views (first ++ second) start now
   done_then {first} {second} before after = record {
     leads = λ supply is.
@@ -50,11 +50,11 @@ module _ {lines : Lines} {w : AnyWorld lines} {C : Type 0} {views : Views lines 
     link = refl;
   }
 
-  -- an event at the further ends
-  pub done_further : (what : w.Further) (conn : C) (desk : w.Desk) (ends ends_now : w.Ends) → w.does ends what ends_now
-      → AnyLead {w = w} views (Further what ∷ []) (record { conn = conn; desk = desk; ends = ends }) (record { conn = conn; desk = desk; ends = ends_now })
-  done_further what conn desk ends ends_now does = record {
-    leads = λ supply is. (one (further does) none, is);
+  -- an event at the ports
+  pub done_port : (what : w.Port) (conn : C) (desk : w.Desk) (ends ends_now : w.Ends) → w.does ends what ends_now
+      → AnyLead {w = w} views (Port what ∷ []) (record { conn = conn; desk = desk; ends = ends }) (record { conn = conn; desk = desk; ends = ends_now })
+  done_port what conn desk ends ends_now does = record {
+    leads = λ supply is. (one (ported does) none, is);
     reads = omega arith;
     writes = omega arith;
     input_faults = omega arith;
@@ -83,7 +83,7 @@ module _ {lines : Lines} {w : AnyWorld lines} {C : Type 0} {views : Views lines 
         record {
           leads = λ supply is. (rw (said.leaves.unread, ap (λ (s : Side). s.bytes) said.leaves.input, said.output.went.written) (one cut none), said.leaves.supply supply is);
           reads = omega (arith, ap (λ (s : Side). s.faults) said.leaves.input);
-          writes = one_is_counted (fails_at_output lines {F = w.Further}) (Cut stops.sent) _ _ (λ e. stops.rose) said.output.faults;
+          writes = one_is_counted (fails_at_output lines {F = w.Port}) (Cut stops.sent) _ _ (λ e. stops.rose) said.output.faults;
           input_faults = omega (arith, ap (λ (s : Side). s.faults) said.leaves.input);
           output_faults = said.output.faults;
           link = said.leaves.link;
@@ -93,7 +93,7 @@ module _ {lines : Lines} {w : AnyWorld lines} {C : Type 0} {views : Views lines 
     pub done_received : {took : lines.Took} {start now : C} → HasReceived views took start now → AnyLead {w = w} views (Received took ∷ []) (at_conn {w = w} desk ends start) (at_conn {w = w} desk ends now)
     done_received {took} read = record {
       leads = λ supply is. let reads = read.reads supply is in (rw read.output_is (one (received reads.0 read.needed) none), reads.1);
-      reads = one_is_counted (fails_at_input lines {F = w.Further}) (Received took) _ _ read.rose read.input_faults;
+      reads = one_is_counted (fails_at_input lines {F = w.Port}) (Received took) _ _ read.rose read.input_faults;
       writes = omega (arith, read.output_faults);
       input_faults = read.input_faults;
       output_faults = read.output_faults;
@@ -105,7 +105,7 @@ module _ {lines : Lines} {w : AnyWorld lines} {C : Type 0} {views : Views lines 
         → AnyLead {w = w} views (Inquiry word params limit inquired ∷ []) (at_conn {w = w} desk ends start) (at_conn {w = w} desk ends now)
     done_inquired {word} {params} {limit} (Asked outcome) read = record {
       leads = λ supply is. let reads = read.reads supply is in (rw read.output_is (one (asked_so reads.0 read.needed) none), reads.1);
-      reads = one_is_counted (fails_at_input lines {F = w.Further}) (Inquiry word params limit (Asked outcome)) _ _ read.rose read.input_faults;
+      reads = one_is_counted (fails_at_input lines {F = w.Port}) (Inquiry word params limit (Asked outcome)) _ _ read.rose read.input_faults;
       writes = omega (arith, read.output_faults);
       input_faults = read.input_faults;
       output_faults = read.output_faults;
@@ -118,7 +118,7 @@ module _ {lines : Lines} {w : AnyWorld lines} {C : Type 0} {views : Views lines 
         stop.leaves.supply supply is,
       );
       reads = omega (arith, ap (λ (s : Side). s.faults) stop.leaves.input);
-      writes = one_is_counted (fails_at_output lines {F = w.Further}) (Inquiry word params limit (NotAsked text)) _ _ (λ e. stop.stopped.rose) stop.faults;
+      writes = one_is_counted (fails_at_output lines {F = w.Port}) (Inquiry word params limit (NotAsked text)) _ _ (λ e. stop.stopped.rose) stop.faults;
       input_faults = omega (arith, ap (λ (s : Side). s.faults) stop.leaves.input);
       output_faults = stop.faults;
       link = stop.leaves.link;

@@ -4,7 +4,7 @@ pub mod Trying
 pub mod WorkedPrompts
 pub mod OnlyAnswer
 pub mod Counting
-pub mod Unheard
+pub mod ClientError
 pub mod Doing
 pub mod Beside
 pub mod Clients

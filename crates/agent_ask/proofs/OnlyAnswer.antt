@@ -207,7 +207,7 @@ module _ {spec : PromptSpec} {notify : Bool} where
   only_opens (Opens.unheard noisy deaf) (Opens.told noisy') same = absurd (deaf (cc same))
   only_opens (Opens.unheard noisy deaf) (Opens.unheard noisy' deaf') same = (cc same, cc same)
 
-unheard_is : {heard other : Heard} → opening.Unheard heard ≡ opening.Unheard other → heard ≡ other
+unheard_is : {heard other : Heard} → opening.ClientError heard ≡ opening.ClientError other → heard ≡ other
 unheard_is same = cc same
 
 module _ (spec : PromptSpec) (plan : AskPlan) (Rule : List ℕ → Type 0) where

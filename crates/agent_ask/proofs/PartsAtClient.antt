@@ -1,31 +1,31 @@
 -- Parts at the client: a text that is written, an inquiry, a prompt that it is told of.
 use Rattle.std.proofs.Common.{◌≡◌, ◌≢◌, ◌≤◌, ℕ, List, [], ◌∷◌, Option, Some, Result, Ok, Err, IsSome, refl, arith, sym, ◌∙◌, subst}
 use Rattle.{agent_ports.specs.{Leads.Leads, Writing.StopsWriting, declared.link.WriteFault.WriteFault}, session_client.specs.{Asking.{HasSaid, LeftBy, AsksClient as AskedClient}, Lines.{Lines, Views, IsOpen}, Refusals.gone_by}}
-use Rattle.session_client.specs.declared.{refusal.Refusal.{Refusal, TheVariants.{Agent, Pinentry, Client}}, unheard.Unheard.Unheard}
+use Rattle.session_client.specs.declared.{refusal.Refusal.{Refusal, TheVariants.{Agent, Pinentry, Client}}, client_error.ClientError.ClientError}
 use Rattle.agent_ask.specs.{Answering.{ReaderLeft, FaultsCounted}, Callers.IsUnheardBy, ClientParts.{Writes, written, cut, Inquires, given, not_given}, Clients.{Hears, LeftByPin, LeftByPart}}
-use Rattle.agent_ask.specs.{Doing.{PromptEnds, DoesCall, DoesPrompt, HasEvents}, Events.{Call, PromptEvent}, Further.{FurtherEvent, Prompt, EventOf, world_with}, Parts.PartOf}
+use Rattle.agent_ask.specs.{Doing.{PromptEnds, DoesCall, DoesPrompt, HasEvents}, Events.{Call, PromptEvent}, PortCalls.{PortCall, Prompt, EventOf, world_with}, Parts.PartOf}
 use Rattle.agent_ask.specs.{PartStates.{part_state, gone_in, DoesPart, NoTurn, NoEnd, DoesWithClient}, PinParts.{PromptsPin, pin_refusal}, Prompts.AsksPinBy, SessionEvents.{Sent, Cut, Inquiry}, SessionPrompts.AnyInSession}
 use Rattle.agent_ask.specs.declared.{ask.Asked.Asked, caller.Heard.{Heard, TheVariants.{Fine, Secret, Cancelled, TooMuch, Unexpected, Gone}}, spec.{AskPlan.AskPlan, PromptSpec.PromptSpec}, test.Tested.Tested}
 use Rattle.agent_ask.proofs.{ConsentParts.{left_open, left_unheard}, Doing.{done_said, done_cut, done_inquired}, Prompting.shown}
 use Rattle.session_client.specs.declared.code.Code.TheVariants as code
-use Rattle.session_client.specs.declared.unheard.Gone.TheVariants as gone
-use Rattle.session_client.specs.declared.unheard.Unheard.TheVariants as unheard
+use Rattle.session_client.specs.declared.client_error.Gone.TheVariants as gone
+use Rattle.session_client.specs.declared.client_error.ClientError.TheVariants as client_error
 use Rattle.agent_ask.specs.declared.ask.Asked.TheVariants as asked
 
 module _ {lines : Lines} {C : Type 0} (views : Views lines C) (start now : C) where
   -- how the session goes on whose client gave nothing, by how its connection is left
-  reader_unheard : (IsOpen views now → views.held now ≤ views.held start) → (why : Unheard) → LeftBy views {A = List ℕ} (Err why) start now
+  reader_unheard : (IsOpen views now → views.held now ≤ views.held start) → (why : ClientError) → LeftBy views {A = List ℕ} (Err why) start now
       → ReaderLeft views (gone_by (Client why)) start now
-  reader_unheard fewer unheard.Cancelled left = (left, fewer left)
-  reader_unheard fewer unheard.TooMuch left = (left, fewer left)
-  reader_unheard fewer unheard.Unexpected left = (left, fewer left)
-  reader_unheard fewer (unheard.Gone how) left = left.ended
+  reader_unheard fewer client_error.Cancelled left = (left, fewer left)
+  reader_unheard fewer client_error.TooMuch left = (left, fewer left)
+  reader_unheard fewer client_error.Unexpected left = (left, fewer left)
+  reader_unheard fewer (client_error.Gone how) left = left.ended
 
-  faults_unheard : (why : Unheard) → LeftBy views {A = List ℕ} (Err why) start now → FaultsCounted views (gone_by (Client why)) start now
-  faults_unheard unheard.Cancelled left = record { read = λ e. absurd (cc e); write = λ e. absurd (cc e) }
-  faults_unheard unheard.TooMuch left = record { read = λ e. absurd (cc e); write = λ e. absurd (cc e) }
-  faults_unheard unheard.Unexpected left = record { read = λ e. absurd (cc e); write = λ e. absurd (cc e) }
-  faults_unheard (unheard.Gone how) left = record { read = λ e. left.read_fault (cc e); write = λ e. left.write_fault (cc e) }
+  faults_unheard : (why : ClientError) → LeftBy views {A = List ℕ} (Err why) start now → FaultsCounted views (gone_by (Client why)) start now
+  faults_unheard client_error.Cancelled left = record { read = λ e. absurd (cc e); write = λ e. absurd (cc e) }
+  faults_unheard client_error.TooMuch left = record { read = λ e. absurd (cc e); write = λ e. absurd (cc e) }
+  faults_unheard client_error.Unexpected left = record { read = λ e. absurd (cc e); write = λ e. absurd (cc e) }
+  faults_unheard (client_error.Gone how) left = record { read = λ e. left.read_fault (cc e); write = λ e. left.write_fault (cc e) }
 
   -- how it is left by a prompt
   module _ {A : Type 0} where
@@ -65,7 +65,7 @@ module _ {lines : Lines} {C : Type 0} {views : Views lines C} {start now : C} wh
 
   -- its write failed
   pub wrote_part : {text : List ℕ} (fault : WriteFault) → HasSaid views text start (Err fault) now
-      → DoesWithClient views (Writes text) start (Err (Client (unheard.Gone gone.WriteFault))) now
+      → DoesWithClient views (Writes text) start (Err (Client (client_error.Gone gone.WriteFault))) now
   wrote_part {text} fault said ticket =
       let stops : StopsWriting text (views.output start) (views.output now) = said.output.went in
       record {
@@ -87,7 +87,7 @@ module _ {lines : Lines} {C : Type 0} {views : Views lines C} {start now : C} wh
   }
 
   -- or it gave none
-  pub gave_none : {word : List ℕ} {limit : ℕ} {why : Unheard} → AskedClient views word limit (Err why) start now
+  pub gave_none : {word : List ℕ} {limit : ℕ} {why : ClientError} → AskedClient views word limit (Err why) start now
       → DoesWithClient views (Inquires lines word limit) start (Err (Client why)) now
   gave_none {why} asks ticket = record {
     events = Inquiry _ [] _ asks.inquired ∷ [];
@@ -97,17 +97,17 @@ module _ {lines : Lines} {C : Type 0} {views : Views lines C} {start now : C} wh
     faults = faults_unheard views start now why asks.inquires.left;
   }
 
--- The further ends hold the prompter: with each state of it they are these, and what a prompt does to it is done to them.
-module _ {lines : Lines} {C P E : Type 0} (views : Views lines C) {prompted : P → Call → P → Type 0} (further : E → FurtherEvent → E → Type 0) (put : P → E)
-    (each : (before after : P) (event : PromptEvent) → DoesCall prompted before event after → further (put before) (Prompt event) (put after))
-    {Wished : C → List ℕ → Result (List ℕ) Unheard → C → Type 0} {start now : PromptEnds P C} {A : Type 0} {part : PartOf (EventOf lines) A} where
+-- The ports hold the prompter: with each state of it they are these, and what a prompt does to it is done to them.
+module _ {lines : Lines} {C P E : Type 0} (views : Views lines C) {prompted : P → Call → P → Type 0} (ported : E → PortCall → E → Type 0) (put : P → E)
+    (each : (before after : P) (event : PromptEvent) → DoesCall prompted before event after → ported (put before) (Prompt event) (put after))
+    {Wished : C → List ℕ → Result (List ℕ) ClientError → C → Type 0} {start now : PromptEnds P C} {A : Type 0} {part : PartOf (EventOf lines) A} where
   -- A prompt was shown, and the session shows its events: a part that these are was done, and left the connection so.
   pub part_prompted : {result : Result A Refusal} {ticket : Option ℕ} {prompt : List PromptEvent}
       → Leads (DoesPrompt prompted (Hears views Wished)) start prompt now → ((events : List (EventOf lines)) → AnyInSession lines prompt events → part ticket events result ticket)
       → LeftByPart views result start.caller now.caller
-      → DoesPart views NoTurn further part ticket (part_state views NoTurn further start.caller tt (put start.prompter)) result ticket (part_state views NoTurn further now.caller tt (put now.prompter))
+      → DoesPart views NoTurn ported part ticket (part_state views NoTurn ported start.caller tt (put start.prompter)) result ticket (part_state views NoTurn ported now.caller tt (put now.prompter))
   part_prompted {result} leads does left =
-      let s = shown views NoTurn prompted further put each tt leads in
+      let s = shown views NoTurn prompted ported put each tt leads in
       record {
         events = s.events;
         does = does s.events s.in_session;
@@ -120,15 +120,15 @@ module _ {lines : Lines} {C P E : Type 0} (views : Views lines C) {prompted : P 
       (asks : HasEvents (DoesPrompt prompted (Hears views Wished)) (λ events. AsksPinBy tested before after spec plan Rule events answer) start now) {ticket : ℕ} where
     -- it came to a passphrase
     pub prompt_gave : {value : A} → IsOpen views now.caller → ((events : List (EventOf lines)) → PromptsPin lines spec plan Rule events answer → part (Some ticket) events (Ok value) (Some ticket))
-        → DoesPart views NoTurn further part (Some ticket) (part_state views NoTurn further start.caller tt (put start.prompter)) (Ok value) (Some ticket)
-        (part_state views NoTurn further now.caller tt (put now.prompter))
+        → DoesPart views NoTurn ported part (Some ticket) (part_state views NoTurn ported start.caller tt (put start.prompter)) (Ok value) (Some ticket)
+        (part_state views NoTurn ported now.caller tt (put now.prompter))
     prompt_gave going is = part_prompted asks.lead (λ events in_session. is events (record { prompt = asks.events; asks = asks.are.asks; in_session = in_session })) going
 
     -- or the request is refused by its answer
     pub prompt_refused : {why : Refusal} → pin_refusal answer ≡ Some why → LeftByPin views answer start.caller now.caller
         → ((events : List (EventOf lines)) → PromptsPin lines spec plan Rule events answer → part (Some ticket) events (Err why) (Some ticket))
-        → DoesPart views NoTurn further part (Some ticket) (part_state views NoTurn further start.caller tt (put start.prompter)) (Err why) (Some ticket)
-        (part_state views NoTurn further now.caller tt (put now.prompter))
+        → DoesPart views NoTurn ported part (Some ticket) (part_state views NoTurn ported start.caller tt (put start.prompter)) (Err why) (Some ticket)
+        (part_state views NoTurn ported now.caller tt (put now.prompter))
     prompt_refused {why} refuses left is =
         part_prompted asks.lead (λ events in_session. is events (record { prompt = asks.events; asks = asks.are.asks; in_session = in_session }))
         (left_by_pin views start.caller now.caller A answer why refuses left)

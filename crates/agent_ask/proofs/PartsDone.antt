@@ -1,8 +1,8 @@
--- Parts of a request that were done, one after another, and those that stand beside a desk and further ends that they have nothing to do with.
+-- Parts of a request that were done, one after another, and those that stand beside a desk and ports that they have nothing to do with.
 use Rattle.std.proofs.Common.{◌≡◌, ◌≤◌, ℕ, true, List, [], ◌∷◌, ◌++◌, Option, Some, None, Result, Ok, Err, is_some, refl, arith}
 use Rattle.cache_policy.specs.{declared.{mark.{MarkStep.{MarkStep, TheVariants.{Ask, Close}}, Way.{Way, TheVariants.{Quiet, Prompt}}}, mode.Mode.Mode}, Turns.{Turn, Given, Empty, Open, Done, FitsStep, opens}}
-use Rattle.session_client.specs.{Lines.{Lines, Views, IsOpen}, declared.{refusal.Refusal.Refusal, unheard.Gone.Gone}}
-use Rattle.agent_ask.specs.{Answering.{ReaderLeft, FaultsCounted}, Further.{FurtherEvent, EventOf, world_with}, Parts.{PartOf, ◌>>=◌, goes_on, stops}}
+use Rattle.session_client.specs.{Lines.{Lines, Views, IsOpen}, declared.{refusal.Refusal.Refusal, client_error.Gone.Gone}}
+use Rattle.agent_ask.specs.{Answering.{ReaderLeft, FaultsCounted}, PortCalls.{PortCall, EventOf, world_with}, Parts.{PartOf, ◌>>=◌, goes_on, stops}}
 use Rattle.agent_ask.specs.PartStates.{PartState, part_state, gone_in, DoesPart, NoTurn, NoEnd, DoesWithClient, DoesTurn, DoesTurns, still, one}
 use Rattle.agent_ask.specs.Seats.{Gives, TakesTicket, GivesTicket, Changed, ChangesCache, Answered, AsksCache, opened as ticket_opened, interrupted as ticket_refused, taken, refused, unheld, given, changed, unchanged, found, none_found}
 use Rattle.agent_ask.{specs.{Seats.{prompt_opened, not_answered}, SessionEvents.{AnyEvent, cache_turn}, TurnParts.{Asks, Seats, Changes, Closes, closed}}, proofs.{Beside.done_in, Doing.{done_none, done_then, done_turned}}}
@@ -21,11 +21,11 @@ module _ {lines : Lines} {C : Type 0} (views : Views lines C) where
   pub no_fault : (how : Option Gone) → how ≡ None → (start now : C) → FaultsCounted views how start now
   no_fault how on start now = rw on (record { read = λ e. absurd (cc e); write = λ e. absurd (cc e) })
 
-module _ {lines : Lines} {C D E : Type 0} {views : Views lines C} {turned : D → MarkStep → Turn → D → Type 0} {further : E → FurtherEvent → E → Type 0} where
-  module _ {A B : Type 0} {part : PartOf (EventOf lines) A} {next : A → PartOf (EventOf lines) B} {before after : Option ℕ} {start now : PartState views turned further} where
+module _ {lines : Lines} {C D E : Type 0} {views : Views lines C} {turned : D → MarkStep → Turn → D → Type 0} {ported : E → PortCall → E → Type 0} where
+  module _ {A B : Type 0} {part : PartOf (EventOf lines) A} {next : A → PartOf (EventOf lines) B} {before after : Option ℕ} {start now : PartState views turned ported} where
     -- a part came to a value, and then the next was done
-    pub part_then : {mid : Option ℕ} {between : PartState views turned further} {value : A} {result : Result B Refusal} → DoesPart views turned further part before start (Ok value) mid between
-        → DoesPart views turned further (next value) mid between result after now → DoesPart views turned further (part >>= next) before start result after now
+    pub part_then : {mid : Option ℕ} {between : PartState views turned ported} {value : A} {result : Result B Refusal} → DoesPart views turned ported part before start (Ok value) mid between
+        → DoesPart views turned ported (next value) mid between result after now → DoesPart views turned ported (part >>= next) before start result after now
     part_then {between} {result} first second = record {
       events = first.events ++ second.events;
       does = goes_on first.does second.does;
@@ -38,64 +38,64 @@ module _ {lines : Lines} {C D E : Type 0} {views : Views lines C} {turned : D �
     }
 
     -- a part was refused, and nothing is done behind it
-    pub part_stops : {why : Refusal} → DoesPart views turned further part before start (Err why) after now → DoesPart views turned further (part >>= next) before start (Err why) after now
+    pub part_stops : {why : Refusal} → DoesPart views turned ported part before start (Err why) after now → DoesPart views turned ported (part >>= next) before start (Err why) after now
     part_stops first = record { events = first.events; does = stops first.does; done = first.done; fits = first.fits; faults = first.faults }
 
   -- parts at the desk alone, while the connection is open
   module _ {A : Type 0} {part : PartOf (EventOf lines) A} {before after : Option ℕ} {result : Result A Refusal} {conn : C} {ends : E} (going : IsOpen views conn) where
     -- one turn
     pub part_turned : {desk now : D} → DoesTurn turned part before desk result after now
-        → DoesPart views turned further part before (part_state views turned further conn desk ends) result after (part_state views turned further conn now ends)
+        → DoesPart views turned ported part before (part_state views turned ported conn desk ends) result after (part_state views turned ported conn now ends)
     part_turned {desk} {now} done = record {
       events = cache_turn done.step done.turn ∷ [];
       does = done.does;
-      done = done_turned {w = world_with {lines = lines} turned further} done.step done.turn conn desk now ends done.turned_so;
+      done = done_turned {w = world_with {lines = lines} turned ported} done.step done.turn conn desk now ends done.turned_so;
       fits = still_open views (gone_in result) done.on conn going;
       faults = no_fault views (gone_in result) done.on conn conn;
     }
 
     -- nothing
-    pub part_still : {desk : D} → gone_in result ≡ None → part before [] result after → DoesPart views turned further part before (part_state views turned further conn desk ends) result after (part_state views turned further conn desk ends)
+    pub part_still : {desk : D} → gone_in result ≡ None → part before [] result after → DoesPart views turned ported part before (part_state views turned ported conn desk ends) result after (part_state views turned ported conn desk ends)
     part_still {desk} on does = record {
       events = [];
       does = does;
-      done = done_none (part_state views turned further conn desk ends);
+      done = done_none (part_state views turned ported conn desk ends);
       fits = still_open views (gone_in result) on conn going;
       faults = no_fault views (gone_in result) on conn conn;
     }
 
     -- one turn at most
     pub part_turns : {desk now : D} → DoesTurns turned part before desk result after now
-        → DoesPart views turned further part before (part_state views turned further conn desk ends) result after (part_state views turned further conn now ends)
+        → DoesPart views turned ported part before (part_state views turned ported conn desk ends) result after (part_state views turned ported conn now ends)
     part_turns (still does on) = part_still on does
     part_turns (one done) = part_turned done
 
 module _ {lines : Lines} {C : Type 0} (views : Views lines C) where
-  -- Each turn of a desk is one of another desk that holds it, and each event at some further ends is one at others that hold them.
-  module _ {B D E Whole : Type 0} (part_turned : B → MarkStep → Turn → B → Type 0) (part_further : E → FurtherEvent → E → Type 0)
-      (turned : D → MarkStep → Turn → D → Type 0) (further : Whole → FurtherEvent → Whole → Type 0) (desk_of : B → D) (put : E → Whole)
+  -- Each turn of a desk is one of another desk that holds it, and each event at some ports is one at others that hold them.
+  module _ {B D E Whole : Type 0} (part_turned : B → MarkStep → Turn → B → Type 0) (part_port : E → PortCall → E → Type 0)
+      (turned : D → MarkStep → Turn → D → Type 0) (ported : Whole → PortCall → Whole → Type 0) (desk_of : B → D) (put : E → Whole)
       (each_turn : (before after : B) (step : MarkStep) (turn : Turn) → part_turned before step turn after → turned (desk_of before) step turn (desk_of after))
-      (each : (before after : E) (what : FurtherEvent) → part_further before what after → further (put before) what (put after)) where
-    abbrev pub state_of : PartState views part_turned part_further → PartState views turned further
+      (each : (before after : E) (what : PortCall) → part_port before what after → ported (put before) what (put after)) where
+    abbrev pub state_of : PartState views part_turned part_port → PartState views turned ported
     state_of at = record { conn = at.conn; desk = desk_of at.desk; ends = put at.ends }
 
-    pub part_in : {A : Type 0} {part : PartOf (EventOf lines) A} {before after : Option ℕ} {result : Result A Refusal} {start now : PartState views part_turned part_further}
-        → DoesPart views part_turned part_further part before start result after now → DoesPart views turned further part before (state_of start) result after (state_of now)
+    pub part_in : {A : Type 0} {part : PartOf (EventOf lines) A} {before after : Option ℕ} {result : Result A Refusal} {start now : PartState views part_turned part_port}
+        → DoesPart views part_turned part_port part before start result after now → DoesPart views turned ported part before (state_of start) result after (state_of now)
     part_in done = record {
       events = done.events;
       does = done.does;
-      done = done_in part_turned turned part_further further desk_of put each_turn each done.done;
+      done = done_in part_turned turned part_port ported desk_of put each_turn each done.done;
       fits = done.fits;
       faults = done.faults;
     }
 
 module _ {lines : Lines} {C : Type 0} {views : Views lines C} {A : Type 0} {part : PartOf (EventOf lines) A} where
-  -- a part at the client alone, with a desk and further ends beside
-  pub beside_client : {D E : Type 0} {turned : D → MarkStep → Turn → D → Type 0} {further : E → FurtherEvent → E → Type 0} {result : Result A Refusal} {conn now : C} {held : Option ℕ} {desk : D} {ends : E}
+  -- a part at the client alone, with a desk and ports beside
+  pub beside_client : {D E : Type 0} {turned : D → MarkStep → Turn → D → Type 0} {ported : E → PortCall → E → Type 0} {result : Result A Refusal} {conn now : C} {held : Option ℕ} {desk : D} {ends : E}
       → DoesWithClient views part conn result now
-      → DoesPart views turned further part held (part_state views turned further conn desk ends) result held (part_state views turned further now desk ends)
-  beside_client {turned} {further} {held} {desk} {ends} done =
-      part_in views NoTurn NoEnd turned further (λ none. desk) (λ none. ends) (λ before after step turn never. absurd never) (λ before after what never. absurd never) (done held)
+      → DoesPart views turned ported part held (part_state views turned ported conn desk ends) result held (part_state views turned ported now desk ends)
+  beside_client {turned} {ported} {held} {desk} {ends} done =
+      part_in views NoTurn NoEnd turned ported (λ none. desk) (λ none. ends) (λ before after step turn never. absurd never) (λ before after what never. absurd never) (done held)
 
   -- a connection is open after a part that came to a value
   pub open_after : {value : A} {conn now : C} → DoesWithClient views part conn (Ok value) now → IsOpen views now

@@ -1,8 +1,8 @@
 -- Prompts of which the client isn't told, as worked examples have them: by the calls of the prompter alone.
 use Rattle.std.proofs.Common.{◌≡◌, ◌≤◌, ℕ, false, List, [], ◌∷◌, ◌++◌, None, refl, ap, arith}
 use Rattle.session_client.specs.Lines.{Lines}
-use Rattle.agent_ask.specs.{ConsentParts.PromptsConsent, Consents.{agreed_of, ConsentBefore}, Events.{Call, Start, Confirm, Shut, PromptEvent, Called}, Further.{EventOf, Prompt}, PinParts.PromptsPin, Prompts.{Opens, Tries, AsksBefore}}
-use Rattle.agent_ask.specs.{SessionEvents.Further, SessionPrompts.AnyInSession, Tests.PinTest, declared.{ask.Asked.Asked, prompter.Consent.Consent, spec.{AskPlan.AskPlan, PromptSpec.PromptSpec}}}
+use Rattle.agent_ask.specs.{ConsentParts.PromptsConsent, Consents.{agreed_of, ConsentBefore}, Events.{Call, Start, Confirm, Shut, PromptEvent, Called}, PortCalls.{EventOf, Prompt}, PinParts.PromptsPin, Prompts.{Opens, Tries, AsksBefore}}
+use Rattle.agent_ask.specs.{SessionEvents.Port, SessionPrompts.AnyInSession, Tests.PinTest, declared.{ask.Asked.Asked, prompter.Consent.Consent, spec.{AskPlan.AskPlan, PromptSpec.PromptSpec}}}
 use Rattle.agent_ask.specs.declared.prompter.Opened.TheVariants as opened
 
 -- the three tries of a prompt
@@ -28,7 +28,7 @@ module _ (lines : Lines) where
   -- and as those of a session
   abbrev pub shown_by : List Call → List (EventOf lines)
   shown_by [] = []
-  shown_by (call ∷ more) = Further (Prompt (Called call)) ∷ shown_by more
+  shown_by (call ∷ more) = Port (Prompt (Called call)) ∷ shown_by more
 
   shows : (calls : List Call) → AnyInSession lines (called_by calls) (shown_by calls)
   shows [] = AnyInSession.none

@@ -1,7 +1,7 @@
 -- How a request is answered, whole or in part, and how its session stands then. Its connection is of any type of which this is seen, and how a session goes on is
 -- of any type that says whether its client is gone. This is the project's own.
 use Rattle.std.specs.Prelude.{◌≡◌, ◌≤◌, List, Option, Some, None, Result, Ok, Err}
-use Rattle.{agent_ports.specs.{Counts.Rose, declared.link.WriteFault.WriteFault as Fault}, session_client.specs.{Asking.HasEnded, Lines.{Lines, Views}, declared.unheard.Gone.{Gone, TheVariants.{ReadFault, WriteFault}}}}
+use Rattle.{agent_ports.specs.{Counts.Rose, declared.link.WriteFault.WriteFault as Fault}, session_client.specs.{Asking.HasEnded, Lines.{Lines, Views}, declared.client_error.Gone.{Gone, TheVariants.{ReadFault, WriteFault}}}}
 use Rattle.agent_ask.specs.{SessionEvents.{AnyEvent, CutAtLast}, States.{AnyState, AnyLead}, Worlds.AnyWorld}
 
 -- how a session goes on whose last write came to this: where it was whole, as it would go on
@@ -29,8 +29,8 @@ module _ {lines : Lines} {C : Type 0} (views : Views lines C) where
 module _ {lines : Lines} {w : AnyWorld lines} {C : Type 0} (views : Views lines C) where
   -- a request was answered: by these events, which led there
   pub record AnswersBy {S W : Type 0} (went_after : Option Gone → W) (gone_of : W → Option Gone)
-      (exchange : List (AnyEvent lines.Took lines.Outcome w.Further) → S → W → Type 0) (start : AnyState w C) (went : W) (kept : S) (now : AnyState w C) : Type 0 where
-    pub events : List (AnyEvent lines.Took lines.Outcome w.Further)
+      (exchange : List (AnyEvent lines.Took lines.Outcome w.Port) → S → W → Type 0) (start : AnyState w C) (went : W) (kept : S) (now : AnyState w C) : Type 0 where
+    pub events : List (AnyEvent lines.Took lines.Outcome w.Port)
     pub exchanges : WholeOrCut went_after exchange events kept went
     pub done : AnyLead views events start now
     pub fits : ReaderLeft views (gone_of went) start.conn now.conn

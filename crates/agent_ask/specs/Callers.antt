@@ -1,8 +1,8 @@
 -- What the client's answers mean. This is the project's own.
 use Rattle.std.specs.Prelude.{◌≡◌, ℕ, List, Bool, true, false, Option, Some, None, Result, Ok, Err, ⊤}
-use Rattle.session_client.specs.declared.unheard.Unheard.{Unheard}
+use Rattle.session_client.specs.declared.client_error.ClientError.{ClientError}
 use Rattle.agent_ask.specs.{Events.{Question, Launched, Wanted}, declared.caller.Heard.{Heard, TheVariants.{Fine, Secret, Cancelled, TooMuch, Unexpected, Gone}}}
-use Rattle.session_client.specs.declared.unheard.Unheard.TheVariants as unheard
+use Rattle.session_client.specs.declared.client_error.ClientError.TheVariants as client_error
 
 -- the client is gone
 abbrev pub is_gone : Heard → Bool
@@ -10,13 +10,13 @@ is_gone (Gone how) = true
 is_gone _ = false
 
 -- what it said in place of what was wanted, where it gave nothing
-abbrev pub unheard_of : Heard → Option Unheard
+abbrev pub unheard_of : Heard → Option ClientError
 unheard_of Fine = None
 unheard_of (Secret secret) = None
-unheard_of Cancelled = Some unheard.Cancelled
-unheard_of TooMuch = Some unheard.TooMuch
-unheard_of Unexpected = Some unheard.Unexpected
-unheard_of (Gone how) = Some (unheard.Gone how)
+unheard_of Cancelled = Some client_error.Cancelled
+unheard_of TooMuch = Some client_error.TooMuch
+unheard_of Unexpected = Some client_error.Unexpected
+unheard_of (Gone how) = Some (client_error.Gone how)
 
 -- it gave nothing
 abbrev pub IsUnheardBy : Heard → Type 0
@@ -25,11 +25,11 @@ IsUnheardBy (Secret secret) = ⊥
 IsUnheardBy _ = ⊤
 
 -- what a client was heard to say that was told of a prompt, and one that was asked for a passphrase
-abbrev pub SaysNote : Result (Unit {0}) Unheard → Heard → Type 0
+abbrev pub SaysNote : Result (Unit {0}) ClientError → Heard → Type 0
 SaysNote (Ok noted) heard = heard ≡ Fine
 SaysNote (Err why) heard = unheard_of heard ≡ Some why
 
-abbrev pub SaysWish : Result (List ℕ) Unheard → Heard → Type 0
+abbrev pub SaysWish : Result (List ℕ) ClientError → Heard → Type 0
 SaysWish (Ok secret) heard = heard ≡ Secret secret
 SaysWish (Err why) heard = unheard_of heard ≡ Some why
 

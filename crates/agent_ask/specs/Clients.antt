@@ -1,6 +1,6 @@
 -- A session's client as a prompt has to do with it. This is the project's own.
 use Rattle.std.specs.{Prelude.{◌≡◌, ℕ, List, Result, Err}, Borrow.GName}
-use Rattle.session_client.specs.{Asking.{TellsClient, IsLost, LeftBy}, Lines.{Lines, Views, IsOpen}, declared.{refusal.Refusal.Refusal, unheard.Unheard.Unheard}}
+use Rattle.session_client.specs.{Asking.{TellsClient, IsLost, LeftBy}, Lines.{Lines, Views, IsOpen}, declared.{refusal.Refusal.Refusal, client_error.ClientError.ClientError}}
 use Rattle.agent_ask.specs.{Callers.{IsHearing, SaysNote, SaysWish}, Events.{Question, Launched, Wanted}, declared.{ask.Asked.Asked, caller.Heard.{Heard, TheVariants.Gone}, consent.Agreed.Agreed}}
 use Rattle.session_client.specs.declared.refusal.Refusal.TheVariants as refusal
 use Rattle.agent_ask.specs.declared.ask.Asked.TheVariants as asked
@@ -30,12 +30,12 @@ module _ {lines : Lines} {C : Type 0} (views : Views lines C) where
   LeftByPart (Err (refusal.Client why)) start now = LeftBy views {A = List ℕ} (Err why) start now
   LeftByPart _ start now = IsOpen views now
 
-  module _ (Wished : C → List ℕ → Result (List ℕ) Unheard → C → Type 0) where
+  module _ (Wished : C → List ℕ → Result (List ℕ) ClientError → C → Type 0) where
     -- a question to a client whose connection is open, and its answer
     pub data Hears (before : C) : Question → Heard → C → Type 0 where
-      note : {pid : ℕ} {heard : Heard} {after : C} (result : Result (Unit {0}) Unheard) → IsOpen views before → TellsClient views pid result before after
+      note : {pid : ℕ} {heard : Heard} {after : C} (result : Result (Unit {0}) ClientError) → IsOpen views before → TellsClient views pid result before after
           → SaysNote result heard → Hears before (Launched pid) heard after
-      wish : {word : List ℕ} {heard : Heard} {after : C} (result : Result (List ℕ) Unheard) → IsOpen views before → Wished before word result after
+      wish : {word : List ℕ} {heard : Heard} {after : C} (result : Result (List ℕ) ClientError) → IsOpen views before → Wished before word result after
           → SaysWish result heard → Hears before (Wanted word) heard after
 
     -- of one that is lent, and how its connection stands then

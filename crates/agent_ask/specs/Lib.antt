@@ -9,7 +9,7 @@ pub mod Trying
 pub mod Listening
 pub mod Clients
 pub mod TrustCalls
-pub mod Further
+pub mod PortCalls
 pub mod SessionEvents
 pub mod Worlds
 pub mod SessionPrompts

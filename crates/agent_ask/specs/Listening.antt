@@ -14,5 +14,5 @@ ListensAfterConsent (agreed.Heard heard) Listens = is_gone heard ≡ false → L
 ListensAfterConsent _ Listens = Listens
 
 abbrev pub ListensAfterOpening : Opening → Type 0 → Type 0
-ListensAfterOpening (opening.Unheard heard) Listens = is_gone heard ≡ false → Listens
+ListensAfterOpening (opening.ClientError heard) Listens = is_gone heard ≡ false → Listens
 ListensAfterOpening _ Listens = Listens

@@ -1,7 +1,7 @@
 -- The exchange of a request whose parts are these: they are done one after another, a ticket that is held then is given back and nothing is kept, and last the
 -- request is answered, or its refusal, by its line where it has one. This is the project's own.
 use Rattle.std.specs.Prelude.{◌++◌, ℕ, List, [], ◌∷◌, Option, None, Ok, Err}
-use Rattle.session_client.specs.{Refusals.gone_by, declared.{refusal.Refusal.Refusal, unheard.Gone.Gone}}
+use Rattle.session_client.specs.{Refusals.gone_by, declared.{refusal.Refusal.Refusal, client_error.Gone.Gone}}
 use Rattle.agent_ask.specs.{Parts.PartOf, SessionEvents.{AnyEvent, Sent, said_last}, TurnParts.Closes}
 
 -- what a request is answered where it isn't refused, what is kept after it, and how the session goes on

@@ -1,8 +1,8 @@
 -- Private: how a session stands at some state of its code before and after a part of a request, and how events lead from one to the other. Its connection is of any
 -- type of which this is seen. This is the project's own.
 use Rattle.std.specs.Prelude.{◌≡◌, ℕ, List, [], ◌∷◌, Option, None, Result, Ok, Err}
-use Rattle.{cache_policy.specs.{declared.mark.MarkStep.MarkStep, Turns.Turn}, session_client.specs.{Lines.{Lines, Views}, Refusals.gone_by, declared.{refusal.Refusal.Refusal, unheard.Gone.Gone}}}
-use Rattle.agent_ask.specs.{Answering.{ReaderLeft, FaultsCounted}, Further.{FurtherEvent, EventOf, world_with}, Parts.PartOf, SessionEvents.{AnyEvent, cache_turn}, States.{AnyState, AnyLead}}
+use Rattle.{cache_policy.specs.{declared.mark.MarkStep.MarkStep, Turns.Turn}, session_client.specs.{Lines.{Lines, Views}, Refusals.gone_by, declared.{refusal.Refusal.Refusal, client_error.Gone.Gone}}}
+use Rattle.agent_ask.specs.{Answering.{ReaderLeft, FaultsCounted}, PortCalls.{PortCall, EventOf, world_with}, Parts.PartOf, SessionEvents.{AnyEvent, cache_turn}, States.{AnyState, AnyLead}}
 
 -- how the client is gone after a part that came to this, where it is
 abbrev pub gone_in : {A : Type 0} → Result A Refusal → Option Gone
@@ -10,10 +10,10 @@ gone_in (Ok value) = None
 gone_in (Err why) = gone_by why
 
 module _ {lines : Lines} {C : Type 0} (views : Views lines C) where
-  -- at a desk that shows its turns so, with further ends to which their events do this
-  module _ {D E : Type 0} (turned : D → MarkStep → Turn → D → Type 0) (further : E → FurtherEvent → E → Type 0) where
+  -- at a desk that shows its turns so, with ports to which their events do this
+  module _ {D E : Type 0} (turned : D → MarkStep → Turn → D → Type 0) (ported : E → PortCall → E → Type 0) where
     abbrev pub PartState : Type 0
-    PartState = AnyState (world_with {lines = lines} turned further) C
+    PartState = AnyState (world_with {lines = lines} turned ported) C
 
     abbrev pub part_state : C → D → E → PartState
     part_state conn desk ends = record { conn = conn; desk = desk; ends = ends }
@@ -22,15 +22,15 @@ module _ {lines : Lines} {C : Type 0} (views : Views lines C) where
     pub record DoesPart {A : Type 0} (part : PartOf (EventOf lines) A) (before : Option ℕ) (start : PartState) (result : Result A Refusal) (after : Option ℕ) (now : PartState) : Type 0 where
       pub events : List (EventOf lines)
       pub does : part before events result after
-      pub done : AnyLead {w = world_with {lines = lines} turned further} views events start now
+      pub done : AnyLead {w = world_with {lines = lines} turned ported} views events start now
       pub fits : ReaderLeft views (gone_in result) start.conn now.conn
       pub faults : FaultsCounted views (gone_in result) start.conn now.conn
 
--- no turn is taken, and no further end is called
+-- no turn is taken, and no port is called
 abbrev pub NoTurn : Unit {0} → MarkStep → Turn → Unit {0} → Type 0
 NoTurn before asked turn after = ⊥
 
-abbrev pub NoEnd : Unit {0} → FurtherEvent → Unit {0} → Type 0
+abbrev pub NoEnd : Unit {0} → PortCall → Unit {0} → Type 0
 NoEnd before what after = ⊥
 
 -- a part in which nothing is done but with the client, whatever ticket is held

@@ -1,7 +1,7 @@
 -- Prompts for a passphrase as parts of a request. The codes are this project's own.
 use Rattle.std.specs.{Prelude.{List, ℕ, Option, Some, None}, Option.option_map}
 use Rattle.session_client.specs.{Lines.Lines, declared.refusal.Refusal.{Refusal, TheVariants.{Agent, Pinentry, Client}}}
-use Rattle.agent_ask.specs.{Callers.unheard_of, Events.PromptEvent, Further.EventOf, Prompts.AsksPin, SessionPrompts.AnyInSession, declared.{ask.Asked.Asked, spec.{AskPlan.AskPlan, PromptSpec.PromptSpec}}}
+use Rattle.agent_ask.specs.{Callers.unheard_of, Events.PromptEvent, PortCalls.EventOf, Prompts.AsksPin, SessionPrompts.AnyInSession, declared.{ask.Asked.Asked, spec.{AskPlan.AskPlan, PromptSpec.PromptSpec}}}
 use Rattle.session_client.specs.declared.code.Code.TheVariants as code
 use Rattle.agent_ask.specs.declared.ask.Asked.TheVariants as asked
 

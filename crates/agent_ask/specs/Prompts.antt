@@ -1,7 +1,7 @@
 -- One prompt for a passphrase, from its start to its end (GnuPG manual, "Agent GET_PASSPHRASE"; pinentry manual, "protocol"). How many
 -- tries there are, their order and their texts are this project's own.
 use Rattle.std.specs.{Prelude.{◌≡◌, ◌≢◌, ◌≤◌, ◌<◌, ◌+◌, ℕ, Bool, true, false, not, List, [], ◌∷◌, ◌++◌, length, count_by, replicate, codes, Option, Some, None, Result, Ok, Err, ⊤}, Char.is_ascii_alphabetic}
-use Rattle.agent_ask.specs.{Events.{Start, GetPin, Shut, PromptEvent, Called, Notified, OutOfMemory}, declared.{ask.Asked.Asked, caller.Heard.{Heard, TheVariants.Fine}, opening.Opening.{Opening, TheVariants.{Ready, NoPinentry, Unheard}}}}
+use Rattle.agent_ask.specs.{Events.{Start, GetPin, Shut, PromptEvent, Called, Notified, OutOfMemory}, declared.{ask.Asked.Asked, caller.Heard.{Heard, TheVariants.Fine}, opening.Opening.{Opening, TheVariants.{Ready, NoPinentry, ClientError}}}}
 use Rattle.agent_ask.specs.declared.{prompter.Outcome.{Outcome, TheVariants.{Pin, Cancelled, TimedOut, Failed, Broken}}, spec.{AskPlan.AskPlan, PromptSpec.PromptSpec}, tries.Failure.{Failure, TheVariants.{BadPassphrase, TooWeak, Differ}}}
 use Rattle.agent_ask.specs.{declared.{tries.Stop.Stop, test.Tested.{Tested, TheVariants.{Yes, No, NoMemory}}}, Tests.{PinTest, Tests, test_of}}
 use Rattle.agent_ask.specs.declared.ask.Asked.TheVariants as asked
@@ -91,12 +91,12 @@ pub data Opens (spec : PromptSpec) (notify : Bool) : List PromptEvent → Openin
   quiet : {pid : ℕ} → notify ≡ false → Opens spec notify (Called (Start spec (opened.Pid pid)) ∷ []) Ready
   told : {pid : ℕ} → notify ≡ true → Opens spec notify (Called (Start spec (opened.Pid pid)) ∷ Notified pid Fine ∷ []) Ready
   unheard : {pid : ℕ} {heard : Heard} → notify ≡ true → heard ≢ Fine
-      → Opens spec notify (Called (Start spec (opened.Pid pid)) ∷ Notified pid heard ∷ []) (Unheard heard)
+      → Opens spec notify (Called (Start spec (opened.Pid pid)) ∷ Notified pid heard ∷ []) (ClientError heard)
 
 -- what is done before the prompter is shut, and the tests in it
 pub data AsksBefore (spec : PromptSpec) (plan : AskPlan) (Rule : List ℕ → Type 0) : List PromptEvent → List PinTest → Asked → Type 0 where
   unopened : {events : List PromptEvent} → Opens spec plan.notify events NoPinentry → AsksBefore spec plan Rule events [] asked.NoPinentry
-  unheard : {events : List PromptEvent} {heard : Heard} → Opens spec plan.notify events (Unheard heard)
+  unheard : {events : List PromptEvent} {heard : Heard} → Opens spec plan.notify events (ClientError heard)
       → AsksBefore spec plan Rule events [] (asked.Heard heard)
   tried : {events more : List PromptEvent} {tests : List PinTest} {end : Asked} → Opens spec plan.notify events Ready
       → Tries plan Rule 1 None more tests end → AsksBefore spec plan Rule (events ++ more) tests end

@@ -16,7 +16,7 @@ pub data AnyEvent (T O F : Type 0) : Type 0 where
   -- a turn was taken at the desk
   CacheTurn : Taken → AnyEvent T O F
   -- an event of a further kind
-  Further : F → AnyEvent T O F
+  Port : F → AnyEvent T O F
 
 -- a turn as an event
 abbrev pub cache_turn : {T O F : Type 0} → MarkStep → Turn → AnyEvent T O F
@@ -35,7 +35,7 @@ turns_in (Sent text ∷ later) = turns_in later
 turns_in (Cut text ∷ later) = turns_in later
 turns_in (Inquiry word params limit inquired ∷ later) = turns_in later
 turns_in (CacheTurn taken ∷ later) = taken ∷ turns_in later
-turns_in (Further what ∷ later) = turns_in later
+turns_in (Port what ∷ later) = turns_in later
 
 -- the same events, but the write of the last one failed after some bytes
 pub record CutAtLast {T O F : Type 0} (events done : List (AnyEvent T O F)) : Type 0 where

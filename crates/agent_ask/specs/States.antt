@@ -4,7 +4,7 @@ use Rattle.std.specs.Prelude.{◌≡◌, ◌≤◌, List}
 use Rattle.{agent_ports.specs.Leads.Leads, session_client.specs.Lines.{Lines, Views, unread_at}}
 use Rattle.agent_ask.specs.{LinkFaults.{fails_at_input, fails_at_output, CountsFailed}, SessionEvents.AnyEvent, Worlds.{AnyWorld, Outside, Does}}
 
--- a state in the code: the connection, the desk, and the further ends
+-- a state in the code: the connection, the desk, and the ports
 pub record AnyState {lines : Lines} (w : AnyWorld lines) (C : Type 0) : Type 0 where
   pub conn : C
   pub desk : w.Desk
@@ -22,7 +22,7 @@ module _ {lines : Lines} {w : AnyWorld lines} {C : Type 0} (views : Views lines 
   }
 
   -- these events lead from one state to another, with whichever supply the connection began
-  pub record AnyLead (events : List (AnyEvent lines.Took lines.Outcome w.Further)) (start now : AnyState w C) : Type 0 where
+  pub record AnyLead (events : List (AnyEvent lines.Took lines.Outcome w.Port)) (start now : AnyState w C) : Type 0 where
     pub leads : (supply : lines.Supply) → views.has_supply supply start.conn
         → Leads (Does w supply) (outside_at start) events (outside_at now) × views.has_supply supply now.conn
     -- each failure at the link is counted, and the counts never fall

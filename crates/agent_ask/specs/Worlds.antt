@@ -2,15 +2,15 @@
 -- own.
 use Rattle.std.specs.Prelude.{◌≡◌, ℕ, List, ◌++◌, Option}
 use Rattle.{agent_ports.specs.Sides.{with_bytes, WhereKnown}, cache_policy.specs.{declared.mark.MarkStep.MarkStep, Extending.Taken, Turns.Turn}, session_client.specs.{Asking.{Asked, NotAsked}, Lines.{Lines, TakesNeeded}}}
-use Rattle.agent_ask.specs.SessionEvents.{AnyEvent, Received, Sent, Cut, Inquiry, CacheTurn, Further}
+use Rattle.agent_ask.specs.SessionEvents.{AnyEvent, Received, Sent, Cut, Inquiry, CacheTurn, Port}
 
--- what a session stands on beside its link: a desk that shows its turns so, and the further ends, with what their events do to them
+-- what a session stands on beside its link: a desk that shows its turns so, and the ports, with what their events do to them
 pub record AnyWorld (lines : Lines) : Type 1 where
   pub Desk : Type 0
   pub turned : Desk → MarkStep → Turn → Desk → Type 0
   pub Ends : Type 0
-  pub Further : Type 0
-  pub does : Ends → Further → Ends → Type 0
+  pub Port : Type 0
+  pub does : Ends → Port → Ends → Type 0
 
 -- the ends at some point of a session
 pub record Outside {lines : Lines} (w : AnyWorld lines) : Type 0 where
@@ -23,7 +23,7 @@ pub record Outside {lines : Lines} (w : AnyWorld lines) : Type 0 where
   pub ends : w.Ends
 
 -- what an event does, in a session that began with this supply of bytes, where they are known
-pub data Does {lines : Lines} (w : AnyWorld lines) (supply : lines.Supply) : Outside w → AnyEvent lines.Took lines.Outcome w.Further → Outside w → Type 0 where
+pub data Does {lines : Lines} (w : AnyWorld lines) (supply : lines.Supply) : Outside w → AnyEvent lines.Took lines.Outcome w.Port → Outside w → Type 0 where
   received : {before : Outside w} {took : lines.Took} {input source : Option (List ℕ)}
       → WhereKnown before.input input (λ bytes rest. lines.reads_request supply bytes took rest)
       → TakesNeeded lines.needs_request before.input before.source source
@@ -42,5 +42,5 @@ pub data Does {lines : Lines} (w : AnyWorld lines) (supply : lines.Supply) : Out
       → Does w supply before (Inquiry word params limit (NotAsked text)) (record before { output = with_bytes before.output text })
   turned : {before : Outside w} {taken : Taken} {desk : w.Desk} → w.turned before.desk taken.asked taken.turn desk
       → Does w supply before (CacheTurn taken) (record before { desk = desk })
-  further : {before : Outside w} {what : w.Further} {ends : w.Ends} → w.does before.ends what ends
-      → Does w supply before (Further what) (record before { ends = ends })
+  ported : {before : Outside w} {what : w.Port} {ends : w.Ends} → w.does before.ends what ends
+      → Does w supply before (Port what) (record before { ends = ends })

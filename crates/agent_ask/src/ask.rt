@@ -82,6 +82,6 @@ fn ask_before_shut<P: Prompter, C: Caller, T: Test>(
     match open_prompt(ticket, spec, plan.notify, prompter, caller) {
         Opening::Ready => ask_tries(ticket, plan, test, prompter),
         Opening::NoPinentry => Asked::NoPinentry,
-        Opening::Unheard(heard) => Asked::Heard(heard),
+        Opening::ClientError(heard) => Asked::Heard(heard),
     }
 }

@@ -8,7 +8,7 @@ ghost use Rattle.agent_ask.specs.Events.{Question, Launched, Wanted};
 ghost use Rattle.agent_ask.specs.Callers.{IsHearing, IsUnheardBy, unheard_of};
 
 use cache_policy::Secret;
-use session_client::{Gone, Unheard};
+use session_client::{ClientError, Gone};
 
 /// What the client was heard to say. It may hold a passphrase, so it isn't printed.
 #[derive(Drop)]
@@ -27,33 +27,33 @@ pub enum Heard {
     Gone(Gone),
 }
 
-impl From<Unheard> for Heard {
+impl From<ClientError> for Heard {
     ghost use Rattle.std.specs.Prelude.{◌≡◌, Some};
     ghost use Rattle.agent_ask.specs.Callers.{unheard_of};
 
     ghost from_gives = { λ why heard. unheard_of heard ≡ Some why };
 
-    fn from(why: Unheard) -> Heard {
+    fn from(why: ClientError) -> Heard {
         match why {
-            Unheard::Cancelled => Heard::Cancelled,
-            Unheard::TooMuch => Heard::TooMuch,
-            Unheard::Unexpected => Heard::Unexpected,
-            Unheard::Gone(gone) => Heard::Gone(gone),
+            ClientError::Cancelled => Heard::Cancelled,
+            ClientError::TooMuch => Heard::TooMuch,
+            ClientError::Unexpected => Heard::Unexpected,
+            ClientError::Gone(gone) => Heard::Gone(gone),
         }
     }
 }
 
 impl Heard {
     /// What the client said in place of what was wanted. It gave nothing.
-    pub fn unheard(self) -> Unheard
+    pub fn unheard(self) -> ClientError
         requires { IsUnheardBy self }
         ensures { unheard_of self ≡ Some result }
     {
         match self {
-            Heard::Cancelled => Unheard::Cancelled,
-            Heard::TooMuch => Unheard::TooMuch,
-            Heard::Unexpected => Unheard::Unexpected,
-            Heard::Gone(gone) => Unheard::Gone(gone),
+            Heard::Cancelled => ClientError::Cancelled,
+            Heard::TooMuch => ClientError::TooMuch,
+            Heard::Unexpected => ClientError::Unexpected,
+            Heard::Gone(gone) => ClientError::Gone(gone),
             Heard::Fine | Heard::Secret(_) => unreachable!(),
         }
     }

@@ -8,7 +8,7 @@ ghost use Rattle.session_client.specs.Lines.{IsOpen};
 
 use crate::{Caller, Heard};
 use cache_policy::Secret;
-use session_client::{Client, Unheard};
+use session_client::{Client, ClientError};
 use std::marker::Model;
 
 /// A client that is lent for the time of a prompt.
@@ -63,7 +63,7 @@ impl<'c, C: Client<Secret>> Caller for LentClient<'c, C> {
 }
 
 /// What a client was heard to say that was told of a prompt.
-fn heard_of_note(told: Result<(), Unheard>) -> Heard
+fn heard_of_note(told: Result<(), ClientError>) -> Heard
     ensures { SaysNote told result }
 {
     match told {
@@ -73,7 +73,7 @@ fn heard_of_note(told: Result<(), Unheard>) -> Heard
 }
 
 /// What one was heard to say that was asked for a passphrase.
-fn heard_of_wish(asked: Result<Secret, Unheard>) -> Heard
+fn heard_of_wish(asked: Result<Secret, ClientError>) -> Heard
     ensures { SaysWish asked result }
 {
     match asked {

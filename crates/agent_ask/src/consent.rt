@@ -68,7 +68,7 @@ fn ask_before_shut<P: Prompter, C: Caller>(
     match open_prompt(ticket, spec, notify, prompter, caller) {
         Opening::Ready => agreed_of(prompter.confirm(ticket)),
         Opening::NoPinentry => Agreed::NoPinentry,
-        Opening::Unheard(heard) => Agreed::Heard(heard),
+        Opening::ClientError(heard) => Agreed::Heard(heard),
     }
 }
 

@@ -16,7 +16,7 @@ pub(crate) enum Opening {
     Ready,
     NoPinentry,
     /// The client didn't take note, but answered so.
-    Unheard(Heard),
+    ClientError(Heard),
 }
 
 /// Opens a prompt, and tells the client of it where it wants to know.
@@ -43,6 +43,6 @@ pub(crate) fn open_prompt<P: Prompter, C: Caller>(
     }
     match caller.launched(pid) {
         Heard::Fine => Opening::Ready,
-        heard => Opening::Unheard(heard),
+        heard => Opening::ClientError(heard),
     }
 }

@@ -1,6 +1,6 @@
 -- Parts of a request on the cache, one after another, and requests whose parts are done.
 use Rattle.std.proofs.Common.{◌≡◌, ◌≢◌, ℕ, Bool, true, false, List, [], Option, Some, None, Result, Ok, Err, refl}
-use Rattle.agent_ask.specs.{Doing.DoesCall, Events.{Call, PromptEvent}, Further.{FurtherEvent, Prompt}, PartReplies.{reply_by, comes_to, stops_at}, Parts.{◌>>=◌, Returns, returns, refuses, goes_on}}
+use Rattle.agent_ask.specs.{Doing.DoesCall, Events.{Call, PromptEvent}, PortCalls.{PortCall, Prompt}, PartReplies.{reply_by, comes_to, stops_at}, Parts.{◌>>=◌, Returns, returns, refuses, goes_on}}
 use Rattle.agent_ask.specs.{PartStates.{PartState, part_state, gone_in, DoesPart, NoTurn, NoEnd, DoesTurn, DoesTurns}, Seats.{TakesTicket, ChangesCache}, TurnParts.Seats}
 use Rattle.{agent_ask.proofs.{PartsDone.{part_then, part_stops, part_turned, part_still, part_turns, part_in, ticket_taken, cache_changed}, Replying.carries_in}, assuan_server.specs.Clients.connection_views}
 use Rattle.{assuan_server.specs.{Connections.{Connection, IsOpen}, Written.ok}, cache_policy.specs.{declared.mark.MarkStep.MarkStep, Turns.Turn}, session_client.specs.declared.refusal.Refusal.Refusal}
@@ -38,36 +38,36 @@ module _ {D P : Type 0} (turned : D → MarkStep → Turn → D → Type 0) (pro
   carries_beside prompter =
       carries_in turned NoEnd turned (DoesPrompts prompted) (λ same. same) (λ none. prompter) (λ before after step turn does. does) (λ before after what never. absurd never)
 
--- what a prompt does to a prompter is an event at the only further end
+-- what a prompt does to a prompter is an event at the only port
 pub each_prompted : {P : Type 0} {prompted : P → Call → P → Type 0} (before after : P) (event : PromptEvent) → DoesCall prompted before event after → DoesPrompts prompted before (Prompt event) after
 each_prompted before after event does = prompts does
 
 -- a request that is answered by OK alone once its work is done
-pub replies_ok : {D E : Type 0} (turned : D → MarkStep → Turn → D → Type 0) (further : E → FurtherEvent → E → Type 0) {work : CachePart (Unit {0})} {options : OptionValues}
-    {start : PartState connection_views turned further} {held : Option ℕ} (conn : Connection) (desk : D) (ends : E)
-    → DoesPart connection_views turned further work None start (Ok tt) held (part_state connection_views turned further conn desk ends)
-    → CarriesOut turned further (work >>= (λ done. Returns (reply options ok))) options start (Ok response.Ok) options held (part_state connection_views turned further conn desk ends)
-replies_ok turned further {options} {held} conn desk ends done =
-    comes_to {answer = response.Ok} {kept = options} {held = held} {now = part_state connection_views turned further conn desk ends} (λ text is. rw is (part_then done (part_still done.fits.0 refl returns)))
+pub replies_ok : {D E : Type 0} (turned : D → MarkStep → Turn → D → Type 0) (ported : E → PortCall → E → Type 0) {work : CachePart (Unit {0})} {options : OptionValues}
+    {start : PartState connection_views turned ported} {held : Option ℕ} (conn : Connection) (desk : D) (ends : E)
+    → DoesPart connection_views turned ported work None start (Ok tt) held (part_state connection_views turned ported conn desk ends)
+    → CarriesOut turned ported (work >>= (λ done. Returns (reply options ok))) options start (Ok response.Ok) options held (part_state connection_views turned ported conn desk ends)
+replies_ok turned ported {options} {held} conn desk ends done =
+    comes_to {answer = response.Ok} {kept = options} {held = held} {now = part_state connection_views turned ported conn desk ends} (λ text is. rw is (part_then done (part_still done.fits.0 refl returns)))
 
 -- ---- requests
 
-module _ {D E : Type 0} (turned : D → MarkStep → Turn → D → Type 0) (further : E → FurtherEvent → E → Type 0) (conn : Connection) (going : IsOpen conn) (ends : E) where
-  abbrev at_desk : D → PartState connection_views turned further
-  at_desk desk = part_state connection_views turned further conn desk ends
+module _ {D E : Type 0} (turned : D → MarkStep → Turn → D → Type 0) (ported : E → PortCall → E → Type 0) (conn : Connection) (going : IsOpen conn) (ends : E) where
+  abbrev at_desk : D → PartState connection_views turned ported
+  at_desk desk = part_state connection_views turned ported conn desk ends
 
   -- nothing was done but to find the reply
   pub only_replies : {parts : CachePart CacheReply} {before after : OptionValues} (desk : D) (answer : Response)
-      → ((text : List ℕ) → IsText answer text → parts None [] (Ok (reply_by went_of answer after text)) None) → CarriesOut turned further parts before (at_desk desk) (Ok answer) after None (at_desk desk)
+      → ((text : List ℕ) → IsText answer text → parts None [] (Ok (reply_by went_of answer after text)) None) → CarriesOut turned ported parts before (at_desk desk) (Ok answer) after None (at_desk desk)
   only_replies desk answer each = comes_to (λ text is. part_still going refl (each text is))
 
   pub only_refuses : {parts : CachePart CacheReply} {before : OptionValues} (desk : D) {why : Refusal} → gone_in {A = CacheReply} (Err why) ≡ None → parts None [] (Err why) None
-      → CarriesOut turned further parts before (at_desk desk) (Err why) before None (at_desk desk)
+      → CarriesOut turned ported parts before (at_desk desk) (Err why) before None (at_desk desk)
   only_refuses desk on does = stops_at (part_still going on does)
 
   -- OPTION
   pub option_carried : {before after : OptionValues} (desk : D) (answer : OptionAnswer) → (answer ≢ Set → after ≡ before)
-      → CarriesOut turned further (option_replies answer after) before (at_desk desk) (option_reply answer) after None (at_desk desk)
+      → CarriesOut turned ported (option_replies answer after) before (at_desk desk) (option_reply answer) after None (at_desk desk)
   option_carried desk Set same = only_replies desk response.Ok (λ text is. rw is returns)
   option_carried {before} desk Unknown same = rw (same (λ e. cc e)) (only_refuses {before = before} desk refl refuses)
   option_carried {before} desk Parameter same = rw (same (λ e. cc e)) (only_refuses {before = before} desk refl refuses)
@@ -75,7 +75,7 @@ module _ {D E : Type 0} (turned : D → MarkStep → Turn → D → Type 0) (fur
 
   -- GETINFO
   pub info_carried : (rules : Rules) {before : OptionValues} (desk : D) (what : Info)
-      → CarriesOut turned further (InfoReplies rules before what) before (at_desk desk) (Ok (info_response rules what)) before None (at_desk desk)
+      → CarriesOut turned ported (InfoReplies rules before what) before (at_desk desk) (Ok (info_response rules what)) before None (at_desk desk)
   info_carried rules desk info.Version = only_replies desk response.Version (λ text is. goes_on (tells is) returns)
   info_carried rules desk info.Pid = only_replies desk (response.Number rules.pid) (λ text is. goes_on (tells is) returns)
   info_carried rules desk info.S2kCount = only_replies desk (response.Number rules.s2k_count) (λ text is. goes_on (tells is) returns)
@@ -83,42 +83,42 @@ module _ {D E : Type 0} (turned : D → MarkStep → Turn → D → Type 0) (fur
 
   -- a command that is one change of the cache
   pub change_done : {before : OptionValues} {desk now : D} {step : MarkStep} {reply : CacheReply} (answer : Response) → ((text : List ℕ) → IsText answer text → reply_by went_of answer before text ≡ reply)
-      → ChangesCache turned step desk (Ok tt) now → CarriesOut turned further (ChangeReplies step reply) before (at_desk desk) (Ok answer) before None (at_desk now)
+      → ChangesCache turned step desk (Ok tt) now → CarriesOut turned ported (ChangeReplies step reply) before (at_desk desk) (Ok answer) before None (at_desk now)
   change_done {now} answer is_reply turn =
       comes_to {answer = answer} {held = None} {now = at_desk now} (λ text is. rw (is_reply text is) (part_then (part_turned going (cache_changed turn)) (part_still going refl returns)))
 
   pub change_refused : {before : OptionValues} {desk now : D} {step : MarkStep} {reply : CacheReply} {why : Refusal} → ChangesCache turned step desk (Err why) now
-      → CarriesOut turned further (ChangeReplies step reply) before (at_desk desk) (Err why) before None (at_desk now)
+      → CarriesOut turned ported (ChangeReplies step reply) before (at_desk desk) (Err why) before None (at_desk now)
   change_refused turn = stops_at (part_stops (part_turned going (cache_changed turn)))
 
   -- GET_PASSPHRASE of the cache alone
   quiet_by : (rules : Rules) (options : OptionValues) (fields : GetFields) (no_ask : Bool) (texts : Option Texts) → is_quiet no_ask texts ≡ true → {desk now : D} {result : Result (List ℕ) Refusal}
       → DoesTurns turned (ByCache fields.id) None desk result None now
-      → DoesPart connection_views turned further (passphrase_by rules options fields no_ask texts) None (at_desk desk) result None (at_desk now)
+      → DoesPart connection_views turned ported (passphrase_by rules options fields no_ask texts) None (at_desk desk) result None (at_desk now)
   quiet_by rules options fields no_ask None quiet turns = part_turns going turns
   quiet_by rules options fields true (Some texts) quiet turns = part_turns going turns
   quiet_by rules options fields false (Some texts) quiet turns = cc quiet
 
   pub quiet_carried : (rules : Rules) (options : OptionValues) (fields : GetFields) → is_quiet fields.no_ask fields.texts ≡ true → {desk now : D} {answer : Result Response Refusal}
-      → TellsCached turned fields.plain fields.id desk answer now → CarriesOut turned further (GetReplies rules options fields) options (at_desk desk) answer options None (at_desk now)
+      → TellsCached turned fields.plain fields.id desk answer now → CarriesOut turned ported (GetReplies rules options fields) options (at_desk desk) answer options None (at_desk now)
   quiet_carried rules options fields quiet {now} (cached turns) = comes_to (λ text is.
       part_then (quiet_by rules options fields fields.no_ask fields.texts quiet turns) (part_still going refl (goes_on (tells is) returns)))
   quiet_carried rules options fields quiet (refused turns) = stops_at (part_stops (quiet_by rules options fields fields.no_ask fields.texts quiet turns))
 
 -- ---- GET_PASSPHRASE as its line says
 
-module _ {D E : Type 0} {turned : D → MarkStep → Turn → D → Type 0} {further : E → FurtherEvent → E → Type 0} (rules : Rules) (options : OptionValues) (fields : GetFields)
-    {start now : PartState connection_views turned further} {result : Result (List ℕ) Refusal} where
+module _ {D E : Type 0} {turned : D → MarkStep → Turn → D → Type 0} {ported : E → PortCall → E → Type 0} (rules : Rules) (options : OptionValues) (fields : GetFields)
+    {start now : PartState connection_views turned ported} {result : Result (List ℕ) Refusal} where
   -- of the cache alone
-  pub asked_cache : (no_ask : Bool) (texts : Option Texts) → is_quiet no_ask texts ≡ true → DoesPart connection_views turned further (ByCache fields.id) None start result None now
-      → DoesPart connection_views turned further (passphrase_by rules options fields no_ask texts) None start result None now
+  pub asked_cache : (no_ask : Bool) (texts : Option Texts) → is_quiet no_ask texts ≡ true → DoesPart connection_views turned ported (ByCache fields.id) None start result None now
+      → DoesPart connection_views turned ported (passphrase_by rules options fields no_ask texts) None start result None now
   asked_cache no_ask None quiet done = done
   asked_cache true (Some texts) quiet done = done
   asked_cache false (Some texts) quiet done = cc quiet
 
   -- of a client that wants no prompt
-  pub wanted_else : (texts : Texts) (mode : PinMode) → mode ≢ Ask → DoesPart connection_views turned further (WithoutPrompt fields.id mode) None start result None now
-      → DoesPart connection_views turned further (as_wanted rules options fields mode texts) None start result None now
+  pub wanted_else : (texts : Texts) (mode : PinMode) → mode ≢ Ask → DoesPart connection_views turned ported (WithoutPrompt fields.id mode) None start result None now
+      → DoesPart connection_views turned ported (as_wanted rules options fields mode texts) None start result None now
   wanted_else texts Ask other done = absurd (other refl)
   wanted_else texts Cancel other done = done
   wanted_else texts Error other done = done

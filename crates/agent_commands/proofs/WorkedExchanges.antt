@@ -10,8 +10,8 @@ use Rattle.agent_commands.specs.declared.request.{CacheCommand.TheVariants.{Nop,
 use Rattle.agent_commands.specs.declared.{request.{Request.TheVariants.{Cache, Bad}, Texts.Texts}, went.Went.TheVariants.{On, End}}
 use Rattle.agent_ask.specs.TurnParts as turn
 use Rattle.session_client.specs.declared.code.Code.TheVariants as code
-use Rattle.session_client.specs.declared.unheard.Gone.TheVariants as gone
-use Rattle.session_client.specs.declared.unheard.Unheard.TheVariants as unheard
+use Rattle.session_client.specs.declared.client_error.Gone.TheVariants as gone
+use Rattle.session_client.specs.declared.client_error.ClientError.TheVariants as client_error
 use Rattle.session_options.specs.declared.options.PinMode.TheVariants as mode
 use Rattle.agent_commands.specs.declared.went.SessionEnd.TheVariants as ends
 
@@ -132,7 +132,7 @@ module _ (rules : Rules) (before : OptionValues) where
 
   -- a client that is gone is told nothing more, and nothing is stored
   preset_by_nobody : CacheExchange allowing before (Cache (PresetPassphrase (codes "id1") Default None)) (Sent (limit_line MAX_SECRET_LEN) ∷ inquired Ended ∷ []) before (End ends.Ended)
-  preset_by_nobody = refused (Sent (limit_line MAX_SECRET_LEN) ∷ inquired Ended ∷ []) None (Client (unheard.Gone gone.Ended)) (stops (goes_on returns (stops (goes_on written (not_given refl))))) unheld
+  preset_by_nobody = refused (Sent (limit_line MAX_SECRET_LEN) ∷ inquired Ended ∷ []) None (Client (client_error.Gone gone.Ended)) (stops (goes_on returns (stops (goes_on written (not_given refl))))) unheld
 
 -- ---- the client gives passphrases itself
 
@@ -160,11 +160,11 @@ module _ (rules : Rules) (options : OptionValues) (texts : Texts) where
   -- it says CAN
   client_cancels : CacheExchange rules loopback (Cache (get_passphrase by_client))
       (cache_turn (ask (codes "id1")) Empty ∷ Sent (limit_line MAX_SECRET_LEN) ∷ inquired Cancelled ∷ Sent (failed code.Cancelled) ∷ []) loopback On
-  client_cancels = refused (cache_turn (ask (codes "id1")) Empty ∷ Sent (limit_line MAX_SECRET_LEN) ∷ inquired Cancelled ∷ []) None (Client unheard.Cancelled)
+  client_cancels = refused (cache_turn (ask (codes "id1")) Empty ∷ Sent (limit_line MAX_SECRET_LEN) ∷ inquired Cancelled ∷ []) None (Client client_error.Cancelled)
       (stops (goes_on (empty tt) (stops (goes_on written (not_given refl))))) unheld
 
   -- it sends a line that is no answer: this is refused once, and what the line asks isn't done
   client_errs : CacheExchange rules loopback (Cache (get_passphrase by_client))
       (cache_turn (ask (codes "id1")) Empty ∷ Sent (limit_line MAX_SECRET_LEN) ∷ inquired Unexpected ∷ Sent (failed code.Unexpected) ∷ []) loopback On
-  client_errs = refused (cache_turn (ask (codes "id1")) Empty ∷ Sent (limit_line MAX_SECRET_LEN) ∷ inquired Unexpected ∷ []) None (Client unheard.Unexpected)
+  client_errs = refused (cache_turn (ask (codes "id1")) Empty ∷ Sent (limit_line MAX_SECRET_LEN) ∷ inquired Unexpected ∷ []) None (Client client_error.Unexpected)
       (stops (goes_on (empty tt) (stops (goes_on written (not_given refl))))) unheld

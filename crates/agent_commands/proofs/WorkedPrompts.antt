@@ -1,7 +1,7 @@
 -- A row of each request on the cache that prompts the user: what is done and written for it, in order.
 use Rattle.std.{specs.{Prelude.{⊤, ◌≡◌, ◌++◌, ℕ, List, [], ◌∷◌, codes, true, false, Some, None, refl}, Fmt.digits}, proofs.{Common.{arith, ap, length}, lemmas.List.Elements.{All-cons, All-nil}}}
-use Rattle.{arrayvec.specs.ArrayVec.ArrayVec, agent_ask.specs.{Events.{Call, Start, GetPin, Confirm, Shut, Called, Notified}, Further.Prompt, PartExchanges.{answered, refused}, Parts.{returns, goes_on, stops}}}
-use Rattle.agent_ask.specs.{Plans.{IsSpec, plan_of, text}, Prompts.{MeetsCheck, typed, repeat_text, Opens, Tries, IsTry, Repeats}, SessionEvents.{Sent, Further, cache_turn}, SessionPrompts.{AnyInSession, note}, Tests.test_of}
+use Rattle.{arrayvec.specs.ArrayVec.ArrayVec, agent_ask.specs.{Events.{Call, Start, GetPin, Confirm, Shut, Called, Notified}, PortCalls.Prompt, PartExchanges.{answered, refused}, Parts.{returns, goes_on, stops}}}
+use Rattle.agent_ask.specs.{Plans.{IsSpec, plan_of, text}, Prompts.{MeetsCheck, typed, repeat_text, Opens, Tries, IsTry, Repeats}, SessionEvents.{Sent, Port, cache_turn}, SessionPrompts.{AnyInSession, note}, Tests.test_of}
 use Rattle.agent_ask.{specs.{TurnParts.{opened, unheld, closed}, declared.{spec.{AskPlan.AskPlan, PromptSpec.PromptSpec}, test.Tested.TheVariants.Yes}}, proofs.WorkedPrompts.{called_by, shown_by, prompts, first_try, second_try, third_try}}
 use Rattle.{assuan_escape.specs.DataLines.IsPiece, assuan_server.specs.{Clients.session_lines, Written.{failed, failed_at_pinentry, ok, IsDataAnswer}}, cache_policy.specs.declared.mark.MarkStep.TheVariants.{Seat, Close}}
 use Rattle.{cache_policy.specs.Turns.{Open, Done}, session_client.specs.{Asking.Asked, declared.refusal.Refusal.TheVariants.{Agent, Pinentry, Client}}, session_options.specs.{OptionValues.OptionValues, declared.rules.Rules.Rules}}
@@ -17,7 +17,7 @@ use Rattle.agent_ask.specs.declared.prompter.Opened.TheVariants as opening
 use Rattle.agent_ask.specs.declared.prompter.Outcome.TheVariants as outcome
 use Rattle.assuan_server.specs.Inquiries as answers
 use Rattle.session_client.specs.declared.code.Code.TheVariants as code
-use Rattle.session_client.specs.declared.unheard.Unheard.TheVariants as unheard
+use Rattle.session_client.specs.declared.client_error.ClientError.TheVariants as client_error
 use Rattle.session_options.specs.declared.options.PinMode.TheVariants as mode
 use Rattle.agent_commands.specs.Passphrases as passphrases
 
@@ -182,17 +182,17 @@ module _ (rules : Rules) (options : OptionValues) (description : ArrayVec ℕ) (
   seat_taken = cache_turn (Seat None None) (Open ticket)
 
   abbrev begun : CacheEvent
-  begun = Further (Prompt (Called (Start spec (opening.Pid 7))))
+  begun = Port (Prompt (Called (Start spec (opening.Pid 7))))
 
   abbrev ended : CacheEvent
-  ended = Further (Prompt (Called Shut))
+  ended = Port (Prompt (Called Shut))
 
   -- it is told the prompt's process, and what it sends back is dropped
   abbrev noted : answers.Outcome → CacheEvent
   noted came = note 7 (Asked came)
 
   abbrev question : CacheEvent
-  question = Further (Prompt (Called (Confirm consented.Yes)))
+  question = Port (Prompt (Called (Confirm consented.Yes)))
 
   module _ (is_spec : consent.IsQuestion rules told description.items spec) where
     confirmed : CacheExchange rules told (Cache (GetConfirmation description)) (seat_taken ∷ begun ∷ noted (answers.Data []) ∷ question ∷ ended ∷ cache_turn (Close ticket None) Done ∷ Sent ok ∷ []) told On
@@ -210,7 +210,7 @@ module _ (rules : Rules) (options : OptionValues) (description : ArrayVec ℕ) (
     -- one that cancels in place of taking note: nothing is asked, and this is the agent's error
     not_noted : CacheExchange rules told (Cache (GetConfirmation description))
         (seat_taken ∷ begun ∷ noted answers.Cancelled ∷ ended ∷ cache_turn (Close ticket None) Done ∷ Sent (failed code.Cancelled) ∷ []) told On
-    not_noted = refused (seat_taken ∷ begun ∷ noted answers.Cancelled ∷ ended ∷ []) (Some ticket) (Client unheard.Cancelled)
+    not_noted = refused (seat_taken ∷ begun ∷ noted answers.Cancelled ∷ ended ∷ []) (Some ticket) (Client client_error.Cancelled)
         (stops (goes_on (opened tt) (consent.AgreesTo.refused {answer = agreed.Heard heard.Cancelled} spec is_spec (record {
           prompt = Called (Start spec (opening.Pid 7)) ∷ Notified 7 heard.Cancelled ∷ Called Shut ∷ [];
           asks = record {
@@ -223,7 +223,7 @@ module _ (rules : Rules) (options : OptionValues) (description : ArrayVec ℕ) (
 
     -- a user who says no
     abbrev denial : CacheEvent
-    denial = Further (Prompt (Called (Confirm consented.No)))
+    denial = Port (Prompt (Called (Confirm consented.No)))
 
     not_confirmed : CacheExchange rules told (Cache (GetConfirmation description))
         (seat_taken ∷ begun ∷ noted (answers.Data []) ∷ denial ∷ ended ∷ cache_turn (Close ticket None) Done ∷ Sent (failed_at_pinentry code.NotConfirmed) ∷ []) told On

@@ -1,8 +1,8 @@
 -- How a session ends whose client is gone, and how it goes on otherwise.
 use Rattle.std.specs.Prelude.{Option, Some, None}
-use Rattle.session_client.specs.declared.unheard.Gone.{Gone}
+use Rattle.session_client.specs.declared.client_error.Gone.{Gone}
 use Rattle.agent_commands.specs.declared.went.{SessionEnd.{SessionEnd, TheVariants.{Bye, Killed, Ended, TooLong, Spent, ReadFault, WriteFault}}, Went.{Went, TheVariants.{On, End}}}
-use Rattle.session_client.specs.declared.unheard.Gone.TheVariants as gone
+use Rattle.session_client.specs.declared.client_error.Gone.TheVariants as gone
 
 abbrev pub end_of : Gone → SessionEnd
 end_of gone.Ended = Ended

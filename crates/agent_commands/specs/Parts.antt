@@ -1,6 +1,6 @@
 -- The parts of a request on the cache, over the lines that this project's server reads.
 use Rattle.std.specs.Prelude.{ℕ, List, codes}
-use Rattle.{agent_ask.specs.{ClientParts.{AsksClient, Writes}, Further.EventOf, Parts.PartOf}, assuan_server.specs.{Clients.session_lines, Written.limit_line}, cache_policy.specs.declared.secret.TheConstants.MAX_SECRET_LEN}
+use Rattle.{agent_ask.specs.{ClientParts.{AsksClient, Writes}, PortCalls.EventOf, Parts.PartOf}, assuan_server.specs.{Clients.session_lines, Written.limit_line}, cache_policy.specs.declared.secret.TheConstants.MAX_SECRET_LEN}
 
 abbrev pub CacheEvent : Type 0
 CacheEvent = EventOf session_lines

@@ -1,6 +1,6 @@
 -- Private: what the steps of a request know, and what is written for it, once all else is done.
 use Rattle.std.specs.Prelude.{◌≡◌, ℕ, Bool, List, decimal, Option, None, Result, Ok as Whole, Err as Part}
-use Rattle.{agent_ask.specs.{Events.Call, Further.FurtherEvent, Parts.Refuses, PartReplies.{RespondsBy, CarriesBy}, PartStates.{PartState, part_state, DoesPart, NoTurn, NoEnd, DoesTurns}}, assuan_server.specs.Clients.connection_views}
+use Rattle.{agent_ask.specs.{Events.Call, PortCalls.PortCall, Parts.Refuses, PartReplies.{RespondsBy, CarriesBy}, PartStates.{PartState, part_state, DoesPart, NoTurn, NoEnd, DoesTurns}}, assuan_server.specs.Clients.connection_views}
 use Rattle.{assuan_server.specs.{Connections.Connection, Written.{refusal_line, ok, IsDataAnswer}}, cache_policy.specs.{declared.mark.MarkStep.MarkStep, Turns.Turn}, session_client.specs.declared.refusal.Refusal.Refusal}
 use Rattle.{session_client.specs.declared.refusal.Refusal.TheVariants.Agent, session_options.specs.{OptionValues.OptionValues, declared.options.OptionAnswer.{OptionAnswer, TheVariants.{Set, Unknown, Parameter, NotSupported}}}}
 use Rattle.session_options.specs.declared.rules.Rules.{Rules}
@@ -79,8 +79,8 @@ pub data TellsCached {D : Type 0} (turned : D → MarkStep → Turn → D → Ty
   refused : {why : Refusal} {after : D} → DoesTurns turned (ByCache id) None before (Part why) None after → TellsCached turned plain id before (Part why) after
 
 -- all was done for a request but its reply, whatever text that is written by
-abbrev pub CarriesOut : {D E : Type 0} (turned : D → MarkStep → Turn → D → Type 0) (further : E → FurtherEvent → E → Type 0) → CachePart CacheReply → OptionValues → PartState connection_views turned further
-    → Result Response Refusal → OptionValues → Option ℕ → PartState connection_views turned further → Type 0
+abbrev pub CarriesOut : {D E : Type 0} (turned : D → MarkStep → Turn → D → Type 0) (ported : E → PortCall → E → Type 0) → CachePart CacheReply → OptionValues → PartState connection_views turned ported
+    → Result Response Refusal → OptionValues → Option ℕ → PartState connection_views turned ported → Type 0
 CarriesOut = CarriesBy connection_views IsText went_of
 
 -- the reply of a request was written, or its refusal, and the session goes on so

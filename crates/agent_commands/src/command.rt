@@ -14,7 +14,7 @@ ghost use Rattle.agent_commands.specs.Exchanges.{LineExchange, quiet_of, CacheEx
 ghost use Rattle.agent_commands.specs.Exchanges.{CacheReplies, GivenOrAsked, Presets};
 ghost use Rattle.agent_commands.specs.Outside.{DoesPrompts, prompt_world, world};
 ghost use Rattle.agent_commands.specs.Requests.{request_of};
-ghost use Rattle.agent_commands.specs.States.{session_state, prompt_state, AnswersRequest};
+ghost use Rattle.agent_commands.specs.States.{served_state, prompt_state, AnswersRequest};
 ghost use Rattle.agent_commands.specs.Steps.{AsksNobody, CarriesOut, DoesAtDesk, TellsCached};
 ghost use Rattle.agent_commands.specs.Steps.{info_response, option_reply};
 ghost use Rattle.agent_commands.specs.declared.request.Request.TheVariants as request;
@@ -71,8 +71,8 @@ pub fn run_quiet<L: Link, D: Desk>(
     ensures answers { (rules : TheRules) (options : OptionValues) (line : List ℕ)
         → quiet_of (request_of line) ≡ Some request.now
         → AnswersRequest {w = world D.turned} (λ before. LineExchange rules before line) options
-        (session_state D.turned conn.old desk.old) result options
-        (session_state D.turned conn.new desk.new) }
+        (served_state D.turned conn.old desk.old) result options
+        (served_state D.turned conn.new desk.new) }
     ensures out { (D.at desk.new).out ≡ (D.at desk.old).out }
 {
     let reply = cached_reply(request, desk);

@@ -1,13 +1,13 @@
 -- Requests on the cache with the keys and the dice beside, requests on keys with the option values beside, and both with the trust file beside.
 use Rattle.std.proofs.Common.{◌≡◌, ℕ, List, Some, refl}
-use Rattle.{arrayvec.specs.ArrayVec.ArrayVec, agent_ask.{specs.{Answering.AnswersBy, Events.Call, Further.{FurtherEvent, FurtherEnds, DoesFurther}}, proofs.Answered.{answered_onward, answered_as, answers_beside}}}
+use Rattle.{arrayvec.specs.ArrayVec.ArrayVec, agent_ask.{specs.{Answering.AnswersBy, Events.Call, PortCalls.{PortCall, PortEnds, DoesPort}}, proofs.Answered.{answered_onward, answered_as, answers_beside}}}
 use Rattle.{agent_ports.specs.{KeyFiles.KeyFiles, Sides.Side, TrustFiles.TrustState}, assuan_server.specs.{Clients.connection_views, Connections.Connection}, cache_policy.specs.{declared.mark.MarkStep.MarkStep, Turns.Turn}}
 use Rattle.{session_options.specs.{OptionValues.OptionValues, declared.rules.Rules.Rules}, agent_commands.specs.{Endings.{went_after, gone_after}, Events.EventWith, Exchanges.CacheExchange}}
-use Rattle.agent_commands.specs.{Outside.{world, prompt_world, DoesPrompts, prompts}, States.{session_state, prompt_state, AnswersRequest}, declared.{request.Request.{Request, TheVariants.Key}, went.Went.Went}}
+use Rattle.agent_commands.specs.{Outside.{world, prompt_world, DoesPrompts, prompts}, States.{served_state, prompt_state, AnswersRequest}, declared.{request.Request.{Request, TheVariants.Key}, went.Went.Went}}
 use Rattle.{agent_commands.proofs.Replying.gone_as_it_went, key_commands.specs.{Exchanges.KeyExchange, KeyEnds.{KeyEnds, DoesAtKeys, prompt}, Requests.key_request_of, States.{KeyWorld, KeyState, key_state, AnswersKey}, Parts.key_gone}}
 use Rattle.key_commands.specs.declared.{went.KeyWent.KeyWent, wrap_keys.WrapKeys.WrapKeys}
-use Rattle.agent_origin.specs.{FurtherStates.{further_ends, FurtherWorld}, SessionExchanges.{RequestExchange, cache, keys, went_after_key, described_after}, declared.kept.Kept.Kept}
-use Rattle.agent_ask.specs.Further as further
+use Rattle.agent_origin.specs.{PortStates.{port_ends, PortWorld}, SessionExchanges.{RequestExchange, cache, keys, went_after_key, described_after}, declared.session_state.SessionState.SessionState}
+use Rattle.agent_ask.specs.Port as ported
 use Rattle.key_commands.specs.KeyEnds as at_keys
 use Rattle.key_commands.specs.declared.went.KeyWent.TheVariants as key
 
@@ -16,14 +16,14 @@ gone_as_keys_have_it : (went : KeyWent) → gone_after (went_after_key went) ≡
 gone_as_keys_have_it key.On = refl
 gone_as_keys_have_it (key.Gone how) = gone_as_it_went (Some how)
 
-abbrev kept_with : OptionValues → WrapKeys → Kept
+abbrev kept_with : OptionValues → WrapKeys → SessionState
 kept_with options wraps = record { options = options; wraps = wraps }
 
 module _ {D P : Type 0} (turned : D → MarkStep → Turn → D → Type 0) (prompted : P → Call → P → Type 0) where
   abbrev ends : KeyFiles → Side → P → KeyEnds P
   ends files dice prompter = record { prompter = prompter; keys = files; dice = dice }
 
-  each : (files : KeyFiles) (dice : Side) (prompter prompter_now : P) (what : FurtherEvent) → DoesPrompts prompted prompter what prompter_now
+  each : (files : KeyFiles) (dice : Side) (prompter prompter_now : P) (what : PortCall) → DoesPrompts prompted prompter what prompter_now
       → DoesAtKeys prompted (ends files dice prompter) what (ends files dice prompter_now)
   each files dice prompter prompter_now _ (prompts does) = prompt does
 
@@ -38,7 +38,7 @@ module _ {D P : Type 0} (turned : D → MarkStep → Turn → D → Type 0) (pro
 
     -- by the cache alone, with the prompter beside too
     pub quiet_beside : (prompter : P)
-        → AnswersRequest {w = world turned} (λ options. CacheExchange rules options request) before (session_state turned conn desk) went after (session_state turned now desk_now)
+        → AnswersRequest {w = world turned} (λ options. CacheExchange rules options request) before (served_state turned conn desk) went after (served_state turned now desk_now)
         → AnswersRequest {w = KeyWorld turned prompted} (λ kept. RequestExchange rules kept request) (kept_with before wraps) (key_state turned prompted conn desk prompter files dice) went
         (kept_with after wraps) (key_state turned prompted now desk_now prompter files dice)
     quiet_beside prompter answered =
@@ -53,17 +53,17 @@ module _ {D P : Type 0} (turned : D → MarkStep → Turn → D → Type 0) (pro
 -- ---- with the trust file beside
 
 module _ {D P : Type 0} (turned : D → MarkStep → Turn → D → Type 0) (prompted : P → Call → P → Type 0) (file : TrustState) where
-  abbrev with_file : KeyEnds P → FurtherEnds P
-  with_file ends = further_ends ends.prompter ends.keys ends.dice file
+  abbrev with_file : KeyEnds P → PortEnds P
+  with_file ends = port_ends ends.prompter ends.keys ends.dice file
 
-  each_with_file : (before after : KeyEnds P) (what : FurtherEvent) → DoesAtKeys prompted before what after → DoesFurther prompted (with_file before) what (with_file after)
-  each_with_file _ _ _ (at_keys.prompt does) = further.prompt does
-  each_with_file _ _ _ (at_keys.keys does) = further.keys does
-  each_with_file _ _ _ (at_keys.dice does) = further.dice does
-  each_with_file _ _ _ at_keys.no_memory = further.no_memory
+  each_with_file : (before after : KeyEnds P) (what : PortCall) → DoesAtKeys prompted before what after → DoesPort prompted (with_file before) what (with_file after)
+  each_with_file _ _ _ (at_keys.prompt does) = ported.prompt does
+  each_with_file _ _ _ (at_keys.keys does) = ported.keys does
+  each_with_file _ _ _ (at_keys.dice does) = ported.dice does
+  each_with_file _ _ _ at_keys.no_memory = ported.no_memory
 
-  pub trust_beside : {S : Type 0} {exchange : List (EventWith FurtherEvent) → S → Went → Type 0} {start now : KeyState turned prompted} {went : Went} {after : S}
+  pub trust_beside : {S : Type 0} {exchange : List (EventWith PortCall) → S → Went → Type 0} {start now : KeyState turned prompted} {went : Went} {after : S}
       → AnswersBy {w = KeyWorld turned prompted} connection_views went_after gone_after exchange start went after now
-      → AnswersBy {w = FurtherWorld turned prompted} connection_views went_after gone_after exchange (record { conn = start.conn; desk = start.desk; ends = with_file start.ends }) went after
+      → AnswersBy {w = PortWorld turned prompted} connection_views went_after gone_after exchange (record { conn = start.conn; desk = start.desk; ends = with_file start.ends }) went after
       (record { conn = now.conn; desk = now.desk; ends = with_file now.ends })
-  trust_beside = answers_beside turned (DoesAtKeys prompted) (DoesFurther prompted) with_file each_with_file
+  trust_beside = answers_beside turned (DoesAtKeys prompted) (DoesPort prompted) with_file each_with_file

@@ -7,7 +7,7 @@ use Rattle.{agent_commands.specs.declared.{request.{Request.{Request, TheVariant
 use Rattle.{cache_policy.specs.declared.mark.MarkStep.MarkStep, session_client.specs.declared.refusal.Refusal.{Refusal, TheVariants.Agent}, session_options.specs.{OptionValues.{OptionValues, EnvWords}, declared.options.PinMode.PinMode}}
 use Rattle.{session_options.specs.declared.rules.Rules.Rules, key_commands.{specs.{Events.Event, Parts.Part}, proofs.EachEvent.{All, each_shown, each_bind, each_returned, each_refused, each_seats, each_changes, each_closes}}}
 use Rattle.key_commands.proofs.EachRequest.{IsBesideTrust, works_beside, still_beside, Carries, each_carries, so, then, nothing, agrees, whole, key_whole}
-use Rattle.agent_origin.{proofs.EachCache.{wants_prompt, without_prompt, by_cache, presets, tells_passphrase, tells_info, option_so}, specs.{SessionExchanges.{RequestExchange, cache, keys}, declared.kept.Kept.Kept}}
+use Rattle.agent_origin.{proofs.EachCache.{wants_prompt, without_prompt, by_cache, presets, tells_passphrase, tells_info, option_so}, specs.{SessionExchanges.{RequestExchange, cache, keys}, declared.session_state.SessionState.SessionState}}
 use Rattle.agent_commands.specs.Passphrases as passphrase
 use Rattle.agent_commands.specs.declared.request.CacheCommand.TheVariants as on
 use Rattle.session_client.specs.declared.code.Code.TheVariants as code
@@ -73,7 +73,7 @@ module _ {env : EnvWords} {Is : Event → Type 0} {So : List Event → Type 0} (
     cache_so rules before after same (Bad why) events went does = whole law said (so law (each_refused Is (Agent why))) does
     cache_so rules before after same (Key line) events went does = absurd does
 
-    pub request_whole : {rules : Rules} {kept now : Kept} → kept.options.env ≡ env → (request : Request) {events : List Event} {went : Went} → RequestExchange rules kept request events now went → So events
+    pub request_whole : {rules : Rules} {kept now : SessionState} → kept.options.env ≡ env → (request : Request) {events : List Event} {went : Went} → RequestExchange rules kept request events now went → So events
     request_whole {rules} {kept} same request {events} {went} (cache {options} exchange) = cache_so rules kept.options options same request events went exchange
     request_whole {rules} {kept} same request (keys exchange) = key_whole law said rules kept.options same kept.wraps _ exchange
 
@@ -81,5 +81,5 @@ module _ (Is : Event → Type 0) (every : (event : Event) → IsBesideTrust even
   pub shown_so : {prompt : List PromptEvent} {events : List Event} → AnyInSession session_lines prompt events → All Is events
   shown_so = each_shown Is (λ event still. every event (still_beside event still)) (λ event. every _ tt)
 
-  pub each_request : {rules : Rules} {kept now : Kept} (request : Request) {events : List Event} {went : Went} → RequestExchange rules kept request events now went → All Is events
+  pub each_request : {rules : Rules} {kept now : SessionState} (request : Request) {events : List Event} {went : Went} → RequestExchange rules kept request events now went → All Is events
   each_request = request_whole (each_carries Is (λ event work. every event (works_beside event work))) (λ text. every _ tt) refl

@@ -2,8 +2,8 @@
 use Rattle.std.{proofs.Common.{◌≡◌, ◌≤◌, ◌+◌, ℕ, List, [], ◌∷◌, length, Option, None, Some, Ok, Err, refl, ap, ◌∙◌, subst, arith}, specs.{Option.option_map, Prelude.{IfSome, ⊤}}}
 use Rattle.{agent_ports.{specs.{Leads.{Leads, none, one}, Sides.{Side, WhereKnown}, declared.link.WriteFault.WriteFault, Writing.StopsWriting}, proofs.Known.{known_same, known_then}}, assuan_line.specs.Next.Reader}
 use Rattle.{assuan_server.{specs.{Connections.Connection, Written.{greeting, WritesText}, Reading.{budget, Supply, unread, IsSupply}, Clients.HasSupply}, proofs.Clients.said_so}, assuan_text.specs.LineEnds.line_of}
-use Rattle.agent_commands.specs.{Endings.gone_of, Events.EventWith, Outside.World, States.{SessionState, EventsLead}, Talks.{greeted, cut_greeting}, declared.went.SessionEnd.{SessionEnd, TheVariants.WriteFault as CutOff}}
-use Rattle.agent_ask.{specs.{SessionEvents.{Sent, Cut}, Worlds.{Outside, Does, received, sent, cut, asked, not_asked, turned, further}}, proofs.Doing.{done_then, done_said, done_cut}}
+use Rattle.agent_commands.specs.{Endings.gone_of, Events.EventWith, Outside.World, States.{ServedState, EventsLead}, Talks.{greeted, cut_greeting}, declared.went.SessionEnd.{SessionEnd, TheVariants.WriteFault as CutOff}}
+use Rattle.agent_ask.{specs.{SessionEvents.{Sent, Cut}, Worlds.{Outside, Does, received, sent, cut, asked, not_asked, turned, ported}}, proofs.Doing.{done_then, done_said, done_cut}}
 use Rattle.agent_origin.specs.{Sessions.{LineRelation, Leaves, supply_of, ends_with}, Serving.{ServesRequests, ServesConn, around}}
 
 -- a reader that has read nothing
@@ -25,7 +25,7 @@ known_each None (Some rest) P known = known
 known_each (Some bytes) None P known = known
 known_each (Some bytes) (Some rest) P known = tt
 
-known_leads : {w : World} {supply : Supply} {before after : Outside w} {events : List (EventWith w.Further)} → Leads (Does w supply) before events after
+known_leads : {w : World} {supply : Supply} {before after : Outside w} {events : List (EventWith w.Port)} → Leads (Does w supply) before events after
     → WhereKnown before.input after.input (λ bytes rest. ⊤)
 known_leads {before} none = known_same before.input _ (λ bytes. tt)
 known_leads {before} {after} (one {mid} (received known needed) later) =
@@ -36,7 +36,7 @@ known_leads {before} {after} (one {mid} (asked known needed) later) =
     known_then before.input mid.input after.input _ _ _ (known_each before.input mid.input _ known) (known_leads later) (λ bytes rest more p q. tt)
 known_leads (one (not_asked unsent split) later) = known_leads later
 known_leads (one (turned does) later) = known_leads later
-known_leads (one (further does) later) = known_leads later
+known_leads (one (ported does) later) = known_leads later
 
 -- the bytes that a session left
 leaves_known : (end : SessionEnd) (reader : Reader) (after : Option (List ℕ)) → ((left : List ℕ) → Leaves end (unread reader left) left)
@@ -53,9 +53,9 @@ taken_known reader None (Some left) known total = known
 taken_known reader (Some bytes) None known total = known
 taken_known reader (Some bytes) (Some left) known total = omega (arith, total)
 
-module _ {w : World} {S : Type 0} (exchange : LineRelation w S) (before : S) (start : SessionState w) (new : start.conn.reader ≡ fresh) where
+module _ {w : World} {S : Type 0} (exchange : LineRelation w S) (before : S) (start : ServedState w) (new : start.conn.reader ≡ fresh) where
   -- what was done, from the first byte on
-  module _ (last : SessionState w) (events : List (EventWith w.Further)) (done : EventsLead events start last) where
+  module _ (last : ServedState w) (events : List (EventWith w.Port)) (done : EventsLead events start last) where
     abbrev from_start : Option (List ℕ) → Type 0
     from_start input = Leads (Does w (supply_of start.conn.input.bytes)) (ends_with input (around start)) events (ends_with (option_map (unread last.conn.reader) last.conn.input.bytes) (around last))
 
@@ -71,7 +71,7 @@ module _ {w : World} {S : Type 0} (exchange : LineRelation w S) (before : S) (st
   pub met_cut : (now : Connection) (why : WriteFault) → WritesText (line_of greeting) start.conn (Err why) now → ServesConn exchange before start CutOff (record start { conn = now })
   met_cut now why said =
       let stopped : StopsWriting (line_of greeting) start.conn.output now.output = said.output.went in
-      let last : SessionState w = record start { conn = now } in
+      let last : ServedState w = record start { conn = now } in
       let done : EventsLead {w = w} (Cut stopped.sent ∷ []) start last = done_cut start.desk start.ends why (said_so said) in
       let reads : now.reader ≡ fresh = said.reader ∙ new in
       record {
@@ -100,7 +100,7 @@ module _ {w : World} {S : Type 0} (exchange : LineRelation w S) (before : S) (st
       }
 
   -- and what followed it
-  pub met : (mid : Connection) (last : SessionState w) (end : SessionEnd) → WritesText (line_of greeting) start.conn (Ok tt) mid
+  pub met : (mid : Connection) (last : ServedState w) (end : SessionEnd) → WritesText (line_of greeting) start.conn (Ok tt) mid
       → ServesRequests exchange before (record start { conn = mid }) end last → ServesConn exchange before start end last
   met mid last end said talked =
       let done : EventsLead {w = w} (Sent (line_of greeting) ∷ talked.events) start last = done_then (done_said start.desk start.ends (said_so said)) talked.done in

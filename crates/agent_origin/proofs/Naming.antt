@@ -1,10 +1,10 @@
 -- Each prompt of a session's request names the terminal and the language that its option values have.
 use Rattle.std.{specs.List.AllByRecursion, proofs.Common.{◌≡◌, Bool, List, [], ◌∷◌, ◌++◌, Option, refl, sym, subst}}
-use Rattle.agent_ask.specs.{Consents.{AsksConsent, ConsentBefore}, Events.{Start, GetPin, Confirm, Shut, PromptEvent, Called, Notified, OutOfMemory}, Further.{Keys, Dice, NoMemory, Prompt, Trust}, Prompts.{AsksPin, AsksBefore, Opens}}
-use Rattle.agent_ask.specs.{SessionEvents.{Received, Sent, Cut, Inquiry, CacheTurn, Further}, SessionPrompts.AnyInSession, Tests.PinTest, declared.{ask.Asked.Asked, consent.Agreed.Agreed, spec.{AskPlan.AskPlan, PromptSpec.PromptSpec}}}
+use Rattle.agent_ask.specs.{Consents.{AsksConsent, ConsentBefore}, Events.{Start, GetPin, Confirm, Shut, PromptEvent, Called, Notified, OutOfMemory}, PortCalls.{Keys, Dice, NoMemory, Prompt, Trust}, Prompts.{AsksPin, AsksBefore, Opens}}
+use Rattle.agent_ask.specs.{SessionEvents.{Received, Sent, Cut, Inquiry, CacheTurn, Port}, SessionPrompts.AnyInSession, Tests.PinTest, declared.{ask.Asked.Asked, consent.Agreed.Agreed, spec.{AskPlan.AskPlan, PromptSpec.PromptSpec}}}
 use Rattle.{agent_commands.specs.declared.{request.Request.Request, went.Went.Went}, assuan_server.specs.Clients.session_lines, key_commands.{specs.Events.Event, proofs.EachEvent.{IsStill, each_append, each_returned}}}
 use Rattle.{key_commands.proofs.EachRequest.{Carries, so, then, whole}, session_options.specs.{OptionValues.{OptionValues, EnvWords, words_of}, declared.rules.Rules.Rules}}
-use Rattle.agent_origin.specs.{DoorSessions.{AllowedExchange, DoorExchange}, OuterPrompts.{Names, PromptNames, PromptsName}, SessionExchanges.RequestExchange, TrustExchanges.TrustExchange, declared.{door.Door.Door, kept.Kept.Kept}}
+use Rattle.agent_origin.specs.{DoorSessions.{AllowedExchange, DoorExchange}, OuterPrompts.{Names, PromptNames, PromptsName}, SessionExchanges.RequestExchange, TrustExchanges.TrustExchange, declared.{door.Door.Door, session_state.SessionState.SessionState}}
 use Rattle.agent_origin.{specs.declared.trust.request.TrustRequest.TrustRequest, proofs.{Between.{IsBetween, Between, tries_between}, EachLine.request_whole, EachTrust.{carried_so, carried_laws}}}
 use Rattle.agent_ask.specs.Consents as consents
 use Rattle.agent_ask.specs.Prompts as prompts
@@ -62,11 +62,11 @@ module _ (env : EnvWords) where
   still_names (Sent text) still = tt
   still_names (Cut text) still = tt
   still_names (Inquiry word params limit inquired) still = tt
-  still_names (Further (Keys call)) still = tt
-  still_names (Further (Dice draw)) still = tt
-  still_names (Further NoMemory) still = tt
-  still_names (Further (Prompt event)) still = absurd still
-  still_names (Further (Trust call)) still = absurd still
+  still_names (Port (Keys call)) still = tt
+  still_names (Port (Dice draw)) still = tt
+  still_names (Port NoMemory) still = tt
+  still_names (Port (Prompt event)) still = absurd still
+  still_names (Port (Trust call)) still = absurd still
   still_names (CacheTurn taken) still = absurd still
   still_names (Received took) still = absurd still
 
@@ -82,7 +82,7 @@ module _ (env : EnvWords) where
 
 -- ---- requests
 
-request_names : {rules : Rules} {kept now : Kept} (request : Request) {events : List Event} {went : Went} → RequestExchange rules kept request events now went → PromptsName kept.options.env events
+request_names : {rules : Rules} {kept now : SessionState} (request : Request) {events : List Event} {went : Went} → RequestExchange rules kept request events now went → PromptsName kept.options.env events
 request_names {kept} request exchange = request_whole (names_carries kept.options.env) (λ text. tt) refl request exchange
 
 trust_names : (rules : Rules) (options : OptionValues) (request : TrustRequest) {events : List Event} {went : Went} → TrustExchange rules options request events went → PromptsName options.env events
@@ -90,14 +90,14 @@ trust_names rules options request =
     let carries = names_carries options.env in
     whole carries (λ text. tt) (then carries (carried_so (carried_laws {options = options} carries (λ call. tt)) rules request) (λ done. so carries (each_returned (PromptNames options.env) _)))
 
-allowed_names : {rules : Rules} {before after : Kept} {line : _} {command : Option _} {events : List Event} {went : Went} → AllowedExchange rules before line command events after went
+allowed_names : {rules : Rules} {before after : SessionState} {line : _} {command : Option _} {events : List Event} {went : Went} → AllowedExchange rules before line command events after went
     → PromptsName before.options.env events
 allowed_names door.helped = (tt, tt)
 allowed_names door.unset = (tt, tt)
 allowed_names {rules} {before} (door.trusts exchange) = trust_names rules before.options _ exchange
 allowed_names (door.any exchange) = request_names _ exchange
 
-pub exchange_names : {at : Door} {rules : Rules} {before after : Kept} {line : _} {events : List Event} {went : Went} → DoorExchange at rules before line events after went
+pub exchange_names : {at : Door} {rules : Rules} {before after : SessionState} {line : _} {events : List Event} {went : Went} → DoorExchange at rules before line events after went
     → PromptsName before.options.env events
 exchange_names (door.forbidden never) = (tt, tt)
 exchange_names (door.is_allowed allows exchange) = allowed_names exchange

@@ -10,7 +10,7 @@ use Rattle.trust_list.specs.{Trust.{trust, with_entry}, declared.TheConstants.MA
 use Rattle.agent_origin.specs.{DoorSessions.{AllowedExchange, helped, unset, trusts as on_trust, any, DoorExchange, forbidden, is_allowed}, Doors.allowed, NewTrustFiles.{replaced, HasConsents, HasConsentsIn}}
 use Rattle.agent_origin.specs.TrustExchanges.{flag_of, trust_question, fingerprint_question, unless_said, TrustedNow, Stores, StoresUnsaid, Consented, asked_in, Marked, Carried, TrustReplies}
 use Rattle.agent_origin.specs.{TrustParts.{ReadsFile, AddsEntry, Replaces, file_in, has_read, added, trust_called}, TrustRequests.trust_request_of, declared.door.Door.{Door, TheVariants.{Home, Outer}}}
-use Rattle.agent_origin.specs.declared.{door_session.DoorCommand.DoorCommand, kept.Kept.Kept, trust.request.{TrustPurpose.TrustPurpose, TrustRequest.{TrustRequest, TheVariants.{IsTrusted, MarkTrusted, Bad}}}}
+use Rattle.agent_origin.specs.declared.{door_session.DoorCommand.DoorCommand, session_state.SessionState.SessionState, trust.request.{TrustPurpose.TrustPurpose, TrustRequest.{TrustRequest, TheVariants.{IsTrusted, MarkTrusted, Bad}}}}
 use Rattle.agent_origin.proofs.{EachLine.{shown_so, each_request}, OuterTrust.{IsOuterTrust, trust_outer}}
 use Rattle.agent_commands.specs.Talks as talks
 use Rattle.assuan_line.specs.declared.reader.Took.TheVariants as took
@@ -351,13 +351,13 @@ at_home : (door : Door) (line : List ℕ) {rules : Rules} {options : OptionValue
 at_home Home line may has = refl
 at_home Outer line may has = absurd (subst IsOuterTrust has.marks (trust_outer line may))
 
-pub exchange_consents : (door : Door) (rules : Rules) {prior then : Kept} (line : List ℕ) {events : List Event} {went : Went} → DoorExchange door rules prior line events then went
+pub exchange_consents : (door : Door) (rules : Rules) {prior then : SessionState} (line : List ℕ) {events : List Event} {went : Went} → DoorExchange door rules prior line events then went
     → (before : List Event) (file : List ℕ) (after : List Event) → events ≡ before ++ replaced file ∷ after
     → HasConsents rules prior.options (trust_request_of line) before file after × (door ≡ Home)
 exchange_consents door rules line (forbidden not_allowed) before file after is = absurd (one_lacks _ (λ file same. cc same) before file after is)
 exchange_consents door rules {prior} line (is_allowed may exchanged) before file after is = allowed_by exchanged is
   where
-    allowed_by : {named : Option DoorCommand} {events : List Event} {then : Kept} {went : Went} → AllowedExchange rules prior line named events then went → events ≡ before ++ replaced file ∷ after
+    allowed_by : {named : Option DoorCommand} {events : List Event} {then : SessionState} {went : Went} → AllowedExchange rules prior line named events then went → events ≡ before ++ replaced file ∷ after
         → HasConsents rules prior.options (trust_request_of line) before file after × (door ≡ Home)
     allowed_by helped is = absurd (one_lacks _ (λ file same. cc same) before file after is)
     allowed_by unset is = absurd (one_lacks _ (λ file same. cc same) before file after is)
@@ -403,7 +403,7 @@ behind_close [] sent unsent close later is other = let same : Sent (sent ++ unse
 behind_close (first ∷ rest) sent unsent close later is other = let same : first ≡ close = cc is in (rest, ap (λ (e : Event). e ∷ rest) same)
 
 module _ (door : Door) (rules : Rules) where
-  either_consents : {prior then : Kept} (line : List ℕ) {events : List Event} {went : Went} → WholeOrCut went_after (DoorExchange door rules prior line) events then went
+  either_consents : {prior then : SessionState} (line : List ℕ) {events : List Event} {went : Went} → WholeOrCut went_after (DoorExchange door rules prior line) events then went
       → (before : List Event) (file : List ℕ) (after : List Event) → events ≡ before ++ replaced file ∷ after → HasConsents rules prior.options (trust_request_of line) before file after × (door ≡ Home)
   either_consents line (whole exchanged) before file after is = exchange_consents door rules line exchanged before file after is
   either_consents {prior} line (cut {events} exchanged last) before file after is =
@@ -425,8 +425,8 @@ module _ (door : Door) (rules : Rules) where
       subst Lacks (sym (last.done_is ∙ ap (λ (b : List Event). b ++ Cut last.sent ∷ []) only.0)) (one_lacks (Cut last.sent) (λ file same. cc same))
 
   -- the last request of a session, behind what it did before
-  further_in : {before after : List Event} {file : List ℕ} (front all : List Event) → all ≡ front ++ before → HasConsentsIn rules before file after → HasConsentsIn rules all file after
-  further_in front all is has = record {
+  port_in : {before after : List Event} {file : List ℕ} (front all : List Event) → all ≡ front ++ before → HasConsentsIn rules before file after → HasConsentsIn rules all file after
+  port_in front all is has = record {
     front = front ++ has.front;
     line = has.line;
     options = has.options;
@@ -435,7 +435,7 @@ module _ (door : Door) (rules : Rules) where
     consents = has.consents;
   }
 
-  talk_consents : {prior : Kept} {events : List Event} {end : SessionEnd} → Talk (DoorExchange door rules) prior events end
+  talk_consents : {prior : SessionState} {events : List Event} {end : SessionEnd} → Talk (DoorExchange door rules) prior events end
       → (before : List Event) (file : List ℕ) (after : List Event) → events ≡ before ++ replaced file ∷ after → HasConsentsIn rules before file after × (door ≡ Home)
   talk_consents (talks.Talk.goes_on line exchanged later) [] file after is = cc is
   talk_consents {prior} (talks.Talk.goes_on {events} {more} line exchanged later) (first ∷ before) file after is =
@@ -456,7 +456,7 @@ module _ (door : Door) (rules : Rules) where
             )
         | in_second left there here ↦
             let has = talk_consents later left file after here in (
-              further_in (Received (took.Line line) ∷ events) (first ∷ before)
+              port_in (Received (took.Line line) ∷ events) (first ∷ before)
                   (ap (λ (e : Event). e ∷ before) begins ∙ ap (λ (e : List Event). Received (took.Line line) ∷ e) there) has.0,
               has.1,
             )
@@ -484,11 +484,11 @@ module _ (door : Door) (rules : Rules) where
   talk_consents (cut_too_long last) [] file after is = cc is
   talk_consents (cut_too_long {done} last) (first ∷ before) file after is = let rest : done ≡ before ++ replaced file ∷ after = cc is in absurd (cut_lacks last before file after rest)
 
-  pub session_consents : {start : Kept} {events : List Event} {end : SessionEnd} → SessionOf (DoorExchange door rules) start events end
+  pub session_consents : {start : SessionState} {events : List Event} {end : SessionEnd} → SessionOf (DoorExchange door rules) start events end
       → (before : List Event) (file : List ℕ) (after : List Event) → events ≡ before ++ replaced file ∷ after → HasConsentsIn rules before file after × (door ≡ Home)
   session_consents (greeted later) [] file after is = cc is
   session_consents (greeted {events} later) (first ∷ before) file after is =
       let rest : events ≡ before ++ replaced file ∷ after = cc is in
       let has = talk_consents later before file after rest in
-      (further_in (first ∷ []) (first ∷ before) refl has.0, has.1)
+      (port_in (first ∷ []) (first ∷ before) refl has.0, has.1)
   session_consents (cut_greeting last) before file after is = absurd (cut_lacks last before file after is)

@@ -1,14 +1,14 @@
 -- Lines that are allowed at the outer door, and what is done for them to the cache.
 use Rattle.std.{proofs.Common.{◌≡◌, ℕ, Bool, true, false, List, [], ◌∷◌, ◌++◌, Option, None, Some, Result, Ok, Err, is_none, refl, ap, sym, ◌∙◌, subst, append_assoc}, specs.Prelude.⊤}
 use Rattle.agent_ask.specs.{ClientParts.{Writes, written, cut, Inquires, given, not_given}, ConsentParts.AgreesTo, Events.PromptEvent, PartExchanges.{AnyReply, AnyExchange, answered, refused}, Parts.{Follows, Returns, Refuses}}
-use Rattle.agent_ask.specs.{SessionEvents.{AnyEvent, Received, Sent, Cut, Inquiry, CacheTurn, Further, turns_in, said_last}, TurnParts.{Seats, opened, interrupted, Closes, unheld, closed}}
+use Rattle.agent_ask.specs.{SessionEvents.{AnyEvent, Received, Sent, Cut, Inquiry, CacheTurn, Port, turns_in, said_last}, TurnParts.{Seats, opened, interrupted, Closes, unheld, closed}}
 use Rattle.agent_ask.{specs.SessionPrompts.{AnyInSession, none, called, noted, out_of_memory}, proofs.Within.{Within, OfNothing, weaker, returned, refused as refused_so, is_needed, or_otherwise}}
 use Rattle.agent_commands.specs.{Exchanges.{CacheExchange, LineExchange, option_replies, confirms_by, CacheReplies, TellsPassphrase, TellsInfo}, Parts.{CacheEvent, CachePart, AsksPassphrase}}
 use Rattle.agent_commands.specs.Passphrases.{LooksFor, WantsPrompt, KeepsUnder, ByCache, Uncached as NotCached, WithoutPrompt, PromptsAny, Prompts, as_wanted, passphrase_by}
 use Rattle.agent_commands.specs.{Requests.{GetFields, get_fields, leaves_cache, request_of, request_by, asked_by, either, info_of, confirmation_of}, declared.request.CacheCommand.CacheCommand}
 use Rattle.agent_commands.specs.declared.request.{CacheCommand.TheVariants.{Nop, Reset, Bye, Help, SetOption, GetInfo, GetPassphrase, PresetPassphrase, ClearPassphrase, GetConfirmation, ReloadAgent, KillAgent, SetKeyDesc}, Info.Info}
 use Rattle.{agent_commands.specs.declared.{request.{Request.{Request, TheVariants.{Cache, Key, Bad}}, Texts.Texts}, went.Went.Went}, assuan_server.specs.{Written.limit_line, Clients.session_lines}, session_client.specs.Fields.◌>>=◌}
-use Rattle.{session_client.specs.declared.{code.Code.Code, refusal.Refusal.{Refusal, TheVariants.Agent}, unheard.Gone.Gone}, command_table.specs.{Commands.{command_in, outer_rule}, declared.commands.Command.Command}}
+use Rattle.{session_client.specs.declared.{code.Code.Code, refusal.Refusal.{Refusal, TheVariants.Agent}, client_error.Gone.Gone}, command_table.specs.{Commands.{command_in, outer_rule}, declared.commands.Command.Command}}
 use Rattle.{command_table.specs.declared.commands.CommandName.CommandName, assuan_text.specs.{Options.arguments_of, Words.{rest_of, words}}, arrayvec.specs.ArrayVec.ArrayVec, cache_policy.specs.declared.secret.TheConstants.MAX_SECRET_LEN}
 use Rattle.{cache_policy.specs.{declared.mark.MarkStep.TheVariants.Seat, Extending.Taken, Turns.Open}, session_options.specs.{declared.{options.{OptionAnswer.OptionAnswer, PinMode.PinMode}, rules.Rules.Rules}, OptionValues.OptionValues}}
 use Rattle.agent_origin.specs.{Doors.{passes, passes_by, allowed}, OuterTurns.{AreOuterTurns, no_turns, peeks, unseated, seated, LeavesCache}, declared.door.Door.TheVariants.Outer}
@@ -37,7 +37,7 @@ turns_then (Sent text ∷ more) second = turns_then more second
 turns_then (Cut text ∷ more) second = turns_then more second
 turns_then (Inquiry word params limit inquired ∷ more) second = turns_then more second
 turns_then (CacheTurn taken ∷ more) second = ap (λ (t : List Taken). taken ∷ t) (turns_then more second)
-turns_then (Further what ∷ more) second = turns_then more second
+turns_then (Port what ∷ more) second = turns_then more second
 
 pub leaves_then : {T O F : Type 0} (first second : List (AnyEvent T O F)) → LeavesCache first → LeavesCache second → LeavesCache (first ++ second)
 leaves_then first second before after = subst AreOuterTurns (sym (turns_then first second)) (are_outer_then before after)

@@ -9,7 +9,7 @@ use Rattle.{key_commands.proofs.EachEvent.each_append, session_client.specs.decl
 use Rattle.session_options.specs.{OptionValues.{OptionValues, Applied, without_description, set_to, with_mode, with_count, valued, applied_as, applied}, Table.{names, named, mode_of, count_of}, Text.{name_of, option_value, can_be_kept}}
 use Rattle.session_options.specs.declared.{options.{OptionAnswer.OptionAnswer, PinMode.PinMode}, rules.Rules.Rules}
 use Rattle.agent_origin.specs.{DoorSessions.{own_to_door, door_command, AllowedExchange, DoorExchange}, Doors.{is_of_terminal, sets_terminal, allowed}, OuterPrompts.{no_words, PromptNames, PromptsName}}
-use Rattle.agent_origin.{specs.{SessionExchanges.{RequestExchange, cache, keys}, declared.{door.Door.TheVariants.Outer, door_session.DoorCommand.{DoorCommand, TheVariants.Terminal}, kept.Kept.Kept}}, proofs.Naming.exchange_names}
+use Rattle.agent_origin.{specs.{SessionExchanges.{RequestExchange, cache, keys}, declared.{door.Door.TheVariants.Outer, door_session.DoorCommand.{DoorCommand, TheVariants.Terminal}, session_state.SessionState.SessionState}}, proofs.Naming.exchange_names}
 use Rattle.agent_commands.specs.declared.request.CacheCommand.TheVariants as on
 use Rattle.session_options.specs.declared.options.OptionAnswer.TheVariants as option
 use Rattle.session_options.specs.declared.options.PinMode.TheVariants as mode
@@ -129,7 +129,7 @@ described_env : (options : OptionValues) (ends : Bool) → (cond ends (without_d
 described_env options true = refl
 described_env options false = refl
 
-request_unset : {rules : Rules} {before after : Kept} (request : Request) → sets_terminal request ≡ false → Unset before.options → {events : List Event} {went : Went}
+request_unset : {rules : Rules} {before after : SessionState} (request : Request) → sets_terminal request ≡ false → Unset before.options → {events : List Event} {went : Went}
     → RequestExchange rules before request events after went → Unset after.options
 request_unset {rules} {before} request is unset (cache {events} {options} {went} exchange) = exchange_unset rules before.options unset request is events options went exchange
 request_unset {before} request is unset (keys exchange) = described_env before.options _ ∙ unset
@@ -140,31 +140,31 @@ heeded : (sets : Bool) (terminal : DoorCommand) (rest : Option DoorCommand) → 
 heeded true terminal rest is = cc is
 heeded false terminal rest is = refl
 
-allowed_unset : {rules : Rules} {before after : Kept} (line : List ℕ) {command : Option DoorCommand} → door_command Outer line ≡ command → Unset before.options → {events : List Event} {went : Went}
+allowed_unset : {rules : Rules} {before after : SessionState} (line : List ℕ) {command : Option DoorCommand} → door_command Outer line ≡ command → Unset before.options → {events : List Event} {went : Went}
     → AllowedExchange rules before line command events after went → Unset after.options
 allowed_unset line is unset door.helped = unset
 allowed_unset line is unset door.unset = unset
 allowed_unset line is unset (door.trusts exchange) = unset
 allowed_unset line is unset (door.any exchange) = request_unset (request_of line) (heeded (sets_terminal (request_of line)) _ (own_to_door (command_in line)) is) unset exchange
 
-door_unset : {rules : Rules} {before after : Kept} (line : List ℕ) → Unset before.options → {events : List Event} {went : Went} → DoorExchange Outer rules before line events after went → Unset after.options
+door_unset : {rules : Rules} {before after : SessionState} (line : List ℕ) → Unset before.options → {events : List Event} {went : Went} → DoorExchange Outer rules before line events after went → Unset after.options
 door_unset line unset (door.forbidden never) = unset
 door_unset line unset (door.is_allowed allows exchange) = allowed_unset line refl unset exchange
 
-pub line_unnamed : {rules : Rules} {before after : Kept} (line : List ℕ) {events : List Event} {went : Went} → Unset before.options → DoorExchange Outer rules before line events after went
+pub line_unnamed : {rules : Rules} {before after : SessionState} (line : List ℕ) {events : List Event} {went : Went} → Unset before.options → DoorExchange Outer rules before line events after went
     → PromptsName no_words events × Unset after.options
 line_unnamed line {events} unset exchange = (subst (λ env. PromptsName env events) unset (exchange_names exchange), door_unset line unset exchange)
 
 -- ---- an option of the terminal
 
-by_terminal : {rules : Rules} {before after : Kept} {line : List ℕ} {command : Option DoorCommand} {events : List Event} {went : Went} → AllowedExchange rules before line command events after went → command ≡ Some Terminal
+by_terminal : {rules : Rules} {before after : SessionState} {line : List ℕ} {command : Option DoorCommand} {events : List Event} {went : Went} → AllowedExchange rules before line command events after went → command ≡ Some Terminal
     → (events ≡ Sent ok ∷ []) × (after ≡ before) × (went ≡ On)
 by_terminal door.helped is = cc is
 by_terminal door.unset is = (refl, refl, refl)
 by_terminal (door.trusts exchange) is = cc is
 by_terminal (door.any exchange) is = cc is
 
-pub option_unset_there : {rules : Rules} {before after : Kept} (line : List ℕ) {events : List Event} {went : Went} → allowed Outer line ≡ true → sets_terminal (request_of line) ≡ true
+pub option_unset_there : {rules : Rules} {before after : SessionState} (line : List ℕ) {events : List Event} {went : Went} → allowed Outer line ≡ true → sets_terminal (request_of line) ≡ true
     → DoorExchange Outer rules before line events after went → (events ≡ Sent ok ∷ []) × (after ≡ before) × (went ≡ On)
 option_unset_there line allows sets (door.forbidden refuses) = absurd (cc (allows, refuses))
 option_unset_there line allows sets (door.is_allowed may exchange) = by_terminal exchange (ap (λ b. cond b (Some Terminal) (own_to_door (command_in line))) sets)
@@ -181,12 +181,12 @@ cut_names last each =
     subst (PromptsName no_words) (sym last.done_is) (each_append (PromptNames no_words) last.before (Cut last.sent ∷ []) front (tt, tt))
 
 module _ (rules : Rules) where
-  either_unnamed : {before after : Kept} (line : List ℕ) {events : List Event} {went : Went} → Unset before.options → WholeOrCut went_after (DoorExchange Outer rules before line) events after went
+  either_unnamed : {before after : SessionState} (line : List ℕ) {events : List Event} {went : Went} → Unset before.options → WholeOrCut went_after (DoorExchange Outer rules before line) events after went
       → PromptsName no_words events × Unset after.options
   either_unnamed line unset (whole exchange) = line_unnamed line unset exchange
   either_unnamed line unset (cut exchange last) = let so = line_unnamed line unset exchange in (cut_names last so.0, so.1)
 
-  talk_unnamed : {before : Kept} {events : List Event} {end : SessionEnd} → Unset before.options → Talk (DoorExchange Outer rules) before events end → PromptsName no_words events
+  talk_unnamed : {before : SessionState} {events : List Event} {end : SessionEnd} → Unset before.options → Talk (DoorExchange Outer rules) before events end → PromptsName no_words events
   talk_unnamed unset (goes_on {events} {more} line exchange later) =
       let so = either_unnamed line unset exchange in
       (tt, each_append (PromptNames no_words) events more so.0 (talk_unnamed so.1 later))
@@ -197,6 +197,6 @@ module _ (rules : Rules) where
   talk_unnamed unset too_long = (tt, (tt, tt))
   talk_unnamed unset (cut_too_long last) = (tt, cut_names last (tt, tt))
 
-  pub session_unnamed : {start : Kept} {events : List Event} {end : SessionEnd} → Unset start.options → Session (DoorExchange Outer rules) start events end → PromptsName no_words events
+  pub session_unnamed : {start : SessionState} {events : List Event} {end : SessionEnd} → Unset start.options → Session (DoorExchange Outer rules) start events end → PromptsName no_words events
   session_unnamed unset (greeted later) = (tt, talk_unnamed unset later)
   session_unnamed unset (cut_greeting last) = cut_names last (tt, tt)

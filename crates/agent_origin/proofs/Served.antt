@@ -1,9 +1,9 @@
 -- A session that was served on a connection, as its link shows it.
 use Rattle.std.proofs.Common.{◌≡◌, sym}
-use Rattle.{agent_commands.specs.{Outside.World, States.SessionState, declared.went.SessionEnd.SessionEnd}, agent_ports.specs.Sides.Side}
+use Rattle.{agent_commands.specs.{Outside.World, States.ServedState, declared.went.SessionEnd.SessionEnd}, agent_ports.specs.Sides.Side}
 use Rattle.agent_origin.specs.{Serving.ServesConn, Sessions.{LineRelation, ServesSession}}
 
-pub on_link : {w : World} {S : Type 0} (exchange : LineRelation w S) (before : S) {start now : SessionState w} {end : SessionEnd} {input output input_now output_now : Side}
+pub on_link : {w : World} {S : Type 0} (exchange : LineRelation w S) (before : S) {start now : ServedState w} {end : SessionEnd} {input output input_now output_now : Side}
     → start.conn.input ≡ input → start.conn.output ≡ output → input_now ≡ now.conn.input → output_now ≡ now.conn.output → ServesConn {w = w} exchange before start end now
     → ServesSession {w = w} exchange before (record { input = input; output = output; desk = start.desk; ends = start.ends }) end
     (record { input = input_now; output = output_now; desk = now.desk; ends = now.ends })

@@ -3,7 +3,7 @@ use Rattle.std.proofs.Common.{◌≡◌, ℕ, List, [], ◌∷◌, ◌++◌, Opt
 use Rattle.{agent_ports.specs.{Counts.Rose, declared.link.WriteFault.WriteFault, Writing.StopsWriting}, assuan_line.specs.{Next.Reader, declared.reader.Took.Took}, assuan_server.specs.{Clients.connection_views, Connections.Connection}}
 use Rattle.{assuan_server.{specs.{Requests.NextRequest, Written.{failed, WritesText}, Reading.unread}, proofs.{Clients.{said_so, received_so}, Reading.here_going}}, session_client.specs.declared.code.Code.TheVariants.LineTooLong}
 use Rattle.agent_ask.{specs.{Answering.{ReaderLeft, FaultsCounted}, SessionEvents.{Received, Sent, Cut}}, proofs.{PartsDone.{still_open, no_fault}, Replying.text_written, Doing.{done_none, done_then, done_said, done_cut, done_received}}}
-use Rattle.agent_commands.specs.{Endings.{gone_of, went_after, gone_after}, Events.EventWith, Outside.World, States.{SessionState, EventsLead, AnswersRequest}, Talks.{Talk, goes_on, over, ended, spent, read_fault, too_long, cut_too_long}}
+use Rattle.agent_commands.specs.{Endings.{gone_of, went_after, gone_after}, Events.EventWith, Outside.World, States.{ServedState, EventsLead, AnswersRequest}, Talks.{Talk, goes_on, over, ended, spent, read_fault, too_long, cut_too_long}}
 use Rattle.agent_commands.{specs.declared.went.{SessionEnd.{SessionEnd, TheVariants.{Bye, Killed, Ended, TooLong, Spent, ReadFault}}, Went.{Went, TheVariants.{On, End}}}, proofs.Replying.gone_as_it_went}
 use Rattle.agent_origin.specs.{Sessions.{LineRelation, Leaves}, Serving.{ServesRequests, SaysText, says}}
 use Rattle.assuan_line.specs.declared.reader.Took.TheVariants as took
@@ -31,19 +31,19 @@ leaves ends.WriteFault before after left is = leaves_part after.reader left
 leaves_what_is_unread : (reader : Reader) (took : Took) → reader.ended ≡ Some took → (left : List ℕ) → unread reader left ≡ left
 leaves_what_is_unread reader took is left = rw is refl
 
-module _ {w : World} {S : Type 0} (exchange : LineRelation w S) (before : S) (start : SessionState w) where
+module _ {w : World} {S : Type 0} (exchange : LineRelation w S) (before : S) (start : ServedState w) where
   -- How a session stands between two requests: whatever it does from there on completes what it did so far.
-  pub record IsServing (now : SessionState w) (kept : S) : Type 0 where
-    pub events : List (EventWith w.Further)
+  pub record IsServing (now : ServedState w) (kept : S) : Type 0 where
+    pub events : List (EventWith w.Port)
     pub done : EventsLead events start now
-    pub continues : (more : List (EventWith w.Further)) (end : SessionEnd) → Talk exchange kept more end → Talk exchange before (events ++ more) end
+    pub continues : (more : List (EventWith w.Port)) (end : SessionEnd) → Talk exchange kept more end → Talk exchange before (events ++ more) end
 
   pub serves_none : IsServing start before
   serves_none = record { events = []; done = done_none start; continues = λ more end talk. talk }
 
-  module _ (now : SessionState w) (kept : S) (serving : IsServing now kept) where
+  module _ (now : ServedState w) (kept : S) (serving : IsServing now kept) where
     -- the session's end, after these events more
-    finishes : (last : SessionState w) (more : List (EventWith w.Further)) (end : SessionEnd) → EventsLead more now last
+    finishes : (last : ServedState w) (more : List (EventWith w.Port)) (end : SessionEnd) → EventsLead more now last
         → Talk exchange kept more end → ((left : List ℕ) → Leaves end (unread last.conn.reader left) left)
         → FaultsCounted connection_views (gone_of end) now.conn last.conn → ServesRequests exchange before start end last
     finishes last more end done talk leaves_so faults = record {
@@ -59,7 +59,7 @@ module _ {w : World} {S : Type 0} (exchange : LineRelation w S) (before : S) (st
 
     -- the next request was read
     module _ (answer : Took) (conn : Connection) (going : now.conn.reader.ended ≡ None) (next : NextRequest now.conn answer conn) where
-      abbrev read : SessionState w
+      abbrev read : ServedState w
       read = record { conn = conn; desk = now.desk; ends = now.ends }
 
       received : EventsLead {w = w} (Received answer ∷ []) now read
@@ -68,13 +68,13 @@ module _ {w : World} {S : Type 0} (exchange : LineRelation w S) (before : S) (st
       received_as : (took : Took) → answer ≡ took → EventsLead {w = w} (Received took ∷ []) now read
       received_as took is = subst (λ t. EventsLead {w = w} (Received t ∷ []) now read) is received
 
-      module _ (line : List ℕ) (is : answer ≡ took.Line line) (after : S) (last : SessionState w) where
+      module _ (line : List ℕ) (is : answer ≡ took.Line line) (after : S) (last : ServedState w) where
         serves_on : AnswersRequest {w = w} (λ k. exchange k line) kept read On after last → IsServing last after
         serves_on answered = record {
           events = serving.events ++ (Received (took.Line line) ∷ answered.events);
           done = done_then serving.done (done_then (received_as (took.Line line) is) answered.done);
           continues = λ more end talk.
-              subst (λ (d : List (EventWith w.Further)). Talk exchange before d end) (sym (append_assoc serving.events (Received (took.Line line) ∷ answered.events) more))
+              subst (λ (d : List (EventWith w.Port)). Talk exchange before d end) (sym (append_assoc serving.events (Received (took.Line line) ∷ answered.events) more))
               (serving.continues (Received (took.Line line) ∷ (answered.events ++ more)) end (goes_on line answered.exchanges talk));
         }
 
@@ -111,7 +111,7 @@ module _ {w : World} {S : Type 0} (exchange : LineRelation w S) (before : S) (st
           (leaves_what_is_unread conn.reader took.ReadFault ended_so) (record { read = λ e. rose; write = λ e. absurd (cc e) })
 
       module _ (is : answer ≡ took.TooLong) (last : Connection) where
-        abbrev after_it : SessionState w
+        abbrev after_it : ServedState w
         after_it = record { conn = last; desk = now.desk; ends = now.ends }
 
         pub at_too_long : conn.reader.ended ≡ Some took.TooLong → WritesText (failed LineTooLong) conn (Ok tt) last
@@ -138,7 +138,7 @@ module _ {w : World} {S : Type 0} (exchange : LineRelation w S) (before : S) (st
             (leaves_part last.reader) (record { read = λ e. absurd (cc e); write = λ e. omega (arith, received.output_faults, stopped.rose) })
 
 -- nothing was done for a request but to say one text
-pub text_answers : {w : World} {S : Type 0} (exchange : S → List (EventWith w.Further) → S → Went → Type 0) (before : S) {text : List ℕ} (start : SessionState w)
+pub text_answers : {w : World} {S : Type 0} (exchange : S → List (EventWith w.Port) → S → Went → Type 0) (before : S) {text : List ℕ} (start : ServedState w)
     (now : Connection) {went : Went} → exchange before (Sent text ∷ []) before On → start.conn.reader.ended ≡ None → SaysText text start.conn went now
     → AnswersRequest exchange before start went before (record start { conn = now })
 text_answers {w} exchange before {text} start now on going (says written said) =

@@ -1,24 +1,24 @@
 -- Parts of a request on the trust list that were done, each beside the ends of its session that it leaves alone.
 use Rattle.std.proofs.Common.{◌≡◌, ℕ, Bool, List, [], ◌∷◌, Option, Some, None, Result, Ok, Err, arith}
-use Rattle.agent_ask.specs.{Clients.{Hears, LeftByPart}, ConsentParts.{AgreesTo, AsksQuestion}, Doing.{PromptEnds, DoesPrompt, HasEvents}, Events.Call, Further.{FurtherEvent, DoesFurther, world_with}, Parts.◌>>=◌}
-use Rattle.agent_ask.{specs.{PartStates.{gone_in, DoesPart, NoTurn}, SessionEvents.Further, PartReplies.stops_at}, proofs.{ConsentParts.agrees, Doing.done_further, PartsAtClient.part_prompted}}
+use Rattle.agent_ask.specs.{Clients.{Hears, LeftByPart}, ConsentParts.{AgreesTo, AsksQuestion}, Doing.{PromptEnds, DoesPrompt, HasEvents}, Events.Call, PortCalls.{PortCall, DoesPort, world_with}, Parts.◌>>=◌}
+use Rattle.agent_ask.{specs.{PartStates.{gone_in, DoesPart, NoTurn}, SessionEvents.Port, PartReplies.stops_at}, proofs.{ConsentParts.agrees, Doing.done_port, PartsAtClient.part_prompted}}
 use Rattle.{agent_ask.proofs.PartsDone.{part_then, part_stops, part_still, part_in}, agent_ports.specs.{KeyFiles.KeyFiles, Sides.Side, TrustFiles.TrustState, declared.grip.Grip.Grip}}
 use Rattle.{assuan_server.specs.{Clients.{session_lines, connection_views, Wishes}, Connections.{Connection, IsOpen}}, cache_policy.specs.{declared.mark.MarkStep.MarkStep, Turns.Turn}, key_commands.specs.Parts.Part}
 use Rattle.{session_client.specs.declared.refusal.Refusal.Refusal, session_options.specs.{OptionValues.OptionValues, declared.rules.Rules.Rules}, trust_list.specs.Trust.trust, agent_commands.specs.Steps.{CarriesOut, ok_by}}
 use Rattle.agent_commands.proofs.Carrying.{replies_ok}
-use Rattle.agent_origin.specs.{FurtherStates.{further_ends, FurtherState}, TrustExchanges.{unless_said, Carried, TrustReplies}, TrustParts.ReadsFile, TrustStates.{DoesTrustFile, called, no_memory, DoesAtFile, LeavesKeys}}
+use Rattle.agent_origin.specs.{PortStates.{port_ends, PortState}, TrustExchanges.{unless_said, Carried, TrustReplies}, TrustParts.ReadsFile, TrustStates.{DoesTrustFile, called, no_memory, DoesAtFile, LeavesKeys}}
 use Rattle.agent_origin.specs.declared.trust.request.TrustRequest.{TrustRequest}
-use Rattle.agent_ask.specs.Further as further
+use Rattle.agent_ask.specs.Port as ported
 
 -- ---- the trust file
 
 module _ {A : Type 0} {part : Part A} {result : Result A Refusal} (on : gone_in result ≡ None) where
   -- one call, or being out of memory
-  pub file_event_done : {start now : TrustState} (what : FurtherEvent) → DoesTrustFile start what now → ((held : Option ℕ) → part held (Further what ∷ []) result held) → DoesAtFile part start result now
+  pub file_event_done : {start now : TrustState} (what : PortCall) → DoesTrustFile start what now → ((held : Option ℕ) → part held (Port what ∷ []) result held) → DoesAtFile part start result now
   file_event_done what done does conn going held = record {
-    events = Further what ∷ [];
+    events = Port what ∷ [];
     does = does held;
-    done = done_further {w = world_with {lines = session_lines} NoTurn DoesTrustFile} what conn tt _ _ done;
+    done = done_port {w = world_with {lines = session_lines} NoTurn DoesTrustFile} what conn tt _ _ done;
     fits = rw on (going, omega arith);
     faults = rw on (record { read = λ e. absurd (cc e); write = λ e. absurd (cc e) });
   }
@@ -36,16 +36,16 @@ said_done fingerprint otherwise read said is done conn going held = part_then (r
 -- ---- beside the other ends
 
 module _ {D P : Type 0} (turned : D → MarkStep → Turn → D → Type 0) (prompted : P → Call → P → Type 0) where
-  file_beside : (prompter : P) (keys : KeyFiles) (dice : Side) (before after : TrustState) (what : FurtherEvent) → DoesTrustFile before what after
-      → DoesFurther prompted (further_ends prompter keys dice before) what (further_ends prompter keys dice after)
-  file_beside prompter keys dice before after what (called does) = further.trust does
-  file_beside prompter keys dice before after what no_memory = further.no_memory
+  file_beside : (prompter : P) (keys : KeyFiles) (dice : Side) (before after : TrustState) (what : PortCall) → DoesTrustFile before what after
+      → DoesPort prompted (port_ends prompter keys dice before) what (port_ends prompter keys dice after)
+  file_beside prompter keys dice before after what (called does) = ported.trust does
+  file_beside prompter keys dice before after what no_memory = ported.no_memory
 
   -- what was done with the trust file alone
   pub beside_all : {A : Type 0} {part : Part A} {result : Result A Refusal} {file now : TrustState} (conn : Connection) (desk : D) (prompter : P) (held : Option ℕ) → IsOpen conn
       → DoesAtFile part file result now → LeavesKeys turned prompted part held conn desk prompter file result held conn desk prompter now
   beside_all conn desk prompter held going done keys dice =
-      part_in connection_views NoTurn DoesTrustFile turned (DoesFurther prompted) (λ none. desk) (λ file. further_ends prompter keys dice file)
+      part_in connection_views NoTurn DoesTrustFile turned (DoesPort prompted) (λ none. desk) (λ file. port_ends prompter keys dice file)
       (λ before after step turn never. absurd never) (file_beside prompter keys dice) (done conn going held)
 
   -- what was done without a turn
@@ -53,7 +53,7 @@ module _ {D P : Type 0} (turned : D → MarkStep → Turn → D → Type 0) (pro
       → LeavesKeys NoTurn prompted part held conn tt prompter file result after conn_now tt prompter_now file_now
       → LeavesKeys turned prompted part held conn desk prompter file result after conn_now desk prompter_now file_now
   beside_desk desk done keys dice =
-      part_in connection_views NoTurn (DoesFurther prompted) turned (DoesFurther prompted) (λ none. desk) (λ same. same) (λ before after step turn never. absurd never)
+      part_in connection_views NoTurn (DoesPort prompted) turned (DoesPort prompted) (λ none. desk) (λ same. same) (λ before after step turn never. absurd never)
       (λ before after what does. does) (done keys dice)
 
 -- the user was asked a question by one prompt
@@ -62,15 +62,15 @@ pub agreed_done : {P : Type 0} {prompted : P → Call → P → Type 0} {rules :
     → LeftByPart connection_views result start.caller now.caller
     → LeavesKeys NoTurn prompted (AgreesTo session_lines rules options question) (Some ticket) start.caller tt start.prompter file result (Some ticket) now.caller tt now.prompter file
 agreed_done {prompted} {result} ticket file asked left keys dice =
-    part_prompted connection_views (DoesFurther prompted) (λ prompter. further_ends prompter keys dice file) (λ before after event does. further.prompt does) asked.lead
+    part_prompted connection_views (DoesPort prompted) (λ prompter. port_ends prompter keys dice file) (λ before after event does. ported.prompt does) asked.lead
     (λ events in_session. agrees ticket result asked.are in_session) left
 
 -- ---- requests
 
 -- all was done for a request but its reply
 pub carried_out : {D P : Type 0} (turned : D → MarkStep → Turn → D → Type 0) (prompted : P → Call → P → Type 0) (rules : Rules) (options : OptionValues) (request : TrustRequest)
-    {start now : FurtherState turned prompted} {held : Option ℕ} (result : Result (Unit {0}) Refusal)
-    → DoesPart connection_views turned (DoesFurther prompted) (Carried rules options request) None start result held now
-    → CarriesOut turned (DoesFurther prompted) (TrustReplies rules options request) options start (ok_by result) options held now
-carried_out turned prompted rules options request {now} (Ok tt) done = replies_ok turned (DoesFurther prompted) now.conn now.desk now.ends done
+    {start now : PortState turned prompted} {held : Option ℕ} (result : Result (Unit {0}) Refusal)
+    → DoesPart connection_views turned (DoesPort prompted) (Carried rules options request) None start result held now
+    → CarriesOut turned (DoesPort prompted) (TrustReplies rules options request) options start (ok_by result) options held now
+carried_out turned prompted rules options request {now} (Ok tt) done = replies_ok turned (DoesPort prompted) now.conn now.desk now.ends done
 carried_out turned prompted rules options request (Err why) done = stops_at (part_stops done)

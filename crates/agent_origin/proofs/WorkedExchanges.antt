@@ -1,6 +1,6 @@
 -- What is done for requests on the trust list, on worked examples.
 use Rattle.std.{proofs.Common.{◌≡◌, ℕ, Bool, false, List, [], ◌∷◌, ◌++◌, replicate, Some, None, refl, lit≤}, specs.{Fmt.digits, Prelude.codes}}
-use Rattle.{hex.specs.Hex.encode_with, agent_ask.specs.{Consents.{AsksConsent, agreed_of, asked}, Events.{Called, Start, Confirm, Shut}, Further.Prompt, Plans.{IsSpec, text}, Prompts.quiet, SessionEvents.{Sent, Further, cache_turn}}}
+use Rattle.{hex.specs.Hex.encode_with, agent_ask.specs.{Consents.{AsksConsent, agreed_of, asked}, Events.{Called, Start, Confirm, Shut}, PortCalls.Prompt, Plans.{IsSpec, text}, Prompts.quiet, SessionEvents.{Sent, Port, cache_turn}}}
 use Rattle.agent_ask.specs.{TrustCalls.{Read, Replaced}, SessionPrompts.{none, called as shown}, declared.{prompter.{Consent.{Consent, TheVariants.{Yes, No}}, Opened.TheVariants.Pid}, spec.PromptSpec.PromptSpec}}
 use Rattle.agent_ask.specs.{ConsentParts.{consents, refused as dissents}, Parts.{goes_on, stops, returns, refuses}, PartExchanges.{answered, refused}, TurnParts.{opened, unheld, closed}}
 use Rattle.{assuan_server.specs.Written.{ok, failed, failed_at_pinentry}, agent_commands.specs.{declared.went.Went.TheVariants.On, Exchanges.reply}, agent_ports.specs.declared.{grip.Grip.Grip, trust.TrustDone.TheVariants.Done as IsDone}}
@@ -47,7 +47,7 @@ new_file = refl
 -- one prompt that says this, and is answered so
 abbrev prompt : PromptSpec → Consent → List Event
 prompt spec consent =
-    Further (Prompt (Called (Start spec (Pid 7)))) ∷ Further (Prompt (Called (Confirm consent))) ∷ Further (Prompt (Called Shut)) ∷ []
+    Port (Prompt (Called (Start spec (Pid 7)))) ∷ Port (Prompt (Called (Confirm consent))) ∷ Port (Prompt (Called Shut)) ∷ []
 
 asks : (spec : PromptSpec) (notify : Bool) → notify ≡ false → (consent : Consent)
     → AsksConsent spec notify (Called (Start spec (Pid 7)) ∷ Called (Confirm consent) ∷ Called Shut ∷ []) (agreed_of consent)

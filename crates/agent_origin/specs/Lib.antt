@@ -4,7 +4,7 @@ pub mod OuterRuns
 pub mod OuterPrompts
 pub mod TrustRequests
 pub mod Sessions
-pub mod FurtherStates
+pub mod PortStates
 pub mod TrustParts
 pub mod TrustExchanges
 pub mod NewTrustFiles

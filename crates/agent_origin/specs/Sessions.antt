@@ -4,7 +4,7 @@ use Rattle.{agent_ports.specs.{Counts.Rose, Leads.Leads, Sides.{Side, WhereKnown
 use Rattle.{agent_commands.specs.declared.went.SessionEnd.TheVariants.{Bye, Killed, Ended, TooLong, Spent, ReadFault, WriteFault}, agent_ask.specs.{LinkFaults.{fails_at_input, fails_at_output, CountsFailed}, SessionEvents.Cut}}
 use Rattle.{agent_ask.specs.Worlds.{Outside, Does}, assuan_server.specs.{Clients.session_lines, Reading.{budget, Supply}}}
 
--- what a session has to do with: both sides of its link, its desk, and the further ends
+-- what a session has to do with: both sides of its link, its desk, and the ports
 pub record Surroundings (w : World) : Type 0 where
   pub input : Side
   pub output : Side
@@ -32,13 +32,13 @@ Leaves ReadFault rest left = rest ≡ left
 
 -- what is done for a line by what was kept before it, what is kept after it, and how the session goes on
 abbrev pub LineRelation : World → Type 0 → Type 1
-LineRelation w S = S → List ℕ → List (EventWith w.Further) → S → Went → Type 0
+LineRelation w S = S → List ℕ → List (EventWith w.Port) → S → Went → Type 0
 
 -- What a session did to what it has to do with. Its events are a session's, and lead its ends from before to after: the bytes that
 -- were written are theirs, their turns are the desk's, and their requests and inquiries are those of the bytes that were read, of
 -- which each took no more than it may, and all together no more than the budget allows.
 pub record ServesSession {w : World} {S : Type 0} (exchange : LineRelation w S) (start : S) (before : Surroundings w) (end : SessionEnd) (after : Surroundings w) : Type 0 where
-  pub events : List (EventWith w.Further)
+  pub events : List (EventWith w.Port)
   pub session : Session exchange start events end
   -- the bytes from the session's last place on
   pub rest : Option (List ℕ)

@@ -5,7 +5,7 @@ use Rattle.{agent_ask.specs.{ConsentParts.AgreesTo, Events.Call, PartExchanges.A
 use Rattle.{agent_commands.specs.{Endings.went_after, Exchanges.{CacheReply, reply}, States.AnswersRequest, declared.went.Went.Went}, agent_ports.specs.{KeyFiles.KeyFiles, Sides.Side, TrustFiles.TrustState, declared.grip.Grip.Grip}}
 use Rattle.{cache_policy.specs.{Turns.Turn, declared.mark.MarkStep.{MarkStep, TheVariants.Seat}}, hex.specs.Hex.encode_upper, key_commands.specs.{Events.Event, Parts.Part}, session_client.specs.declared.refusal.Refusal.TheVariants.Agent}
 use Rattle.{session_options.specs.{OptionValues.OptionValues, declared.{options.PinMode.PinMode, rules.Rules.Rules}}, trust_list.specs.Trust.trust}
-use Rattle.agent_origin.specs.{FurtherStates.{FurtherWorld, further_state}, TrustParts.{ReadsFile, AddsEntry, Replaces}, declared.trust.request.{TrustPurpose.{TrustPurpose, TheVariants.{X509, OpenPgp}}, TrustRequest.TrustRequest}}
+use Rattle.agent_origin.specs.{PortStates.{PortWorld, port_state}, TrustParts.{ReadsFile, AddsEntry, Replaces}, declared.trust.request.{TrustPurpose.{TrustPurpose, TheVariants.{X509, OpenPgp}}, TrustRequest.TrustRequest}}
 use Rattle.agent_origin.specs.declared.trust.request.TrustRequest.TheVariants.{IsTrusted, MarkTrusted, Bad}
 use Rattle.session_client.specs.declared.code.Code.TheVariants as code
 use Rattle.session_options.specs.declared.options.PinMode.TheVariants as mode
@@ -90,5 +90,5 @@ module _ {D P : Type 0} (turned : D → MarkStep → Turn → D → Type 0) (pro
   abbrev pub AnswersTrust : Connection → D → P → TrustState → Went → Connection → D → P → TrustState → Type 0
   AnswersTrust conn desk prompter trust went conn_now desk_now prompter_now trust_now =
       (keys : KeyFiles) (dice : Side)
-      → AnswersRequest {w = FurtherWorld turned prompted} (λ before. AnyExchange refusal_line went_after (TrustReplies rules before request) before) options
-      (further_state turned prompted conn desk prompter keys dice trust) went options (further_state turned prompted conn_now desk_now prompter_now keys dice trust_now)
+      → AnswersRequest {w = PortWorld turned prompted} (λ before. AnyExchange refusal_line went_after (TrustReplies rules before request) before) options
+      (port_state turned prompted conn desk prompter keys dice trust) went options (port_state turned prompted conn_now desk_now prompter_now keys dice trust_now)

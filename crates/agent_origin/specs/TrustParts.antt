@@ -1,6 +1,6 @@
 -- The parts of a request on the trust list that others don't have: what is done with the trust file. This is the project's own.
 use Rattle.std.specs.Prelude.{◌≡◌, ◌≤◌, ◌<◌, ℕ, List, [], ◌∷◌, length, Option, Some, None, Result, Ok, Err}
-use Rattle.{agent_ask.specs.{Further.Trust, SessionEvents.Further, TrustCalls.{TrustCall, Read, Replaced}}, agent_ports.specs.declared.{grip.Grip.Grip, trust.TrustRead.TrustRead}, key_commands.specs.Events.{Event, out_of_memory}}
+use Rattle.{agent_ask.specs.{PortCalls.Trust, SessionEvents.Port, TrustCalls.{TrustCall, Read, Replaced}}, agent_ports.specs.declared.{grip.Grip.Grip, trust.TrustRead.TrustRead}, key_commands.specs.Events.{Event, out_of_memory}}
 use Rattle.{session_client.specs.declared.refusal.Refusal.{Refusal, TheVariants.Agent}, trust_list.specs.{Trust.with_entry, declared.TheConstants.MAX_TRUST_FILE_LEN}}
 use Rattle.agent_ports.specs.declared.trust.TrustDone.TheVariants as done
 use Rattle.agent_ports.specs.declared.trust.TrustRead.TheVariants as read
@@ -8,7 +8,7 @@ use Rattle.session_client.specs.declared.code.Code.TheVariants as code
 
 -- it was called, and answered so
 abbrev pub trust_called : TrustCall → Event
-trust_called call = Further (Trust call)
+trust_called call = Port (Trust call)
 
 -- the bytes that a read gave: one that is absent is empty
 abbrev pub file_in : TrustRead → Option (List ℕ)

@@ -1,12 +1,12 @@
 -- Private: parts of a request on the trust list that are done in the code.
 use Rattle.std.specs.Prelude.{ℕ, Option, Result}
-use Rattle.{agent_ask.specs.{Events.Call, Further.{FurtherEvent, DoesFurther, Trust, NoMemory}, PartStates.{part_state, DoesPart, NoTurn}, TrustCalls.{TrustCall, DoesTrust}}, agent_ports.specs.{KeyFiles.KeyFiles, Sides.Side}}
+use Rattle.{agent_ask.specs.{Events.Call, PortCalls.{PortCall, DoesPort, Trust, NoMemory}, PartStates.{part_state, DoesPart, NoTurn}, TrustCalls.{TrustCall, DoesTrust}}, agent_ports.specs.{KeyFiles.KeyFiles, Sides.Side}}
 use Rattle.{agent_ports.specs.TrustFiles.TrustState, assuan_server.specs.{Clients.connection_views, Connections.{Connection, IsOpen}}, cache_policy.specs.{declared.mark.MarkStep.MarkStep, Turns.Turn}, key_commands.specs.Parts.Part}
 use Rattle.session_client.specs.declared.refusal.Refusal.{Refusal}
-use Rattle.agent_origin.specs.FurtherStates.{further_state}
+use Rattle.agent_origin.specs.PortStates.{port_state}
 
--- what is done to a trust file that is the only further end
-pub data DoesTrustFile : TrustState → FurtherEvent → TrustState → Type 0 where
+-- what is done to a trust file that is the only port
+pub data DoesTrustFile : TrustState → PortCall → TrustState → Type 0 where
   called : {before after : TrustState} {call : TrustCall} → DoesTrust before call after → DoesTrustFile before (Trust call) after
   no_memory : {now : TrustState} → DoesTrustFile now NoMemory now
 
@@ -22,5 +22,5 @@ module _ {D P : Type 0} (turned : D → MarkStep → Turn → D → Type 0) (pro
   abbrev pub LeavesKeys : Option ℕ → Connection → D → P → TrustState → Result A Refusal → Option ℕ → Connection → D → P → TrustState → Type 0
   LeavesKeys before conn desk prompter trust result after conn_now desk_now prompter_now trust_now =
       (keys : KeyFiles) (dice : Side)
-      → DoesPart connection_views turned (DoesFurther prompted) part before (further_state turned prompted conn desk prompter keys dice trust) result after
-      (further_state turned prompted conn_now desk_now prompter_now keys dice trust_now)
+      → DoesPart connection_views turned (DoesPort prompted) part before (port_state turned prompted conn desk prompter keys dice trust) result after
+      (port_state turned prompted conn_now desk_now prompter_now keys dice trust_now)

@@ -9,12 +9,12 @@ ghost use Rattle.assuan_server.specs.{Connections.IsOpen, Written.failed};
 ghost use Rattle.agent_commands.specs.{Requests.request_of, States.AnswersRequest};
 ghost use Rattle.key_commands.specs.States.{KeyWorld, key_state};
 ghost use Rattle.command_table.specs.Commands.{command_in};
-ghost use Rattle.agent_origin.specs.FurtherStates.{FurtherWorld, further_state};
+ghost use Rattle.agent_origin.specs.PortStates.{PortWorld, port_state};
 ghost use Rattle.agent_origin.specs.SessionExchanges.{went_after_key, described_after};
 ghost use Rattle.agent_origin.specs.SessionExchanges.{RequestExchange, SessionExchange};
 ghost use Rattle.agent_origin.specs.Serving.{SaysText, is_on_keys};
 
-use crate::Kept;
+use crate::SessionState;
 use agent_ask::{Prompter, unless_cut};
 use agent_commands::{LineRequest, SessionEnd, Went, run_cache, run_quiet};
 use agent_ports::{Dice, Keys, Link};
@@ -36,7 +36,7 @@ pub fn answer<L: Link, D: Desk, P: Prompter, K: Keys, R: Dice>(
     alloc: Global,
     line: &CutLine<'_>,
     rules: &Rules,
-    kept: &mut Kept,
+    kept: &mut SessionState,
     conn: &mut Conn<'_, L>,
     desk: &mut D,
     prompter: &mut P,
@@ -46,11 +46,11 @@ pub fn answer<L: Link, D: Desk, P: Prompter, K: Keys, R: Dice>(
     requires open { IsOpen conn.old }
     requires free { (D.at desk.old).out ≡ None }
     requires shut { IsShut (P.at prompter.old) }
-    ensures answers { (trust : TrustState) → AnswersRequest {w = FurtherWorld D.turned P.prompted}
+    ensures answers { (trust : TrustState) → AnswersRequest {w = PortWorld D.turned P.prompted}
         (λ before. SessionExchange rules.now before line.now) kept.old
-        (further_state D.turned P.prompted conn.old desk.old prompter.old
+        (port_state D.turned P.prompted conn.old desk.old prompter.old
         (K.keys keys.old) (R.draws dice.old) trust) result kept.new
-        (further_state D.turned P.prompted conn.new desk.new prompter.new (K.keys keys.new)
+        (port_state D.turned P.prompted conn.new desk.new prompter.new (K.keys keys.new)
         (R.draws dice.new) trust) }
     ensures free { (D.at desk.new).out ≡ None }
     ensures shut { IsShut (P.at prompter.new) }
@@ -76,7 +76,7 @@ fn answer_whole<L: Link, D: Desk, P: Prompter, K: Keys, R: Dice>(
     line: &CutLine<'_>,
     request: &LineRequest<'_>,
     rules: &Rules,
-    kept: &mut Kept,
+    kept: &mut SessionState,
     conn: &mut Conn<'_, L>,
     desk: &mut D,
     prompter: &mut P,

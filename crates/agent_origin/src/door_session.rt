@@ -7,13 +7,13 @@ ghost use Rattle.std.specs.Prelude.{◌≡◌, None};
 ghost use Rattle.{agent_ask.specs.Prompters.IsShut, assuan_server.specs.Connections.IsOpen};
 ghost use Rattle.assuan_server.specs.Written.{ok};
 ghost use Rattle.agent_origin.specs.DoorSessions.{door_command, door_help, ServesDoor};
-ghost use Rattle.agent_origin.specs.{TrustExchanges.AnswersTrust, FurtherStates.surroundings};
+ghost use Rattle.agent_origin.specs.{TrustExchanges.AnswersTrust, PortStates.surroundings};
 ghost use Rattle.agent_origin.specs.{TrustRequests.trust_request_of, Serving.SaysText};
 
 use crate::answering::{answer, refuse};
 use crate::door::{Door, allows, sets_terminal};
 use crate::trust::read_trust_cut;
-use crate::{Answers, Kept, run_trust, serve};
+use crate::{Answers, SessionState, run_trust, serve};
 use agent_ask::{Prompter, unless_cut};
 use agent_commands::{LineRequest, SessionEnd, Went, write_help};
 use agent_ports::{Dice, Keys, Link, TrustFile};
@@ -62,7 +62,7 @@ impl Answers for Door {
         alloc: Global,
         line: &CutLine<'_>,
         rules: &Rules,
-        kept: &mut Kept,
+        kept: &mut SessionState,
         conn: &mut Conn<'_, L>,
         desk: &mut D,
         prompter: &mut P,

@@ -6,11 +6,11 @@
 ghost use Rattle.std.specs.Prelude.{◌≡◌, [], None};
 ghost use Rattle.{agent_ask.specs.Prompters.IsShut, assuan_server.specs.Connections.IsOpen};
 ghost use Rattle.{assuan_server.specs.Reading.budget, agent_commands.specs.States.AnswersRequest};
-ghost use Rattle.agent_origin.specs.FurtherStates.{FurtherWorld, further_state, surroundings};
+ghost use Rattle.agent_origin.specs.PortStates.{PortWorld, port_state, surroundings};
 ghost use Rattle.agent_origin.specs.{Services.Service, Serving.{ServesConn, ServesRequests}};
 ghost use Rattle.agent_origin.specs.{SessionExchanges.kept_at_start, Sessions.ServesSession};
 
-use crate::Kept;
+use crate::SessionState;
 use agent_ask::Prompter;
 use agent_commands::{SessionEnd, Went};
 use agent_ports::{Dice, Keys, Link, TrustFile, WriteFault};
@@ -33,7 +33,7 @@ pub trait Answers {
         alloc: Global,
         line: &CutLine<'_>,
         rules: &Rules,
-        kept: &mut Kept,
+        kept: &mut SessionState,
         conn: &mut Conn<'_, L>,
         desk: &mut D,
         prompter: &mut P,
@@ -44,11 +44,11 @@ pub trait Answers {
         requires open { IsOpen conn.old }
         requires free { (D.at desk.old).out ≡ None }
         requires shut { IsShut (P.at prompter.old) }
-        ensures answers { AnswersRequest {w = FurtherWorld D.turned P.prompted}
+        ensures answers { AnswersRequest {w = PortWorld D.turned P.prompted}
             (λ before. exchange self.now rules.now before line.now) kept.old
-            (further_state D.turned P.prompted conn.old desk.old prompter.old
+            (port_state D.turned P.prompted conn.old desk.old prompter.old
             (K.keys keys.old) (R.draws dice.old) (T.trust trust.old)) result kept.new
-            (further_state D.turned P.prompted conn.new desk.new prompter.new (K.keys keys.new)
+            (port_state D.turned P.prompted conn.new desk.new prompter.new (K.keys keys.new)
             (R.draws dice.new) (T.trust trust.new)) }
         ensures free { (D.at desk.new).out ≡ None }
         ensures shut { IsShut (P.at prompter.new) };
@@ -70,7 +70,7 @@ pub fn serve<A: Answers, L: Link, D: Desk, P: Prompter, K: Keys, R: Dice, T: Tru
 ) -> SessionEnd
     requires free { (D.at desk.old).out ≡ None }
     requires shut { IsShut (P.at prompter.old) }
-    ensures serves { ServesSession {w = FurtherWorld D.turned P.prompted}
+    ensures serves { ServesSession {w = PortWorld D.turned P.prompted}
         (A.exchange so.now rules.now) (kept_at_start rules.now)
         (surroundings D.turned P.prompted (L.input link.old) (L.output link.old)
         desk.old prompter.old (K.keys keys.old) (R.draws dice.old) (T.trust trust.old)) result
@@ -104,17 +104,17 @@ fn serve_conn<A: Answers, L: Link, D: Desk, P: Prompter, K: Keys, R: Dice, T: Tr
     requires fresh { conn.old.reader ≡ record { ahead = []; left = budget; ended = None } }
     requires free { (D.at desk.old).out ≡ None }
     requires shut { IsShut (P.at prompter.old) }
-    ensures serves { ServesConn {w = FurtherWorld D.turned P.prompted} (A.exchange so.now rules.now)
-        (kept_at_start rules.now) (further_state D.turned P.prompted conn.old desk.old prompter.old
+    ensures serves { ServesConn {w = PortWorld D.turned P.prompted} (A.exchange so.now rules.now)
+        (kept_at_start rules.now) (port_state D.turned P.prompted conn.old desk.old prompter.old
         (K.keys keys.old) (R.draws dice.old) (T.trust trust.old)) result
-        (further_state D.turned P.prompted conn.new desk.new prompter.new (K.keys keys.new)
+        (port_state D.turned P.prompted conn.new desk.new prompter.new (K.keys keys.new)
         (R.draws dice.new) (T.trust trust.new)) }
     ensures free { (D.at desk.new).out ≡ None }
     ensures shut { IsShut (P.at prompter.new) }
 {
     match conn.greet().whole() {
         Ok(()) => {
-            let mut kept = Kept::new(rules);
+            let mut kept = SessionState::new(rules);
             let end = serve_requests(
                 so, alloc, rules, &mut kept, conn, desk, prompter, keys, dice, trust,
             );
@@ -130,7 +130,7 @@ fn serve_requests<A: Answers, L: Link, D: Desk, P: Prompter, K: Keys, R: Dice, T
     so: &A,
     alloc: Global,
     rules: &Rules,
-    kept: &mut Kept,
+    kept: &mut SessionState,
     conn: &mut Conn<'_, L>,
     desk: &mut D,
     prompter: &mut P,
@@ -142,10 +142,10 @@ fn serve_requests<A: Answers, L: Link, D: Desk, P: Prompter, K: Keys, R: Dice, T
     requires free { (D.at desk.old).out ≡ None }
     requires shut { IsShut (P.at prompter.old) }
     ensures serves { ServesRequests
-        {w = FurtherWorld D.turned P.prompted} (A.exchange so.now rules.now) kept.old
-        (further_state D.turned P.prompted conn.old desk.old prompter.old
+        {w = PortWorld D.turned P.prompted} (A.exchange so.now rules.now) kept.old
+        (port_state D.turned P.prompted conn.old desk.old prompter.old
         (K.keys keys.old) (R.draws dice.old) (T.trust trust.old)) result
-        (further_state D.turned P.prompted conn.new desk.new prompter.new (K.keys keys.new)
+        (port_state D.turned P.prompted conn.new desk.new prompter.new (K.keys keys.new)
         (R.draws dice.new) (T.trust trust.new)) }
     ensures free { (D.at desk.new).out ≡ None }
     ensures shut { IsShut (P.at prompter.new) }

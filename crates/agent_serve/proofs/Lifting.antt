@@ -1,7 +1,7 @@
 -- A session at the desk and with the pinentry is one at what they show.
 use Rattle.std.{proofs.Common.{◌≡◌, ℕ, List, [], ◌++◌, Option, None, Some, ◌+◌, false, refl, ap, ◌∙◌, subst}, specs.Prelude.is_some}
-use Rattle.agent_ask.specs.{Doing.{called, out_of_memory}, Events.Call, Further.{prompt, keys, dice, trust, no_memory}, SessionEvents.turns_in, Worlds.{Outside, Does, received, sent, cut, asked, not_asked, turned, further}}
-use Rattle.{agent_ask.specs.Prompters.IsShut, agent_origin.specs.{FurtherStates.{FurtherWorld, surroundings}, declared.door.Door.Door, DoorSessions.ServesDoor, Sessions.{ends_with, supply_of}}, agent_commands.specs.Outside.World}
+use Rattle.agent_ask.specs.{Doing.{called, out_of_memory}, Events.Call, PortCalls.{prompt, keys, dice, trust, no_memory}, SessionEvents.turns_in, Worlds.{Outside, Does, received, sent, cut, asked, not_asked, turned, ported}}
+use Rattle.{agent_ask.specs.Prompters.IsShut, agent_origin.specs.{PortStates.{PortWorld, surroundings}, declared.door.Door.Door, DoorSessions.ServesDoor, Sessions.{ends_with, supply_of}}, agent_commands.specs.Outside.World}
 use Rattle.{agent_commands.specs.declared.went.SessionEnd.SessionEnd, assuan_server.specs.Clients.session_lines, agent_ports.specs.{HostParts.{Views, IsFolder, AreNew}, KeyFiles.KeyFiles, Launches.Launches, Leads.{Leads, none, one}}}
 use Rattle.{agent_ports.specs.{Readings.Readings, Sides.Side, declared.{host.Parts.Parts, session.SessionId.SessionId}, TrustFiles.TrustState}, cache_policy.specs.{Extending.Taken, declared.mark.Mark.Mark}, key_commands.specs.Events.Event}
 use Rattle.{counted_lock.specs.{Turns.{AtCountedDesk, CountedTurn}, Passes.AtPass}, pinentry_client.specs.{Dialogues.{PinentryDoes, PinentryCall}, States.{PinentryState, AtPinentry, at_pinentry, at_prompter, idle}}}
@@ -14,10 +14,10 @@ abbrev pub GatedCall : {La : Type 0} → (La → Launches) → Gated (PinentrySt
 GatedCall launches before call after = PinentryCall launches before.prompter call after.prompter
 
 abbrev pub held_world : {C La : Type 0} → (C → Readings) → (La → Launches) → World
-held_world readings launches = FurtherWorld (CountedTurn readings) (GatedCall launches)
+held_world readings launches = PortWorld (CountedTurn readings) (GatedCall launches)
 
 abbrev pub seen_world : World
-seen_world = FurtherWorld (CountedTurn (λ (clock : Readings). clock)) PinentryDoes
+seen_world = PortWorld (CountedTurn (λ (clock : Readings). clock)) PinentryDoes
 
 abbrev pub seen_desk : {C : Type 0} → (C → Readings) → AtCountedDesk C → AtCountedDesk Readings
 seen_desk readings desk = record { pass = desk.pass; session = desk.session; out = desk.out; clock = readings desk.clock }
@@ -71,17 +71,17 @@ module _ {C La : Type 0} (readings : C → Readings) (launches : La → Launches
               (subst (λ s. PassTurns s mid.desk.pass (readings mid.desk.clock) (turns_in later) r.goes.own after.desk.pass (readings after.desk.clock)) same r.goes.turns);
         };
       }
-  lifts (one (further (prompt (called does))) more) =
+  lifts (one (ported (prompt (called does))) more) =
       let r = lifts more in
       record {
-        leads = one (further (prompt (called does.does))) r.leads;
+        leads = one (ported (prompt (called does.does))) r.leads;
         goes = record { program = r.goes.program ∙ does.program; lent = r.goes.lent ∙ does.lent; session = r.goes.session; own = r.goes.own; turns = r.goes.turns };
       }
-  lifts (one (further (prompt out_of_memory)) more) = let r = lifts more in record { leads = one (further (prompt out_of_memory)) r.leads; goes = r.goes }
-  lifts (one (further (keys does)) more) = let r = lifts more in record { leads = one (further (keys does)) r.leads; goes = r.goes }
-  lifts (one (further (dice does)) more) = let r = lifts more in record { leads = one (further (dice does)) r.leads; goes = r.goes }
-  lifts (one (further no_memory) more) = let r = lifts more in record { leads = one (further no_memory) r.leads; goes = r.goes }
-  lifts (one (further (trust does)) more) = let r = lifts more in record { leads = one (further (trust does)) r.leads; goes = r.goes }
+  lifts (one (ported (prompt out_of_memory)) more) = let r = lifts more in record { leads = one (ported (prompt out_of_memory)) r.leads; goes = r.goes }
+  lifts (one (ported (keys does)) more) = let r = lifts more in record { leads = one (ported (keys does)) r.leads; goes = r.goes }
+  lifts (one (ported (dice does)) more) = let r = lifts more in record { leads = one (ported (dice does)) r.leads; goes = r.goes }
+  lifts (one (ported no_memory) more) = let r = lifts more in record { leads = one (ported no_memory) r.leads; goes = r.goes }
+  lifts (one (ported (trust does)) more) = let r = lifts more in record { leads = one (ported (trust does)) r.leads; goes = r.goes }
 
 not_some_is_none : {A : Type 0} (child : Option A) → is_some child ≡ false → child ≡ None
 not_some_is_none None is = refl

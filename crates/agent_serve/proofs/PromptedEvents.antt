@@ -1,6 +1,6 @@
 -- Events among which the prompter's calls are those of prompts, one after another.
 use Rattle.std.{specs.List.AllByRecursion, proofs.Common.{◌≡◌, List, [], ◌∷◌, ◌++◌, refl, sym, ap, subst, ◌∙◌, append_assoc, append-nil}}
-use Rattle.agent_ask.specs.{Events.{Call, Called, Notified, OutOfMemory, PromptEvent}, Further.{Keys, Dice, NoMemory, Prompt, Trust}, SessionEvents.{Received, Sent, Cut, Inquiry, CacheTurn, Further}, SessionPrompts.AnyInSession}
+use Rattle.agent_ask.specs.{Events.{Call, Called, Notified, OutOfMemory, PromptEvent}, PortCalls.{Keys, Dice, NoMemory, Prompt, Trust}, SessionEvents.{Received, Sent, Cut, Inquiry, CacheTurn, Port}, SessionPrompts.AnyInSession}
 use Rattle.{assuan_server.specs.Clients.session_lines, key_commands.{specs.Events.{Event, IsUncalled}, proofs.{EachEvent.still_uncalled, EachRequest.Carries}}, session_options.specs.OptionValues.EnvWords}
 use Rattle.pinentry_client.specs.{Children.{ArePrompts, none, next}, Whole.IsOnePrompt}
 use Rattle.agent_serve.{specs.Prompts.{calls_in, Prompted}, proofs.OnePrompt.{calls_of, pin_is_one, consent_is_one, shown_calls}}
@@ -9,13 +9,13 @@ use Rattle.agent_serve.{specs.Prompts.{calls_in, Prompted}, proofs.OnePrompt.{ca
 
 pub calls_append : (first more : List Event) → calls_in (first ++ more) ≡ calls_in first ++ calls_in more
 calls_append [] more = refl
-calls_append (Further (Prompt (Called call)) ∷ first) more = ap (λ (calls : List Call). call ∷ calls) (calls_append first more)
-calls_append (Further (Prompt (Notified pid heard)) ∷ first) more = calls_append first more
-calls_append (Further (Prompt OutOfMemory) ∷ first) more = calls_append first more
-calls_append (Further (Keys call) ∷ first) more = calls_append first more
-calls_append (Further (Dice draw) ∷ first) more = calls_append first more
-calls_append (Further (Trust call) ∷ first) more = calls_append first more
-calls_append (Further NoMemory ∷ first) more = calls_append first more
+calls_append (Port (Prompt (Called call)) ∷ first) more = ap (λ (calls : List Call). call ∷ calls) (calls_append first more)
+calls_append (Port (Prompt (Notified pid heard)) ∷ first) more = calls_append first more
+calls_append (Port (Prompt OutOfMemory) ∷ first) more = calls_append first more
+calls_append (Port (Keys call) ∷ first) more = calls_append first more
+calls_append (Port (Dice draw) ∷ first) more = calls_append first more
+calls_append (Port (Trust call) ∷ first) more = calls_append first more
+calls_append (Port NoMemory ∷ first) more = calls_append first more
 calls_append (Received took ∷ first) more = calls_append first more
 calls_append (Sent text ∷ first) more = calls_append first more
 calls_append (Cut text ∷ first) more = calls_append first more
@@ -33,13 +33,13 @@ prompted_append first more one other =
 
 none_called : (events : List Event) → AllByRecursion IsUncalled events → calls_in events ≡ []
 none_called [] each = refl
-none_called (Further (Prompt (Called call)) ∷ more) each = absurd each.0
-none_called (Further (Prompt (Notified pid heard)) ∷ more) each = none_called more each.1
-none_called (Further (Prompt OutOfMemory) ∷ more) each = none_called more each.1
-none_called (Further (Keys call) ∷ more) each = none_called more each.1
-none_called (Further (Dice draw) ∷ more) each = none_called more each.1
-none_called (Further (Trust call) ∷ more) each = none_called more each.1
-none_called (Further NoMemory ∷ more) each = none_called more each.1
+none_called (Port (Prompt (Called call)) ∷ more) each = absurd each.0
+none_called (Port (Prompt (Notified pid heard)) ∷ more) each = none_called more each.1
+none_called (Port (Prompt OutOfMemory) ∷ more) each = none_called more each.1
+none_called (Port (Keys call) ∷ more) each = none_called more each.1
+none_called (Port (Dice draw) ∷ more) each = none_called more each.1
+none_called (Port (Trust call) ∷ more) each = none_called more each.1
+none_called (Port NoMemory ∷ more) each = none_called more each.1
 none_called (Received took ∷ more) each = none_called more each.1
 none_called (Sent text ∷ more) each = none_called more each.1
 none_called (Cut text ∷ more) each = none_called more each.1

@@ -1,18 +1,18 @@
 -- Sessions with a pinentry: their prompts, one after another, and the children of these.
 use Rattle.std.{specs.List.count_by, proofs.Common.{◌≡◌, ◌+◌, ◌-◌, ◌^◌, ℕ, List, [], ◌∷◌, ◌++◌, min, sym, ap, subst, ◌∙◌, arith}}
 use Rattle.agent_ask.{proofs.Counting.failures, specs.{Answering.{WholeOrCut, whole, cut}, Doing.{called, out_of_memory}, Events.Call, Prompters.{IsCall, is_failed}, SessionEvents.{Received, Sent, Cut, CutAtLast}, Worlds.{Outside, Does}}}
-use Rattle.{agent_commands.specs.{Endings.went_after, Talks.{Session, Talk}, declared.went.{SessionEnd.SessionEnd, Went.Went}}, agent_origin.specs.FurtherStates.FurtherWorld, agent_ports.specs.{Counts.RoseBy, Launches.Launches}}
+use Rattle.{agent_commands.specs.{Endings.went_after, Talks.{Session, Talk}, declared.went.{SessionEnd.SessionEnd, Went.Went}}, agent_origin.specs.PortStates.PortWorld, agent_ports.specs.{Counts.RoseBy, Launches.Launches}}
 use Rattle.{agent_ports.specs.Leads.{Leads, none, one}, assuan_server.specs.Reading.Supply, cache_policy.specs.{Turns.Turn, declared.mark.MarkStep.MarkStep}, key_commands.specs.Events.Event, pinentry_client.proofs.Children.their_children}
 use Rattle.pinentry_client.specs.{Children.ArePrompts, Dialogues.PinentryDoes, States.{AtPinentry, at_prompter, idle}}
 use Rattle.agent_serve.{specs.Prompts.{calls_in, Prompted, HavePrompts}, proofs.PromptedEvents.{calls_append, prompted_append, uncalled}}
-use Rattle.agent_ask.specs.Further as further
+use Rattle.agent_ask.specs.Port as ported
 use Rattle.agent_ask.specs.Worlds as worlds
 use Rattle.agent_commands.specs.Talks as talks
 
 -- ---- the prompter's calls among the events
 
 module _ {D P : Type 0} (turned : D → MarkStep → Turn → D → Type 0) (prompted : P → Call → P → Type 0) {supply : Supply} where
-  pub calls_lead : {before after : Outside (FurtherWorld turned prompted)} {events : List Event} → Leads (Does (FurtherWorld turned prompted) supply) before events after
+  pub calls_lead : {before after : Outside (PortWorld turned prompted)} {events : List Event} → Leads (Does (PortWorld turned prompted) supply) before events after
       → Leads prompted before.ends.prompter (calls_in events) after.ends.prompter
   calls_lead none = none
   calls_lead (one (worlds.received known needed) more) = calls_lead more
@@ -21,12 +21,12 @@ module _ {D P : Type 0} (turned : D → MarkStep → Turn → D → Type 0) (pro
   calls_lead (one (worlds.asked known needed) more) = calls_lead more
   calls_lead (one (worlds.not_asked unsent split) more) = calls_lead more
   calls_lead (one (worlds.turned does) more) = calls_lead more
-  calls_lead (one (worlds.further (further.prompt (called does))) more) = one does (calls_lead more)
-  calls_lead (one (worlds.further (further.prompt out_of_memory)) more) = calls_lead more
-  calls_lead (one (worlds.further (further.keys does)) more) = calls_lead more
-  calls_lead (one (worlds.further (further.dice does)) more) = calls_lead more
-  calls_lead (one (worlds.further (further.trust does)) more) = calls_lead more
-  calls_lead (one (worlds.further further.no_memory) more) = calls_lead more
+  calls_lead (one (worlds.ported (ported.prompt (called does))) more) = one does (calls_lead more)
+  calls_lead (one (worlds.ported (ported.prompt out_of_memory)) more) = calls_lead more
+  calls_lead (one (worlds.ported (ported.keys does)) more) = calls_lead more
+  calls_lead (one (worlds.ported (ported.dice does)) more) = calls_lead more
+  calls_lead (one (worlds.ported (ported.trust does)) more) = calls_lead more
+  calls_lead (one (worlds.ported ported.no_memory) more) = calls_lead more
 
 -- ---- sessions
 
@@ -67,8 +67,8 @@ without_child times before after rose = omega (arith, rose)
 
 module _ {D : Type 0} (turned : D → MarkStep → Turn → D → Type 0) (promise : (before : AtPinentry) (call : Call) (after : AtPinentry) → PinentryDoes before call after → IsCall (at_prompter before) call (at_prompter after))
     {supply : Supply} (program : List ℕ) (launches launches_now : Launches) where
-  pub have_prompts : {before after : Outside (FurtherWorld turned PinentryDoes)} {events : List Event} → before.ends.prompter ≡ idle program launches → after.ends.prompter ≡ idle program launches_now
-      → Prompted events → Leads (Does (FurtherWorld turned PinentryDoes) supply) before events after → HavePrompts program events launches launches_now
+  pub have_prompts : {before after : Outside (PortWorld turned PinentryDoes)} {events : List Event} → before.ends.prompter ≡ idle program launches → after.ends.prompter ≡ idle program launches_now
+      → Prompted events → Leads (Does (PortWorld turned PinentryDoes) supply) before events after → HavePrompts program events launches launches_now
   have_prompts {before} {after} {events} first last are leads =
       let calls : Leads PinentryDoes (idle program launches) (calls_in events) (idle program launches_now) =
       subst (λ (p : AtPinentry). Leads PinentryDoes p (calls_in events) (idle program launches_now)) first

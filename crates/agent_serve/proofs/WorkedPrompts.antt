@@ -1,15 +1,15 @@
 -- Worked examples: a request for consent whose pinentry couldn't be started. Its prompt has no child.
 use Rattle.std.{proofs.Common.{◌≡◌, ℕ, false, List, [], ◌∷◌, Some, None, Err, refl, sym, subst, arith}, specs.Prelude.⊤}
-use Rattle.agent_ask.specs.{ConsentParts.AgreesTo, Doing.called, Events.{Start, Shut, Called}, Further.Prompt, Parts.{goes_on, stops}, Plans.IsSpec, SessionEvents.{Sent, Further, cache_turn}, Worlds.{Outside, Does}}
+use Rattle.agent_ask.specs.{ConsentParts.AgreesTo, Doing.called, Events.{Start, Shut, Called}, PortCalls.Prompt, Parts.{goes_on, stops}, Plans.IsSpec, SessionEvents.{Sent, Port, cache_turn}, Worlds.{Outside, Does}}
 use Rattle.{agent_ask.specs.declared.spec.PromptSpec.PromptSpec, agent_commands.specs.{Exchanges.confirms_by, declared.{request.{CacheCommand.TheVariants.GetConfirmation, Request.TheVariants.Cache}, went.Went.TheVariants.On}}}
-use Rattle.{agent_origin.specs.{FurtherStates.FurtherWorld, SessionExchanges.{RequestExchange, cache}, declared.kept.Kept.Kept}, agent_ports.specs.{KeyFiles.KeyFiles, Launches.Launches, Leads.{Leads, none, one}, Sides.Side}}
+use Rattle.{agent_origin.specs.{PortStates.PortWorld, SessionExchanges.{RequestExchange, cache}, declared.session_state.SessionState.SessionState}, agent_ports.specs.{KeyFiles.KeyFiles, Launches.Launches, Leads.{Leads, none, one}, Sides.Side}}
 use Rattle.{agent_ports.specs.TrustFiles.TrustState, assuan_server.specs.{Clients.session_lines, Reading.Supply, Written.failed}, session_client.specs.declared.refusal.Refusal.TheVariants.Agent, cache_policy.specs.Turns.{Turn, Open, Done}}
 use Rattle.{cache_policy.specs.declared.mark.MarkStep.{MarkStep, TheVariants.{Seat, Close}}, key_commands.specs.Events.Event, pinentry_client.{proofs.Calling.is_call, specs.{Dialogues.{PinentryDoes, unlaunched, shut_alone}, States.idle}}}
 use Rattle.session_options.specs.declared.rules.Rules.{Rules}
 use Rattle.agent_serve.{specs.Prompts.HavePrompts, proofs.{PromptedLines.request_prompted, PromptedSessions.have_prompts}}
 use Rattle.agent_ask.specs.ConsentParts as consent
 use Rattle.agent_ask.specs.Consents as consents
-use Rattle.agent_ask.specs.Further as further
+use Rattle.agent_ask.specs.Port as ported
 use Rattle.agent_ask.specs.PartExchanges as whole
 use Rattle.agent_ask.specs.Prompts as prompts
 use Rattle.agent_ask.specs.TurnParts as taken
@@ -23,13 +23,13 @@ use Rattle.session_options.specs.declared.options.PinMode.TheVariants as mode
 abbrev any_turn : Unit {0} → MarkStep → Turn → Unit {0} → Type 0
 any_turn before asked turn after = ⊤
 
-module _ (rules : Rules) (kept : Kept) (description : _) (spec : PromptSpec) (asks : kept.options.mode ≡ mode.Ask) (is_spec : IsSpec rules kept.options description (record { items = [] }) false spec) where
+module _ (rules : Rules) (kept : SessionState) (description : _) (spec : PromptSpec) (asks : kept.options.mode ≡ mode.Ask) (is_spec : IsSpec rules kept.options description (record { items = [] }) false spec) where
   abbrev unstarted : List Event
   unstarted =
-      cache_turn (Seat None None) (Open 0) ∷ Further (Prompt (Called (Start spec opened.Failed))) ∷ Further (Prompt (Called Shut)) ∷ cache_turn (Close 0 None) Done ∷ Sent (failed code.NoPinentry) ∷ []
+      cache_turn (Seat None None) (Open 0) ∷ Port (Prompt (Called (Start spec opened.Failed))) ∷ Port (Prompt (Called Shut)) ∷ cache_turn (Close 0 None) Done ∷ Sent (failed code.NoPinentry) ∷ []
 
   abbrev shown : List Event
-  shown = Further (Prompt (Called (Start spec opened.Failed))) ∷ Further (Prompt (Called Shut)) ∷ []
+  shown = Port (Prompt (Called (Start spec opened.Failed))) ∷ Port (Prompt (Called Shut)) ∷ []
 
   refused : AgreesTo session_lines rules kept.options description.items (Some 0) shown (Err (Agent code.NoPinentry)) (Some 0)
   refused =
@@ -50,13 +50,13 @@ module _ (rules : Rules) (kept : Kept) (description : _) (spec : PromptSpec) (as
     abbrev launches : ℕ → Launches
     launches faults = record { coming = Some []; launched = Some []; finished = Some []; faults = faults }
 
-    abbrev at : ℕ → List ℕ → Outside (FurtherWorld any_turn PinentryDoes)
+    abbrev at : ℕ → List ℕ → Outside (PortWorld any_turn PinentryDoes)
     at faults written = record { input = None; source = None; output = Some written; desk = tt; ends = record { prompter = idle program (launches faults); keys = keys; dice = dice; trust = trust } }
 
-    leads : Leads (Does (FurtherWorld any_turn PinentryDoes) supply) (at 0 []) unstarted (at 1 (failed code.NoPinentry))
+    leads : Leads (Does (PortWorld any_turn PinentryDoes) supply) (at 0 []) unstarted (at 1 (failed code.NoPinentry))
     leads =
-        one (worlds.turned tt) (one (worlds.further (further.prompt (called (unlaunched {launches = launches 1} (record { coming = refl; launched = refl; finished = refl; rose = omega arith; faults = omega arith })))))
-        (one (worlds.further (further.prompt (called shut_alone))) (one (worlds.turned tt) (one worlds.sent none))))
+        one (worlds.turned tt) (one (worlds.ported (ported.prompt (called (unlaunched {launches = launches 1} (record { coming = refl; launched = refl; finished = refl; rose = omega arith; faults = omega arith })))))
+        (one (worlds.ported (ported.prompt (called shut_alone))) (one (worlds.turned tt) (one worlds.sent none))))
 
     has_one_prompt : HavePrompts program unstarted (launches 0) (launches 1)
     has_one_prompt = have_prompts any_turn (λ before call after does. is_call does) program (launches 0) (launches 1) refl refl (request_prompted _ exchange) leads

@@ -1,12 +1,12 @@
 -- The prompts of a session, one after another, and their children. This is the project's own.
 use Rattle.std.specs.{List.count_by, Prelude.{ℕ, List, [], ◌∷◌}}
-use Rattle.{agent_ask.specs.{Events.{Call, Called}, Further.Prompt, Prompters.is_failed, SessionEvents.Further}, agent_ports.specs.{Counts.RoseBy, Launches.Launches}, key_commands.specs.Events.Event}
+use Rattle.{agent_ask.specs.{Events.{Call, Called}, PortCalls.Prompt, Prompters.is_failed, SessionEvents.Port}, agent_ports.specs.{Counts.RoseBy, Launches.Launches}, key_commands.specs.Events.Event}
 use Rattle.pinentry_client.specs.Children.{ArePrompts, HaveTheirChildren}
 
 -- the calls of the prompter among the events
 abbrev pub calls_in : List Event → List Call
 calls_in [] = []
-calls_in (Further (Prompt (Called call)) ∷ later) = call ∷ calls_in later
+calls_in (Port (Prompt (Called call)) ∷ later) = call ∷ calls_in later
 calls_in (event ∷ later) = calls_in later
 
 -- the prompter's calls among these events are those of prompts, one after another, each from its start to its end

@@ -58,10 +58,10 @@ TellsOther host (Some other) ear next = host.tells other ear next
 -- both listeners are told to stop, with this ear
 pub record TellsToStop {Ls E Li La C R K T : Type 0} (host : HostViews Ls E Li La C R K T) (post : Post Ls) (ear next : E) : Type 0 where
   pub own : host.is_told post.listener
-  pub further : IfSome post.other host.is_told
+  pub ported : IfSome post.other host.is_told
   pub between : E
   pub tells : host.tells post.listener ear between
-  pub tells_further : TellsOther host post.other between next
+  pub tells_port : TellsOther host post.other between next
 
 -- a session that ended so has stopped the agent, or its pass, which is left so, has seen that one did
 abbrev pub IsToStop : SessionEnd → AtPass → Type 0

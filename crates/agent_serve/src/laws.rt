@@ -6,7 +6,7 @@
 ghost use Rattle.std.specs.Prelude.{◌+◌, ◌-◌, ◌<◌, ◌^◌, ℕ, List, None};
 ghost use Rattle.agent_ask.specs.SessionEvents.{turns_in};
 ghost use Rattle.agent_commands.specs.declared.went.SessionEnd.{SessionEnd as Ends};
-ghost use Rattle.agent_origin.specs.{DoorSessions.ServesDoor, FurtherStates.FurtherWorld};
+ghost use Rattle.agent_origin.specs.{DoorSessions.ServesDoor, PortStates.PortWorld};
 ghost use Rattle.agent_origin.specs.{OuterPrompts.{no_words, PromptsName}, OuterRuns.LeavesDesk};
 ghost use Rattle.agent_origin.specs.OuterTurns.{LeavesCache};
 ghost use Rattle.agent_origin.specs.SessionExchanges.{SessionExchange, kept_at_start};
@@ -48,11 +48,11 @@ pub fn a_restricted_session_names_no_terminal<H: Host>()
 /// to its end. The same of a session that came in by a door.
 pub fn the_calls_of_a_session_are_prompts<D: Desk, P: Prompter>()
     ensures session { (rules : Rules)
-        (before after : Surroundings (FurtherWorld D.turned P.prompted)) (end : Ends)
-        → (served : ServesSession {w = FurtherWorld D.turned P.prompted} (SessionExchange rules)
+        (before after : Surroundings (PortWorld D.turned P.prompted)) (end : Ends)
+        → (served : ServesSession {w = PortWorld D.turned P.prompted} (SessionExchange rules)
         (kept_at_start rules) before end after) → Prompted served.events }
     ensures door { (door : Door) (rules : Rules)
-        (before after : Surroundings (FurtherWorld D.turned P.prompted)) (end : Ends)
+        (before after : Surroundings (PortWorld D.turned P.prompted)) (end : Ends)
         → (served : ServesDoor D.turned P.prompted door rules before end after)
         → Prompted served.events }
 {}

@@ -1,9 +1,9 @@
 -- Sessions whose exchanges are all caused, and whose requests are all answered.
 use Rattle.std.{specs.List.AllByRecursion, proofs.Common.{◌≡◌, ◌⊎◌, ℕ, List, [], ◌∷◌, ◌++◌, refl, sym, subst, inl, inr}}
-use Rattle.agent_ask.specs.{Events.Call, Further.{Drew, NotDrawn, Prompt, Keys, Dice, Trust, NoMemory}, Prompters.{AtPrompter, IsCall, is_failed}, SessionEvents.{Received, Sent, Cut, Inquiry, CacheTurn, Further, CutAtLast}}
+use Rattle.agent_ask.specs.{Events.Call, PortCalls.{Drew, NotDrawn, Prompt, Keys, Dice, Trust, NoMemory}, Prompters.{AtPrompter, IsCall, is_failed}, SessionEvents.{Received, Sent, Cut, Inquiry, CacheTurn, Port, CutAtLast}}
 use Rattle.{session_client.specs.declared.code.Code.Code, assuan_server.specs.declared.errors.Origin.{Origin, TheVariants.Agent}, cache_policy.specs.{declared.mark.MarkStep.MarkStep, Turns.Turn}}
 use Rattle.{session_options.specs.declared.rules.Rules.Rules, agent_commands.specs.{Requests.request_of, Talks.Session, declared.went.SessionEnd.{SessionEnd, TheVariants.{Bye, Killed, Ended, TooLong, Spent, ReadFault, WriteFault}}}}
-use Rattle.{agent_commands.specs.declared.went.Went.{Went, TheVariants.On}, agent_origin.specs.{FurtherStates.FurtherWorld, SessionExchanges.{SessionExchange, kept_at_start}, Sessions.{Surroundings, ServesSession}, declared.kept.Kept.Kept}}
+use Rattle.{agent_commands.specs.declared.went.Went.{Went, TheVariants.On}, agent_origin.specs.{PortStates.PortWorld, SessionExchanges.{SessionExchange, kept_at_start}, Sessions.{Surroundings, ServesSession}, declared.session_state.SessionState.SessionState}}
 use Rattle.key_commands.{specs.Events.Event, proofs.EachEvent.each_append}
 use Rattle.agent_session.specs.Causes.{HasOne, one, HasCall, called, HasTrustCall, called_trust, WantsMemory, FailsAtKeysOrDice, FailsAtTrust, IsUnprompted, is_broken}
 use Rattle.agent_session.specs.Completeness.{HasError, Exchanges, Causes, Remembers, FaultlessExchange, IsFaultless, NoCountRose, AnswersAll, SessionCauses, CausedInSession}
@@ -13,12 +13,12 @@ use Rattle.session_client.specs.declared.code.Code.TheVariants as code
 
 -- nothing that stands still has failed
 steady_fails : (event : Event) → IsSteady event → FailsAtKeysOrDice event → ⊥
-steady_fails (Further (Keys call)) steady fails = steady fails
-steady_fails (Further (Dice (NotDrawn count))) steady fails = steady
-steady_fails (Further (Dice (Drew bytes))) steady fails = fails
-steady_fails (Further (Prompt event)) steady fails = fails
-steady_fails (Further (Trust call)) steady fails = fails
-steady_fails (Further NoMemory) steady fails = fails
+steady_fails (Port (Keys call)) steady fails = steady fails
+steady_fails (Port (Dice (NotDrawn count))) steady fails = steady
+steady_fails (Port (Dice (Drew bytes))) steady fails = fails
+steady_fails (Port (Prompt event)) steady fails = fails
+steady_fails (Port (Trust call)) steady fails = fails
+steady_fails (Port NoMemory) steady fails = fails
 steady_fails (Received took) steady fails = fails
 steady_fails (Sent text) steady fails = fails
 steady_fails (Cut text) steady fails = fails
@@ -33,16 +33,16 @@ no_trust_failed events (called_trust call fails has) steady = each_has IsSteady 
 
 -- Exchanges of lines that are judged: each is caused, where its events are possible. What is said of the causes of three errors makes one faultless in
 -- which nothing failed and no memory was wanted.
-pub record Judging (exchange caused : Exchanges) (cause : Causes) (unprompted : Kept → List ℕ → List Event → Type 0) : Type 0 where
-  pub judged : (before : Kept) (line : List ℕ) (events : List Event) (after : Kept) (went : Went) → AllByRecursion IsPossible events → exchange before line events after went
+pub record Judging (exchange caused : Exchanges) (cause : Causes) (unprompted : SessionState → List ℕ → List Event → Type 0) : Type 0 where
+  pub judged : (before : SessionState) (line : List ℕ) (events : List Event) (after : SessionState) (went : Went) → AllByRecursion IsPossible events → exchange before line events after went
       → caused before line events after went
-  pub has_cause : (before : Kept) (line : List ℕ) (events : List Event) (after : Kept) (went : Went) → caused before line events after went
+  pub has_cause : (before : SessionState) (line : List ℕ) (events : List Event) (after : SessionState) (went : Went) → caused before line events after went
       → (why : Code) (origin : Origin) → HasError why origin events → cause before line events why origin
-  pub for_memory : (before : Kept) (line : List ℕ) (events : List Event) → cause before line events code.NoMemory Agent → HasOne events WantsMemory
-  pub by_failure : (before : Kept) (line : List ℕ) (events : List Event) → cause before line events code.General Agent → AllByRecursion IsSteady events → ⊥
-  pub goes_on : (before : Kept) (line : List ℕ) (events : List Event) (after : Kept) (went : Went) → AllByRecursion IsPossible events → exchange before line events after went
+  pub for_memory : (before : SessionState) (line : List ℕ) (events : List Event) → cause before line events code.NoMemory Agent → HasOne events WantsMemory
+  pub by_failure : (before : SessionState) (line : List ℕ) (events : List Event) → cause before line events code.General Agent → AllByRecursion IsSteady events → ⊥
+  pub goes_on : (before : SessionState) (line : List ℕ) (events : List Event) (after : SessionState) (went : Went) → AllByRecursion IsPossible events → exchange before line events after went
       → (why : Code) (origin : Origin) → HasError why origin events → (why ≡ code.LineTooLong → ⊥) → went ≡ On
-  pub unopened : (before : Kept) (line : List ℕ) (events : List Event) → cause before line events code.NoPinentry Agent
+  pub unopened : (before : SessionState) (line : List ℕ) (events : List Event) → cause before line events code.NoPinentry Agent
       → unprompted before line events ⊎ (HasCall events is_failed ⊎ HasCall events is_broken)
 
 -- what holds of the events of a session whose requests are all answered
@@ -70,8 +70,8 @@ possible_uncut events done last possible =
     subst (AllByRecursion IsPossible) (sym last.whole)
     (each_append IsPossible last.before (Sent (last.sent ++ last.unsent) ∷ []) (each_left IsPossible last.before (Cut last.sent ∷ []) (subst (AllByRecursion IsPossible) last.done_is possible)) (tt, tt))
 
-module _ {exchange caused : Exchanges} {cause : Causes} {unprompted : Kept → List ℕ → List Event → Type 0} (judging : Judging exchange caused cause unprompted) where
-  module _ (before : Kept) (line : List ℕ) (events : List Event) (after : Kept) (went : Went) (calm : Calm events) where
+module _ {exchange caused : Exchanges} {cause : Causes} {unprompted : SessionState → List ℕ → List Event → Type 0} (judging : Judging exchange caused cause unprompted) where
+  module _ (before : SessionState) (line : List ℕ) (events : List Event) (after : SessionState) (went : Went) (calm : Calm events) where
     none_wanted : HasOne events WantsMemory → ⊥
     none_wanted (one event wants has) = each_has Remembers events calm.remembers has wants
 
@@ -96,8 +96,8 @@ module _ {exchange caused : Exchanges} {cause : Causes} {unprompted : Kept → L
 
   module _ {D P : Type 0} (turned : D → MarkStep → Turn → D → Type 0) (prompted : P → Call → P → Type 0) (at : P → AtPrompter)
       (promise : (before : P) (call : Call) (after : P) → prompted before call after → IsCall (at before) call (at after))
-      (rules : Rules) (before after : Surroundings (FurtherWorld turned prompted)) (end : SessionEnd)
-      (served : ServesSession {w = FurtherWorld turned prompted} exchange (kept_at_start rules) before end after) where
+      (rules : Rules) (before after : Surroundings (PortWorld turned prompted)) (end : SessionEnd)
+      (served : ServesSession {w = PortWorld turned prompted} exchange (kept_at_start rules) before end after) where
     pub each_caused : Session caused (kept_at_start rules) served.events end
     each_caused =
         session_moved exchange caused (AllByRecursion IsPossible) (each_left IsPossible) (each_right IsPossible)

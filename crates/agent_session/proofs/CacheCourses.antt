@@ -1,7 +1,7 @@
 -- Requests on the cache and on the session: their work, and what ends them.
 use Rattle.std.proofs.Common.{◌≡◌, ℕ, Bool, true, false, List, [], Option, Some, None, Result, Ok, Err, refl, sym, ap, subst}
 use Rattle.{agent_ask.{specs.{PartExchanges.AnyExchange, Parts.{◌>>=◌, goes_on, stops, Returns, returns, or_else}, TurnParts.Closes}, proofs.Within.values_so}, assuan_server.specs.Written.{refusal_line, ok}}
-use Rattle.{cache_policy.specs.declared.mode.Mode.TheVariants.User, session_client.specs.{Refusals.gone_by, declared.{refusal.Refusal.{Refusal, TheVariants.{Agent, Client}}, unheard.Gone.Gone}}}
+use Rattle.{cache_policy.specs.declared.mode.Mode.TheVariants.User, session_client.specs.{Refusals.gone_by, declared.{refusal.Refusal.{Refusal, TheVariants.{Agent, Client}}, client_error.Gone.Gone}}}
 use Rattle.{session_options.specs.{OptionValues.{OptionValues, applied}, declared.{options.{OptionAnswer.OptionAnswer, PinMode.PinMode}, rules.Rules.Rules}}, agent_commands.specs.{Answers.IsInfo, Endings.{went_after, end_of}}}
 use Rattle.agent_commands.specs.{Exchanges.{CacheExchange, CacheReply, CacheReplies, TellsPassphrase, TellsInfo, option_replies, reply}, Parts.CachePart, Passphrases.{Prompts, passphrase_by, as_wanted}, Requests.GetFields}
 use Rattle.agent_commands.specs.declared.request.CacheCommand.{CacheCommand, TheVariants.{Nop, Reset, Bye, Help, SetOption, GetInfo, GetPassphrase, PresetPassphrase, ClearPassphrase, GetConfirmation, ReloadAgent, KillAgent, SetKeyDesc}}
@@ -14,7 +14,7 @@ use Rattle.agent_session.proofs.{Courses.{said_before, answer_heard}, Replying.{
 use Rattle.agent_ask.specs.PartExchanges as exchange
 use Rattle.agent_ask.specs.TurnParts as taken
 use Rattle.session_client.specs.declared.code.Code.TheVariants as code
-use Rattle.session_client.specs.declared.unheard.Unheard.TheVariants as unheard
+use Rattle.session_client.specs.declared.client_error.ClientError.TheVariants as client_error
 use Rattle.session_options.specs.declared.options.OptionAnswer.TheVariants as option_answer
 use Rattle.session_options.specs.declared.options.PinMode.TheVariants as mode
 use Rattle.agent_commands.specs.Exchanges as told
@@ -143,12 +143,12 @@ module _ (request : Request) {part : CachePart CacheReply} (ends : EndsSo reques
   part_course oks (exchange.answered some held given_reply does closes_so) = ok_course request (oks.of None some (Ok given_reply) held does) (ends.of _ _ _ _ does) closes_so
   part_course oks (exchange.refused some held why does closes_so) = err_course request (ends.of _ _ _ _ does) closes_so
 
-  part_gone : {before after : OptionValues} {events : List Event} {went : Went} {how : Gone} → AnyExchange refusal_line went_after part before events after went → IsSaid events (unheard.Gone how) → went ≡ End (end_of how)
+  part_gone : {before after : OptionValues} {events : List Event} {went : Went} {how : Gone} → AnyExchange refusal_line went_after part before events after went → IsSaid events (client_error.Gone how) → went ≡ End (end_of how)
   part_gone (exchange.answered some held given_reply does closes_so) says_so =
       absurd (cc (gone_only (ends_said request (ends.of _ _ _ _ does) (said_before some _ (answer_heard (Some given_reply.text) closes_so) says_so))))
   part_gone {how} (exchange.refused some held why does closes_so) says_so =
-      let same : Err why ≡ Err (Client (unheard.Gone how)) = gone_only (ends_said request (ends.of _ _ _ _ does) (said_before some _ (answer_heard (refusal_line why) closes_so) says_so)) in
-      let refusal : why ≡ Client (unheard.Gone how) = cc same in
+      let same : Err why ≡ Err (Client (client_error.Gone how)) = gone_only (ends_said request (ends.of _ _ _ _ does) (said_before some _ (answer_heard (refusal_line why) closes_so) says_so)) in
+      let refusal : why ≡ Client (client_error.Gone how) = cc same in
       ap (λ w. went_after (gone_by w)) refusal
 
 module _ (rules : Rules) (before after : OptionValues) (events : List Event) (went : Went) where
@@ -158,7 +158,7 @@ module _ (rules : Rules) (before after : OptionValues) (events : List Event) (we
   cache_course (Key line) never = absurd never
 
   -- a client that is gone ends its session
-  pub cache_gone : (request : Request) {how : Gone} → CacheExchange rules before request events after went → IsSaid events (unheard.Gone how) → went ≡ End (end_of how)
+  pub cache_gone : (request : Request) {how : Gone} → CacheExchange rules before request events after went → IsSaid events (client_error.Gone how) → went ≡ End (end_of how)
   cache_gone (Cache command) exchanged says = part_gone (Cache command) (replies (Cache command) rules before command refl) exchanged says
   cache_gone (Bad why) exchanged says = part_gone (Bad why) (ends_working (Bad why) (refuses_by (IsAllowed (Bad why) AnyNonce) (Agent why))) exchanged says
   cache_gone (Key line) never says = absurd never

@@ -1,7 +1,7 @@
 -- In a request on the cache a prompt is opened before the prompter is called, and once; and so in each exchange of a session.
 use Rattle.std.proofs.Common.{ℕ, Bool, true, false, List, Option, Some, None, Result, Ok, Err, refl}
-use Rattle.{arrayvec.specs.ArrayVec.ArrayVec, agent_ask.specs.{Further.FurtherEvent, PartExchanges.AnyExchange, Parts.{◌>>=◌, Returns}, TurnParts.Changes}}
-use Rattle.agent_origin.{proofs.EachCache.{wants_prompt, without_prompt, by_cache, presets, tells_passphrase, tells_info, option_so}, specs.{SessionExchanges.{RequestExchange, cache, keys}, declared.kept.Kept.Kept}}
+use Rattle.{arrayvec.specs.ArrayVec.ArrayVec, agent_ask.specs.{PortCalls.PortCall, PartExchanges.AnyExchange, Parts.{◌>>=◌, Returns}, TurnParts.Changes}}
+use Rattle.agent_origin.{proofs.EachCache.{wants_prompt, without_prompt, by_cache, presets, tells_passphrase, tells_info, option_so}, specs.{SessionExchanges.{RequestExchange, cache, keys}, declared.session_state.SessionState.SessionState}}
 use Rattle.{cache_policy.specs.declared.mark.MarkStep.MarkStep, assuan_server.specs.Written.refusal_line, session_client.specs.declared.refusal.Refusal.{Refusal, TheVariants.Agent}}
 use Rattle.{session_options.specs.{OptionValues.{OptionValues, applied}, declared.{options.PinMode.PinMode, rules.Rules.Rules}}, agent_commands.specs.{Endings.went_after, Events.EventWith}}
 use Rattle.agent_commands.specs.{Exchanges.{CacheExchange, CacheReply, CacheReplies, confirms_by}, Parts.CachePart, Passphrases.{WithoutPrompt, PromptsAny, Prompts, passphrase_by, as_wanted}, Requests.GetFields}
@@ -14,7 +14,7 @@ use Rattle.session_client.specs.declared.code.Code.TheVariants as code
 use Rattle.session_options.specs.declared.options.PinMode.TheVariants as mode
 use Rattle.agent_commands.specs.Passphrases as passphrases
 
-any_of : {rules : Rules} {options : OptionValues} {texts : Texts} {check quality : Bool} {repeat : ℕ} (before : Option ℕ) (events : List (EventWith FurtherEvent)) (result : Result (List ℕ) Refusal) (after : Option ℕ)
+any_of : {rules : Rules} {options : OptionValues} {texts : Texts} {check quality : Bool} {repeat : ℕ} (before : Option ℕ) (events : List (EventWith PortCall)) (result : Result (List ℕ) Refusal) (after : Option ℕ)
     → PromptsAny rules options texts check quality repeat before events result after → Unopening events
 any_of before events result after (passphrases.given spec is prompt) = each_shown IsUnopening still_unopening (λ event. tt) prompt.in_session
 any_of before events result after (passphrases.refused spec is prompt other refusal) = each_shown IsUnopening still_unopening (λ event. tt) prompt.in_session
@@ -68,15 +68,15 @@ module _ (rules : Rules) (options : OptionValues) where
   replies ReloadAgent = changes _
   replies KillAgent = changes _
 
-part_opens : {part : CachePart CacheReply} → OpensSo part → {before after : OptionValues} {events : List (EventWith FurtherEvent)} {went : Went} → AnyExchange refusal_line went_after part before events after went → OpensFirst events
+part_opens : {part : CachePart CacheReply} → OpensSo part → {before after : OptionValues} {events : List (EventWith PortCall)} {went : Went} → AnyExchange refusal_line went_after part before events after went → OpensFirst events
 part_opens opens (exchange.answered events held reply does closes_so) = then_unopening events _ (opens.of None events (Ok reply) held does) (answer_unopening (Some reply.text) closes_so)
 part_opens opens (exchange.refused events held why does closes_so) = then_unopening events _ (opens.of None events (Err why) held does) (answer_unopening (refusal_line why) closes_so)
 
-cache_opens : (rules : Rules) (before after : OptionValues) (request : Request) (events : List (EventWith FurtherEvent)) (went : Went) → CacheExchange rules before request events after went → OpensFirst events
+cache_opens : (rules : Rules) (before after : OptionValues) (request : Request) (events : List (EventWith PortCall)) (went : Went) → CacheExchange rules before request events after went → OpensFirst events
 cache_opens rules before after (Cache command) events went exchanged = part_opens (replies rules before command) exchanged
 cache_opens rules before after (Bad why) events went exchanged = part_opens (calls_nobody (each_refused IsUncalled (Agent why))) exchanged
 cache_opens rules before after (Key line) events went never = absurd never
 
-pub request_opens : {rules : Rules} {kept now : Kept} (request : Request) {events : List (EventWith FurtherEvent)} {went : Went} → RequestExchange rules kept request events now went → OpensFirst events
+pub request_opens : {rules : Rules} {kept now : SessionState} (request : Request) {events : List (EventWith PortCall)} {went : Went} → RequestExchange rules kept request events now went → OpensFirst events
 request_opens {rules} {kept} request (cache exchange) = cache_opens rules kept.options _ request _ _ exchange
 request_opens {rules} {kept} request (keys exchange) = key_opens rules kept.options kept.wraps _ exchange

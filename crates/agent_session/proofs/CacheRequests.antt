@@ -1,13 +1,13 @@
 -- Requests on the cache and on the session, each of whose refusals has its cause.
 use Rattle.std.proofs.Common.{◌≡◌, ℕ, Bool, true, false, List, [], ◌++◌, codes, Option, Some, None, Result, Ok, refl, sym, subst, inl}
-use Rattle.{arrayvec.specs.ArrayVec.ArrayVec, agent_ask.specs.{SessionEvents.said_last, Further.FurtherEvent, Parts.{◌>>=◌, Returns}, Plans.plan_of}, assuan_server.specs.{Clients.session_lines, Written.{refusal_line, limit_line}}}
-use Rattle.{session_client.specs.{Asking.gone_of, Refusals.gone_by, declared.{code.Code.Code, refusal.Refusal.{Refusal, TheVariants.{Agent, Pinentry, Client}}, unheard.Unheard.Unheard}}, cache_policy.specs.Turns.{closes, Empty}}
+use Rattle.{arrayvec.specs.ArrayVec.ArrayVec, agent_ask.specs.{SessionEvents.said_last, PortCalls.PortCall, Parts.{◌>>=◌, Returns}, Plans.plan_of}, assuan_server.specs.{Clients.session_lines, Written.{refusal_line, limit_line}}}
+use Rattle.{session_client.specs.{Asking.gone_of, Refusals.gone_by, declared.{code.Code.Code, refusal.Refusal.{Refusal, TheVariants.{Agent, Pinentry, Client}}, client_error.ClientError.ClientError}}, cache_policy.specs.Turns.{closes, Empty}}
 use Rattle.{cache_policy.specs.declared.{mark.MarkStep.MarkStep, secret.TheConstants.MAX_SECRET_LEN}, session_options.specs.{OptionValues.{OptionValues, applied}, declared.options.{OptionAnswer.OptionAnswer, PinMode.PinMode}}}
 use Rattle.{session_options.specs.declared.rules.Rules.Rules, agent_commands.specs.{Answers.IsInfo, Endings.went_after, Events.EventWith}}
 use Rattle.agent_commands.specs.{Exchanges.{CacheExchange, CacheReply, CacheReplies, TellsPassphrase, TellsInfo, option_replies, ChangeReplies, confirms_by, is_quiet, tells}, Parts.{CachePart, AsksPassphrase}}
 use Rattle.agent_commands.specs.{Passphrases.{ask, ask_or_open, LooksFor, WantsPrompt, ByCache, ByClient, Uncached, WithoutPrompt, PromptsAny, ByUser, as_wanted, passphrase_by}, Requests.{GetFields, get_passphrase}}
 use Rattle.agent_commands.specs.declared.{request.{CacheCommand.CacheCommand, Info.{Info, TheVariants.{Version, Pid, S2kCount, Listed}}, Request.{Request, TheVariants.{Cache, Key, Bad}}, Texts.Texts}, went.Went.Went}
-use Rattle.agent_origin.specs.declared.kept.Kept.{Kept}
+use Rattle.agent_origin.specs.declared.session_state.SessionState.{SessionState}
 use Rattle.agent_session.specs.Causes.{AsksAny, wanted, StandIn, IsCaused, IsRefusedBy, IsSaid, said, by_client, by_mode, no_id, empty, option, preset, confirmation, none_given, HasNoEntry, IsUnprompted, IsMalformed, IsUnsupported}
 use Rattle.agent_session.{specs.Causes.{without_id, passphrase}, proofs.{Asides.secret_limit, Explained.{Explained, replied, failed, silent, after_these, IsLast}}}
 use Rattle.agent_session.proofs.Explaining.{Caused, CausedRefusal, ClientSays, cut, client_said, Comes, IsExplained, Explains, Anything, bind, whatever, returned, refused, or_otherwise, is_wanted, interrupts, looks, seats, changes}
@@ -18,8 +18,8 @@ use Rattle.agent_ask.specs.PartExchanges as exchange
 use Rattle.agent_ask.specs.TurnParts as taken
 use Rattle.assuan_server.specs.declared.errors.Origin.TheVariants as origin
 use Rattle.session_client.specs.declared.code.Code.TheVariants as code
-use Rattle.session_client.specs.declared.unheard.Gone.TheVariants as gone
-use Rattle.session_client.specs.declared.unheard.Unheard.TheVariants as unheard
+use Rattle.session_client.specs.declared.client_error.Gone.TheVariants as gone
+use Rattle.session_client.specs.declared.client_error.ClientError.TheVariants as client_error
 use Rattle.session_options.specs.declared.options.OptionAnswer.TheVariants as option_answer
 use Rattle.session_options.specs.declared.options.PinMode.TheVariants as mode
 use Rattle.agent_commands.specs.Passphrases as passphrases
@@ -35,8 +35,8 @@ info_reply rules Pid is = reply_cache is
 info_reply rules S2kCount is = reply_cache is
 info_reply rules Listed is = subst IsReply (sym is) reply_ok
 
-module _ (rules : Rules) (kept : Kept) (whole : List (EventWith FurtherEvent)) (request : Request) where
-  abbrev Here : List (EventWith FurtherEvent) → Went → Type 0
+module _ (rules : Rules) (kept : SessionState) (whole : List (EventWith PortCall)) (request : Request) where
+  abbrev Here : List (EventWith PortCall) → Went → Type 0
   Here = Explained whole (IsCaused whole rules kept request)
 
   -- what is done so comes to a good value, or to a refusal that has its cause
@@ -103,7 +103,7 @@ module _ (rules : Rules) (kept : Kept) (whole : List (EventWith FurtherEvent)) (
     abbrev HasNone : Type 0
     HasNone = HasNoEntry whole request × (is_quiet fields.no_ask fields.texts ≡ true → Caused rules kept request whole code.NoData)
 
-    looks_of : (id : List ℕ) → fields.id ≡ Some id → {before after : Option ℕ} {events : List (EventWith FurtherEvent)} {result : Result (Option (List ℕ)) Refusal} → taken.Asks (ask id) before events result after
+    looks_of : (id : List ℕ) → fields.id ≡ Some id → {before after : Option ℕ} {events : List (EventWith PortCall)} {result : Result (Option (List ℕ)) Refusal} → taken.Asks (ask id) before events result after
         → StandIn events whole → Comes whole (IsCaused whole rules kept request) (Either rules kept request whole Anything HasNone) events result
     looks_of id same (taken.given can) stands = record { silent = (tt, tt); explained = tt }
     looks_of id same (taken.empty can) stands =
@@ -171,17 +171,17 @@ module _ (rules : Rules) (kept : Kept) (whole : List (EventWith FurtherEvent)) (
 
   -- ---- what is written last
 
-  unheard_explained : (why : Unheard) → IsSaid whole why → Here (said_last (refusal_line (Client why))) (went_after (gone_of why))
-  unheard_explained unheard.Cancelled is = failed [] code.Cancelled origin.Agent tt (by_client is) tt
-  unheard_explained unheard.TooMuch is = failed [] code.TooMuch origin.Agent tt is tt
-  unheard_explained unheard.Unexpected is = failed [] code.Unexpected origin.Agent tt is tt
-  unheard_explained (unheard.Gone gone.TooLong) is = failed [] code.LineTooLong origin.Agent tt is refl
-  unheard_explained (unheard.Gone gone.Ended) is = silent tt is
-  unheard_explained (unheard.Gone gone.Spent) is = silent tt is
-  unheard_explained (unheard.Gone gone.ReadFault) is = silent tt is
-  unheard_explained (unheard.Gone gone.WriteFault) is = silent tt tt
+  unheard_explained : (why : ClientError) → IsSaid whole why → Here (said_last (refusal_line (Client why))) (went_after (gone_of why))
+  unheard_explained client_error.Cancelled is = failed [] code.Cancelled origin.Agent tt (by_client is) tt
+  unheard_explained client_error.TooMuch is = failed [] code.TooMuch origin.Agent tt is tt
+  unheard_explained client_error.Unexpected is = failed [] code.Unexpected origin.Agent tt is tt
+  unheard_explained (client_error.Gone gone.TooLong) is = failed [] code.LineTooLong origin.Agent tt is refl
+  unheard_explained (client_error.Gone gone.Ended) is = silent tt is
+  unheard_explained (client_error.Gone gone.Spent) is = silent tt is
+  unheard_explained (client_error.Gone gone.ReadFault) is = silent tt is
+  unheard_explained (client_error.Gone gone.WriteFault) is = silent tt tt
 
-  client_explained : (why : Unheard) → ClientSays whole why → Here (said_last (refusal_line (Client why))) (went_after (gone_of why))
+  client_explained : (why : ClientError) → ClientSays whole why → Here (said_last (refusal_line (Client why))) (went_after (gone_of why))
   client_explained why cut = silent tt tt
   client_explained why (client_said is) = unheard_explained why is
 
@@ -191,7 +191,7 @@ module _ (rules : Rules) (kept : Kept) (whole : List (EventWith FurtherEvent)) (
   refusal_explained (Client why) says = client_explained why says
 
   -- the parts of a request are done, its ticket is given back, and then this is written
-  pub in_exchange : {A : Type 0} {part : CachePart A} {Good : A → Type 0} → ExplainsHere part Good → {events back last : List (EventWith FurtherEvent)} {result : Result A Refusal} {held : Option ℕ} {went : Went}
+  pub in_exchange : {A : Type 0} {part : CachePart A} {Good : A → Type 0} → ExplainsHere part Good → {events back last : List (EventWith PortCall)} {result : Result A Refusal} {held : Option ℕ} {went : Went}
       → part None events result held → taken.Closes None held back (Ok tt) None → (IsExplained whole (IsCaused whole rules kept request) Good result → Here last went) → StandIn (events ++ (back ++ last)) whole
       → Here (events ++ (back ++ last)) went
   in_exchange {Good} explains {events} {back} {last} {result} {held} does closes ends stands =
@@ -199,13 +199,13 @@ module _ (rules : Rules) (kept : Kept) (whole : List (EventWith FurtherEvent)) (
       let close : Comes whole (IsCaused whole rules kept request) Anything back (Ok tt) = closes_explained None held back (Ok tt) None closes (stand_left back last (stand_right events _ stands)) in
       after_these _ _ events first.silent (after_these _ _ back close.silent (ends first.explained))
 
-  exchange_explained : {part : CachePart CacheReply} → ExplainsHere part Answers → {events : List (EventWith FurtherEvent)} {after : OptionValues} {went : Went}
+  exchange_explained : {part : CachePart CacheReply} → ExplainsHere part Answers → {events : List (EventWith PortCall)} {after : OptionValues} {went : Went}
       → exchange.AnyExchange refusal_line went_after part kept.options events after went → StandIn events whole → Here events went
   exchange_explained explains (exchange.answered events held reply does closes) stands = in_exchange explains does closes (λ good. replied [] reply.text tt good.0 good.1) stands
   exchange_explained explains (exchange.refused events held why does closes) stands = in_exchange explains does closes (λ caused. refusal_explained why caused) stands
 
-module _ (rules : Rules) (kept : Kept) (whole : List (EventWith FurtherEvent)) where
-  pub cache_explained : (request : Request) {events : List (EventWith FurtherEvent)} (after : OptionValues) {went : Went} → ((why : Code) → IsRefusedBy request why → IsCaused whole rules kept request why origin.Agent)
+module _ (rules : Rules) (kept : SessionState) (whole : List (EventWith PortCall)) where
+  pub cache_explained : (request : Request) {events : List (EventWith PortCall)} (after : OptionValues) {went : Went} → ((why : Code) → IsRefusedBy request why → IsCaused whole rules kept request why origin.Agent)
       → CacheExchange rules kept.options request events after went → StandIn events whole → Explained whole (IsCaused whole rules kept request) events went
   cache_explained (Cache asked) after line_caused exchanged stands = exchange_explained rules kept whole (Cache asked) (replies rules kept whole (Cache asked) asked refl) exchanged stands
   cache_explained (Bad why) after line_caused exchanged stands =

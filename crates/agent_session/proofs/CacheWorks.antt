@@ -1,6 +1,6 @@
 -- Parts of requests on the cache that are work of the one form, where each of their events is fit.
 use Rattle.std.proofs.Common.{◌≡◌, ℕ, Bool, List, [], codes, Option, Some, None, Result, refl}
-use Rattle.{arrayvec.specs.ArrayVec.ArrayVec, agent_ask.specs.{Events.PromptEvent, Further.Prompt, SessionEvents.{Sent, Cut, Inquiry, Further, cache_turn}, SessionPrompts.note, TurnParts.Changes}, cache_policy.specs.Turns.{Turn, closes}}
+use Rattle.{arrayvec.specs.ArrayVec.ArrayVec, agent_ask.specs.{Events.PromptEvent, PortCalls.Prompt, SessionEvents.{Sent, Cut, Inquiry, Port, cache_turn}, SessionPrompts.note, TurnParts.Changes}, cache_policy.specs.Turns.{Turn, closes}}
 use Rattle.cache_policy.specs.declared.{life.Life.{Life, TheVariants.Default}, mark.MarkStep.{MarkStep, TheVariants.{Seat, Put}}, mode.Mode.TheVariants.User, secret.TheConstants.MAX_SECRET_LEN}
 use Rattle.{session_client.specs.declared.refusal.Refusal.{Refusal, TheVariants.Agent}, session_options.specs.{OptionValues.OptionValues, declared.{options.PinMode.PinMode, rules.Rules.Rules}}}
 use Rattle.agent_commands.specs.{Exchanges.{TellsInfo, put, confirms_by, Presets}, Parts.{CachePart, AsksPassphrase}, Passphrases.{LooksFor, WantsPrompt, KeepsUnder, ByCache, Uncached, WithoutPrompt, PromptsAny, ask, ask_or_open}}
@@ -18,7 +18,7 @@ pub record FitsCache (Fits : Event → Type 0) : Type 0 where
   pub limits : Fits (Sent (limit_line MAX_SECRET_LEN))
   pub clients : (inquired : _) → Fits (Inquiry (codes "PASSPHRASE") [] MAX_SECRET_LEN inquired)
   pub notes : (pid : ℕ) (inquired : _) → Fits (note pid inquired)
-  pub calls : (event : PromptEvent) → Fits (Further (Prompt event))
+  pub calls : (event : PromptEvent) → Fits (Port (Prompt event))
   pub asks : (id : List ℕ) (turn : Turn) → Fits (cache_turn (ask id) turn)
   pub opens : (id : List ℕ) (turn : Turn) → Fits (cache_turn (ask_or_open id) turn)
   pub seats : (turn : Turn) → Fits (cache_turn (Seat None None) turn)

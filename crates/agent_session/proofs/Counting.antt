@@ -1,10 +1,10 @@
 -- At most as many events fail on an end as its count rises by.
 use Rattle.std.{proofs.{Common.{◌≡◌, ◌≤◌, ℕ, Bool, cond, true, false, List, ◌∷◌, length, refl, sym, arith}, lemmas.List.Sums.length-filter}, specs.List.{count_by, filter}}
-use Rattle.agent_ask.specs.{Doing.{DoesCall, called, out_of_memory}, Events.{Call, PromptEvent}, Further.{KeyCall, Read, Listed, Replaced, Removed, Draw, Drew, NotDrawn, Prompt, Keys, Dice, Trust, DoesDraw}, Prompters.{AtPrompter, IsCall}}
-use Rattle.{agent_ask.specs.{SessionEvents.Further, TrustCalls.TrustCall, Worlds.{Outside, Does}}, agent_ports.specs.{Counts.{RoseBy, Rose}, Leads.{Leads, none, one}, Sides.Side}, assuan_server.specs.Reading.Supply}
-use Rattle.{cache_policy.specs.{declared.mark.MarkStep.MarkStep, Turns.Turn}, key_commands.specs.Events.Event, agent_origin.specs.FurtherStates.FurtherWorld}
+use Rattle.agent_ask.specs.{Doing.{DoesCall, called, out_of_memory}, Events.{Call, PromptEvent}, PortCalls.{KeyCall, Read, Listed, Replaced, Removed, Draw, Drew, NotDrawn, Prompt, Keys, Dice, Trust, DoesDraw}, Prompters.{AtPrompter, IsCall}}
+use Rattle.{agent_ask.specs.{SessionEvents.Port, TrustCalls.TrustCall, Worlds.{Outside, Does}}, agent_ports.specs.{Counts.{RoseBy, Rose}, Leads.{Leads, none, one}, Sides.Side}, assuan_server.specs.Reading.Supply}
+use Rattle.{cache_policy.specs.{declared.mark.MarkStep.MarkStep, Turns.Turn}, key_commands.specs.Events.Event, agent_origin.specs.PortStates.PortWorld}
 use Rattle.agent_session.{specs.{Causes.{FailsAtKeys, FailsAtTrust}, Counting.{fails_at_prompter, fails_at_keys, fails_at_dice, fails_at_trust, CountsFailures}}, proofs.Completing.{keys_rise, trust_rises, event_moves}}
-use Rattle.agent_ask.specs.Further as further
+use Rattle.agent_ask.specs.Port as ported
 use Rattle.agent_ask.specs.TrustCalls as trust_call
 use Rattle.agent_ask.specs.Worlds as worlds
 use Rattle.agent_ports.specs.declared.keys.KeyDone.TheVariants as key_done
@@ -30,7 +30,7 @@ module _ {S E : Type 0} (does : S → E → S → Type 0) (failed : E → Bool) 
   failures_counted : (before after : S) (events : List E) → Leads does before events after → RoseBy (count_by failed events) (count before) (count after)
   failures_counted before after events leads = rw (sym (length-filter failed events)) (all_counted before after events leads)
 
-keys_failed : (call : KeyCall) → fails_at_keys (Further (Keys call)) ≡ true → FailsAtKeys call
+keys_failed : (call : KeyCall) → fails_at_keys (Port (Keys call)) ≡ true → FailsAtKeys call
 keys_failed (Read grip key_read.Failed) is = tt
 keys_failed (Read grip key_read.NoMemory) is = absurd (cc is)
 keys_failed (Read grip key_read.Absent) is = absurd (cc is)
@@ -47,7 +47,7 @@ keys_failed (Removed grip key_done.Done) is = absurd (cc is)
 keys_failed (Removed grip key_done.Absent) is = absurd (cc is)
 keys_failed (Removed grip key_done.NoMemory) is = absurd (cc is)
 
-trust_failed : (call : TrustCall) → fails_at_trust (Further (Trust call)) ≡ true → FailsAtTrust call
+trust_failed : (call : TrustCall) → fails_at_trust (Port (Trust call)) ≡ true → FailsAtTrust call
 trust_failed (trust_call.Read trust_read.Failed) is = tt
 trust_failed (trust_call.Read trust_read.NoMemory) is = absurd (cc is)
 trust_failed (trust_call.Read trust_read.Absent) is = absurd (cc is)
@@ -56,7 +56,7 @@ trust_failed (trust_call.Replaced file trust_done.Failed) is = tt
 trust_failed (trust_call.Replaced file trust_done.Done) is = absurd (cc is)
 trust_failed (trust_call.Replaced file trust_done.NoMemory) is = absurd (cc is)
 
-draw_failed : (before after : Side) (draw : Draw) → DoesDraw before draw after → fails_at_dice (Further (Dice draw)) ≡ true → Rose before.faults after.faults
+draw_failed : (before after : Side) (draw : Draw) → DoesDraw before draw after → fails_at_dice (Port (Dice draw)) ≡ true → Rose before.faults after.faults
 draw_failed before after (Drew bytes) does is = absurd (cc is)
 draw_failed before after (NotDrawn count) does is = does.failed
 
@@ -65,27 +65,27 @@ never is = absurd (cc is)
 
 module _ {D P : Type 0} (turned : D → MarkStep → Turn → D → Type 0) (prompted : P → Call → P → Type 0) (at : P → AtPrompter)
     (promise : (before : P) (call : Call) (after : P) → prompted before call after → IsCall (at before) call (at after)) where
-  call_failed : {before after : P} {event : PromptEvent} → DoesCall prompted before event after → fails_at_prompter (Further (Prompt event)) ≡ true → Rose (at before).faults (at after).faults
+  call_failed : {before after : P} {event : PromptEvent} → DoesCall prompted before event after → fails_at_prompter (Port (Prompt event)) ≡ true → Rose (at before).faults (at after).faults
   call_failed {before} {after} (called {call} does) is = (promise before call after does).rose is
   call_failed out_of_memory is = absurd (cc is)
 
-  abbrev DoesHere : Supply → Outside (FurtherWorld turned prompted) → Event → Outside (FurtherWorld turned prompted) → Type 0
-  DoesHere = Does (FurtherWorld turned prompted)
+  abbrev DoesHere : Supply → Outside (PortWorld turned prompted) → Event → Outside (PortWorld turned prompted) → Type 0
+  DoesHere = Does (PortWorld turned prompted)
 
   -- where it failed at one of the ends, that one's count rises
-  record Rises (before : Outside (FurtherWorld turned prompted)) (event : Event) (after : Outside (FurtherWorld turned prompted)) : Type 0 where
+  record Rises (before : Outside (PortWorld turned prompted)) (event : Event) (after : Outside (PortWorld turned prompted)) : Type 0 where
     prompter : fails_at_prompter event ≡ true → Rose (at before.ends.prompter).faults (at after.ends.prompter).faults
     keys : fails_at_keys event ≡ true → Rose before.ends.keys.faults after.ends.keys.faults
     dice : fails_at_dice event ≡ true → Rose before.ends.dice.faults after.ends.dice.faults
     trust : fails_at_trust event ≡ true → Rose before.ends.trust.faults after.ends.trust.faults
 
   module _ {supply : Supply} where
-    rises : (before : Outside (FurtherWorld turned prompted)) (event : Event) (after : Outside (FurtherWorld turned prompted)) → DoesHere supply before event after → Rises before event after
-    rises before event after (worlds.further (further.prompt does)) = record { prompter = λ is. call_failed does is; keys = never; dice = never; trust = never }
-    rises before event after (worlds.further (further.keys {call} {files} does)) = record { prompter = never; keys = λ is. keys_rise before.ends.keys files call does (keys_failed call is); dice = never; trust = never }
-    rises before event after (worlds.further (further.dice {draw} {side} does)) = record { prompter = never; keys = never; dice = λ is. draw_failed before.ends.dice side draw does is; trust = never }
-    rises before event after (worlds.further (further.trust {call} {file} does)) = record { prompter = never; keys = never; dice = never; trust = λ is. trust_rises before.ends.trust file call does (trust_failed call is) }
-    rises before event after (worlds.further further.no_memory) = record { prompter = never; keys = never; dice = never; trust = never }
+    rises : (before : Outside (PortWorld turned prompted)) (event : Event) (after : Outside (PortWorld turned prompted)) → DoesHere supply before event after → Rises before event after
+    rises before event after (worlds.ported (ported.prompt does)) = record { prompter = λ is. call_failed does is; keys = never; dice = never; trust = never }
+    rises before event after (worlds.ported (ported.keys {call} {files} does)) = record { prompter = never; keys = λ is. keys_rise before.ends.keys files call does (keys_failed call is); dice = never; trust = never }
+    rises before event after (worlds.ported (ported.dice {draw} {side} does)) = record { prompter = never; keys = never; dice = λ is. draw_failed before.ends.dice side draw does is; trust = never }
+    rises before event after (worlds.ported (ported.trust {call} {file} does)) = record { prompter = never; keys = never; dice = never; trust = λ is. trust_rises before.ends.trust file call does (trust_failed call is) }
+    rises before event after (worlds.ported ported.no_memory) = record { prompter = never; keys = never; dice = never; trust = never }
     rises before event after (worlds.received known needed) = record { prompter = never; keys = never; dice = never; trust = never }
     rises before event after worlds.sent = record { prompter = never; keys = never; dice = never; trust = never }
     rises before event after worlds.cut = record { prompter = never; keys = never; dice = never; trust = never }
@@ -93,7 +93,7 @@ module _ {D P : Type 0} (turned : D → MarkStep → Turn → D → Type 0) (pro
     rises before event after (worlds.not_asked unsent split) = record { prompter = never; keys = never; dice = never; trust = never }
     rises before event after (worlds.turned does) = record { prompter = never; keys = never; dice = never; trust = never }
 
-    pub counts_failures : (before after : Outside (FurtherWorld turned prompted)) (events : List Event) → Leads (DoesHere supply) before events after → CountsFailures at events before.ends after.ends
+    pub counts_failures : (before after : Outside (PortWorld turned prompted)) (events : List Event) → Leads (DoesHere supply) before events after → CountsFailures at events before.ends after.ends
     counts_failures before after events leads = record {
       prompter = failures_counted (DoesHere supply) fails_at_prompter (λ out. (at out.ends.prompter).faults)
           (λ b e a does. (event_moves turned prompted at promise does).prompter) (λ b e a does. (rises b e a does).prompter) before after events leads;

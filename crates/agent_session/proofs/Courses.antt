@@ -1,9 +1,9 @@
 -- How a request ends, once its work is done: what its last part does, and the course that this makes of its exchange. So a client that is gone ends it.
 use Rattle.std.{specs.{List.AllByRecursion, Option.option_map, Prelude.⊤}, proofs.Common.{◌≡◌, ℕ, List, [], ◌∷◌, ◌++◌, Option, Some, None, Result, Ok, Err, refl, sym, ap, ◌∙◌, subst, append_assoc, append-nil, inl, inr, ◌⊎◌}}
-use Rattle.agent_ask.specs.{Further.{Prompt, Keys, Dice, Trust, NoMemory, Replaced, Removed}, Interrupts.Interrupts, Parts.{◌>>=◌, Returns, Refuses}, SessionEvents.{Received, Sent, Cut, Inquiry, CacheTurn, Further, cache_turn, said_last}}
+use Rattle.agent_ask.specs.{PortCalls.{Prompt, Keys, Dice, Trust, NoMemory, Replaced, Removed}, Interrupts.Interrupts, Parts.{◌>>=◌, Returns, Refuses}, SessionEvents.{Received, Sent, Cut, Inquiry, CacheTurn, Port, cache_turn, said_last}}
 use Rattle.{agent_ask.{specs.TurnParts.Closes, proofs.Within.{Within, Joins, weaker, bind, returned_so, refused_so, Yields, yields_then}}, agent_ports.specs.declared.grip.Grip.Grip, assuan_server.specs.Written.{failed, refusal_line}}
 use Rattle.{cache_policy.specs.{Turns.{Turn, Done}, declared.{mark.MarkStep.TheVariants.{Close, Clear}, mode.Mode.TheVariants.Normal}}, session_client.specs.{Refusals.refusal_code, declared.{code.Code.Code, refusal.Refusal.Refusal}}}
-use Rattle.{session_client.specs.declared.{refusal.Refusal.TheVariants.{Agent, Pinentry, Client}, unheard.{Gone.Gone, Unheard.Unheard}}, agent_commands.specs.declared.request.Request.Request, key_commands.specs.Events.Event}
+use Rattle.{session_client.specs.declared.{refusal.Refusal.TheVariants.{Agent, Pinentry, Client}, client_error.{Gone.Gone, ClientError.ClientError}}, agent_commands.specs.declared.request.Request.Request, key_commands.specs.Events.Event}
 use Rattle.key_commands.{specs.{Lines.grip_text, Parts.Part, Passphrases.put_key}, proofs.EachEvent.{each_append, each_answer}}
 use Rattle.agent_session.specs.{Causes.{here, later, IsSaid, said as says_so}, Completeness.{EndsInOk, error, done}}
 use Rattle.agent_session.{specs.Refusals.{refuses, shuts, IsAllowed, IsWork, AreWork, IsLast, said, gone, GivesBack, no_ticket, with_ticket, settled, interrupted, IsEnd, CourseBy}, proofs.{Explained.has_split, Replying.{IsReply, begins}}}
@@ -12,7 +12,7 @@ use Rattle.agent_ask.specs.TurnParts as taken
 use Rattle.agent_ports.specs.declared.keys.KeyDone.TheVariants as key_done
 use Rattle.assuan_server.specs.declared.errors.Origin.TheVariants as origin
 use Rattle.session_client.specs.declared.code.Code.TheVariants as code
-use Rattle.session_client.specs.declared.unheard.Unheard.TheVariants as unheard
+use Rattle.session_client.specs.declared.client_error.ClientError.TheVariants as client_error
 use Rattle.agent_session.specs.Refusals as course
 
 -- ---- answers
@@ -37,14 +37,14 @@ abbrev pub IsHeard : Event → Type 0
 IsHeard event = unheard_by event ≡ None
 
 -- none is among such events
-pub heard_so : {why : Unheard} (events : List Event) → AllByRecursion IsHeard events → IsSaid events why → ⊥
+pub heard_so : {why : ClientError} (events : List Event) → AllByRecursion IsHeard events → IsSaid events why → ⊥
 heard_so events each (says_so says has) = let goes : unsaid _ ≡ None = each_has IsHeard events each has in let gone_so = ap unsaid says in cc (goes, gone_so)
 
-pub said_split : {why : Unheard} (first more : List Event) → IsSaid (first ++ more) why → IsSaid first why ⊎ IsSaid more why
+pub said_split : {why : ClientError} (first more : List Event) → IsSaid (first ++ more) why → IsSaid first why ⊎ IsSaid more why
 said_split first more (says_so says has) = elim (has_split first more has) [ inl before ↦ inl (says_so says before) | inr behind ↦ inr (says_so says behind) ]
 
 -- it is none in what stands behind these
-pub said_before : {why : Unheard} (events more : List Event) → AllByRecursion IsHeard more → IsSaid (events ++ more) why → IsSaid events why
+pub said_before : {why : ClientError} (events more : List Event) → AllByRecursion IsHeard more → IsSaid (events ++ more) why → IsSaid events why
 said_before events more each says = elim (said_split events more says) [ inl before ↦ before | inr behind ↦ absurd (heard_so more each behind) ]
 
 pub answer_heard : {held : Option ℕ} {back : List Event} (line : Option (List ℕ)) → Closes None held back (Ok tt) None → AllByRecursion IsHeard (back ++ said_last line)
@@ -52,11 +52,11 @@ answer_heard = each_answer IsHeard (λ number turn. refl) (λ text. refl)
 
 -- it is by the last event of a part's work, and by none before it
 shut_heard : (event : Event) → AllByRecursion IsHeard (shuts event)
-shut_heard (Further (Prompt event)) = (refl, tt)
-shut_heard (Further (Keys call)) = tt
-shut_heard (Further (Dice draw)) = tt
-shut_heard (Further (Trust call)) = tt
-shut_heard (Further NoMemory) = tt
+shut_heard (Port (Prompt event)) = (refl, tt)
+shut_heard (Port (Keys call)) = tt
+shut_heard (Port (Dice draw)) = tt
+shut_heard (Port (Trust call)) = tt
+shut_heard (Port NoMemory) = tt
 shut_heard (Received took) = tt
 shut_heard (Sent text) = tt
 shut_heard (Cut text) = tt
@@ -69,13 +69,13 @@ refused_heard (Inquiry word params limit inquired) is = absurd (cc is)
 refused_heard (Received took) is = refl
 refused_heard (Sent text) is = refl
 refused_heard (CacheTurn taken) is = refl
-refused_heard (Further what) is = refl
+refused_heard (Port what) is = refl
 
 -- what a part comes to, whose client said so: that, unless it was too much, and there was no memory for it
-abbrev pub ComesTo : {A : Type 0} → Unheard → Result A Refusal → Type 0
-ComesTo why result = (result ≡ Err (Client why)) ⊎ ((why ≡ unheard.TooMuch) × (result ≡ Err (Agent code.NoMemory)))
+abbrev pub ComesTo : {A : Type 0} → ClientError → Result A Refusal → Type 0
+ComesTo why result = (result ≡ Err (Client why)) ⊎ ((why ≡ client_error.TooMuch) × (result ≡ Err (Agent code.NoMemory)))
 
-pub gone_only : {A : Type 0} {how : Gone} {result : Result A Refusal} → ComesTo (unheard.Gone how) result → result ≡ Err (Client (unheard.Gone how))
+pub gone_only : {A : Type 0} {how : Gone} {result : Result A Refusal} → ComesTo (client_error.Gone how) result → result ≡ Err (Client (client_error.Gone how))
 gone_only (inl is) = is
 gone_only (inr forgot_so) = absurd (cc (forgot_so.0))
 
@@ -84,18 +84,18 @@ module _ (Fits : Event → Type 0) where
   all_heard [] each = tt
   all_heard (event ∷ more) each = (each.0.2, all_heard more each.1)
 
-  work_said : {A : Type 0} {last : List Event} {result : Result A Refusal} {why : Unheard} → WorkEnd Fits last result → IsSaid last why → ComesTo why result
+  work_said : {A : Type 0} {last : List Event} {result : Result A Refusal} {why : ClientError} → WorkEnd Fits last result → IsSaid last why → ComesTo why result
   work_said no_more says = absurd (heard_so [] tt says)
   work_said (refused {event} fits is) says = absurd (heard_so (event ∷ shuts event) (refused_heard event is, shut_heard event) says)
   work_said {why} (lost {why = other} fits is each) (says_so says here) = let both : Some why ≡ Some other = sym (ap unsaid says) ∙ is in inl (ap (λ w. Err (Client w)) (sym (cc both)))
   work_said (lost {last = more} fits is each) (says_so says (later has)) = absurd (heard_so more (all_heard more each) (says_so says has))
-  work_said {why} (forgot fits is memory) (says_so says here) = let both : Some why ≡ Some unheard.TooMuch = sym (ap unsaid says) ∙ is in inr (cc both, refl)
+  work_said {why} (forgot fits is memory) (says_so says here) = let both : Some why ≡ Some client_error.TooMuch = sym (ap unsaid says) ∙ is in inr (cc both, refl)
   work_said (forgot fits is memory) (says_so says (later (later has))) = elim has [ ]
 
-  said_behind : {why : Unheard} (work last : List Event) → AllByRecursion (GoesOn Fits) work → IsSaid (work ++ last) why → IsSaid last why
+  said_behind : {why : ClientError} (work last : List Event) → AllByRecursion (GoesOn Fits) work → IsSaid (work ++ last) why → IsSaid last why
   said_behind work last each says = elim (said_split work last says) [ inl first ↦ absurd (heard_so work (all_heard work each) first) | inr behind_it ↦ behind_it ]
 
-  pub works_said : {A : Type 0} {events : List Event} {result : Result A Refusal} {why : Unheard} → WorksTo Fits events result → IsSaid events why → ComesTo why result
+  pub works_said : {A : Type 0} {events : List Event} {result : Result A Refusal} {why : ClientError} → WorksTo Fits events result → IsSaid events why → ComesTo why result
   works_said {why} does says = work_said does.end (said_behind does.work does.last does.each (subst (λ e. IsSaid e why) does.is says))
 
 -- whatever nonce
@@ -115,15 +115,15 @@ module _ (request : Request) where
   pub data RequestEnd {A : Type 0} : List Event → Result A Refusal → Option ℕ → Type 0 where
     working : {last : List Event} {result : Result A Refusal} {held : Option ℕ} → WorkEnd (IsAllowed request AnyNonce) last result → RequestEnd last result held
     closed : {ticket : ℕ} {keep : Option (List ℕ)} {value : A} (turn : Turn) → RequestEnd (cache_turn (Close ticket keep) turn ∷ []) (Ok value) None
-    unwrapped : {ticket : ℕ} {keep : Option (List ℕ)} (turn : Turn) → RequestEnd (cache_turn (Close ticket keep) turn ∷ Further NoMemory ∷ []) (Err (Agent code.NoMemory)) None
+    unwrapped : {ticket : ℕ} {keep : Option (List ℕ)} (turn : Turn) → RequestEnd (cache_turn (Close ticket keep) turn ∷ Port NoMemory ∷ []) (Err (Agent code.NoMemory)) None
     kept : {grip : Grip} {file : List ℕ} {ticket : ℕ} {pass : List ℕ} {value : A} (turn : Turn)
-        → RequestEnd (Further (Keys (Replaced grip file key_done.Done)) ∷ cache_turn (Close ticket (Some pass)) turn ∷ []) (Ok value) None
-    put : {grip : Grip} {file pass : List ℕ} {value : A} → RequestEnd (Further (Keys (Replaced grip file key_done.Done)) ∷ cache_turn (put_key grip pass) Done ∷ []) (Ok value) None
+        → RequestEnd (Port (Keys (Replaced grip file key_done.Done)) ∷ cache_turn (Close ticket (Some pass)) turn ∷ []) (Ok value) None
+    put : {grip : Grip} {file pass : List ℕ} {value : A} → RequestEnd (Port (Keys (Replaced grip file key_done.Done)) ∷ cache_turn (put_key grip pass) Done ∷ []) (Ok value) None
     unput : {grip : Grip} {file pass : List ℕ} {turn : Turn} {why : Code} → Interrupts turn why
-        → RequestEnd (Further (Keys (Replaced grip file key_done.Done)) ∷ cache_turn (put_key grip pass) turn ∷ []) (Err (Agent why)) None
-    cleared : {grip : Grip} {value : A} {held : Option ℕ} → RequestEnd (Further (Keys (Removed grip key_done.Done)) ∷ cache_turn (Clear (grip_text grip) Normal) Done ∷ []) (Ok value) held
+        → RequestEnd (Port (Keys (Replaced grip file key_done.Done)) ∷ cache_turn (put_key grip pass) turn ∷ []) (Err (Agent why)) None
+    cleared : {grip : Grip} {value : A} {held : Option ℕ} → RequestEnd (Port (Keys (Removed grip key_done.Done)) ∷ cache_turn (Clear (grip_text grip) Normal) Done ∷ []) (Ok value) held
     uncleared : {grip : Grip} {turn : Turn} {why : Code} {held : Option ℕ} → Interrupts turn why
-        → RequestEnd (Further (Keys (Removed grip key_done.Done)) ∷ cache_turn (Clear (grip_text grip) Normal) turn ∷ []) (Err (Agent why)) held
+        → RequestEnd (Port (Keys (Removed grip key_done.Done)) ∷ cache_turn (Clear (grip_text grip) Normal) turn ∷ []) (Err (Agent why)) held
 
   pub record Ends {A : Type 0} (events : List Event) (result : Result A Refusal) (held : Option ℕ) : Type 0 where
     pub work : List Event
@@ -242,9 +242,9 @@ module _ (request : Request) where
   err_course_at work _ back each (working (forgot {event} allowed is memory)) closes_so = record {
     work = work ++ event ∷ [];
     last = _;
-    is = append_assoc work (event ∷ Further NoMemory ∷ []) (back ++ said_last (refusal_line (Agent code.NoMemory))) ∙ sym (append_assoc work (event ∷ []) (Further NoMemory ∷ (back ++ said_last (refusal_line (Agent code.NoMemory)))));
+    is = append_assoc work (event ∷ Port NoMemory ∷ []) (back ++ said_last (refusal_line (Agent code.NoMemory))) ∙ sym (append_assoc work (event ∷ []) (Port NoMemory ∷ (back ++ said_last (refusal_line (Agent code.NoMemory)))));
     each = each_append (IsWork request AnyNonce) work (event ∷ []) (are_work work each) ((allowed, lost_goes event is), tt);
-    end = course.refused {event = Further NoMemory} memory refl (held_back _ closes_so);
+    end = course.refused {event = Port NoMemory} memory refl (held_back _ closes_so);
   }
   err_course_at _ _ _ each (unwrapped turn) taken.unheld = course_at _ _ _ each (course.unanswered turn)
   err_course_at _ _ _ each (unput why) taken.unheld = course_at _ _ _ each (course.stored (interrupted why))
@@ -259,7 +259,7 @@ module _ (request : Request) where
 
   -- ---- what its client said ends a request
 
-  end_said : {A : Type 0} {last : List Event} {result : Result A Refusal} {held : Option ℕ} {why : Unheard} → RequestEnd last result held → IsSaid last why → ComesTo why result
+  end_said : {A : Type 0} {last : List Event} {result : Result A Refusal} {held : Option ℕ} {why : ClientError} → RequestEnd last result held → IsSaid last why → ComesTo why result
   end_said (working end) says = work_said (IsAllowed request AnyNonce) end says
   end_said (closed turn) says = absurd (heard_so _ (refl, tt) says)
   end_said (unwrapped turn) says = absurd (heard_so _ (refl, (refl, tt)) says)
@@ -269,7 +269,7 @@ module _ (request : Request) where
   end_said cleared says = absurd (heard_so _ (refl, (refl, tt)) says)
   end_said (uncleared why) says = absurd (heard_so _ (refl, (refl, tt)) says)
 
-  pub ends_said : {A : Type 0} {events : List Event} {result : Result A Refusal} {held : Option ℕ} {why : Unheard} → Ends events result held → IsSaid events why
+  pub ends_said : {A : Type 0} {events : List Event} {result : Result A Refusal} {held : Option ℕ} {why : ClientError} → Ends events result held → IsSaid events why
       → ComesTo why result
   ends_said {why} ends says = end_said ends.end (said_behind (IsAllowed request AnyNonce) ends.work ends.last ends.each (subst (λ e. IsSaid e why) ends.is says))
 

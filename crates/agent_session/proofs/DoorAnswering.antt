@@ -3,7 +3,7 @@ use Rattle.std.{specs.List.AllByRecursion, proofs.Common.{◌≡◌, ◌⊎◌, 
 use Rattle.{agent_ask.specs.{Prompters.is_failed, SessionEvents.Sent}, agent_commands.specs.{Requests.request_of, declared.went.Went.{Went, TheVariants.On}}, assuan_server.specs.Written.{failed as failed_line, ok}}
 use Rattle.{assuan_server.specs.declared.errors.Origin.{Origin, TheVariants.Agent}, session_client.specs.declared.code.Code.Code, key_commands.{specs.Events.Event, proofs.EachRequest.IsBesideTrust}}
 use Rattle.{session_options.specs.declared.rules.Rules.Rules, agent_origin.specs.{DoorSessions.{door_help, AllowedExchange, DoorExchange, door_command}, Doors.allowed, TrustExchanges.TrustExchange}}
-use Rattle.agent_origin.{specs.{TrustRequests.{trust_request_of, trust_command}, SessionExchanges.SessionExchange, declared.{door.Door.Door, kept.Kept.Kept, trust.request.TrustRequest.TheVariants.Bad}}, proofs.EachLine.each_request}
+use Rattle.agent_origin.{specs.{TrustRequests.{trust_request_of, trust_command}, SessionExchanges.SessionExchange, declared.{door.Door.Door, session_state.SessionState.SessionState, trust.request.TrustRequest.TheVariants.Bad}}, proofs.EachLine.each_request}
 use Rattle.{agent_origin.proofs.OwnCommands.{trust_named, other_is_no_trust}, command_table.specs.{Commands.{command_in, commands, names_told}, declared.commands.TrustCommandName.TrustCommandName}}
 use Rattle.agent_session.specs.{Causes.{HasOne, HasCall, WantsMemory, is_broken}, Completeness.{IsAnsweredBy, HasError, CausedAtDoor, WantsNoPrompt, any, on_trust}}
 use Rattle.agent_session.{specs.DoorCauses.{IsTrustCaused, IsCausedBy, IsCausedAtDoor, IsReadTrust, read_trust, IsNotTrusted, unsaid, denied, denied_mark, forbidden, is_allowed}, proofs.Answering.{Judging, none_failed, no_trust_failed}}
@@ -24,7 +24,7 @@ none_read_of events each (file, read_trust is has) = none_called events each has
 reply_help : IsReply door_help
 reply_help = reply_names (names_told true commands) refl refl
 
-module _ (door : Door) (rules : Rules) (before : Kept) (line : List ℕ) (events : List Event) where
+module _ (door : Door) (rules : Rules) (before : SessionState) (line : List ℕ) (events : List Event) where
   abbrev Caused : Code → Origin → Type 0
   Caused = IsCausedAtDoor door rules before line events
 
@@ -46,7 +46,7 @@ module _ (door : Door) (rules : Rules) (before : Kept) (line : List ℕ) (events
   explained_as each (failed first why origin nothing caused last) = failed first why origin nothing (each why origin caused) last
   explained_as each (silent nothing lost) = silent nothing lost
 
-module _ (door : Door) (rules : Rules) (before : Kept) (line : List ℕ) where
+module _ (door : Door) (rules : Rules) (before : SessionState) (line : List ℕ) where
   abbrev JudgedBy : List Event → Went → Type 0
   JudgedBy events went = Judged door rules before line events went
 
@@ -62,7 +62,7 @@ module _ (door : Door) (rules : Rules) (before : Kept) (line : List ℕ) where
       exchanged (stand_all events)))
 
   -- one of any session
-  session_judged : trust_command (command_in line) ≡ None → allowed door line ≡ true → {events : List Event} {after : Kept} {went : Went}
+  session_judged : trust_command (command_in line) ≡ None → allowed door line ≡ true → {events : List Event} {after : SessionState} {went : Went}
       → SessionExchange rules before line events after went → AllByRecursion IsPossible events → JudgedBy events went
   session_judged named allows {events} {went} exchanged possible =
       let caused = exchange_caused rules before line (never_absent possible) exchanged in
@@ -72,7 +72,7 @@ module _ (door : Door) (rules : Rules) (before : Kept) (line : List ℕ) where
         caused = λ why origin has. is_allowed allows (subst (λ n. IsCausedBy rules before line events n why origin) (sym named) (caused.caused why origin has));
       }
 
-  allowed_judged : {command : _} → door_command door line ≡ command → allowed door line ≡ true → {events : List Event} {after : Kept} {went : Went}
+  allowed_judged : {command : _} → door_command door line ≡ command → allowed door line ≡ true → {events : List Event} {after : SessionState} {went : Went}
       → AllowedExchange rules before line command events after went → AllByRecursion IsPossible events → JudgedBy events went
   allowed_judged is allows doors.unset possible = judged door rules before line (Sent ok ∷ []) (replied [] ok tt reply_ok tt)
   allowed_judged is allows doors.helped possible = judged door rules before line (Sent door_help ∷ []) (replied [] door_help tt reply_help tt)
@@ -82,7 +82,7 @@ module _ (door : Door) (rules : Rules) (before : Kept) (line : List ℕ) where
   allowed_judged is allows (doors.any exchanged) possible =
       session_judged (other_is_no_trust door line is) allows exchanged possible
 
-  door_judged : {events : List Event} {after : Kept} {went : Went} → DoorExchange door rules before line events after went → AllByRecursion IsPossible events → JudgedBy events went
+  door_judged : {events : List Event} {after : SessionState} {went : Went} → DoorExchange door rules before line events after went → AllByRecursion IsPossible events → JudgedBy events went
   door_judged (doors.forbidden refuses) possible =
       judged door rules before line (Sent (failed_line code.Forbidden) ∷ []) (failed [] code.Forbidden Agent tt (forbidden refuses) tt)
   door_judged (doors.is_allowed allows exchanged) possible = allowed_judged refl allows exchanged possible
@@ -93,14 +93,14 @@ module _ (door : Door) (rules : Rules) (before : Kept) (line : List ℕ) where
   read_first (denied asked) = (asked.file, asked.is_read)
   read_first (denied_mark {file} marked) = (file, marked.is_read)
 
-  allowed_denied : {command : _} {events : List Event} {after : Kept} {went : Went} → AllowedExchange rules before line command events after went → IsNotTrusted events (trust_request_of line)
+  allowed_denied : {command : _} {events : List Event} {after : SessionState} {went : Went} → AllowedExchange rules before line command events after went → IsNotTrusted events (trust_request_of line)
       → HasError code.NotTrusted Agent events
   allowed_denied doors.helped cause = absurd (none_read_of (Sent door_help ∷ []) (tt, tt) (read_first cause))
   allowed_denied doors.unset cause = absurd (none_read_of (Sent ok ∷ []) (tt, tt) (read_first cause))
   allowed_denied (doors.trusts exchanged) cause = denial_is_said rules before.options exchanged cause
   allowed_denied (doors.any {events} exchanged) cause = absurd (none_read_of events (each_request IsBesideTrust (λ event is. is) (request_of line) exchanged) (read_first cause))
 
-  door_denied : {events : List Event} {after : Kept} {went : Went} → DoorExchange door rules before line events after went → IsNotTrusted events (trust_request_of line)
+  door_denied : {events : List Event} {after : SessionState} {went : Went} → DoorExchange door rules before line events after went → IsNotTrusted events (trust_request_of line)
       → HasError code.NotTrusted Agent events
   door_denied (doors.forbidden refuses) cause = absurd (none_read_of (Sent (failed_line code.Forbidden) ∷ []) (tt, tt) (read_first cause))
   door_denied (doors.is_allowed allows exchanged) cause = allowed_denied exchanged cause
@@ -113,12 +113,12 @@ module _ (door : Door) (rules : Rules) (before : Kept) (line : List ℕ) where
       never None cause = cause
       never (Some found) cause = cause
 
-  forbidden_alone : {events : List Event} {after : Kept} {went : Went} → DoorExchange door rules before line events after went → allowed door line ≡ false
+  forbidden_alone : {events : List Event} {after : SessionState} {went : Went} → DoorExchange door rules before line events after went → allowed door line ≡ false
       → events ≡ Sent (failed_line code.Forbidden) ∷ []
   forbidden_alone (doors.forbidden refuses) is = refl
   forbidden_alone (doors.is_allowed allows exchanged) is = absurd (cc (allows, is))
 
-  door_caused : {events : List Event} {after : Kept} {went : Went} → AllByRecursion IsPossible events → DoorExchange door rules before line events after went
+  door_caused : {events : List Event} {after : SessionState} {went : Went} → AllByRecursion IsPossible events → DoorExchange door rules before line events after went
       → CausedAtDoor door rules before line events after went
   door_caused possible exchanged =
       let judgement = door_judged exchanged possible in
@@ -131,7 +131,7 @@ module _ (door : Door) (rules : Rules) (before : Kept) (line : List ℕ) where
 
 -- ---- without faults
 
-module _ (rules : Rules) (before : Kept) (line : List ℕ) (events : List Event) where
+module _ (rules : Rules) (before : SessionState) (line : List ℕ) (events : List Event) where
   abbrev pub Because : Option TrustCommandName → Code → Type 0
   Because found why = IsCausedBy rules before line events found why Agent
 
@@ -170,8 +170,8 @@ at_door door rules = record {
 
 -- ---- lines of any session
 
-module _ {rules : Rules} {before : Kept} {line : List ℕ} where
-  allowed_is_session : {command : _} {events : List Event} {after : Kept} {went : Went} → AllowedExchange rules before line command events after went → command ≡ None
+module _ {rules : Rules} {before : SessionState} {line : List ℕ} where
+  allowed_is_session : {command : _} {events : List Event} {after : SessionState} {went : Went} → AllowedExchange rules before line command events after went → command ≡ None
       → SessionExchange rules before line events after went
   allowed_is_session doors.helped is = absurd (cc is)
   allowed_is_session doors.unset is = absurd (cc is)
@@ -179,7 +179,7 @@ module _ {rules : Rules} {before : Kept} {line : List ℕ} where
   allowed_is_session (doors.any exchanged) is = exchanged
 
   -- a line that is allowed, and whose command isn't the door's own
-  pub door_is_session : {door : Door} {events : List Event} {after : Kept} {went : Went} → DoorExchange door rules before line events after went → allowed door line ≡ true → door_command door line ≡ None
+  pub door_is_session : {door : Door} {events : List Event} {after : SessionState} {went : Went} → DoorExchange door rules before line events after went → allowed door line ≡ true → door_command door line ≡ None
       → SessionExchange rules before line events after went
   door_is_session (doors.forbidden refuses) allows is = absurd (cc (refuses, allows))
   door_is_session (doors.is_allowed allows exchanged) allowing is = allowed_is_session exchanged is

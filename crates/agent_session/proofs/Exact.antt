@@ -1,11 +1,11 @@
 -- Each code is answered wherever its cause stands, in a session and at a door.
 use Rattle.std.{specs.List.AllByRecursion, proofs.Common.{◌≡◌, ◌⊎◌, ℕ, List, [], Option, Some, None, Result, Err, refl, sym, subst, inl, inr, ◌<◌, false, ◌∷◌, ◌++◌, length, Ok}}
-use Rattle.{agent_ask.specs.{Further.{Keys, Read, Removed}, SessionEvents.{Inquiry, Further, said_last}, TurnParts.Closes}, arrayvec.specs.ArrayVec.ArrayVec, agent_ports.specs.declared.grip.Grip.Grip}
-use Rattle.{session_client.specs.{Refusals.refusal_code, declared.{code.Code.Code, unheard.Unheard.Unheard}}, assuan_server.specs.{declared.errors.Origin.TheVariants.Agent, Written.refusal_line}, key_lines.specs.Canon.Canon}
+use Rattle.{agent_ask.specs.{PortCalls.{Keys, Read, Removed}, SessionEvents.{Inquiry, Port, said_last}, TurnParts.Closes}, arrayvec.specs.ArrayVec.ArrayVec, agent_ports.specs.declared.grip.Grip.Grip}
+use Rattle.{session_client.specs.{Refusals.refusal_code, declared.{code.Code.Code, client_error.ClientError.ClientError}}, assuan_server.specs.{declared.errors.Origin.TheVariants.Agent, Written.refusal_line}, key_lines.specs.Canon.Canon}
 use Rattle.{session_options.specs.{OptionValues.OptionValues, declared.{options.OptionAnswer.OptionAnswer, rules.Rules.Rules}}, sexp_keys.specs.{Key.Key, declared.fault.KeyFault.KeyFault}, agent_commands.specs.Exchanges.CacheExchange}
 use Rattle.{agent_commands.specs.{declared.{request.Request.{Request, TheVariants.{Cache, Key as OnKeys, Bad}}, went.Went.Went}, Requests.{request_of, request_by}}, key_commands.specs.{Lines.max_key_data, Events.Event}}
 use Rattle.key_commands.specs.{Exchanges.KeyExchange, Faults.fault_code, Files.FileSays, Requests.key_request_of, declared.{request.KeyRequest.KeyRequest, went.KeyWent.KeyWent, wrap_keys.WrapKeys.WrapKeys}}
-use Rattle.agent_origin.specs.{SessionExchanges.{RequestExchange, cache, keys}, declared.{kept.Kept.Kept, door.Door.Door, trust.request.{TrustPurpose.TrustPurpose, TrustRequest.{TrustRequest, TheVariants.MarkTrusted}}}}
+use Rattle.agent_origin.specs.{SessionExchanges.{RequestExchange, cache, keys}, declared.{session_state.SessionState.SessionState, door.Door.Door, trust.request.{TrustPurpose.TrustPurpose, TrustRequest.{TrustRequest, TheVariants.MarkTrusted}}}}
 use Rattle.agent_origin.specs.{DoorSessions.{AllowedExchange, DoorExchange, door_command}, TrustExchanges.{flag_of, Marked, TrustExchange}, TrustRequests.{trust_request_of, trust_command}, Doors.sets_terminal}
 use Rattle.{agent_origin.proofs.OwnCommands.{help_is_no_trust, other_is_no_trust, terminal_set}, command_table.specs.{declared.commands.{Command.Command, TrustCommandName.TrustCommandName}, Commands.command_in}}
 use Rattle.trust_list.specs.{Trust.{trust, with_entry}, declared.TheConstants.MAX_TRUST_FILE_LEN}
@@ -18,8 +18,8 @@ use Rattle.agent_session.proofs.{DoorAnswering.door_is_session, ExactTrust.{ByLo
 use Rattle.agent_ports.specs.declared.keys.KeyDone.TheVariants as key_done
 use Rattle.agent_ports.specs.declared.keys.KeyRead.TheVariants as key_read
 use Rattle.session_client.specs.declared.code.Code.TheVariants as code
-use Rattle.session_client.specs.declared.unheard.Gone.TheVariants as gone
-use Rattle.session_client.specs.declared.unheard.Unheard.TheVariants as unheard
+use Rattle.session_client.specs.declared.client_error.Gone.TheVariants as gone
+use Rattle.session_client.specs.declared.client_error.ClientError.TheVariants as client_error
 use Rattle.session_options.specs.declared.options.OptionAnswer.TheVariants as option_answer
 use Rattle.key_commands.specs.declared.request.KeyRequest.TheVariants as on
 use Rattle.agent_session.specs.Causes as causes
@@ -30,7 +30,7 @@ use Rattle.agent_session.proofs.TrustTold as telling
 use Rattle.agent_ask.specs.TurnParts as turning
 
 -- what the client said decides its request
-pub said_decides : (deciding : Deciding) {events : List Event} {why : Code} (unheard : Unheard) → refusal_code unheard ≡ Some why → IsSaid events unheard → IsDecided deciding events why
+pub said_decides : (deciding : Deciding) {events : List Event} {why : Code} (unheard : ClientError) → refusal_code unheard ≡ Some why → IsSaid events unheard → IsDecided deciding events why
 said_decides deciding {why} unheard is (said {word} {params} {limit} {inquired} says has) =
     record { event = Inquiry word params limit inquired; has = has; decides = subst (λ r. SaidDecides deciding limit r why) (sym says) is }
 
@@ -55,7 +55,7 @@ same_sent wraps (Some (on.Passwd grip old new verify)) why bytes refuses_so = re
 same_sent wraps (Some (on.DeleteKey grip force)) why bytes refuses_so = refuses_so
 same_sent wraps (Some (on.Bad given)) why bytes refuses_so = refuses_so
 
-module _ (rules : Rules) (kept : Kept) (request : Request) (events : List Event) where
+module _ (rules : Rules) (kept : SessionState) (request : Request) (events : List Event) where
   -- what is due before the request, or decides it among its events
   abbrev Due : Code → Type 0
   Due why = cache_due kept.options request why ⊎ key_due kept.wraps (on_keys request) why
@@ -71,7 +71,7 @@ module _ (rules : Rules) (kept : Kept) (request : Request) (events : List Event)
       let refuses_so = same_sent kept.wraps (on_keys request) why wrapped (subst (λ w. SentRefuses w wrapped why) (sym drawn) wrapped_says) in
       inr (record { event = Inquiry _ [] max_key_data inquired; has = has; decides = subst (λ r. SaidDecides ByRequest max_key_data r why) (sym says) (refl, refuses_so) })
 
-  said_so : (why : Code) (unheard : Unheard) → refusal_code unheard ≡ Some why → IsSaid events unheard → Decided why
+  said_so : (why : Code) (unheard : ClientError) → refusal_code unheard ≡ Some why → IsSaid events unheard → Decided why
   said_so why unheard is says = inr (said_decides ByRequest unheard is says)
 
   -- a request on keys, by which key request it is
@@ -96,7 +96,7 @@ module _ (rules : Rules) (kept : Kept) (request : Request) (events : List Event)
   read_decides : (Owes : Key → Code → Type 0) {grip : Grip} {says : Result Key KeyFault} {why : Code} → ((bytes : List ℕ) → FileSays bytes says → FileRefuses Owes bytes why) → IsRead events grip says
       → IsDecided (by_file kept.wraps.import Owes) events why
   read_decides Owes {grip} refuses_so (read {answer} {file = bytes} is says has) =
-      record { event = Further (Keys (Read grip answer)); has = has; decides = read_refuses Owes answer bytes is (refuses_so bytes says) }
+      record { event = Port (Keys (Read grip answer)); has = has; decides = read_refuses Owes answer bytes is (refuses_so bytes says) }
 
   judges_so : {grip : Grip} {why : Code} {fault : KeyFault} → Judges request grip → IsRead events grip (Err fault) → fault_code fault ≡ why → Decided why
   judges_so (tells is) is_read code_is = decides_so is (read_decides NoFault (λ bytes says. faulty says code_is) is_read)
@@ -108,8 +108,8 @@ module _ (rules : Rules) (kept : Kept) (request : Request) (events : List Event)
       unlocks_so unlocks_it (read_decides IsUnlockable (λ bytes says. owes says (record { fault = fault; closed = closed; is = is_fault; code_is = is })) is_read)
   faulty_so why (key_data says) = data_decides why says
 
-  absent_so : {grip : Grip} → Has (Further (Keys (Read grip key_read.Absent))) events → (Owes : Key → Code → Type 0) → IsDecided (by_file kept.wraps.import Owes) events code.NoSecKey
-  absent_so {grip} has Owes = record { event = Further (Keys (Read grip key_read.Absent)); has = has; decides = refl }
+  absent_so : {grip : Grip} → Has (Port (Keys (Read grip key_read.Absent))) events → (Owes : Key → Code → Type 0) → IsDecided (by_file kept.wraps.import Owes) events code.NoSecKey
+  absent_so {grip} has Owes = record { event = Port (Keys (Read grip key_read.Absent)); has = has; decides = refl }
 
   lacks_so : (asked : Option KeyRequest) → on_keys request ≡ asked → LacksKeys events asked → Decided code.NoSecKey ⊎ ((grips : List Grip) × (on_keys request ≡ Some (on.HaveKey grips)) × AreUnread events grips)
   lacks_so None is none = absurd none
@@ -117,8 +117,8 @@ module _ (rules : Rules) (kept : Kept) (request : Request) (events : List Event)
   lacks_so (Some (on.KeyInfo grip)) is has = inl (decides_so is (absent_so has NoFault))
   lacks_so (Some (on.ExportKey grip nonce)) is has = inl (decides_so is (absent_so has IsUnlockable))
   lacks_so (Some (on.Passwd grip old new verify)) is has = inl (decides_so is (absent_so has IsUnlockable))
-  lacks_so (Some (on.DeleteKey grip force)) is (inl has) = inl (decides_so is (record { event = Further (Keys (Read grip key_read.Absent)); has = has; decides = refl }))
-  lacks_so (Some (on.DeleteKey grip force)) is (inr has) = inl (decides_so is (record { event = Further (Keys (Removed grip key_done.Absent)); has = has; decides = refl }))
+  lacks_so (Some (on.DeleteKey grip force)) is (inl has) = inl (decides_so is (record { event = Port (Keys (Read grip key_read.Absent)); has = has; decides = refl }))
+  lacks_so (Some (on.DeleteKey grip force)) is (inr has) = inl (decides_so is (record { event = Port (Keys (Removed grip key_done.Absent)); has = has; decides = refl }))
   lacks_so (Some on.ListKeys) is none = absurd none
   lacks_so (Some (on.KeyWrap way)) is none = absurd none
   lacks_so (Some (on.ImportKey force nonce)) is none = absurd none
@@ -132,7 +132,7 @@ module _ (rules : Rules) (kept : Kept) (request : Request) (events : List Event)
     by_cause code.NoData cause = no_data cause
     by_cause code.NoSecKey cause = elim (lacks_so (on_keys request) refl cause) [ inl decided ↦ decides code.NoSecKey decided | inr have ↦ none_there have.0 have.1 have.2 ]
     by_cause code.FileExists (there {grip} {file = found} is says named has) =
-        decides code.FileExists (decides_so is (record { event = Further (Keys (Read grip (key_read.Found found))); has = has; decides = refl }))
+        decides code.FileExists (decides_so is (record { event = Port (Keys (Read grip (key_read.Found found))); has = has; decides = refl }))
     by_cause code.Checksum cause = decides code.Checksum (data_decides code.Checksum cause)
     by_cause code.InvSexp cause = decides code.InvSexp (faulty_so code.InvSexp cause)
     by_cause code.BadSecKey (inl cause) = decides code.BadSecKey (faulty_so code.BadSecKey cause)
@@ -143,9 +143,9 @@ module _ (rules : Rules) (kept : Kept) (request : Request) (events : List Event)
     by_cause code.Parameter (causes.IsMalformed.option is) = decides code.Parameter (option_so option_answer.Parameter code.Parameter is refl)
     by_cause code.Parameter (no_import is none) = decides code.Parameter (due_so code.Parameter is (none, refl))
     by_cause code.Parameter (no_export is none) = decides code.Parameter (due_so code.Parameter is (none, refl))
-    by_cause code.TooMuch cause = decides code.TooMuch (said_so code.TooMuch unheard.TooMuch refl cause)
-    by_cause code.Unexpected cause = decides code.Unexpected (said_so code.Unexpected unheard.Unexpected refl cause)
-    by_cause code.LineTooLong cause = decides code.LineTooLong (said_so code.LineTooLong (unheard.Gone gone.TooLong) refl cause)
+    by_cause code.TooMuch cause = decides code.TooMuch (said_so code.TooMuch client_error.TooMuch refl cause)
+    by_cause code.Unexpected cause = decides code.Unexpected (said_so code.Unexpected client_error.Unexpected refl cause)
+    by_cause code.LineTooLong cause = decides code.LineTooLong (said_so code.LineTooLong (client_error.Gone gone.TooLong) refl cause)
     by_cause _ cause = absurd cause
 
   -- ---- requests on the cache and on the session
@@ -174,7 +174,7 @@ module _ (rules : Rules) (kept : Kept) (request : Request) (events : List Event)
 
 -- ---- requests on keys
 
-module _ (one_canon : (file : List ℕ) (a b : Option (List ℕ)) → Canon file a → Canon file b → a ≡ b) (rules : Rules) (kept : Kept) where
+module _ (one_canon : (file : List ℕ) (a b : Option (List ℕ)) → Canon file a → Canon file b → a ≡ b) (rules : Rules) (kept : SessionState) where
   module _ (line : ArrayVec ℕ) (events : List Event) {after : WrapKeys} {went : KeyWent} (exchange : KeyExchange rules kept.options kept.wraps (key_request_of line.items) events after went)
       (remembers : AllByRecursion Remembers events) where
     keys_decide : (why : Code) → Decided rules kept (OnKeys line) events why → HasError why Agent events
@@ -193,7 +193,7 @@ module _ (one_canon : (file : List ℕ) (a b : Option (List ℕ)) → Canon file
 
   -- ---- sessions
 
-  pub cause_answered : (request : Request) {events : List Event} {after : Kept} {went : Went} → RequestExchange rules kept request events after went → AllByRecursion Remembers events → (why : Code)
+  pub cause_answered : (request : Request) {events : List Event} {after : SessionState} {went : Went} → RequestExchange rules kept request events after went → AllByRecursion Remembers events → (why : Code)
       → ExactCause events rules kept request why → HasError why Agent events
   cause_answered request {events} (cache exchange) remembers why cause = cache_cause rules kept request events _ _ exchange remembers why cause
   cause_answered (OnKeys line) {events} (keys exchange) remembers why cause =
@@ -228,7 +228,7 @@ none_behind : {held : Option ℕ} {back : List Event} {file : List ℕ} (line : 
 none_behind line turning.unheld again = none_again line again
 none_behind line (turning.closed turn can) (read_again is_read) = again_said line is_read
 
-module _ (rules : Rules) (before : Kept) where
+module _ (rules : Rules) (before : SessionState) where
   -- MARKTRUSTED, whose file is too long with its new entry
   module _ (fingerprint : Grip) (purpose : TrustPurpose) (name : ArrayVec ℕ) (file : List ℕ) (none : trust file fingerprint.0 ≡ None)
       (many : MAX_TRUST_FILE_LEN < length (with_entry file fingerprint.0 (flag_of purpose))) where
@@ -254,24 +254,24 @@ module _ (rules : Rules) (before : Kept) where
   trust_cause request exchanged remembers code.NotTrusted cause = denial_is_said rules before.options exchanged cause
   trust_cause request exchanged remembers code.Parameter cause =
       trust_answered rules before.options request exchanged remembers code.Parameter (inl (subst (λ r. due_trust r code.Parameter) (sym cause) refl))
-  trust_cause request exchanged remembers code.TooMuch (inquired says) = trust_answered rules before.options request exchanged remembers code.TooMuch (inr (said_decides (by_said None) unheard.TooMuch refl says))
+  trust_cause request exchanged remembers code.TooMuch (inquired says) = trust_answered rules before.options request exchanged remembers code.TooMuch (inr (said_decides (by_said None) client_error.TooMuch refl says))
   trust_cause request {events} {went} exchanged remembers code.TooMuch (too_long {fingerprint} {purpose} {name} {file} is again none many) =
       long_file_answered fingerprint purpose name file none many (subst (λ r. TrustExchange rules before.options r events went) is exchanged) remembers again
   trust_cause request exchanged remembers code.Unexpected cause =
-      trust_answered rules before.options request exchanged remembers code.Unexpected (inr (said_decides (by_said None) unheard.Unexpected refl cause))
+      trust_answered rules before.options request exchanged remembers code.Unexpected (inr (said_decides (by_said None) client_error.Unexpected refl cause))
   trust_cause request exchanged remembers code.LineTooLong cause =
-      trust_answered rules before.options request exchanged remembers code.LineTooLong (inr (said_decides (by_said None) (unheard.Gone gone.TooLong) refl cause))
+      trust_answered rules before.options request exchanged remembers code.LineTooLong (inr (said_decides (by_said None) (client_error.Gone gone.TooLong) refl cause))
   trust_cause request exchanged remembers _ cause = absurd cause
 
   module _ (one_canon : (file : List ℕ) (a b : Option (List ℕ)) → Canon file a → Canon file b → a ≡ b) (line : List ℕ) where
-    trust_allowed : (door : Door) {command : _} {found : TrustCommandName} {events : List Event} {after : Kept} {went : Went} → AllowedExchange rules before line command events after went → door_command door line ≡ command
+    trust_allowed : (door : Door) {command : _} {found : TrustCommandName} {events : List Event} {after : SessionState} {went : Went} → AllowedExchange rules before line command events after went → door_command door line ≡ command
         → trust_command (command_in line) ≡ Some found → TrustExchange rules before.options (trust_request_of line) events went
     trust_allowed door doors.helped is named = absurd (cc (help_is_no_trust door line is, named))
     trust_allowed door doors.unset is named = absurd (cc (terminal_set door line is, not_on_trust line named))
     trust_allowed door (doors.trusts exchanged) is named = exchanged
     trust_allowed door (doors.any exchanged) is named = absurd (cc (other_is_no_trust door line is, named))
 
-    pub door_cause : (door : Door) {events : List Event} {after : Kept} {went : Went} → DoorExchange door rules before line events after went → AllByRecursion Remembers events → (why : Code)
+    pub door_cause : (door : Door) {events : List Event} {after : SessionState} {went : Went} → DoorExchange door rules before line events after went → AllByRecursion Remembers events → (why : Code)
         → ExactCauseAtDoor door rules before line events why → HasError why Agent events
     door_cause door (doors.forbidden refuses) remembers why (forbidden refuses_too) = here
     door_cause door (doors.forbidden refuses) remembers why (on_trust allows named cause) = absurd (cc (refuses, allows))

@@ -4,16 +4,16 @@ use Rattle.{agent_ask.specs.{SessionEvents.said_last, PartExchanges.{answered, r
 use Rattle.agent_commands.specs.declared.request.CacheCommand.{CacheCommand, TheVariants.{Nop, Reset, Bye, Help, SetOption, GetInfo, GetPassphrase, PresetPassphrase, ClearPassphrase, GetConfirmation, ReloadAgent, KillAgent, SetKeyDesc}}
 use Rattle.{agent_commands.specs.declared.{request.Request.{Request, TheVariants.{Cache, Key as OnKeys, Bad}}, went.{SessionEnd.TheVariants.TooLong, Went.{Went, TheVariants.{On, End}}}}, assuan_server.specs.Written.refusal_line}
 use Rattle.{assuan_server.specs.declared.errors.Origin.TheVariants.Agent, key_commands.specs.{Events.Event, Exchanges.KeyExchange, Parts.key_went_after, declared.{request.KeyRequest.KeyRequest, went.KeyWent.KeyWent}}}
-use Rattle.{key_commands.specs.declared.wrap_keys.WrapKeys.WrapKeys, session_client.specs.{Refusals.gone_by, declared.{refusal.Refusal.Refusal, unheard.Gone.Gone}}, session_options.specs.OptionValues.{OptionValues, applied}}
+use Rattle.{key_commands.specs.declared.wrap_keys.WrapKeys.WrapKeys, session_client.specs.{Refusals.gone_by, declared.{refusal.Refusal.Refusal, client_error.Gone.Gone}}, session_options.specs.OptionValues.{OptionValues, applied}}
 use Rattle.{session_options.specs.declared.{options.OptionAnswer.{OptionAnswer, TheVariants.{Set, Unknown, Parameter, NotSupported}}, rules.Rules.Rules}, agent_origin.specs.SessionExchanges.{RequestExchange, cache, keys, went_after_key}}
-use Rattle.agent_origin.specs.declared.kept.Kept.{Kept}
+use Rattle.agent_origin.specs.declared.session_state.SessionState.{SessionState}
 use Rattle.agent_session.{specs.{Causes.here, Completeness.HasError}, proofs.{Standing.has_right, KeyCourses.replies_ok}}
 use Rattle.agent_ask.specs.Parts as chain
 use Rattle.agent_ask.specs.PartExchanges as part_exchanges
 use Rattle.session_client.specs.declared.code.Code.TheVariants as code
 use Rattle.session_client.specs.declared.refusal.Refusal.TheVariants as refusals
-use Rattle.session_client.specs.declared.unheard.Gone.TheVariants as gone
-use Rattle.session_client.specs.declared.unheard.Unheard.TheVariants as unheard
+use Rattle.session_client.specs.declared.client_error.Gone.TheVariants as gone
+use Rattle.session_client.specs.declared.client_error.ClientError.TheVariants as client_error
 
 -- these events end so only where the client was told
 abbrev IsTold : List Event → Went → Type 0
@@ -23,14 +23,14 @@ IsTold events went = went ≡ End TooLong → HasError code.LineTooLong Agent ev
 pub refusal_told : (events back : List Event) (why : Refusal) → went_after (gone_by why) ≡ End TooLong → HasError code.LineTooLong Agent (events ++ (back ++ said_last (refusal_line why)))
 refusal_told events back (refusals.Agent why) is = absurd (cc is)
 refusal_told events back (refusals.Pinentry why) is = absurd (cc is)
-refusal_told events back (refusals.Client unheard.Cancelled) is = absurd (cc is)
-refusal_told events back (refusals.Client unheard.TooMuch) is = absurd (cc is)
-refusal_told events back (refusals.Client unheard.Unexpected) is = absurd (cc is)
-refusal_told events back (refusals.Client (unheard.Gone gone.Ended)) is = absurd (cc is)
-refusal_told events back (refusals.Client (unheard.Gone gone.TooLong)) is = has_right events (has_right back here)
-refusal_told events back (refusals.Client (unheard.Gone gone.Spent)) is = absurd (cc is)
-refusal_told events back (refusals.Client (unheard.Gone gone.ReadFault)) is = absurd (cc is)
-refusal_told events back (refusals.Client (unheard.Gone gone.WriteFault)) is = absurd (cc is)
+refusal_told events back (refusals.Client client_error.Cancelled) is = absurd (cc is)
+refusal_told events back (refusals.Client client_error.TooMuch) is = absurd (cc is)
+refusal_told events back (refusals.Client client_error.Unexpected) is = absurd (cc is)
+refusal_told events back (refusals.Client (client_error.Gone gone.Ended)) is = absurd (cc is)
+refusal_told events back (refusals.Client (client_error.Gone gone.TooLong)) is = has_right events (has_right back here)
+refusal_told events back (refusals.Client (client_error.Gone gone.Spent)) is = absurd (cc is)
+refusal_told events back (refusals.Client (client_error.Gone gone.ReadFault)) is = absurd (cc is)
+refusal_told events back (refusals.Client (client_error.Gone gone.WriteFault)) is = absurd (cc is)
 
 -- ---- requests on the cache and on the session
 
@@ -78,6 +78,6 @@ keys_told rules options wraps asked (part_exchanges.answered events held reply d
     absurd (cc never)
 keys_told rules options wraps asked (part_exchanges.refused events held why {back} does closes) is = refusal_told events back why (sym (same_end (gone_by why)) ∙ is)
 
-pub end_told : {rules : Rules} {kept : Kept} {request : Request} {events : List Event} {after : Kept} {went : Went} → RequestExchange rules kept request events after went → IsTold events went
+pub end_told : {rules : Rules} {kept : SessionState} {request : Request} {events : List Event} {after : SessionState} {went : Went} → RequestExchange rules kept request events after went → IsTold events went
 end_told (cache exchange) is = cache_told _ _ _ _ _ _ exchange is
 end_told (keys exchange) is = keys_told _ _ _ _ exchange is

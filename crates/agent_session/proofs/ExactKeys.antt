@@ -1,6 +1,6 @@
 -- Requests on keys: what decides one is what it is refused by; and HAVEKEY, where the reads of all its keys said that none is there.
 use Rattle.std.{specs.{List.AllByRecursion, Prelude.{drop, map}}, proofs.Common.{◌≡◌, ◌⊎◌, ℕ, Bool, true, false, List, [], Option, Some, None, Result, refl, subst, inl, inr, ◌+◌, ◌<◌, ◌∷◌, ◌++◌, length, Ok, Err, arith, sym, ap}}
-use Rattle.{agent_ask.specs.{Parts.{◌>>=◌, Follows, goes_on, stops, needed}, PartExchanges.{answered, refused}, Further.{Keys, Read}, SessionEvents.{Sent, Further, said_last}, TurnParts.Closes}, agent_ports.specs.declared.grip.Grip.Grip}
+use Rattle.{agent_ask.specs.{Parts.{◌>>=◌, Follows, goes_on, stops, needed}, PartExchanges.{answered, refused}, PortCalls.{Keys, Read}, SessionEvents.{Sent, Port, said_last}, TurnParts.Closes}, agent_ports.specs.declared.grip.Grip.Grip}
 use Rattle.{assuan_server.specs.{Written.{failed, refusal_line}, declared.errors.Origin.TheVariants.Agent as OfAgent}, cache_policy.specs.{Turns.closes, declared.mark.MarkStep.MarkStep}, key_lines.specs.Canon.Canon}
 use Rattle.{session_client.specs.declared.{code.Code.Code, refusal.Refusal.{Refusal, TheVariants.Agent}}, session_options.specs.{OptionValues.OptionValues, declared.rules.Rules.Rules}, sexp_keys.specs.Key.Key}
 use Rattle.key_commands.specs.Events.{Event}
@@ -214,11 +214,11 @@ module _ (one_canon : (file : List ℕ) (a b : Option (List ℕ)) → Canon file
       error_said (deciding_of wraps asked) (replies one_canon rules options wraps asked) why (refusal_line refusal) closes remembers due refl does
 
 unread : Grip → Event
-unread grip = Further (Keys (Read grip key_read.Absent))
+unread grip = Port (Keys (Read grip key_read.Absent))
 
 -- how many reads said that a key isn't there
 abbrev is_absent : Event → ℕ
-is_absent (Further (Keys (Read grip key_read.Absent))) = 1
+is_absent (Port (Keys (Read grip key_read.Absent))) = 1
 is_absent _ = 0
 
 abbrev absents : List Event → ℕ
@@ -229,7 +229,7 @@ absents_append : (first more : List Event) → absents (first ++ more) ≡ absen
 absents_append [] more = omega arith
 absents_append (event ∷ first) more = let e = absents_append first more in omega arith
 
-absents_all : (grips : List Grip) → absents (map (λ grip. Further (Keys (Read grip key_read.Absent))) grips) ≡ length grips
+absents_all : (grips : List Grip) → absents (map (λ grip. Port (Keys (Read grip key_read.Absent))) grips) ≡ length grips
 absents_all [] = refl
 absents_all (grip ∷ more) = let e = absents_all more in omega arith
 
@@ -255,7 +255,7 @@ refused_first (grip ∷ more) before events why after (stops small.no_memory) = 
 -- but as many reads said so
 none_fewer : (grips : List Grip) {whole : List Event} → AreUnread whole grips → absents whole < length grips → ⊥
 none_fewer grips {whole} all fewer =
-    let reads = map (λ grip. Further (Keys (Read grip key_read.Absent))) grips in
+    let reads = map (λ grip. Port (Keys (Read grip key_read.Absent))) grips in
     let parts_are : absents whole ≡ absents (all.before ++ (reads ++ all.after)) = ap absents all.is in
     let first = absents_append all.before (reads ++ all.after) in
     let second = absents_append reads all.after in

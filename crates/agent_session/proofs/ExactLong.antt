@@ -1,14 +1,14 @@
 -- PASSWD of a key whose list is too long is answered Bad secret key, and so is one whose new file is too long.
 use Rattle.std.{specs.{List.AllByRecursion, Prelude.⊤}, proofs.Common.{◌≡◌, ◌<◌, ◌∙◌, ℕ, Bool, true, false, List, [], ◌∷◌, ◌++◌, length, Option, Some, None, Result, Ok, Err, arith, refl, sym, ap, subst, inl, inr, ◌⊎◌}}
-use Rattle.agent_ask.specs.{Events.{PromptEvent, Called, OutOfMemory, GetPin}, Further.{Prompt, Keys, Read, Dice, Drew}, Interrupts.Interrupts, Parts.{◌>>=◌, goes_on, stops, returns}, Prompts.{AsksPin, AsksBefore, Tries, IsTry, Repeats}}
-use Rattle.agent_ask.specs.{SessionEvents.{CacheTurn, Further, cache_turn, said_last}, SessionPrompts.AnyInSession, TurnParts.Closes, declared.{ask.Asked.Asked, prompter.Outcome.Outcome, spec.{AskPlan.AskPlan, PromptSpec.PromptSpec}}}
+use Rattle.agent_ask.specs.{Events.{PromptEvent, Called, OutOfMemory, GetPin}, PortCalls.{Prompt, Keys, Read, Dice, Drew}, Interrupts.Interrupts, Parts.{◌>>=◌, goes_on, stops, returns}, Prompts.{AsksPin, AsksBefore, Tries, IsTry, Repeats}}
+use Rattle.agent_ask.specs.{SessionEvents.{CacheTurn, Port, cache_turn, said_last}, SessionPrompts.AnyInSession, TurnParts.Closes, declared.{ask.Asked.Asked, prompter.Outcome.Outcome, spec.{AskPlan.AskPlan, PromptSpec.PromptSpec}}}
 use Rattle.{agent_ports.specs.declared.{grip.Grip.Grip, keys.KeyRead.KeyRead}, assuan_server.specs.{Clients.session_lines, Written.{failed, refusal_line}, declared.errors.Origin.TheVariants.Agent as OfAgent}}
 use Rattle.{cache_policy.specs.{Turns.{Turn, Given, Done}, declared.{mark.{MarkStep.{MarkStep, TheVariants.{Ask, Put}}, Way.TheVariants.Quiet}, mode.Mode.TheVariants.{Normal, Nonce}}}, key_lines.specs.Canon.Canon}
 use Rattle.{secret_file.specs.Opens.LockedKey, session_client.specs.declared.{code.Code.Code, refusal.Refusal.Refusal}, session_options.specs.{OptionValues.OptionValues, declared.{options.PinMode.PinMode, rules.Rules.Rules}}}
 use Rattle.{sexp_keys.specs.{Key.Key, Lists.key_list_of}, agent_commands.specs.declared.request.Request.Request, key_commands.specs.Events.Event}
 use Rattle.key_commands.specs.{Exchanges.{KeyReply, KeyExchange, PasswdReplies, RenewsPassphrase, RewritesFile, ChangesOpened}, Files.FileSays, KeyParts.{ReadsFile, file_in}, Lines.grip_text}
 use Rattle.key_commands.specs.{Passphrases.{OpensBy, PromptsOld, ClientOld, UncachedOld, CachedOld, OpensLocked, OldPassphrase, TakesSeat, old_by, put_key}, declared.{wrapping.TheConstants.MAX_LIST_LEN, request.KeyRequest.KeyRequest}}
-use Rattle.{key_commands.{specs.declared.{went.KeyWent.KeyWent, wrap_keys.WrapKeys.WrapKeys}, proofs.EachEvent.each_append}, agent_origin.specs.declared.kept.Kept.Kept}
+use Rattle.{key_commands.{specs.declared.{went.KeyWent.KeyWent, wrap_keys.WrapKeys.WrapKeys}, proofs.EachEvent.each_append}, agent_origin.specs.declared.session_state.SessionState.SessionState}
 use Rattle.agent_session.specs.{Causes.{Has, here, IsRead, read, IsReadOf, read_of, IsDrawn, protected, OpensRead, of_change, on_keys, StandIn, changed, changes}, Completeness.{HasError, Remembers}}
 use Rattle.agent_session.{specs.Exactly.{OpensIt, IsOpened, clear, by_nonce, cached, typed, given, HasLongList, HasLongFile, IsLong, long, long_file}, proofs.ImportCourses.some_key}
 use Rattle.agent_session.proofs.{ExactParts.{Deciding, IsDecided, IsFree, NoneOwed, SaysTo, answer_free, decided_before, said_error}, ExactReads.{by_file, reads_file, read_refuses, owes}, KeyRequests.old_passphrase}
@@ -47,7 +47,7 @@ module _ (Vain : List ℕ → Type 0) where
 
   abbrev IsVain : Event → Type 0
   IsVain (CacheTurn taken) = VainTurn taken.asked taken.turn
-  IsVain (Further (Prompt event)) = VainPrompt event
+  IsVain (Port (Prompt event)) = VainPrompt event
   IsVain event = ⊤
 
   shown_vain : {prompt : List PromptEvent} {shown : List Event} → AnyInSession session_lines prompt shown → AllByRecursion VainPrompt prompt → AllByRecursion IsVain shown
@@ -237,7 +237,7 @@ module _ (rules : Rules) (options : OptionValues) (grip : Grip) (whole : List Ev
 -- ---- draws
 
 abbrev IsUndrawn : Event → Type 0
-IsUndrawn (Further (Dice (Drew bytes))) = ⊥
+IsUndrawn (Port (Dice (Drew bytes))) = ⊥
 IsUndrawn event = ⊤
 
 undrawn_keys : FitsKeys IsUndrawn
@@ -285,7 +285,7 @@ behind_of {held} {back} line closes = record {
 }
 
 -- what the file says decides what follows
-module _ (rules : Rules) (kept : Kept) (grip : Grip) (new : Option (List ℕ)) (file : List ℕ) (key : Key) where
+module _ (rules : Rules) (kept : SessionState) (grip : Grip) (new : Option (List ℕ)) (file : List ℕ) (key : Key) where
   changed_long : (before : Option ℕ) (events : List Event) (result : Result (Unit {0}) Refusal) (after : Option ℕ) → ChangesOpened rules kept.options grip new file key before events result after
       → MAX_LIST_LEN < length (key_list_of key) → SaysTo NoneOwed result code.BadSecKey
   changed_long _ _ _ _ (stops (parts.long much)) many = refl
@@ -321,7 +321,7 @@ module _ (rules : Rules) (kept : Kept) (grip : Grip) (new : Option (List ℕ)) (
         renewed : WorksSo IsUndrawn (RenewsPassphrase rules kept.options grip new)
         renewed = bind IsUndrawn (looks_nonce undrawn_keys new) (λ found. or_otherwise IsUndrawn found (new_here undrawn_keys rules kept.options grip kept.options.mode))
 
-module _ (one_canon : (file : List ℕ) (a b : Option (List ℕ)) → Canon file a → Canon file b → a ≡ b) (rules : Rules) (kept : Kept) (request : Request) (grip : Grip) (old new : Option (List ℕ))
+module _ (one_canon : (file : List ℕ) (a b : Option (List ℕ)) → Canon file a → Canon file b → a ≡ b) (rules : Rules) (kept : SessionState) (request : Request) (grip : Grip) (old new : Option (List ℕ))
     (asked_so : on_keys request ≡ Some (on.Passwd grip old new false)) (whole more : List Event) (behind : Behind more) where
   stands_in : {events : List Event} → whole ≡ events ++ more → StandIn events whole
   stands_in is = record { before = []; after = more; is = is }
@@ -342,18 +342,18 @@ module _ (one_canon : (file : List ℕ) (a b : Option (List ℕ)) → Canon file
       decided_by (read {answer} {file} found says has) =
           reads_file one_canon None IsDue grip None events (Err why) after does remembers code.BadSecKey
           (inr (decided_before ByRead events more behind.free
-          (subst (λ w. IsDecided ByRead w code.BadSecKey) is (record { event = Further (Keys (Read grip answer)); has = has; decides = read_refuses IsDue answer file found (owes says refl) }))))
+          (subst (λ w. IsDecided ByRead w code.BadSecKey) is (record { event = Port (Keys (Read grip answer)); has = has; decides = read_refuses IsDue answer file found (owes says refl) }))))
 
   -- the run of a request, whose file was read
-  module _ {answer : KeyRead} {file : List ℕ} {key : Key} (found : file_in answer ≡ Some file) (says : FileSays file (Ok key)) (rest : List Event) (is : whole ≡ Further (Keys (Read grip answer)) ∷ (rest ++ more)) where
-    has_read : Has (Further (Keys (Read grip answer))) whole
-    has_read = subst (λ w. Has (Further (Keys (Read grip answer))) w) (sym is) here
+  module _ {answer : KeyRead} {file : List ℕ} {key : Key} (found : file_in answer ≡ Some file) (says : FileSays file (Ok key)) (rest : List Event) (is : whole ≡ Port (Keys (Read grip answer)) ∷ (rest ++ more)) where
+    has_read : Has (Port (Keys (Read grip answer))) whole
+    has_read = subst (λ w. Has (Port (Keys (Read grip answer))) w) (sym is) here
 
     is_read : IsRead whole grip (Ok key)
     is_read = read found says has_read
 
     rest_stands : StandIn rest whole
-    rest_stands = stand_right (Further (Keys (Read grip answer)) ∷ []) rest (stands_in is)
+    rest_stands = stand_right (Port (Keys (Read grip answer)) ∷ []) rest (stands_in is)
 
     opens_read : (before after : Option ℕ) (second third : List Event) (opened : _) → rest ≡ second ++ third → OldPassphrase rules kept.options grip old key before second (Ok opened) after
         → OpensRead whole rules kept.options request grip opened.key
@@ -370,7 +370,7 @@ module _ (one_canon : (file : List ℕ) (a b : Option (List ℕ)) → Canon file
       unread_long does is remembers (opened_clear (unopened_all is (record { vain = λ pass. ⊥; each = reads_vain (λ pass. ⊥) does; never = λ pass opens none. none })) opened)
   passwd_long _ _ _ (goes_on (parts.is_key {answer} {key} found says) (stops {first = second} does)) is remembers opened long_so =
       let unopened = old_unopened rules kept.options grip whole key (is_read found says _ is) old key.is_clear _ _ _ _ does remembers.1 in
-      let one = opened_clear (unopened_all {events = Further (Keys (Read grip answer)) ∷ second} is (record { vain = unopened.1.vain; each = (tt, unopened.1.each); never = unopened.1.never })) opened in
+      let one = opened_clear (unopened_all {events = Port (Keys (Read grip answer)) ∷ second} is (record { vain = unopened.1.vain; each = (tt, unopened.1.each); never = unopened.1.never })) opened in
       let all_clear : key.is_clear ≡ true = one.all_clear key (is_read found says _ is) in
       absurd (cc (unopened.0, all_clear))
   passwd_long _ _ _ (goes_on (parts.is_key {file} found says) (goes_on {value = opened_key} old_does (stops does))) is remembers opened long_so =
@@ -386,12 +386,12 @@ module _ (one_canon : (file : List ℕ) (a b : Option (List ℕ)) → Canon file
   unfolding PasswdReplies
   passwd_long_file _ _ _ _ (stops does) is remembers drawn long_so = absurd (drawn_none _ is (each_fits IsUndrawn tt (work.reads_file IsUndrawn tt (λ answer. tt) _ _ _ _ does).0) drawn)
   passwd_long_file _ _ _ _ (goes_on (parts.is_key {answer} {key} found says) (stops {first = second} does)) is remembers drawn long_so =
-      absurd (drawn_none (Further (Keys (Read grip answer)) ∷ second) is (tt, each_fits IsUndrawn tt ((old_here undrawn_keys rules kept.options grip (λ pass turn. tt) old key key.is_clear).of _ _ _ _ does)) drawn)
+      absurd (drawn_none (Port (Keys (Read grip answer)) ∷ second) is (tt, each_fits IsUndrawn tt ((old_here undrawn_keys rules kept.options grip (λ pass turn. tt) old key key.is_clear).of _ _ _ _ does)) drawn)
   passwd_long_file _ _ _ _ (goes_on (parts.is_key {answer} {file} {key} found says) (goes_on {first = second} {events = third} {value = opened_key} old_does (stops does))) is remembers drawn long_so =
       let opens = opens_read found says _ is _ _ _ _ _ refl old_does in
       elim (changes_long rules kept grip new file opened_key.key whole request (read_of found (has_read found says _ is)) opens long_so _ _ _ _ does
       (stand_right second third (rest_stands found says _ is)) (each_right Remembers second third remembers.1)) [
-        | inl undrawn ↦ absurd (drawn_none (Further (Keys (Read grip answer)) ∷ (second ++ third)) is
+        | inl undrawn ↦ absurd (drawn_none (Port (Keys (Read grip answer)) ∷ (second ++ third)) is
             (tt, each_append IsUndrawn second third (each_fits IsUndrawn tt ((old_here undrawn_keys rules kept.options grip (λ pass turn. tt) old key key.is_clear).of _ _ _ _ old_does)) undrawn) drawn)
         | inr so ↦ so
       ]
@@ -399,7 +399,7 @@ module _ (one_canon : (file : List ℕ) (a b : Option (List ℕ)) → Canon file
       let opens = opens_read found says _ is _ _ _ _ _ refl old_does in
       elim (changes_long rules kept grip new file opened_key.key whole request (read_of found (has_read found says _ is)) opens long_so _ _ _ _ does
       (stand_left third [] (stand_right second (third ++ []) (rest_stands found says _ is))) (each_left Remembers third [] (each_right Remembers second (third ++ []) remembers.1))) [
-        | inl undrawn ↦ absurd (drawn_none (Further (Keys (Read grip answer)) ∷ (second ++ (third ++ []))) is (
+        | inl undrawn ↦ absurd (drawn_none (Port (Keys (Read grip answer)) ∷ (second ++ (third ++ []))) is (
           tt,
           each_append IsUndrawn second (third ++ []) (each_fits IsUndrawn tt ((old_here undrawn_keys rules kept.options grip (λ pass turn. tt) old key key.is_clear).of _ _ _ _ old_does))
               (each_append IsUndrawn third [] undrawn tt),
@@ -409,7 +409,7 @@ module _ (one_canon : (file : List ℕ) (a b : Option (List ℕ)) → Canon file
 
 -- ---- the answer
 
-module _ (one_canon : (file : List ℕ) (a b : Option (List ℕ)) → Canon file a → Canon file b → a ≡ b) (rules : Rules) (kept : Kept) (request : Request) where
+module _ (one_canon : (file : List ℕ) (a b : Option (List ℕ)) → Canon file a → Canon file b → a ≡ b) (rules : Rules) (kept : SessionState) (request : Request) where
   pub long_answered : {asked_for : KeyRequest} {events : List Event} {after : WrapKeys} {went : KeyWent} → on_keys request ≡ Some asked_for → KeyExchange rules kept.options kept.wraps asked_for events after went
       → AllByRecursion Remembers events → IsLong events rules kept request → HasError code.BadSecKey OfAgent events
   long_answered {events = whole} {after} {went} same exchanged remembers (long {grip} {old} {new} is opened long_list) =

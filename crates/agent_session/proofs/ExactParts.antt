@@ -1,9 +1,9 @@
 -- Parts of a request: what decides the request among their events is what they are refused by.
 use Rattle.std.{specs.{List.AllByRecursion, Option.option_map}, proofs.Common.{◌≡◌, ◌≢◌, ◌∙◌, ◌⊎◌, ℕ, List, [], ◌∷◌, ◌++◌, Option, Some, None, Result, Ok, Err, arith, refl, sym, ap, subst, inl, inr}}
-use Rattle.agent_ask.specs.{Further.{Keys, Read, Removed, Trust}, Parts.{◌>>=◌, Refuses, refuses as refusing, returns, needed, or_else}, SessionEvents.{Received, Sent, Cut, Inquiry, CacheTurn, Further, said_last}, TrustCalls.TrustCall, TurnParts.Closes}
+use Rattle.agent_ask.specs.{PortCalls.{Keys, Read, Removed, Trust}, Parts.{◌>>=◌, Refuses, refuses as refusing, returns, needed, or_else}, SessionEvents.{Received, Sent, Cut, Inquiry, CacheTurn, Port, said_last}, TrustCalls.TrustCall, TurnParts.Closes}
 use Rattle.{agent_ask.{specs.ClientParts.Inquires, proofs.Within.Joins}, agent_ports.specs.declared.{grip.Grip.Grip, keys.{KeyDone.KeyDone, KeyRead.KeyRead}}}
 use Rattle.{assuan_server.specs.{Clients.session_lines, Written.{failed, refusal_line}, declared.errors.Origin.TheVariants.Agent as OfAgent}, cache_policy.specs.declared.secret.TheConstants.MAX_SECRET_LEN}
-use Rattle.session_client.specs.{Asking.said_by, Refusals.refusal_code, declared.{client.TheConstants.MAX_NOTE_LEN, code.Code.Code, refusal.Refusal.{Refusal, TheVariants.{Agent, Client}}, unheard.Unheard.Unheard}}
+use Rattle.session_client.specs.{Asking.said_by, Refusals.refusal_code, declared.{client.TheConstants.MAX_NOTE_LEN, code.Code.Code, refusal.Refusal.{Refusal, TheVariants.{Agent, Client}}, client_error.ClientError.ClientError}}
 use Rattle.key_commands.{specs.{Lines.max_key_data, Events.Event, Parts.Part}, proofs.EachEvent.each_answer}
 use Rattle.agent_session.{specs.{Causes.{Has, here, later}, Completeness.{Remembers, HasError}, Refusals.{refuses, shuts}}, proofs.{CacheWorks.FitsCache, Explained.has_split, KeyWorks.FitsKeys}}
 use Rattle.agent_session.proofs.{Standing.{each_left, each_right, each_has, has_right}, Works.{unsaid, unheard_by, GoesOn, WorkEnd, no_more, refused, lost, forgot, WorksTo, WorksSo, shuts_fit}}
@@ -18,16 +18,16 @@ pub record Deciding : Type 1 where
   pub trust : TrustCall → Code → Type 0
 
 module _ (deciding : Deciding) where
-  abbrev pub SaidDecides : ℕ → Result (List ℕ) Unheard → Code → Type 0
+  abbrev pub SaidDecides : ℕ → Result (List ℕ) ClientError → Code → Type 0
   SaidDecides limit (Ok bytes) why = (limit ≡ max_key_data) × deciding.sent bytes why
   SaidDecides limit (Err unheard) why = refusal_code unheard ≡ Some why
 
   -- an event by which a request is refused by this code: what the client said, too
   abbrev pub Decides : Event → Code → Type 0
   Decides (Inquiry word params limit inquired) why = SaidDecides limit (said_by session_lines inquired) why
-  Decides (Further (Keys (Read grip answer))) why = deciding.reads grip answer why
-  Decides (Further (Keys (Removed grip answer))) why = deciding.removed answer why
-  Decides (Further (Trust call)) why = deciding.trust call why
+  Decides (Port (Keys (Read grip answer))) why = deciding.reads grip answer why
+  Decides (Port (Keys (Removed grip answer))) why = deciding.removed answer why
+  Decides (Port (Trust call)) why = deciding.trust call why
   Decides _ why = ⊥
 
   pub record IsDecided (events : List Event) (why : Code) : Type 0 where
@@ -105,7 +105,7 @@ module _ (deciding : Deciding) where
   pub free : (why : Code) → ⊥ → ⊥
   free why none = none
 
-  not_said : (limit : ℕ) (why : Code) (said : Result (List ℕ) Unheard) → limit ≢ max_key_data → unsaid said ≡ None → SaidDecides deciding limit said why → ⊥
+  not_said : (limit : ℕ) (why : Code) (said : Result (List ℕ) ClientError) → limit ≢ max_key_data → unsaid said ≡ None → SaidDecides deciding limit said why → ⊥
   not_said limit why (Ok bytes) other heard decides = other (decides.0)
   not_said limit why (Err unheard) other heard decides = absurd (cc heard)
 
@@ -115,7 +115,7 @@ module _ (deciding : Deciding) where
   goes_free (Sent text) goes why decides = decides
   goes_free (Cut text) goes why decides = decides
   goes_free (CacheTurn taken) goes why decides = decides
-  goes_free (Further what) goes why decides = goes.0 why decides
+  goes_free (Port what) goes why decides = goes.0 why decides
 
   each_free : (events : List Event) → AllByRecursion (GoesOn IsSaidAlone) events → AllByRecursion (IsFree deciding) events
   each_free [] each = tt
@@ -127,19 +127,19 @@ module _ (deciding : Deciding) where
   refused_free (Sent text) fits is = free
   refused_free (Cut text) fits is = free
   refused_free (CacheTurn taken) fits is = free
-  refused_free (Further what) fits is = fits
+  refused_free (Port what) fits is = fits
 
-  said_lost : (limit : ℕ) {unheard : Unheard} {why : Code} (said : Result (List ℕ) Unheard) → unsaid said ≡ Some unheard → SaidDecides deciding limit said why → refusal_code unheard ≡ Some why
+  said_lost : (limit : ℕ) {unheard : ClientError} {why : Code} (said : Result (List ℕ) ClientError) → unsaid said ≡ Some unheard → SaidDecides deciding limit said why → refusal_code unheard ≡ Some why
   said_lost limit (Ok bytes) is decides = absurd (cc is)
   said_lost limit {unheard} {why} (Err given) is decides = let same : given ≡ unheard = cc is in subst (λ u. refusal_code u ≡ Some why) same decides
 
-  lost_by : (event : Event) {unheard : Unheard} {why : Code} → IsSaidAlone event → unheard_by event ≡ Some unheard → Decides deciding event why → refusal_code unheard ≡ Some why
+  lost_by : (event : Event) {unheard : ClientError} {why : Code} → IsSaidAlone event → unheard_by event ≡ Some unheard → Decides deciding event why → refusal_code unheard ≡ Some why
   lost_by (Inquiry word params limit inquired) fits is decides = said_lost limit (said_by session_lines inquired) is decides
   lost_by (Received took) fits is decides = absurd decides
   lost_by (Sent text) fits is decides = absurd decides
   lost_by (Cut text) fits is decides = absurd decides
   lost_by (CacheTurn taken) fits is decides = absurd decides
-  lost_by (Further what) {unheard} {why} fits is decides = absurd (fits why decides)
+  lost_by (Port what) {unheard} {why} fits is decides = absurd (fits why decides)
 
   module _ {A : Type 0} (Owed : A → Code → Type 0) where
     end_says : {last : List Event} {result : Result A Refusal} (why : Code) → WorkEnd IsSaidAlone last result → AllByRecursion Remembers last → IsDecided deciding last why → SaysTo Owed result why

@@ -1,17 +1,17 @@
 -- Parts of a request on keys each of whose refusals has its cause among the events of the request.
 use Rattle.std.{specs.{List.AllByRecursion, Prelude.{⊤, ◌<◌, ◌^◌}}, proofs.Common.{◌≡◌, ℕ, Bool, true, false, List, ◌∷◌, Option, Some, None, Result, Ok, Err, refl}}
-use Rattle.agent_ask.specs.{Further.{FurtherEvent, Keys, Read, Dice, NotDrawn, NoMemory}, SessionEvents.{Further, cache_turn}, ClientParts.{Writes, Inquires, AsksClient}, Parts.{◌>>=◌, Returns, returns, Refuses, refuses, needed, or_else, unless, wanted}}
+use Rattle.agent_ask.specs.{PortCalls.{PortCall, Keys, Read, Dice, NotDrawn, NoMemory}, SessionEvents.{Port, cache_turn}, ClientParts.{Writes, Inquires, AsksClient}, Parts.{◌>>=◌, Returns, returns, Refuses, refuses, needed, or_else, unless, wanted}}
 use Rattle.{agent_ask.{specs.{Interrupts.Interrupts, TurnParts.{Asks, Seats, Changes, Peeks, Closes}}, proofs.Within.Joins}, agent_ports.specs.declared.grip.Grip.Grip}
-use Rattle.{session_client.specs.declared.{code.Code.Code, unheard.Unheard.Unheard, refusal.Refusal.{Refusal, TheVariants.{Agent, Pinentry, Client}}}, assuan_server.specs.{Clients.session_lines, declared.errors.Origin.Origin}}
+use Rattle.{session_client.specs.declared.{code.Code.Code, client_error.ClientError.ClientError, refusal.Refusal.{Refusal, TheVariants.{Agent, Pinentry, Client}}}, assuan_server.specs.{Clients.session_lines, declared.errors.Origin.Origin}}
 use Rattle.{assuan_server.specs.{declared.errors.Origin.TheVariants.{Agent as OfAgent, Pinentry as OfPinentry}, Written.limit_line}, cache_policy.specs.declared.{mode.Mode.TheVariants.Normal, grant.Grant.Grant, mark.MarkStep.MarkStep}}
 use Rattle.{cache_policy.specs.Turns.{Turn, Refused, closes, Given, Empty, Open}, session_options.specs.declared.rules.Rules.Rules, agent_commands.specs.{Events.EventWith, declared.request.Request.Request}}
-use Rattle.{key_commands.{specs.{Parts.{Part, Finds, Draws}, Lines.grip_text}, proofs.EachEvent.each_append}, agent_origin.specs.declared.kept.Kept.Kept}
+use Rattle.{key_commands.{specs.{Parts.{Part, Finds, Draws}, Lines.grip_text}, proofs.EachEvent.each_append}, agent_origin.specs.declared.session_state.SessionState.SessionState}
 use Rattle.agent_session.{specs.{Causes.{Has, StandIn, IsCaused, IsSaid, said, IsSent, sent, IsUnread, IsDrawn, one, turned, by_stop, GivesNone, none_given}, Completeness.{AnswersNothing, IsStatus}}, proofs.Asides.limit_status}
 use Rattle.agent_session.proofs.Standing.{has_first, has_second, stand_left, stand_right}
 use Rattle.agent_ports.specs.declared.keys.KeyRead.TheVariants as key_read
 use Rattle.session_client.specs.declared.code.Code.TheVariants as code
-use Rattle.session_client.specs.declared.unheard.Gone.TheVariants as gone
-use Rattle.session_client.specs.declared.unheard.Unheard.TheVariants as unheard
+use Rattle.session_client.specs.declared.client_error.Gone.TheVariants as gone
+use Rattle.session_client.specs.declared.client_error.ClientError.TheVariants as client_error
 use Rattle.agent_ask.proofs.Within as within
 use Rattle.agent_ask.specs.Interrupts as turns
 use Rattle.agent_ask.specs.TurnParts as taken
@@ -23,12 +23,12 @@ abbrev pub Anything : {A : Type 0} → A → Type 0
 Anything value = ⊤
 
 -- the client said this, or the text that it was to be sent couldn't be written
-pub data ClientSays (whole : List (EventWith FurtherEvent)) : Unheard → Type 0 where
-  cut : ClientSays whole (unheard.Gone gone.WriteFault)
-  client_said : {why : Unheard} → IsSaid whole why → ClientSays whole why
+pub data ClientSays (whole : List (EventWith PortCall)) : ClientError → Type 0 where
+  cut : ClientSays whole (client_error.Gone gone.WriteFault)
+  client_said : {why : ClientError} → IsSaid whole why → ClientSays whole why
 
 -- what causes a code, of this origin
-module _ (whole : List (EventWith FurtherEvent)) (Causes : Code → Origin → Type 0) where
+module _ (whole : List (EventWith PortCall)) (Causes : Code → Origin → Type 0) where
   abbrev pub CausedRefusal : Refusal → Type 0
   CausedRefusal (Agent why) = Causes why OfAgent
   CausedRefusal (Pinentry why) = Causes why OfPinentry
@@ -43,7 +43,7 @@ module _ (whole : List (EventWith FurtherEvent)) (Causes : Code → Origin → T
   any_value Good (Ok value) good = tt
   any_value Good (Err why) caused = caused
 
-  pub record Comes {A : Type 0} (Good : A → Type 0) (events : List (EventWith FurtherEvent)) (result : Result A Refusal) : Type 0 where
+  pub record Comes {A : Type 0} (Good : A → Type 0) (events : List (EventWith PortCall)) (result : Result A Refusal) : Type 0 where
     pub silent : AllByRecursion AnswersNothing events
     pub explained : IsExplained Good result
 
@@ -52,9 +52,9 @@ module _ (whole : List (EventWith FurtherEvent)) (Causes : Code → Origin → T
   ExplainLaw Good before events result after = StandIn events whole → Comes Good events result
 
   abbrev pub Explains : {A : Type 0} → Part A → (A → Type 0) → Type 0
-  Explains {A} part Good = (before : Option ℕ) (events : List (EventWith FurtherEvent)) (result : Result A Refusal) (after : Option ℕ) → part before events result after → ExplainLaw Good before events result after
+  Explains {A} part Good = (before : Option ℕ) (events : List (EventWith PortCall)) (result : Result A Refusal) (after : Option ℕ) → part before events result after → ExplainLaw Good before events result after
 
-module _ {whole : List (EventWith FurtherEvent)} {Causes : Code → Origin → Type 0} where
+module _ {whole : List (EventWith PortCall)} {Causes : Code → Origin → Type 0} where
   -- a part, and then what follows on its value
   explained_join : {A B : Type 0} {First : A → Type 0} {Good : B → Type 0} → Joins (ExplainLaw whole Causes First) (λ value before events result after. First value → ExplainLaw whole Causes Good before events result after)
       (ExplainLaw whole Causes Good)
@@ -104,21 +104,21 @@ module _ {whole : List (EventWith FurtherEvent)} {Causes : Code → Origin → T
     closes_explained before events result after taken.unheld stands = record { silent = tt; explained = tt }
     closes_explained before events result after (taken.closed turn can) stands = record { silent = (tt, tt); explained = tt }
 
-module _ (rules : Rules) (kept : Kept) (request : Request) (whole : List (EventWith FurtherEvent)) where
+module _ (rules : Rules) (kept : SessionState) (request : Request) (whole : List (EventWith PortCall)) where
   abbrev pub Caused : Code → Type 0
   Caused why = IsCaused whole rules kept request why OfAgent
 
   -- ---- wants of memory
 
-  pub out_of_memory_first : {more : List (EventWith FurtherEvent)} → StandIn (Further NoMemory ∷ more) whole → Caused code.NoMemory
-  out_of_memory_first stands = one (Further NoMemory) tt (has_first stands)
+  pub out_of_memory_first : {more : List (EventWith PortCall)} → StandIn (Port NoMemory ∷ more) whole → Caused code.NoMemory
+  out_of_memory_first stands = one (Port NoMemory) tt (has_first stands)
 
-  pub out_of_memory_second : {first : EventWith FurtherEvent} {more : List (EventWith FurtherEvent)} → StandIn (first ∷ Further NoMemory ∷ more) whole → Caused code.NoMemory
-  out_of_memory_second stands = one (Further NoMemory) tt (has_second stands)
+  pub out_of_memory_second : {first : EventWith PortCall} {more : List (EventWith PortCall)} → StandIn (first ∷ Port NoMemory ∷ more) whole → Caused code.NoMemory
+  out_of_memory_second stands = one (Port NoMemory) tt (has_second stands)
 
   -- ---- turns
 
-  pub interrupts : (step : MarkStep) → closes step ≡ None → {turn : Turn} {why : Code} {more : List (EventWith FurtherEvent)} → Interrupts turn why → StandIn (cache_turn step turn ∷ more) whole
+  pub interrupts : (step : MarkStep) → closes step ≡ None → {turn : Turn} {why : Code} {more : List (EventWith PortCall)} → Interrupts turn why → StandIn (cache_turn step turn ∷ more) whole
       → Caused why
   interrupts step keeps turns.refused stands = one (cache_turn step Refused) refl (has_first stands)
   interrupts step keeps turns.stopping stands = by_stop (turned step keeps (has_first stands))
@@ -168,7 +168,7 @@ module _ (rules : Rules) (kept : Kept) (request : Request) (whole : List (EventW
 
   -- whether a read found it
   abbrev pub IsFound : Grip → Bool → Type 0
-  IsFound grip true = (file : _) × Has (Further (Keys (Read grip (key_read.Found file)))) whole
+  IsFound grip true = (file : _) × Has (Port (Keys (Read grip (key_read.Found file)))) whole
   IsFound grip false = IsUnread whole grip
 
   module _ (grip : Grip) where
@@ -181,4 +181,4 @@ module _ (rules : Rules) (kept : Kept) (request : Request) (whole : List (EventW
   module _ (count : ℕ) where
     pub draws : Explains whole (IsCaused whole rules kept request) (Draws count) (IsDrawn whole count)
     draws before events result after (parts.drawn long) stands = record { silent = (tt, tt); explained = record { long = long; has = has_first stands } }
-    draws before events result after parts.faulted stands = record { silent = (tt, tt); explained = one (Further (Dice (NotDrawn count))) tt (has_first stands) }
+    draws before events result after parts.faulted stands = record { silent = (tt, tt); explained = one (Port (Dice (NotDrawn count))) tt (has_first stands) }

@@ -1,13 +1,13 @@
 -- What an IMPORT_KEY hands to the cache, in its order.
 use Rattle.std.{specs.Prelude.drop, proofs.Common.{◌≡◌, ◌⊎◌, ℕ, Bool, List, [], ◌∷◌, ◌++◌, length, inl, inr, Option, Some, None, Result, Ok, Err, refl, sym, ap, ◌∙◌, subst, append_assoc}}
-use Rattle.agent_ask.{specs.{Further.{FurtherEvent, Replaced}, SessionEvents.{Sent, CacheTurn, cache_turn, said_last}, Parts.{◌>>=◌, goes_on, stops}, TurnParts.Closes}, proofs.Within.{Within, Does, does_join, bind}}
+use Rattle.agent_ask.{specs.{PortCalls.{PortCall, Replaced}, SessionEvents.{Sent, CacheTurn, cache_turn, said_last}, Parts.{◌>>=◌, goes_on, stops}, TurnParts.Closes}, proofs.Within.{Within, Does, does_join, bind}}
 use Rattle.{agent_ports.specs.declared.{grip.Grip.Grip, keys.KeyDone.KeyDone}, assuan_escape.specs.Escapes.hex_text, cache_policy.specs.{Turns.Turn, declared.{life.Life.Life, mark.MarkStep.{MarkStep, TheVariants.{Close, Put}}}}}
 use Rattle.{cache_policy.specs.declared.mode.Mode.TheVariants.Nonce, session_client.specs.declared.{code.Code.Code, refusal.Refusal.{Refusal, TheVariants.Agent}}, session_options.specs.OptionValues.OptionValues}
 use Rattle.{session_options.specs.declared.{options.PinMode.PinMode, rules.Rules.Rules}, sexp_keys.specs.Key.Key, agent_commands.specs.{Events.EventWith, declared.request.Request.{Request, TheVariants.{Cache, Key as OnKeys, Bad}}}}
 use Rattle.{agent_commands.specs.declared.went.Went.Went, key_commands.specs.{Events.{drew, called}, Exchanges.{KeyExchange, ImportKeyReplies, StoresKey, FoundOrNew}, KeyParts.change_fault, Parts.{Part, refusal_events}}}
 use Rattle.key_commands.specs.{Passphrases.put_key, declared.{request.KeyRequest.KeyRequest, went.KeyWent.KeyWent, wrap_keys.WrapKeys.WrapKeys}}
 use Rattle.key_commands.proofs.EachEvent.{each_answer, each_returned, each_append, EachSo, each_bind, each_refused, each_needed, each_otherwise, receives_key, names_key, is_free, looks_over, takes_seat, prompts_new, client_new}
-use Rattle.{assuan_server.specs.Written.refusal_line, agent_origin.specs.{SessionExchanges.{RequestExchange, cache, keys}, declared.kept.Kept.Kept}}
+use Rattle.{assuan_server.specs.Written.refusal_line, agent_origin.specs.{SessionExchanges.{RequestExchange, cache, keys}, declared.session_state.SessionState.SessionState}}
 use Rattle.agent_session.specs.{Causes.{Has, here, later, on_keys}, Imports.{HandsNothing, HandNothing, put_nonce, KeepsPass, put, given_back, ImportCourse, not_drawn, not_put, not_replaced, replaced}, OwnPassphrases.puts}
 use Rattle.agent_session.{specs.Refusals.{IsNonceOf, nonce_of}, proofs.{Explained.has_split, OwnKeys.still_quiet, OwnParts.kept_none, Standing.{each_has, has_right}}}
 use Rattle.agent_ports.specs.declared.keys.KeyDone.TheVariants as key_done
@@ -29,18 +29,18 @@ first_or here = inl refl
 first_or (later has) = inr has
 
 -- the step of a turn
-abbrev step_of : EventWith FurtherEvent → Option MarkStep
+abbrev step_of : EventWith PortCall → Option MarkStep
 step_of (CacheTurn taken) = Some taken.asked
 step_of _ = None
 
 module _ (id pass : List ℕ) (life : Life) (turn : Turn) where
-  abbrev Puts : EventWith FurtherEvent
+  abbrev Puts : EventWith PortCall
   Puts = cache_turn (Put id Nonce life pass) turn
 
-  none_in : (events : List (EventWith FurtherEvent)) → HandNothing events → Has Puts events → ⊥
+  none_in : (events : List (EventWith PortCall)) → HandNothing events → Has Puts events → ⊥
   none_in events nothing has = each_has HandsNothing events nothing has puts
 
-  at_put : (early tail : List (EventWith FurtherEvent)) (drawn other : List ℕ) (came : Turn) → HandNothing early → length drawn ≡ 32 → (Has Puts tail → ⊥)
+  at_put : (early tail : List (EventWith PortCall)) (drawn other : List ℕ) (came : Turn) → HandNothing early → length drawn ≡ 32 → (Has Puts tail → ⊥)
       → Has Puts (early ++ drew drawn ∷ cache_turn (put_nonce drawn other) came ∷ tail) → IsNonceOf (early ++ drew drawn ∷ cache_turn (put_nonce drawn other) came ∷ tail) id
   at_put early tail drawn other came nothing long none has = elim (has_split early _ has) [ inl first ↦ absurd (none_in early nothing first) | inr rest ↦ drawn_here (first_or rest) ]
     where
@@ -59,10 +59,10 @@ module _ (id pass : List ℕ) (life : Life) (turn : Turn) where
   kept_elsewhere {grip} {kept_pass} put same = let asked_is : Some (Put id Nonce life pass) ≡ Some (put_key grip kept_pass) = ap step_of same in cc asked_is
   kept_elsewhere {kept_pass} (given_back {ticket}) same = let asked_is : Some (Put id Nonce life pass) ≡ Some (Close ticket (Some kept_pass)) = ap step_of same in cc asked_is
 
-  behind_file : {grip : Grip} {file : List ℕ} {answer : KeyDone} {behind : List (EventWith FurtherEvent)} → (Has Puts behind → ⊥) → Has Puts (called (Replaced grip file answer) ∷ behind) → ⊥
+  behind_file : {grip : Grip} {file : List ℕ} {answer : KeyDone} {behind : List (EventWith PortCall)} → (Has Puts behind → ⊥) → Has Puts (called (Replaced grip file answer) ∷ behind) → ⊥
   behind_file none has = elim (first_or has) [ inl same ↦ cc same | inr rest ↦ none rest ]
 
-  pub nonce_drawn : {events : List (EventWith FurtherEvent)} → ImportCourse events → Has Puts events → IsNonceOf events id
+  pub nonce_drawn : {events : List (EventWith PortCall)} → ImportCourse events → Has Puts events → IsNonceOf events id
   nonce_drawn (not_drawn {events} nothing) has = absurd (none_in events nothing has)
   nonce_drawn (not_put early late drawn other nothing long why behind) has = at_put early late drawn other _ nothing long (none_in late behind) has
   nonce_drawn (not_replaced early late drawn other file grip answer nothing long not_done behind) has = at_put early (called (Replaced grip file answer) ∷ late) drawn other _ nothing long (behind_file (none_in late behind)) has
@@ -71,7 +71,7 @@ module _ (id pass : List ℕ) (life : Life) (turn : Turn) where
       (behind_file (λ there. elim (first_or there) [ inl same ↦ kept_elsewhere {step = step} {came = came} keeps same | inr rest ↦ none_in late behind rest ])) has
 
 -- behind what hands nothing in, and before it
-course_behind : (first : List (EventWith FurtherEvent)) {events : List (EventWith FurtherEvent)} → HandNothing first → ImportCourse events → ImportCourse (first ++ events)
+course_behind : (first : List (EventWith PortCall)) {events : List (EventWith PortCall)} → HandNothing first → ImportCourse events → ImportCourse (first ++ events)
 course_behind first each (not_drawn {events} nothing) = not_drawn (each_append HandsNothing first events each nothing)
 course_behind first each (not_put early late drawn pass nothing long why behind) =
     subst ImportCourse (append_assoc first early _) (not_put (first ++ early) late drawn pass (each_append HandsNothing first early each nothing) long why behind)
@@ -80,7 +80,7 @@ course_behind first each (not_replaced early late drawn pass file grip answer no
 course_behind first each (replaced early late drawn pass file turn nothing long keeps behind) =
     subst ImportCourse (append_assoc first early _) (replaced (first ++ early) late drawn pass file turn (each_append HandsNothing first early each nothing) long keeps behind)
 
-course_before : (last : List (EventWith FurtherEvent)) {events : List (EventWith FurtherEvent)} → HandNothing last → ImportCourse events → ImportCourse (events ++ last)
+course_before : (last : List (EventWith PortCall)) {events : List (EventWith PortCall)} → HandNothing last → ImportCourse events → ImportCourse (events ++ last)
 course_before last each (not_drawn {events} nothing) = not_drawn (each_append HandsNothing events last nothing each)
 course_before last each (not_put early late drawn pass nothing long why behind) =
     subst ImportCourse (sym (append_assoc early _ last)) (not_put early (late ++ last) drawn pass nothing long why (each_append HandsNothing late last behind each))
@@ -104,7 +104,7 @@ module _ {A B : Type 0} {part : Part A} {next : A → Part B} where
 undone : (answer : KeyDone) {why : Code} → change_fault answer ≡ Some why → answer ≡ key_done.Done → ⊥
 undone answer is done = let never : None ≡ Some _ = sym (ap change_fault done) ∙ is in cc never
 
-stores_of : (count : ℕ) (key : Key) (grip : Grip) (pass : List ℕ) (before : Option ℕ) (events : List (EventWith FurtherEvent)) (result : Result _ Refusal) (after : Option ℕ) → StoresKey count key grip pass before events result after
+stores_of : (count : ℕ) (key : Key) (grip : Grip) (pass : List ℕ) (before : Option ℕ) (events : List (EventWith PortCall)) (result : Result _ Refusal) (after : Option ℕ) → StoresKey count key grip pass before events result after
     → ImportCourse events
 stores_of count key grip pass before events result after (stops small.faulted) = not_drawn (tt, tt)
 stores_of count key grip pass before events result after (goes_on (small.drawn long) (stops parts.no_memory)) = not_drawn (tt, (tt, tt))
@@ -139,10 +139,10 @@ module _ (rules : Rules) (options : OptionValues) (wraps : WrapKeys) where
       (λ grip. quiet_then (is_free HandsNothing still_quiet force grip) (λ free. quiet_then (found_quiet rules options nonce grip)
       (λ pass. then_quiet (record { of = stores_of options.s2k_count key grip pass }) (λ cache_nonce. each_returned HandsNothing _))))))
 
-  answer_nothing : {held : Option ℕ} {back : List (EventWith FurtherEvent)} (line : Option (List ℕ)) → Closes None held back (Ok tt) None → HandNothing (back ++ said_last line)
+  answer_nothing : {held : Option ℕ} {back : List (EventWith PortCall)} (line : Option (List ℕ)) → Closes None held back (Ok tt) None → HandNothing (back ++ said_last line)
   answer_nothing = each_answer HandsNothing (λ number turn. kept_none number) (λ text. tt)
 
-  pub import_exchange : (asked : KeyRequest) {force : Bool} {nonce : Option (List ℕ)} → asked ≡ on.ImportKey force nonce → {events : List (EventWith FurtherEvent)} {after : WrapKeys} {went : KeyWent}
+  pub import_exchange : (asked : KeyRequest) {force : Bool} {nonce : Option (List ℕ)} → asked ≡ on.ImportKey force nonce → {events : List (EventWith PortCall)} {after : WrapKeys} {went : KeyWent}
       → KeyExchange rules options wraps asked events after went → ImportCourse events
   import_exchange (on.ImportKey force nonce) is (part_exchanges.answered events held reply {back} does closes) =
       course_before (back ++ Sent reply.text ∷ []) (answer_nothing (Some reply.text) closes) ((import_so force nonce).of None events (Ok reply) held does)
@@ -160,7 +160,7 @@ module _ (rules : Rules) (options : OptionValues) (wraps : WrapKeys) where
 pub some_key : {one other : KeyRequest} → Some one ≡ Some other → one ≡ other
 some_key is = cc is
 
-pub import_course : (request : Request) {force : Bool} {nonce : Option (List ℕ)} → on_keys request ≡ Some (on.ImportKey force nonce) → {rules : Rules} {kept now : Kept} {events : List (EventWith FurtherEvent)} {went : Went}
+pub import_course : (request : Request) {force : Bool} {nonce : Option (List ℕ)} → on_keys request ≡ Some (on.ImportKey force nonce) → {rules : Rules} {kept now : SessionState} {events : List (EventWith PortCall)} {went : Went}
     → RequestExchange rules kept request events now went → ImportCourse events
 import_course (Cache command) is exchanged = absurd (cc is)
 import_course (Bad why) is exchanged = absurd (cc is)

@@ -1,7 +1,7 @@
 -- Requests on keys: their work, and what is done once a ticket was given back or a key's file changed.
 use Rattle.std.{proofs.Common.{◌≡◌, ℕ, Bool, true, false, List, [], ◌∷◌, ◌++◌, Option, Some, None, Result, Ok, Err, refl, ap}, specs.Prelude.{not, drop}}
-use Rattle.{agent_ask.{specs.{Further.{Keys, Replaced, Removed}, Parts.{◌>>=◌, goes_on, stops, Returns, returns}, SessionEvents.Further, TurnParts.{Changes, Closes}}, proofs.Within.{Within, Yields, yields_then, returned_so, refused_so, values_so}}, agent_ports.specs.declared.grip.Grip.Grip}
-use Rattle.{agent_ports.specs.declared.keys.KeyDone.KeyDone, assuan_server.specs.Written.{refusal_line, ok}, session_client.specs.declared.{code.Code.Code, refusal.Refusal.{Refusal, TheVariants.{Agent, Client}}, unheard.Gone.Gone}}
+use Rattle.{agent_ask.{specs.{PortCalls.{Keys, Replaced, Removed}, Parts.{◌>>=◌, goes_on, stops, Returns, returns}, SessionEvents.Port, TurnParts.{Changes, Closes}}, proofs.Within.{Within, Yields, yields_then, returned_so, refused_so, values_so}}, agent_ports.specs.declared.grip.Grip.Grip}
+use Rattle.{agent_ports.specs.declared.keys.KeyDone.KeyDone, assuan_server.specs.Written.{refusal_line, ok}, session_client.specs.declared.{code.Code.Code, refusal.Refusal.{Refusal, TheVariants.{Agent, Client}}, client_error.Gone.Gone}}
 use Rattle.{session_client.specs.Refusals.gone_by, cache_policy.specs.{Turns.closes, declared.{mark.MarkStep.{MarkStep, TheVariants.Clear}, mode.Mode.TheVariants.{Normal, Nonce}}}, session_options.specs.OptionValues.OptionValues}
 use Rattle.{session_options.specs.declared.rules.Rules.Rules, sexp_keys.specs.Key.Key, agent_commands.specs.declared.request.Request.Request, key_commands.specs.Events.Event}
 use Rattle.key_commands.specs.Exchanges.{KeyReply, KeyExchange, HaveKeyReplies, KeyInfoReplies, ListKeysReplies, KeyWrapReplies, ImportKeyReplies, ExportKeyReplies, PasswdReplies, VerifyReplies, DeleteKeyReplies, KeyReplies, wrap_key}
@@ -15,7 +15,7 @@ use Rattle.agent_session.proofs.{KeyWorks.{FitsKeys, looks_nonce, old_here, veri
 use Rattle.agent_session.proofs.Works.{WorksTo, works, WorksSo, Keeps, keeps_works, bind, returned, refuses_by, is_needed, or_otherwise, is_wanted, turns_of}
 use Rattle.agent_ask.specs.TurnParts as taken
 use Rattle.session_client.specs.declared.code.Code.TheVariants as code
-use Rattle.session_client.specs.declared.unheard.Unheard.TheVariants as unheard
+use Rattle.session_client.specs.declared.client_error.ClientError.TheVariants as client_error
 use Rattle.agent_ask.specs.PartExchanges as part_exchanges
 use Rattle.key_commands.specs.Exchanges as exchange
 use Rattle.key_commands.specs.KeyParts as parts
@@ -71,7 +71,7 @@ module _ (request : Request) where
   -- ---- files that are changed
 
   module _ (grip : Grip) (file pass : List ℕ) where
-    not_done : {A : Type 0} (answer : KeyDone) {why : Code} → parts.change_fault answer ≡ Some why → WorksTo Fits {A = A} (Further (Keys (Replaced grip file answer)) ∷ []) (Err (Agent why))
+    not_done : {A : Type 0} (answer : KeyDone) {why : Code} → parts.change_fault answer ≡ Some why → WorksTo Fits {A = A} (Port (Keys (Replaced grip file answer)) ∷ []) (Err (Agent why))
     not_done answer is = work.not_replaced Fits tt answer (λ given other. other) is
 
     replaces_so_of : (before : Option ℕ) (events : List Event) (result : Result (Unit {0}) Refusal) (after : Option ℕ) → (Replaces grip file >>= λ replaced. KeepsNew grip pass) before events result after
@@ -101,7 +101,7 @@ module _ (request : Request) where
   removes_so_of _ _ _ _ (goes_on parts.done (goes_on (taken.done can) returns)) = ends_with request cleared
   removes_so_of _ _ _ _ (goes_on parts.done (stops (taken.interrupted can why))) = ends_with request (uncleared why)
   removes_so_of {grip} _ _ _ _ (stops (parts.not_done {answer} is)) =
-      working_ends request (work.unchanged Fits tt answer (λ given. Further (Keys (Removed grip given))) (λ given other. other) (λ given. refl) (λ given. refl) (λ given. refl) is)
+      working_ends request (work.unchanged Fits tt answer (λ given. Port (Keys (Removed grip given))) (λ given other. other) (λ given. refl) (λ given. refl) (λ given. refl) is)
 
   -- a ticket is given back
   gives_back_of : {A : Type 0} {keep : Option (List ℕ)} {value : A} (before : Option ℕ) (events : List Event) (result : Result A Refusal) (after : Option ℕ)
@@ -280,12 +280,12 @@ module _ (request : Request) (rules : Rules) (options : OptionValues) (wraps : W
     key_course (part_exchanges.refused some held why does closes_so) = err_course request ((replies request rules options wraps asked is).of _ _ _ _ does) closes_so
 
     -- a client that is gone ends its session
-    pub key_gone : {events : List Event} {after : WrapKeys} {went : KeyWent} {how : Gone} → KeyExchange rules options wraps asked events after went → IsSaid events (unheard.Gone how) → went ≡ key_went.Gone how
+    pub key_gone : {events : List Event} {after : WrapKeys} {went : KeyWent} {how : Gone} → KeyExchange rules options wraps asked events after went → IsSaid events (client_error.Gone how) → went ≡ key_went.Gone how
     key_gone (part_exchanges.answered some held reply does closes_so) says_so =
         let ends = (replies request rules options wraps asked is).of _ _ _ _ does in
         absurd (cc (gone_only (ends_said request ends (said_before some _ (answer_heard (Some reply.text) closes_so) says_so))))
     key_gone {how} (part_exchanges.refused some held why does closes_so) says_so =
         let ends = (replies request rules options wraps asked is).of _ _ _ _ does in
-        let same : Err why ≡ Err (Client (unheard.Gone how)) = gone_only (ends_said request ends (said_before some _ (answer_heard (refusal_line why) closes_so) says_so)) in
-        let refusal : why ≡ Client (unheard.Gone how) = cc same in
+        let same : Err why ≡ Err (Client (client_error.Gone how)) = gone_only (ends_said request ends (said_before some _ (answer_heard (refusal_line why) closes_so) says_so)) in
+        let refusal : why ≡ Client (client_error.Gone how) = cc same in
         ap (λ w. key_went_after (gone_by w)) refusal

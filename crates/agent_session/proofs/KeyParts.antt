@@ -1,12 +1,12 @@
 -- The parts of requests on keys, each of whose refusals has its cause.
 use Rattle.std.{specs.{List.AllByRecursion, Prelude.⊤, Option.option_map}, proofs.Common.{false, ◌≡◌, ℕ, List, ◌∷◌, Option, Some, None, Result, Ok, Err, refl, sym, subst, inl, inr}}
-use Rattle.agent_ask.specs.{Callers.unheard_of, Events.{OutOfMemory, PromptEvent, Called, Notified}, Further.{FurtherEvent, Keys, Read, Replaced, Removed, Prompt}, SessionEvents.{Further, cache_turn}, SessionPrompts.AnyInSession}
+use Rattle.agent_ask.specs.{Callers.unheard_of, Events.{OutOfMemory, PromptEvent, Called, Notified}, PortCalls.{PortCall, Keys, Read, Replaced, Removed, Prompt}, SessionEvents.{Port, cache_turn}, SessionPrompts.AnyInSession}
 use Rattle.agent_ask.specs.{declared.{ask.Asked.Asked, caller.Heard.Heard, consent.Agreed.Agreed, spec.{AskPlan.AskPlan, PromptSpec.PromptSpec}}, ConsentParts.{AgreesTo, consent_refusal}, PinParts.{PromptsPin, pin_refusal}}
-use Rattle.{agent_ports.specs.declared.{grip.Grip.Grip, keys.{KeyDone.KeyDone, KeyRead.KeyRead}}, assuan_server.specs.Clients.session_lines, session_client.specs.declared.{code.Code.Code, unheard.Unheard.Unheard, refusal.Refusal.Refusal}}
+use Rattle.{agent_ports.specs.declared.{grip.Grip.Grip, keys.{KeyDone.KeyDone, KeyRead.KeyRead}}, assuan_server.specs.Clients.session_lines, session_client.specs.declared.{code.Code.Code, client_error.ClientError.ClientError, refusal.Refusal.Refusal}}
 use Rattle.{session_client.specs.declared.refusal.Refusal.TheVariants.Client, cache_policy.specs.{Turns.Given, declared.{grant.Grant.Grant, mark.MarkStep.MarkStep}}, session_options.specs.declared.rules.Rules.Rules, sexp_keys.specs.Key.Key}
 use Rattle.{sexp_keys.specs.declared.fault.KeyFault.KeyFault, secret_file.specs.Opens.LockedKey, agent_commands.specs.{Events.EventWith, declared.request.Request.Request}, key_commands.specs.Faults.fault_code}
 use Rattle.key_commands.specs.{KeyParts.{ReadsFile, change_fault, Replaces, Removes, KeepsNew}, Parts.read_fault, Passphrases.{ask_nonce, LooksForNonce, TakesSeat, Locks, OpensBy, TriesPassphrase, TriesFound, PromptsOld, PromptsNew}}
-use Rattle.agent_origin.specs.declared.kept.Kept.{Kept}
+use Rattle.agent_origin.specs.declared.session_state.SessionState.{SessionState}
 use Rattle.agent_session.specs.Causes.{Has, StandIn, IsCaused, IsSaid, said, IsUnread, IsUnremoved, LacksKeys, on_keys, one, IsRead, read, IsReadOf, read_of, IsReadLocked, OpensRead, opens, IsFaulty, Unlocks, Judges, NamesOld, ComesBy}
 use Rattle.agent_session.specs.{Causes.{HasPrompt, AsksAny, old_plan, new_plan, protection, faulty, HasCall, GivesNone, GivesNoneFor, none_at_all, wrong, ByNonce}, Completeness.AnswersNothing}
 use Rattle.agent_session.proofs.Explaining.{Caused, CausedRefusal, client_said, Comes, Explains, Anything, returned, FoundBy, found, found_none, looks, seats, changes, closes_explained, out_of_memory_first, out_of_memory_second}
@@ -18,7 +18,7 @@ use Rattle.agent_ask.specs.declared.consent.Agreed.TheVariants as agreed
 use Rattle.agent_ports.specs.declared.keys.KeyDone.TheVariants as key_done
 use Rattle.agent_ports.specs.declared.keys.KeyRead.TheVariants as key_read
 use Rattle.session_client.specs.declared.code.Code.TheVariants as code
-use Rattle.session_client.specs.declared.unheard.Unheard.TheVariants as unheard
+use Rattle.session_client.specs.declared.client_error.ClientError.TheVariants as client_error
 use Rattle.sexp_keys.specs.declared.fault.KeyFault.TheVariants as faults
 use Rattle.agent_ask.specs.ConsentParts as consent
 use Rattle.key_commands.specs.KeyParts as parts
@@ -28,23 +28,23 @@ use Rattle.agent_session.proofs.Faulty as said
 use Rattle.agent_session.proofs.Prompted as prompted
 
 -- nothing is answered by a prompt
-pub prompt_silent : {prompt : List PromptEvent} {shown : List (EventWith FurtherEvent)} → AnyInSession session_lines prompt shown → AllByRecursion AnswersNothing shown
+pub prompt_silent : {prompt : List PromptEvent} {shown : List (EventWith PortCall)} → AnyInSession session_lines prompt shown → AllByRecursion AnswersNothing shown
 prompt_silent session.none = tt
 prompt_silent (session.called more) = (tt, prompt_silent more)
 prompt_silent (session.noted says more) = (tt, prompt_silent more)
 prompt_silent (session.out_of_memory more) = (tt, prompt_silent more)
 
-module _ (rules : Rules) (kept : Kept) (request : Request) (whole : List (EventWith FurtherEvent)) where
+module _ (rules : Rules) (kept : SessionState) (request : Request) (whole : List (EventWith PortCall)) where
   abbrev CausedHere : Code → Type 0
   CausedHere = Caused rules kept request whole
 
   abbrev CausedRefusalHere : Refusal → Type 0
   CausedRefusalHere = CausedRefusal whole (IsCaused whole rules kept request)
 
-  abbrev ComesHere : {A : Type 0} → (A → Type 0) → List (EventWith FurtherEvent) → Result A Refusal → Type 0
+  abbrev ComesHere : {A : Type 0} → (A → Type 0) → List (EventWith PortCall) → Result A Refusal → Type 0
   ComesHere = Comes whole (IsCaused whole rules kept request)
 
-  abbrev ExplainsHere : {A : Type 0} → (Option ℕ → List (EventWith FurtherEvent) → Result A Refusal → Option ℕ → Type 0) → (A → Type 0) → Type 0
+  abbrev ExplainsHere : {A : Type 0} → (Option ℕ → List (EventWith PortCall) → Result A Refusal → Option ℕ → Type 0) → (A → Type 0) → Type 0
   ExplainsHere = Explains whole (IsCaused whole rules kept request)
 
   -- the request opened the key of this grip to this one
@@ -63,11 +63,11 @@ module _ (rules : Rules) (kept : Kept) (request : Request) (whole : List (EventW
   -- ---- prompts
 
   -- what a prompt shows is among the events of the request
-  module _ {prompt : List PromptEvent} {shown : List (EventWith FurtherEvent)} (in_session : AnyInSession session_lines prompt shown) (stands : StandIn shown whole) where
+  module _ {prompt : List PromptEvent} {shown : List (EventWith PortCall)} (in_session : AnyInSession session_lines prompt shown) (stands : StandIn shown whole) where
     pub has_call : {is : _} → HasCalled is prompt → HasCall whole is
     has_call (prompted.called call so has) = causes.called call so (has_in stands (shown_as (Called call) in_session has))
 
-    pub heard_caused : (heard : Heard) (why : Unheard) → unheard_of heard ≡ Some why → HasHeard heard prompt → IsSaid whole why
+    pub heard_caused : (heard : Heard) (why : ClientError) → unheard_of heard ≡ Some why → HasHeard heard prompt → IsSaid whole why
     heard_caused heard why is (prompted.noted pid has) = let noted = shown_as (Notified pid heard) in_session has in said (note_says noted.0 heard why noted.1 is) (has_in stands noted.2)
 
     pub unopened_caused : prompted.Unopened prompt → CausedHere code.NoPinentry
@@ -81,10 +81,10 @@ module _ (rules : Rules) (kept : Kept) (request : Request) (whole : List (EventW
     heard_refused : (heard : Heard) → HasHeard heard prompt → IfRefused (option_map Client (unheard_of heard))
     heard_refused heard_as.Fine has = tt
     heard_refused (heard_as.Secret secret) has = tt
-    heard_refused heard_as.Cancelled has = client_said (heard_caused heard_as.Cancelled unheard.Cancelled refl has)
-    heard_refused heard_as.TooMuch has = client_said (heard_caused heard_as.TooMuch unheard.TooMuch refl has)
-    heard_refused heard_as.Unexpected has = client_said (heard_caused heard_as.Unexpected unheard.Unexpected refl has)
-    heard_refused (heard_as.Gone how) has = client_said (heard_caused (heard_as.Gone how) (unheard.Gone how) refl has)
+    heard_refused heard_as.Cancelled has = client_said (heard_caused heard_as.Cancelled client_error.Cancelled refl has)
+    heard_refused heard_as.TooMuch has = client_said (heard_caused heard_as.TooMuch client_error.TooMuch refl has)
+    heard_refused heard_as.Unexpected has = client_said (heard_caused heard_as.Unexpected client_error.Unexpected refl has)
+    heard_refused (heard_as.Gone how) has = client_said (heard_caused (heard_as.Gone how) (client_error.Gone how) refl has)
 
     pin_refused : (answer : Asked) → PinShows answer prompt → (answer ≡ asked.Bad → CausedHere code.BadPass) → IfRefused (pin_refusal answer)
     pin_refused (asked.Pin pin) shows bad = tt
@@ -92,7 +92,7 @@ module _ (rules : Rules) (kept : Kept) (request : Request) (whole : List (EventW
     pin_refused asked.TimedOut shows bad = has_call shows
     pin_refused asked.NoPinentry shows bad = unopened_caused shows
     pin_refused asked.Bad shows bad = bad refl
-    pin_refused asked.NoMemory shows bad = one (Further (Prompt OutOfMemory)) tt (has_in stands (shown_as OutOfMemory in_session shows))
+    pin_refused asked.NoMemory shows bad = one (Port (Prompt OutOfMemory)) tt (has_in stands (shown_as OutOfMemory in_session shows))
     pin_refused (asked.Heard heard) shows bad = heard_refused heard shows
 
     consent_refused : (answer : Agreed) → ConsentShows answer prompt → IfRefused (consent_refusal answer)
@@ -186,7 +186,7 @@ module _ (rules : Rules) (kept : Kept) (request : Request) (whole : List (EventW
     NoneOpens pass = (secret : List ℕ) → pass ≡ Some secret → ¬ OpensBy locked secret
 
     module _ (pass : List ℕ) (comes : ComesBy whole rules kept.options request grip locked pass) where
-      tried_of : (before : Option ℕ) (events : List (EventWith FurtherEvent)) (result : Result (Option _) Refusal) (after : Option ℕ) → TriesPassphrase locked pass before events result after
+      tried_of : (before : Option ℕ) (events : List (EventWith PortCall)) (result : Result (Option _) Refusal) (after : Option ℕ) → TriesPassphrase locked pass before events result after
           → StandIn events whole → ComesHere (Either (λ opened. OpensHere grip opened.key) (NoneOpens (Some pass))) events result
       tried_of before events result after (passphrases.opens to) stands = record { silent = tt; explained = opens is_locked comes to }
       tried_of before events result after (passphrases.stays closed) stands =
@@ -211,7 +211,7 @@ module _ (rules : Rules) (kept : Kept) (request : Request) (whole : List (EventW
     }
 
   -- a prompt at which every passphrase is right, and that gave none
-  pub refused_any : {A : Type 0} (Good : A → Type 0) {spec : PromptSpec} {plan : AskPlan} {shown : List (EventWith FurtherEvent)} {answer : Asked} {why : Refusal} → AsksAny rules kept.options request plan
+  pub refused_any : {A : Type 0} (Good : A → Type 0) {spec : PromptSpec} {plan : AskPlan} {shown : List (EventWith PortCall)} {answer : Asked} {why : Refusal} → AsksAny rules kept.options request plan
       → PromptsPin session_lines spec plan (λ pin. ⊤) shown answer → pin_refusal answer ≡ Some why → StandIn shown whole → ComesHere Good shown (Err why)
   refused_any Good {plan} {answer} {why} asks prompt refusal stands = record {
     silent = prompt_silent prompt.in_session;
@@ -232,8 +232,8 @@ module _ (rules : Rules) (kept : Kept) (request : Request) (whole : List (EventW
   -- ---- key files
 
   -- a read that gave no file
-  read_caused : (grip : Grip) (answer : KeyRead) {why : Code} {more : List (EventWith FurtherEvent)} → (answer ≡ key_read.Absent → CausedHere code.NoSecKey) → read_fault answer ≡ Some why
-      → StandIn (Further (Keys (Read grip answer)) ∷ more) whole → CausedHere why
+  read_caused : (grip : Grip) (answer : KeyRead) {why : Code} {more : List (EventWith PortCall)} → (answer ≡ key_read.Absent → CausedHere code.NoSecKey) → read_fault answer ≡ Some why
+      → StandIn (Port (Keys (Read grip answer)) ∷ more) whole → CausedHere why
   read_caused grip (key_read.Found bytes) absent is stands = absurd (cc is)
   read_caused grip key_read.Absent absent is stands = let same : code.NoSecKey ≡ _ = cc in subst CausedHere same (absent refl)
   read_caused grip key_read.Failed absent is stands = let same : code.General ≡ _ = cc in subst CausedHere same (one _ tt (has_first stands))
@@ -246,10 +246,10 @@ module _ (rules : Rules) (kept : Kept) (request : Request) (whole : List (EventW
         record { silent = (tt, tt); explained = fault_caused fault (file_fault_said file fault says) (λ why so. causes.file judges (read is says (has_first stands)) so) }
     reads_file before events result after (parts.no_memory is) stands = record { silent = (tt, (tt, tt)); explained = out_of_memory_second rules kept request whole stands }
     reads_file before events result after (parts.unread {answer} is) stands =
-        record { silent = (tt, tt); explained = read_caused grip answer (λ absent. lacks (subst (λ a. Has (Further (Keys (Read grip a))) whole) absent (has_first stands))) is stands }
+        record { silent = (tt, tt); explained = read_caused grip answer (λ absent. lacks (subst (λ a. Has (Port (Keys (Read grip a))) whole) absent (has_first stands))) is stands }
 
   module _ (grip : Grip) (lacks : IsUnremoved whole grip → LacksKeys whole (on_keys request)) where
-    removal_caused : (answer : KeyDone) (why : Code) {more : List (EventWith FurtherEvent)} → change_fault answer ≡ Some why → StandIn (Further (Keys (Removed grip answer)) ∷ more) whole → CausedHere why
+    removal_caused : (answer : KeyDone) (why : Code) {more : List (EventWith PortCall)} → change_fault answer ≡ Some why → StandIn (Port (Keys (Removed grip answer)) ∷ more) whole → CausedHere why
     removal_caused key_done.Done why is stands = absurd (cc is)
     removal_caused key_done.Absent why is stands = let same : code.NoSecKey ≡ why = cc in subst CausedHere same (lacks (has_first stands))
     removal_caused key_done.Failed why is stands = let same : code.General ≡ why = cc in subst CausedHere same (one _ tt (has_first stands))
@@ -260,8 +260,8 @@ module _ (rules : Rules) (kept : Kept) (request : Request) (whole : List (EventW
     removes before events result after (parts.not_done {answer} {code = why} is) stands = record { silent = (tt, tt); explained = removal_caused answer why is stands }
 
   -- a file that is replaced needn't be there
-  module _ (there : (grip : Grip) (file : List ℕ) → Has (Further (Keys (Replaced grip file key_done.Absent))) whole → ⊥) (grip : Grip) (file : List ℕ) where
-    replacement_caused : (answer : KeyDone) (why : Code) {more : List (EventWith FurtherEvent)} → change_fault answer ≡ Some why → StandIn (Further (Keys (Replaced grip file answer)) ∷ more) whole
+  module _ (there : (grip : Grip) (file : List ℕ) → Has (Port (Keys (Replaced grip file key_done.Absent))) whole → ⊥) (grip : Grip) (file : List ℕ) where
+    replacement_caused : (answer : KeyDone) (why : Code) {more : List (EventWith PortCall)} → change_fault answer ≡ Some why → StandIn (Port (Keys (Replaced grip file answer)) ∷ more) whole
         → CausedHere why
     replacement_caused key_done.Done why is stands = absurd (cc is)
     replacement_caused key_done.Absent why is stands = absurd (there grip file (has_first stands))

@@ -1,7 +1,7 @@
 -- Requests on keys, each of whose refusals has its cause.
 use Rattle.std.proofs.Common.{◌≡◌, ◌≢◌, ◌==◌, ℕ, Bool, true, false, List, [], ◌∷◌, ◌++◌, length, codes, Option, Some, None, Result, Ok, Err, refl, sym, ap, ◌∙◌, subst, append_assoc, append-nil, inl, inr, arith}
 use Rattle.std.{proofs.lemmas.{Bool.Decides.nat_tests, List.{map-append, nil_from_length}}, specs.Prelude.{⊤, not, map, take, drop}}
-use Rattle.{agent_ask.specs.{Further.{FurtherEvent, Keys, Read, Replaced}, SessionEvents.{Further, cache_turn}, Parts.{Returns, needed, or_else, wanted}}, agent_ports.specs.declared.{grip.Grip.Grip, keys.KeyRead.KeyRead}}
+use Rattle.{agent_ask.specs.{PortCalls.{PortCall, Keys, Read, Replaced}, SessionEvents.{Port, cache_turn}, Parts.{Returns, needed, or_else, wanted}}, agent_ports.specs.declared.{grip.Grip.Grip, keys.KeyRead.KeyRead}}
 use Rattle.{session_client.specs.declared.{code.Code.Code, refusal.Refusal.{Refusal, TheVariants.Agent}}, assuan_server.specs.{declared.errors.Origin.TheVariants.Agent as OfAgent, Written.limit_line}}
 use Rattle.{cache_policy.specs.{Turns.{Refused, Empty, Stopping}, declared.secret.TheConstants.MAX_SECRET_LEN}, secret_file.specs.{Opens.LockedKey, Protects.{ocb_protection, protected_file}}, session_options.specs.OptionValues.OptionValues}
 use Rattle.{session_options.specs.declared.{options.PinMode.PinMode, rules.Rules.Rules}, sexp_keys.specs.{Key.Key, Lists.grip_of}, agent_commands.specs.{Events.EventWith, declared.request.Request.Request}}
@@ -10,7 +10,7 @@ use Rattle.key_commands.specs.Exchanges.{KeyReply, HaveKeyReplies, KeyInfoReplie
 use Rattle.key_commands.specs.{Exchanges.{FoundOrNew, RenewsPassphrase, RewritesFile, ChangesOpened}, Files.Rewrites}
 use Rattle.key_commands.specs.KeyParts.{Tells, tells, Protects, IsShort, HasOne as HasOneKey, TellsKeyInfo, ListsGrips, ReadsListed, WritesInfo, TellsListed, WritesInfos, AsksKeyData, Unwraps, ReceivesKey, NamesKey, IsFree, LooksOver}
 use Rattle.key_commands.specs.{KeyParts.{WrapsKey, Consents}, Parts.{Part, read_fault}, Passphrases.{ClientOld, UncachedOld, OpensLocked, OldPassphrase, VerifiesPassphrase, ClientNew, NewPassphrase, ask_key, way_of}}
-use Rattle.{key_commands.specs.{Wrapping.WrappedSays, declared.request.{Direction.Direction, KeyRequest.KeyRequest}}, agent_origin.specs.declared.kept.Kept.Kept}
+use Rattle.{key_commands.specs.{Wrapping.WrappedSays, declared.request.{Direction.Direction, KeyRequest.KeyRequest}}, agent_origin.specs.declared.session_state.SessionState.SessionState}
 use Rattle.agent_session.specs.Causes.{Has, here, StandIn, IsCaused, IsSent, AreUnread, LacksKeys, on_keys, IsRefusedBy, one, IsRead, IsReadOf, IsDrawn, IsListOf, protected, IsReadLocked, OpensRead, Unlocks, exports, NamesOld, of_export}
 use Rattle.agent_session.specs.Causes.{of_change, ComesBy, AsksAny, of_new, of_import, new_plan, is_clear, key_data, KeyDataSays, data_says, faulty, long, long_file, by_mode, deletion, stays, empty, no_import, no_export, there, GivesNone}
 use Rattle.agent_session.specs.{Causes.{none_given, GivesNoneFor, ByNonce, HasNoEntry, exported, changed, verified, imported, renewed, IsUnprompted}, Completeness.IsStatus}
@@ -30,14 +30,14 @@ use Rattle.key_commands.specs.Wrapping as wrapping
 use Rattle.key_commands.specs.declared.request.KeyRequest.TheVariants as on
 use Rattle.agent_session.specs.Causes as causes
 
-module _ (rules : Rules) (kept : Kept) (request : Request) (whole : List (EventWith FurtherEvent)) where
+module _ (rules : Rules) (kept : SessionState) (request : Request) (whole : List (EventWith PortCall)) where
   abbrev CausedHere : Code → Type 0
   CausedHere = Caused rules kept request whole
 
-  abbrev ComesHere : {A : Type 0} → (A → Type 0) → List (EventWith FurtherEvent) → Result A Refusal → Type 0
+  abbrev ComesHere : {A : Type 0} → (A → Type 0) → List (EventWith PortCall) → Result A Refusal → Type 0
   ComesHere = Comes whole (IsCaused whole rules kept request)
 
-  abbrev ExplainsHere : {A : Type 0} → (Option ℕ → List (EventWith FurtherEvent) → Result A Refusal → Option ℕ → Type 0) → (A → Type 0) → Type 0
+  abbrev ExplainsHere : {A : Type 0} → (Option ℕ → List (EventWith PortCall) → Result A Refusal → Option ℕ → Type 0) → (A → Type 0) → Type 0
   ExplainsHere = Explains whole (IsCaused whole rules kept request)
 
   abbrev Opens : Grip → Key → Type 0
@@ -86,8 +86,8 @@ module _ (rules : Rules) (kept : Kept) (request : Request) (whole : List (EventW
   lists before events result after parts.faulted stands = record { silent = (tt, tt); explained = one _ tt (has_first stands) }
   lists before events result after parts.no_memory stands = record { silent = (tt, tt); explained = one _ tt (has_first stands) }
 
-  unlisted_caused : (grip : Grip) (answer : KeyRead) {why : Code} {more : List (EventWith FurtherEvent)} → answer ≢ key_read.Absent → read_fault answer ≡ Some why
-      → StandIn (Further (Keys (Read grip answer)) ∷ more) whole → CausedHere why
+  unlisted_caused : (grip : Grip) (answer : KeyRead) {why : Code} {more : List (EventWith PortCall)} → answer ≢ key_read.Absent → read_fault answer ≡ Some why
+      → StandIn (Port (Keys (Read grip answer)) ∷ more) whole → CausedHere why
   unlisted_caused grip (key_read.Found bytes) other is stands = absurd (cc is)
   unlisted_caused grip key_read.Absent other is stands = absurd (other refl)
   unlisted_caused grip key_read.Failed other is stands = let same : code.General ≡ _ = cc in subst CausedHere same (one _ tt (has_first stands))
@@ -112,10 +112,10 @@ module _ (rules : Rules) (kept : Kept) (request : Request) (whole : List (EventW
   writes_infos (grip ∷ more) = bind (tells_listed grip) (λ told any. writes_infos more)
 
   -- one of them is there, or all are absent, those among them that were read earlier
-  abbrev unread : Grip → EventWith FurtherEvent
-  unread grip = Further (Keys (Read grip key_read.Absent))
+  abbrev unread : Grip → EventWith PortCall
+  unread grip = Port (Keys (Read grip key_read.Absent))
 
-  has_one_of : (earlier grips : List Grip) → (AreUnread whole (earlier ++ grips) → CausedHere code.NoSecKey) → (before : Option ℕ) (events : List (EventWith FurtherEvent)) (result : Result (Unit {0}) Refusal)
+  has_one_of : (earlier grips : List Grip) → (AreUnread whole (earlier ++ grips) → CausedHere code.NoSecKey) → (before : Option ℕ) (events : List (EventWith PortCall)) (result : Result (Unit {0}) Refusal)
       (after : Option ℕ) → HasOneKey grips before events result after → StandIn (map unread earlier ++ events) whole → ComesHere Anything events result
   has_one_of earlier [] lacks before events result after chain.refuses stands = record {
     silent = tt;
@@ -236,8 +236,8 @@ module _ (rules : Rules) (kept : Kept) (request : Request) (whole : List (EventW
         is_empty pass none = nil_from_length pass (grind (arith, nat_tests, none))
 
 -- a request in each mode in which a client may want to be asked
-module _ (rules : Rules) (kept : Kept) (request : Request) (whole : List (EventWith FurtherEvent)) (grip : Grip) where
-  abbrev in_mode : PinMode → Kept
+module _ (rules : Rules) (kept : SessionState) (request : Request) (whole : List (EventWith PortCall)) (grip : Grip) where
+  abbrev in_mode : PinMode → SessionState
   in_mode way = record kept { options = record kept.options { mode = way } }
 
   new_passphrase : (way : PinMode) → ((values : OptionValues) → AsksAny rules values request (new_plan rules values)) → HasNoEntry whole request
@@ -258,7 +258,7 @@ module _ (rules : Rules) (kept : Kept) (request : Request) (whole : List (EventW
 
 -- ---- requests
 
-module _ (rules : Rules) (kept : Kept) (request : Request) (whole : List (EventWith FurtherEvent)) where
+module _ (rules : Rules) (kept : SessionState) (request : Request) (whole : List (EventWith PortCall)) where
   abbrev OpensAs : Grip → Key → Type 0
   OpensAs = OpensHere rules kept request whole
 
@@ -349,7 +349,7 @@ module _ (rules : Rules) (kept : Kept) (request : Request) (whole : List (EventW
 
   -- ---- key files that are replaced
 
-  module _ (never_absent : (grip : Grip) (file : List ℕ) → Has (Further (Keys (Replaced grip file key_done.Absent))) whole → ⊥) where
+  module _ (never_absent : (grip : Grip) (file : List ℕ) → Has (Port (Keys (Replaced grip file key_done.Absent))) whole → ⊥) where
     stores_key : (count : ℕ) (key : Key) (grip : Grip) (pass : List ℕ) → Explains whole (IsCaused whole rules kept request) (StoresKey count key grip pass) Anything
     stores_key count key grip pass =
         bind (draws rules kept request whole 32) (λ drawn is_drawn. bind (protects rules kept request whole key pass (take 8 drawn) (take 12 (drop 8 drawn)) count)

@@ -1,6 +1,6 @@
 -- Parts of requests on keys that are work of the one form, where each of their events is fit.
 use Rattle.std.{proofs.Common.{◌==◌, ℕ, Bool, true, false, List, [], ◌∷◌, length, codes, Option, Some, None, Result, Ok, refl}, specs.Prelude.not}
-use Rattle.{agent_ask.specs.{Events.PromptEvent, Further.Prompt, Parts.{goes_on, stops, returns}, SessionEvents.{Sent, Cut, Inquiry, Further, cache_turn}, SessionPrompts.note}, agent_ports.specs.declared.grip.Grip.Grip}
+use Rattle.{agent_ask.specs.{Events.PromptEvent, PortCalls.Prompt, Parts.{goes_on, stops, returns}, SessionEvents.{Sent, Cut, Inquiry, Port, cache_turn}, SessionPrompts.note}, agent_ports.specs.declared.grip.Grip.Grip}
 use Rattle.{agent_ports.specs.declared.keys.KeyRead.KeyRead, cache_policy.specs.{Turns.Turn, declared.{mark.{MarkStep.TheVariants.{Peek, Seat}, Way.Way}, mode.Mode.TheVariants.Normal, secret.TheConstants.MAX_SECRET_LEN}}}
 use Rattle.{secret_file.specs.Opens.LockedKey, session_client.specs.declared.refusal.Refusal.{Refusal, TheVariants.Agent}, session_options.specs.{OptionValues.OptionValues, declared.{options.PinMode.PinMode, rules.Rules.Rules}}}
 use Rattle.{sexp_keys.specs.Key.Key, key_commands.specs.{Events.{Event, read, out_of_memory}, KeyParts.{Consents, HasOne, TellsKeyInfo, WritesInfo, WritesInfos}, Lines.{grip_text, info_line}, Parts.Part}}
@@ -19,7 +19,7 @@ pub record FitsKeys (Fits : Event → Type 0) : Type 0 where
   pub limits : Fits (Sent (limit_line MAX_SECRET_LEN))
   pub clients : (word : List ℕ) (inquired : _) → Fits (Inquiry word [] MAX_SECRET_LEN inquired)
   pub notes : (pid : ℕ) (inquired : _) → Fits (note pid inquired)
-  pub calls : (event : PromptEvent) → Fits (Further (Prompt event))
+  pub calls : (event : PromptEvent) → Fits (Port (Prompt event))
   pub nonces : (id : List ℕ) (turn : Turn) → Fits (cache_turn (ask_nonce id) turn)
   pub keys : (grip : Grip) (way : Way) (turn : Turn) → Fits (cache_turn (ask_key grip way) turn)
   pub seats_for : (grip : Grip) (turn : Turn) → Fits (cache_turn (seat_for grip) turn)

@@ -1,10 +1,10 @@
 -- By which codes lines are refused.
 use Rattle.std.{proofs.Common.{◌≡◌, ℕ, Bool, true, false, List, [], ◌∷◌, codes, Option, Some, None, Result, Ok, Err, subst, inl, inr}, specs.Prelude.{if◌then◌else◌, ⊤}}
-use Rattle.{agent_ask.specs.Further.FurtherEvent, session_client.specs.declared.code.Code.Code, assuan_server.specs.declared.errors.Origin.TheVariants.Agent}
+use Rattle.{agent_ask.specs.PortCalls.PortCall, session_client.specs.declared.code.Code.Code, assuan_server.specs.declared.errors.Origin.TheVariants.Agent}
 use Rattle.{assuan_text.specs.{Options.{options_of, arguments_of, has_option, last_option, last_value}, Words.{rest_of, words}}, session_options.specs.declared.rules.Rules.Rules, agent_commands.specs.Events.EventWith}
 use Rattle.agent_commands.specs.{Fields.{cache_id, repeats, texts, life, cleared_mode, given_passphrase}, Requests.request_of, declared.request.{CacheCommand.CacheCommand, Request.{Request, TheVariants.{Cache, Key, Bad}}}}
 use Rattle.{command_table.specs.{Commands.command_in, declared.commands.{Command.Command, CommandName.CommandName, KeyCommandName.KeyCommandName}}, key_commands.specs.{Requests.key_request_of, declared.request.KeyRequest.KeyRequest}}
-use Rattle.agent_origin.specs.declared.kept.Kept.{Kept}
+use Rattle.agent_origin.specs.declared.session_state.SessionState.{SessionState}
 use Rattle.agent_session.specs.Causes.{IsCaused, IsRefusedBy, on_keys, IsMalformed, IsUnsupported}
 use Rattle.session_client.specs.declared.code.Code.TheVariants as code
 use Rattle.command_table.specs.declared.commands.Command.TheVariants as at_table
@@ -156,7 +156,7 @@ key_request_fits input why is = named_asked (command_in input) input why is
 
 -- ---- so its refusal has its cause
 
-module _ (rules : Rules) (kept : Kept) (request : Request) (whole : List (EventWith FurtherEvent)) where
+module _ (rules : Rules) (kept : SessionState) (request : Request) (whole : List (EventWith PortCall)) where
   code_caused : (why : Code) → IsLineCode why → IsRefusedBy request why → IsCaused whole rules kept request why Agent
   code_caused why unknown by = by
   code_caused why form by = IsMalformed.line by
@@ -172,7 +172,7 @@ on_keys_fits (Key input) why is = let bad : key_request_of input.items ≡ on.Ba
 on_keys_fits (Cache command) why is = absurd (cc is)
 on_keys_fits (Bad given) why is = absurd (cc is)
 
-pub line_caused : (rules : Rules) (kept : Kept) (input : List ℕ) (whole : List (EventWith FurtherEvent)) (why : Code) → IsRefusedBy (request_of input) why
+pub line_caused : (rules : Rules) (kept : SessionState) (input : List ℕ) (whole : List (EventWith PortCall)) (why : Code) → IsRefusedBy (request_of input) why
     → IsCaused whole rules kept (request_of input) why Agent
 line_caused rules kept input whole why (inl is) = code_caused rules kept (request_of input) whole why (bad_fits (request_of input) (request_fits input) why is) (inl is)
 line_caused rules kept input whole why (inr is) = code_caused rules kept (request_of input) whole why (on_keys_fits (request_of input) why is) (inr is)

@@ -3,8 +3,8 @@ use Rattle.std.{specs.List.AllByRecursion, proofs.Common.{◌≡◌, ◌∙◌, 
 use Rattle.{agent_ask.specs.{Answering.{whole, cut}, SessionEvents.{Received, Sent, Cut, CutAtLast}}, agent_commands.specs.{Requests.request_of, Endings.end_of, Talks.{Talk, Session}, declared.request.Request.{Request, TheVariants.Key}}}
 use Rattle.agent_commands.specs.declared.went.{SessionEnd.{SessionEnd, TheVariants.{Bye, Killed, Ended, TooLong, Spent, ReadFault, WriteFault}}, Went.{Went, TheVariants.{On, End}}}
 use Rattle.agent_origin.specs.{DoorSessions.{AllowedExchange, DoorExchange}, TrustExchanges.TrustExchange, TrustRequests.trust_command, SessionExchanges.{RequestExchange, cache, keys, went_after_key}, declared.door.Door.Door}
-use Rattle.{agent_origin.specs.declared.kept.Kept.Kept, command_table.specs.{Commands.command_in, declared.commands.TrustCommandName.TrustCommandName}, assuan_server.specs.{Errors.error_text, Written.greeting}}
-use Rattle.{assuan_server.specs.declared.errors.Origin.TheVariants.Agent, assuan_text.specs.LineEnds.line_of, key_commands.specs.Events.Event, session_client.specs.declared.unheard.Gone.Gone}
+use Rattle.{agent_origin.specs.declared.session_state.SessionState.SessionState, command_table.specs.{Commands.command_in, declared.commands.TrustCommandName.TrustCommandName}, assuan_server.specs.{Errors.error_text, Written.greeting}}
+use Rattle.{assuan_server.specs.declared.errors.Origin.TheVariants.Agent, assuan_text.specs.LineEnds.line_of, key_commands.specs.Events.Event, session_client.specs.declared.client_error.Gone.Gone}
 use Rattle.session_options.specs.declared.rules.Rules.{Rules}
 use Rattle.agent_session.specs.{Causes.{Has, here, later, IsSaid, said}, Completeness.{AnswersNothing, AnswersAtLast, IsAnsweredBy, HasError, Exchanges, CausedInSession, CausedAtDoor}, DoorCauses.IsCausedBy}
 use Rattle.agent_session.{specs.Exactly.{WasTooLong, at_read, at_inquiry, EndsTooLong}, proofs.{CacheCourses.cache_gone, Courses.heard_so, DoorAnswering.because, ErrorLines.{no_reply, no_status}, ExactEnds.{refusal_told, end_told}}}
@@ -13,8 +13,8 @@ use Rattle.agent_commands.specs.Talks as talks
 use Rattle.agent_origin.specs.DoorSessions as doors
 use Rattle.assuan_line.specs.declared.reader.Took.TheVariants as took
 use Rattle.session_client.specs.declared.code.Code.TheVariants as code
-use Rattle.session_client.specs.declared.unheard.Gone.TheVariants as gone
-use Rattle.session_client.specs.declared.unheard.Unheard.TheVariants as unheard
+use Rattle.session_client.specs.declared.client_error.Gone.TheVariants as gone
+use Rattle.session_client.specs.declared.client_error.ClientError.TheVariants as client_error
 use Rattle.agent_session.specs.Completeness as answers
 use Rattle.agent_session.proofs.TrustTold as telling
 
@@ -82,10 +82,10 @@ none_long (End WriteFault) front last answered is has = nothing_long _ answered 
 
 -- what a relation of exchanges has to satisfy
 pub record EndsLong (relation : Exchanges) : Type 0 where
-  pub answered : {before after : Kept} {line : List ℕ} {events : List Event} {went : Went} → relation before line events after went → IsAnsweredBy went events
-  pub ends : {before after : Kept} {line : List ℕ} {events : List Event} {went : Went} → relation before line events after went → IsSaid events (unheard.Gone gone.TooLong) → went ≡ End TooLong
-  pub told : {before after : Kept} {line : List ℕ} {events : List Event} {went : Went} → relation before line events after went → went ≡ End TooLong → Has long_line events
-  pub caused : {before after : Kept} {line : List ℕ} {events : List Event} {went : Went} → relation before line events after went → Has long_line events → IsSaid events (unheard.Gone gone.TooLong)
+  pub answered : {before after : SessionState} {line : List ℕ} {events : List Event} {went : Went} → relation before line events after went → IsAnsweredBy went events
+  pub ends : {before after : SessionState} {line : List ℕ} {events : List Event} {went : Went} → relation before line events after went → IsSaid events (client_error.Gone gone.TooLong) → went ≡ End TooLong
+  pub told : {before after : SessionState} {line : List ℕ} {events : List Event} {went : Went} → relation before line events after went → went ≡ End TooLong → Has long_line events
+  pub caused : {before after : SessionState} {line : List ℕ} {events : List Event} {went : Went} → relation before line events after went → Has long_line events → IsSaid events (client_error.Gone gone.TooLong)
 
 was_more : (first : List Event) {more : List Event} → WasTooLong more → WasTooLong (first ++ more)
 was_more first (at_read has) = at_read (has_right first has)
@@ -96,7 +96,7 @@ was_split first {more} (at_read has) = elim (has_split first more has) [ inl bef
 was_split first {more} (at_inquiry (said says has)) = elim (has_split first more has) [ inl before ↦ inl (at_inquiry (said says before)) | inr behind ↦ inr (at_inquiry (said says behind)) ]
 
 -- another event, by which no line was too long and its client isn't told so
-module _ (event : Event) (no_read : event ≡ Received took.TooLong → ⊥) (heard : IsSaid (event ∷ []) (unheard.Gone gone.TooLong) → ⊥) (untold : long_line ≡ event → ⊥) where
+module _ (event : Event) (no_read : event ≡ Received took.TooLong → ⊥) (heard : IsSaid (event ∷ []) (client_error.Gone gone.TooLong) → ⊥) (untold : long_line ≡ event → ⊥) where
   behind_event : {more : List Event} {end : SessionEnd} → EndsTooLong more end → EndsTooLong (event ∷ more) end
   behind_event {more} {end} long = record {
     ends = λ was. elim (was_split (event ∷ []) was) [ inl first ↦ absurd (no_first first) | inr behind ↦ long.ends behind ];
@@ -145,7 +145,7 @@ none_long_ends other = record { ends = λ was. absurd (none_was was); was = λ i
     none_was (at_inquiry says) = heard_so [] tt says
 
 module _ {relation : Exchanges} (long : EndsLong relation) where
-  whole_long : {before after : Kept} {line : List ℕ} {events : List Event} {end : SessionEnd} → relation before line events after (End end) → EndsTooLong events end
+  whole_long : {before after : SessionState} {line : List ℕ} {events : List Event} {end : SessionEnd} → relation before line events after (End end) → EndsTooLong events end
   whole_long {events} {end} exchanged = record {
     ends = λ was. inl (ended (ends_by was));
     was = λ is. at_inquiry (long.caused exchanged (long.told exchanged (ap End is)));
@@ -160,7 +160,7 @@ module _ {relation : Exchanges} (long : EndsLong relation) where
       ends_by (at_read has) = absurd (none_read (End end) (long.answered exchanged) has)
       ends_by (at_inquiry says) = long.ends exchanged says
 
-  on_long : {before after : Kept} {line : List ℕ} {events more : List Event} {end : SessionEnd} → relation before line events after On → EndsTooLong more end → EndsTooLong (events ++ more) end
+  on_long : {before after : SessionState} {line : List ℕ} {events more : List Event} {end : SessionEnd} → relation before line events after On → EndsTooLong more end → EndsTooLong (events ++ more) end
   on_long {events} {more} exchanged rest = record {
     ends = λ was. elim (was_split events was) [ inl first ↦ absurd (not_first first) | inr behind ↦ rest.ends behind ];
     was = λ is. was_more events (rest.was is);
@@ -175,7 +175,7 @@ module _ {relation : Exchanges} (long : EndsLong relation) where
       not_first (at_read has) = none_read On (long.answered exchanged) has
       not_first (at_inquiry says) = goes_on (long.ends exchanged says)
 
-  talk_long : {before : Kept} {events : List Event} {end : SessionEnd} → Talk relation before events end → EndsTooLong events end
+  talk_long : {before : SessionState} {events : List Event} {end : SessionEnd} → Talk relation before events end → EndsTooLong events end
   talk_long (talks.goes_on line (whole exchanged) talk) = received line (on_long exchanged (talk_long talk))
   talk_long (talks.over line (whole exchanged)) = received line (whole_long exchanged)
   talk_long (talks.over line (cut {went} exchanged last)) = received line (fault_ends (cut_untold (λ front event is. none_long went front event (long.answered exchanged) is) last))
@@ -185,26 +185,26 @@ module _ {relation : Exchanges} (long : EndsLong relation) where
   talk_long talks.too_long = record { ends = λ was. inl refl; was = λ is. at_read here; told = λ is. later here; told_alone = λ has. refl }
   talk_long (talks.cut_too_long last) = behind_write (fault_ends (cut_untold one_untold last))
 
-  pub long_session : {before : Kept} {events : List Event} {end : SessionEnd} → Session relation before events end → EndsTooLong events end
+  pub long_session : {before : SessionState} {events : List Event} {end : SessionEnd} → Session relation before events end → EndsTooLong events end
   long_session (talks.greeted talk) = behind_event (Sent (line_of greeting)) (λ is. absurd (cc is)) (heard_so _ (refl, tt)) untold_greeting (talk_long talk)
   long_session (talks.cut_greeting last) = fault_ends (cut_untold one_untold last)
 
 -- ---- exchanges
 
-request_gone : {rules : Rules} {before after : Kept} {events : List Event} {went : Went} {how : Gone} (request : Request) → RequestExchange rules before request events after went → IsSaid events (unheard.Gone how)
+request_gone : {rules : Rules} {before after : SessionState} {events : List Event} {went : Went} {how : Gone} (request : Request) → RequestExchange rules before request events after went → IsSaid events (client_error.Gone how)
     → went ≡ End (end_of how)
 request_gone {rules} {before} {events} request (cache {options} exchange) says = cache_gone rules before.options options events _ request exchange says
 request_gone {rules} {before} (Key line) (keys exchange) says = ap went_after_key (key_gone (Key line) rules before.options before.wraps refl exchange says)
 
-allowed_gone : {rules : Rules} {before after : Kept} {line : List ℕ} {command : _} {events : List Event} {went : Went} {how : Gone} → AllowedExchange rules before line command events after went
-    → IsSaid events (unheard.Gone how) → went ≡ End (end_of how)
+allowed_gone : {rules : Rules} {before after : SessionState} {line : List ℕ} {command : _} {events : List Event} {went : Went} {how : Gone} → AllowedExchange rules before line command events after went
+    → IsSaid events (client_error.Gone how) → went ≡ End (end_of how)
 allowed_gone doors.helped says = absurd (heard_so _ (refl, tt) says)
 allowed_gone doors.unset says = absurd (heard_so _ (refl, tt) says)
 allowed_gone (doors.trusts exchanged) says = trust_gone _ _ _ exchanged says
 allowed_gone {line} (doors.any exchanged) says = request_gone (request_of line) exchanged says
 
-door_gone : {door : Door} {rules : Rules} {before after : Kept} {line : List ℕ} {events : List Event} {went : Went} {how : Gone} → DoorExchange door rules before line events after went
-    → IsSaid events (unheard.Gone how) → went ≡ End (end_of how)
+door_gone : {door : Door} {rules : Rules} {before after : SessionState} {line : List ℕ} {events : List Event} {went : Went} {how : Gone} → DoorExchange door rules before line events after went
+    → IsSaid events (client_error.Gone how) → went ≡ End (end_of how)
 door_gone (doors.forbidden refuses) says = absurd (heard_so _ (refl, tt) says)
 door_gone (doors.is_allowed allows exchanged) says = allowed_gone exchanged says
 
@@ -215,19 +215,19 @@ line_told rules options request (telling.refused some back why does closes) is =
 trust_told : (rules : Rules) (options : _) (request : _) {events : List Event} {went : Went} → TrustExchange rules options request events went → went ≡ End TooLong → Has long_line events
 trust_told rules options request exchanged = line_told rules options request (told rules options request exchanged)
 
-allowed_told : {rules : Rules} {before after : Kept} {line : List ℕ} {command : _} {events : List Event} {went : Went} → AllowedExchange rules before line command events after went → went ≡ End TooLong
+allowed_told : {rules : Rules} {before after : SessionState} {line : List ℕ} {command : _} {events : List Event} {went : Went} → AllowedExchange rules before line command events after went → went ≡ End TooLong
     → Has long_line events
 allowed_told doors.helped is = absurd (cc is)
 allowed_told doors.unset is = absurd (cc is)
 allowed_told (doors.trusts exchanged) is = trust_told _ _ _ exchanged is
 allowed_told (doors.any exchanged) is = end_told exchanged is
 
-door_told : {door : Door} {rules : Rules} {before after : Kept} {line : List ℕ} {events : List Event} {went : Went} → DoorExchange door rules before line events after went → went ≡ End TooLong → Has long_line events
+door_told : {door : Door} {rules : Rules} {before after : SessionState} {line : List ℕ} {events : List Event} {went : Went} → DoorExchange door rules before line events after went → went ≡ End TooLong → Has long_line events
 door_told (doors.forbidden refuses) is = absurd (cc is)
 door_told (doors.is_allowed allows exchanged) is = allowed_told exchanged is
 
-said_by_command : (rules : Rules) (before : Kept) (line : List ℕ) {events : List Event} (found : Option TrustCommandName) → IsCausedBy rules before line events found code.LineTooLong Agent
-    → IsSaid events (unheard.Gone gone.TooLong)
+said_by_command : (rules : Rules) (before : SessionState) (line : List ℕ) {events : List Event} (found : Option TrustCommandName) → IsCausedBy rules before line events found code.LineTooLong Agent
+    → IsSaid events (client_error.Gone gone.TooLong)
 said_by_command rules before line None cause = cause
 said_by_command rules before line (Some found) cause = cause
 

@@ -1,6 +1,6 @@
 -- In a request a prompt is opened before the prompter is called, and once.
 use Rattle.std.{specs.{List.AllByRecursion, Prelude.⊤}, proofs.Common.{◌≡◌, ℕ, Bool, true, false, List, [], ◌∷◌, ◌++◌, Option, Some, None, Result, Ok, Err, refl, subst, inl, inr, append-nil}}
-use Rattle.agent_ask.specs.{Further.{FurtherEvent, Keys, Dice, NoMemory, Prompt, Trust}, SessionEvents.{Received, Sent, Cut, Inquiry, CacheTurn, Further, said_last}, Parts.{◌>>=◌, goes_on, stops, Returns, or_else}, TurnParts.Closes}
+use Rattle.agent_ask.specs.{PortCalls.{PortCall, Keys, Dice, NoMemory, Prompt, Trust}, SessionEvents.{Received, Sent, Cut, Inquiry, CacheTurn, Port, said_last}, Parts.{◌>>=◌, goes_on, stops, Returns, or_else}, TurnParts.Closes}
 use Rattle.{agent_ask.proofs.Within.{Within, Does, does_join, weaker, bind, or_otherwise}, agent_ports.specs.declared.grip.Grip.Grip, secret_file.specs.Opens.LockedKey, session_options.specs.OptionValues.OptionValues}
 use Rattle.{session_options.specs.declared.{options.PinMode.PinMode, rules.Rules.Rules}, sexp_keys.specs.Key.Key, agent_commands.specs.Events.EventWith, key_commands.specs.Events.IsUncalled}
 use Rattle.key_commands.specs.Exchanges.{KeyReply, KeyExchange, HaveKeyReplies, KeyInfoReplies, ListKeysReplies, KeyWrapReplies, ImportKeyReplies, ExportKeyReplies, PasswdReplies, VerifyReplies, DeleteKeyReplies, KeyReplies, wrap_key}
@@ -21,10 +21,10 @@ use Rattle.agent_ask.specs.TurnParts as taken
 use Rattle.key_commands.specs.Passphrases as passphrases
 use Rattle.key_commands.specs.declared.request.KeyRequest.TheVariants as on
 
-abbrev pub Uncalled : List (EventWith FurtherEvent) → Type 0
+abbrev pub Uncalled : List (EventWith PortCall) → Type 0
 Uncalled events = AllByRecursion IsUncalled events
 
-abbrev pub Unopening : List (EventWith FurtherEvent) → Type 0
+abbrev pub Unopening : List (EventWith PortCall) → Type 0
 Unopening events = AllByRecursion IsUnopening events
 
 abbrev pub UncalledSo : {A : Type 0} → Part A → Type 0
@@ -33,33 +33,33 @@ UncalledSo part = EachSo IsUncalled part
 abbrev pub UnopeningSo : {A : Type 0} → Part A → Type 0
 UnopeningSo part = EachSo IsUnopening part
 
-pub still_unopening : (event : EventWith FurtherEvent) → IsStill event → IsUnopening event
+pub still_unopening : (event : EventWith PortCall) → IsStill event → IsUnopening event
 still_unopening (Sent text) still = tt
 still_unopening (Cut text) still = tt
 still_unopening (Inquiry word params limit inquired) still = tt
-still_unopening (Further (Keys call)) still = tt
-still_unopening (Further (Dice draw)) still = tt
-still_unopening (Further (Trust call)) still = absurd still
-still_unopening (Further NoMemory) still = tt
-still_unopening (Further (Prompt event)) still = tt
+still_unopening (Port (Keys call)) still = tt
+still_unopening (Port (Dice draw)) still = tt
+still_unopening (Port (Trust call)) still = absurd still
+still_unopening (Port NoMemory) still = tt
+still_unopening (Port (Prompt event)) still = tt
 still_unopening (CacheTurn taken) still = absurd still
 still_unopening (Received took) still = tt
 
 -- ---- lists
 
-pub uncalled_first : (first more : List (EventWith FurtherEvent)) → Uncalled first → OpensFirst more → OpensFirst (first ++ more)
+pub uncalled_first : (first more : List (EventWith PortCall)) → Uncalled first → OpensFirst more → OpensFirst (first ++ more)
 uncalled_first [] more each opens = opens
 uncalled_first (event ∷ first) more each opens = (inl each.0, uncalled_first first more each.1 opens)
 
-pub unopening_opens : (events : List (EventWith FurtherEvent)) → Unopening events → OpensFirst events
+pub unopening_opens : (events : List (EventWith PortCall)) → Unopening events → OpensFirst events
 unopening_opens [] each = tt
 unopening_opens (event ∷ more) each = (inr each.1, unopening_opens more each.1)
 
-pub then_unopening : (first more : List (EventWith FurtherEvent)) → OpensFirst first → Unopening more → OpensFirst (first ++ more)
+pub then_unopening : (first more : List (EventWith PortCall)) → OpensFirst first → Unopening more → OpensFirst (first ++ more)
 then_unopening [] more opens each = unopening_opens more each
 then_unopening (event ∷ first) more opens each = (elim (opens.0) [ inl uncalled ↦ inl uncalled | inr unopening ↦ inr (each_append IsUnopening first more unopening each) ], then_unopening first more opens.1 each)
 
-pub uncalled_opens : (events : List (EventWith FurtherEvent)) → Uncalled events → OpensFirst events
+pub uncalled_opens : (events : List (EventWith PortCall)) → Uncalled events → OpensFirst events
 uncalled_opens events each = subst OpensFirst (append-nil events) (uncalled_first events [] each tt)
 
 -- ---- parts
@@ -89,7 +89,7 @@ unopening_part_opens = weaker (record { of = λ before events result after each.
 
 -- behind one, which always holds a ticket
 seated_prompts : {A : Type 0} {part : Part A} → UnopeningSo part
-    → ((before : Option ℕ) (events : List (EventWith FurtherEvent)) (result : Result A Refusal) (after : Option ℕ) → part before events result after → after ≡ None → ⊥) → PromptsSo part
+    → ((before : Option ℕ) (events : List (EventWith PortCall)) (result : Result A Refusal) (after : Option ℕ) → part before events result after → after ≡ None → ⊥) → PromptsSo part
 seated_prompts each holds = record {
   of = λ before events result after does. (unopening_opens events (each.of before events result after does), λ none. absurd (holds before events result after does none));
 }
@@ -114,14 +114,14 @@ otherwise_prompts = or_otherwise (record { of = λ held result. (tt, λ none. tt
 -- ---- prompts
 
 module _ (rules : Rules) (options : OptionValues) (grip : Grip) where
-  old_seated : (locked : LockedKey) (before : Option ℕ) (events : List (EventWith FurtherEvent)) (result : Result _ Refusal) (after : Option ℕ) → PromptsOld rules options grip locked before events result after → after ≡ None → ⊥
+  old_seated : (locked : LockedKey) (before : Option ℕ) (events : List (EventWith PortCall)) (result : Result _ Refusal) (after : Option ℕ) → PromptsOld rules options grip locked before events result after → after ≡ None → ⊥
   old_seated locked before events result after (passphrases.opens_by spec is prompt to) none = absurd (cc none)
   old_seated locked before events result after (passphrases.refused spec is prompt refusal) none = absurd (cc none)
 
   old_prompts : (locked : LockedKey) → PromptsSo (PromptsOld rules options grip locked)
   old_prompts locked = seated_prompts (prompts_old IsUnopening still_unopening (λ event. tt) rules options grip locked) (old_seated locked)
 
-  new_seated : (before : Option ℕ) (events : List (EventWith FurtherEvent)) (result : Result (List ℕ) Refusal) (after : Option ℕ) → PromptsNew rules options grip before events result after → after ≡ None → ⊥
+  new_seated : (before : Option ℕ) (events : List (EventWith PortCall)) (result : Result (List ℕ) Refusal) (after : Option ℕ) → PromptsNew rules options grip before events result after → after ≡ None → ⊥
   new_seated before events result after (passphrases.given spec is prompt) none = absurd (cc none)
   new_seated before events result after (passphrases.refused spec is prompt enough refusal) none = absurd (cc none)
 
@@ -165,7 +165,7 @@ agrees_opens rules options grip mode.Error false = calls_nobody (each_refused Is
 agrees_opens rules options grip mode.Loopback false = calls_nobody (each_refused IsUncalled (Agent code.NoPinentry))
 
 -- what follows the parts of a request
-pub answer_unopening : {held : Option ℕ} {back : List (EventWith FurtherEvent)} (line : Option (List ℕ)) → Closes None held back (Ok tt) None → Unopening (back ++ said_last line)
+pub answer_unopening : {held : Option ℕ} {back : List (EventWith PortCall)} (line : Option (List ℕ)) → Closes None held back (Ok tt) None → Unopening (back ++ said_last line)
 answer_unopening = each_answer IsUnopening (λ number turn. refl) (λ text. tt)
 
 -- ---- a request that has a ticket opens no other prompt
@@ -194,11 +194,11 @@ module _ {A B : Type 0} {part : Part A} {next : A → Part B} where
   seated_then : SeatedSo part → ((value : A) → UnopeningSo (next value)) → SeatedSo (part >>= next)
   seated_then = bind (record { then = λ some later seated each held. each_append IsUnopening some later (seated held) each; alone = λ seated. seated })
 
-short_stays : (key : Key) (before : Option ℕ) (events : List (EventWith FurtherEvent)) (result : Result (Unit {0}) Refusal) (after : Option ℕ) → IsShort key before events result after → StayLaw before events result after
+short_stays : (key : Key) (before : Option ℕ) (events : List (EventWith PortCall)) (result : Result (Unit {0}) Refusal) (after : Option ℕ) → IsShort key before events result after → StayLaw before events result after
 short_stays key _ _ _ _ (parts.short few) held = (tt, held)
 short_stays key _ _ _ _ (parts.long many) held = (tt, held)
 
-nonce_stays : (id : Option (List ℕ)) (before : Option ℕ) (events : List (EventWith FurtherEvent)) (result : Result (Option (List ℕ)) Refusal) (after : Option ℕ) → LooksForNonce id before events result after
+nonce_stays : (id : Option (List ℕ)) (before : Option ℕ) (events : List (EventWith PortCall)) (result : Result (Option (List ℕ)) Refusal) (after : Option ℕ) → LooksForNonce id before events result after
     → StayLaw before events result after
 nonce_stays None _ _ _ _ chain.returns held = (tt, held)
 nonce_stays (Some id) _ _ _ _ (taken.given can) held = ((refl, tt), held)
@@ -206,7 +206,7 @@ nonce_stays (Some id) _ _ _ _ (taken.empty can) held = ((refl, tt), held)
 nonce_stays (Some id) _ _ _ _ (taken.opened can) held = absurd held
 nonce_stays (Some id) _ _ _ _ (taken.interrupted can why) held = ((refl, tt), held)
 
-seat_stays : (grip : Grip) (before : Option ℕ) (events : List (EventWith FurtherEvent)) (result : Result (Unit {0}) Refusal) (after : Option ℕ) → TakesSeat grip before events result after → StayLaw before events result after
+seat_stays : (grip : Grip) (before : Option ℕ) (events : List (EventWith PortCall)) (result : Result (Unit {0}) Refusal) (after : Option ℕ) → TakesSeat grip before events result after → StayLaw before events result after
 seat_stays grip None events result after does held = absurd held
 seat_stays grip (Some number) _ _ _ chain.returns held = (tt, held)
 
@@ -232,7 +232,7 @@ module _ (rules : Rules) (options : OptionValues) (grip : Grip) where
       (λ pass. rewrites_file IsUnopening still_unopening (λ key_grip secret turn. refl) (λ ticket keep turn. refl) rules options grip file key pass))
 
   -- both passphrases, under one ticket
-  both_of : (wraps : WrapKeys) (old_id new_id : Option (List ℕ)) (file : List ℕ) (key : Key) (before : Option ℕ) (events : List (EventWith FurtherEvent)) (result : Result KeyReply Refusal) (after : Option ℕ)
+  both_of : (wraps : WrapKeys) (old_id new_id : Option (List ℕ)) (file : List ℕ) (key : Key) (before : Option ℕ) (events : List (EventWith PortCall)) (result : Result KeyReply Refusal) (after : Option ℕ)
       → (OldPassphrase rules options grip old_id key >>= λ opened. (ChangesOpened rules options grip new_id file opened.key >>= λ changed. Returns (exchange.key_reply wraps ok))) before events result after
       → OpensFirst events
   both_of wraps old_id new_id file key before events result after (goes_on {first = some} {events = more} {value = opened} {mid = None} does next_does) =
@@ -309,6 +309,6 @@ module _ (rules : Rules) (options : OptionValues) (wraps : WrapKeys) where
   replies (on.DeleteKey grip force) = delete_key force grip
   replies (on.Bad why) = calls_nobody (each_refused IsUncalled (Agent why))
 
-  pub key_opens : (asked : KeyRequest) {events : List (EventWith FurtherEvent)} {after : WrapKeys} {went : KeyWent} → KeyExchange rules options wraps asked events after went → OpensFirst events
+  pub key_opens : (asked : KeyRequest) {events : List (EventWith PortCall)} {after : WrapKeys} {went : KeyWent} → KeyExchange rules options wraps asked events after went → OpensFirst events
   key_opens asked (part_exchanges.answered events held reply does closes) = then_unopening events _ ((replies asked).of None events (Ok reply) held does) (answer_unopening (Some reply.text) closes)
   key_opens asked (part_exchanges.refused events held why does closes) = then_unopening events _ ((replies asked).of None events (Err why) held does) (answer_unopening (refusal_line why) closes)

@@ -1,6 +1,6 @@
 -- What requests on the cache hand to it is their own, and so is the passphrase that they are answered; and so of what each request of a session hands in.
 use Rattle.std.{specs.{List.AllByRecursion, Prelude.⊤}, proofs.Common.{◌≡◌, ℕ, Bool, true, false, List, [], ◌∷◌, ◌++◌, Option, Some, None, Result, Ok, Err, refl, sym, ◌∙◌, subst, append_assoc, append-nil, codes}}
-use Rattle.agent_ask.specs.{ClientParts.{Writes, Inquires}, ConsentParts.AgreesTo, Further.FurtherEvent, PartExchanges.AnyExchange, Parts.{◌>>=◌, Returns, Refuses, needed, or_else}, SessionEvents.{Sent, cache_turn, said_last}}
+use Rattle.agent_ask.specs.{ClientParts.{Writes, Inquires}, ConsentParts.AgreesTo, PortCalls.PortCall, PartExchanges.AnyExchange, Parts.{◌>>=◌, Returns, Refuses, needed, or_else}, SessionEvents.{Sent, cache_turn, said_last}}
 use Rattle.{agent_ask.{specs.TurnParts.{Asks, Seats, Changes, Closes}, proofs.Within.{HoldsOf, Within, Joins, returned_so, refused_so}}, assuan_server.specs.{Clients.session_lines, Written.{refusal_line, limit_line}}}
 use Rattle.cache_policy.specs.{Turns.{Given, FitsStep}, declared.{grant.Grant.Grant, life.Life.{Life, TheVariants.Default}, mark.MarkStep.{MarkStep, TheVariants.{Put, Seat}}, mode.Mode.TheVariants.User, secret.TheConstants.MAX_SECRET_LEN}}
 use Rattle.{session_client.specs.declared.refusal.Refusal.{Refusal, TheVariants.Agent}, session_options.specs.{OptionValues.{OptionValues, applied}, declared.options.OptionAnswer.OptionAnswer}}
@@ -9,7 +9,7 @@ use Rattle.agent_commands.specs.{Exchanges.{CacheExchange, CacheReply, TellsPass
 use Rattle.agent_commands.specs.{Passphrases.{ask, ask_or_open, LooksFor, WantsPrompt, KeepsUnder, ByCache, ByClient, Uncached, WithoutPrompt, PromptsAny, ByUser, as_wanted, passphrase_by}, Requests.{GetFields, get_passphrase}}
 use Rattle.agent_commands.specs.declared.{request.{CacheCommand.CacheCommand, Info.Info, Request.{Request, TheVariants.{Cache, Key as OnKeys, Bad}}, Texts.Texts}, went.Went.Went}
 use Rattle.{key_commands.{proofs.EachEvent.{each_append, EachSo, each_bind, each_refused, each_seats, each_changes, each_wanted}, specs.Lines.of_passphrase}, agent_origin.specs.SessionExchanges.{RequestExchange, cache, keys}}
-use Rattle.agent_origin.specs.declared.kept.Kept.{Kept}
+use Rattle.agent_origin.specs.declared.session_state.SessionState.{SessionState}
 use Rattle.agent_session.specs.{Causes.{Has, here, wanted, IsSent, sent, on_keys}, OwnAnswers.{IsPublic, done, closes, helps, tells, notice, IsAnswered, cached, unprompted, typed, SaysOwn, public, passphrase, SaysOwnAlone}}
 use Rattle.agent_session.specs.{OwnPassphrases.{for_get, for_preset, by_command, WantsTicket, by_id, unkept, HasTicket, has_ticket, IsAccepted, any, HandsIn, StoresOwn}, Refusals.{preset, given}}
 use Rattle.agent_session.proofs.{OwnFacts.{ticket_more, accepted_more, sent_more}, OwnLines.{IsOpen, IsPlain, Open, Plain, each_first, each_second, shown_plain, refusal_plain, back_plain, open_are_own, said_last_own}}
@@ -29,7 +29,7 @@ use Rattle.agent_session.specs.OwnAnswers as answers
 use Rattle.agent_session.specs.OwnPassphrases as whose
 
 module _ (rules : Rules) where
-  agrees_of : {options : OptionValues} {question : List ℕ} (before : Option ℕ) (events : List (EventWith FurtherEvent)) (result : Result (Unit {0}) Refusal) (after : Option ℕ)
+  agrees_of : {options : OptionValues} {question : List ℕ} (before : Option ℕ) (events : List (EventWith PortCall)) (result : Result (Unit {0}) Refusal) (after : Option ℕ)
       → AgreesTo session_lines rules options question before events result after → Plain rules events
   agrees_of before events result after (consent.consents spec is prompt) = shown_plain rules prompt.in_session
   agrees_of before events result after (consent.refused spec is prompt refusal) = shown_plain rules prompt.in_session
@@ -40,19 +40,19 @@ module _ (rules : Rules) where
   confirms_plain options mode.Error description = each_refused (IsPlain rules) (Agent code.NoPinentry)
   confirms_plain options mode.Loopback description = each_refused (IsPlain rules) (Agent code.NoPinentry)
 
-  module _ (kept : Kept) (request : Request) where
-    abbrev Mine : List (EventWith FurtherEvent) → MarkStep → Type 0
+  module _ (kept : SessionState) (request : Request) where
+    abbrev Mine : List (EventWith PortCall) → MarkStep → Type 0
     Mine = StoresOwn rules kept request
 
     -- ---- parts
 
     -- where this is so, what a part hands in is the request's own, and it writes no passphrase; and then that is so of what it comes to
     abbrev Owns : {A : Type 0} → Fact → CachePart A → (A → Fact) → Type 0
-    Owns {A} Pre part Post = (prior : List (EventWith FurtherEvent)) (before : Option ℕ) (events : List (EventWith FurtherEvent)) (result : Result A Refusal) (after : Option ℕ) → part before events result after → Pre prior before
+    Owns {A} Pre part Post = (prior : List (EventWith PortCall)) (before : Option ℕ) (events : List (EventWith PortCall)) (result : Result A Refusal) (after : Option ℕ) → part before events result after → Pre prior before
         → AreOwn Mine prior events × Open rules events × HoldsOf (λ value. Post value (prior ++ events) after) result
 
-    record Owned {A : Type 0} (Pre : Fact) (Post : A → Fact) (before : Option ℕ) (events : List (EventWith FurtherEvent)) (result : Result A Refusal) (after : Option ℕ) : Type 0 where
-      so : (prior : List (EventWith FurtherEvent)) → Pre prior before → AreOwn Mine prior events × Open rules events × HoldsOf (λ value. Post value (prior ++ events) after) result
+    record Owned {A : Type 0} (Pre : Fact) (Post : A → Fact) (before : Option ℕ) (events : List (EventWith PortCall)) (result : Result A Refusal) (after : Option ℕ) : Type 0 where
+      so : (prior : List (EventWith PortCall)) → Pre prior before → AreOwn Mine prior events × Open rules events × HoldsOf (λ value. Post value (prior ++ events) after) result
 
     abbrev OwnUntold : {A : Type 0} → Fact → CachePart A → (A → Fact) → Type 0
     OwnUntold Pre part Post = Within part (Owned Pre Post)
@@ -76,21 +76,21 @@ module _ (rules : Rules) where
     bind = within.bind owned_join
 
     module _ {A : Type 0} {Pre : Fact} {Post : A → Fact} where
-      returned : (value : A) → ((prior : List (EventWith FurtherEvent)) (held : Option ℕ) → Pre prior held → Post value prior held) → OwnUntold Pre (Returns value) Post
+      returned : (value : A) → ((prior : List (EventWith PortCall)) (held : Option ℕ) → Pre prior held → Post value prior held) → OwnUntold Pre (Returns value) Post
       returned value so = returned_so value (λ held. record { so = λ prior pre. (tt, tt, subst (λ p. Post value p held) (sym (append-nil prior)) (so prior held pre)) })
 
       refused : (why : Refusal) → OwnUntold Pre (Refuses {A = A} why) Post
       refused why = refused_so why (λ held. record { so = λ prior pre. (tt, tt, tt) })
 
-    plain_own : (prior events : List (EventWith FurtherEvent)) → Plain rules events → AreOwn Mine prior events × Open rules events
+    plain_own : (prior events : List (EventWith PortCall)) → Plain rules events → AreOwn Mine prior events × Open rules events
     plain_own prior events each = (quiet_are_own Mine prior events (each_first IsQuiet (IsOpen rules) events each), each_second IsQuiet (IsOpen rules) events each)
 
     plainly : {A : Type 0} {Pre : Fact} {part : CachePart A} → EachSo (IsPlain rules) part → OwnUntold Pre part (λ value. Anything)
     plainly each = owned (λ prior before events result after does pre. let so = plain_own prior events (each.of before events result after does) in (so.0, so.1, whatever result tt))
 
     -- a turn that changes the cache
-    module _ (Is After : List (EventWith FurtherEvent) → Type 0) (step : MarkStep) (own : (prior : List (EventWith FurtherEvent)) → Is prior → HandsIn step → StoresOwn rules kept request prior step)
-        (then : (prior more : List (EventWith FurtherEvent)) → Is prior → After (prior ++ more)) where
+    module _ (Is After : List (EventWith PortCall) → Type 0) (step : MarkStep) (own : (prior : List (EventWith PortCall)) → Is prior → HandsIn step → StoresOwn rules kept request prior step)
+        (then : (prior more : List (EventWith PortCall)) → Is prior → After (prior ++ more)) where
       changes_of : Owns (λ prior held. Is prior) (Changes step) (λ changed prior held. After prior)
       changes_of prior before events result after (turning.done can) pre = ((own prior pre, tt), (tt, tt), then prior _ pre)
       changes_of prior before events result after (turning.interrupted can why) pre = ((own prior pre, tt), (tt, tt), tt)
@@ -103,7 +103,7 @@ module _ (rules : Rules) where
     abbrev IsSaid : List ℕ → Fact
     IsSaid pass prior held = IsSent prior (codes "PASSPHRASE") MAX_SECRET_LEN pass
 
-    module _ (Pre : Fact) (Post : List ℕ → Fact) (gives : (pass : List ℕ) (prior : List (EventWith FurtherEvent)) (held : Option ℕ) → IsSaid pass prior held → Post pass prior held) where
+    module _ (Pre : Fact) (Post : List ℕ → Fact) (gives : (pass : List ℕ) (prior : List (EventWith PortCall)) (held : Option ℕ) → IsSaid pass prior held → Post pass prior held) where
       writes_of : Owns Pre (Writes (limit_line MAX_SECRET_LEN)) (λ wrote. Anything)
       writes_of prior before events result after client.written pre = ((tt, tt), (notice of_passphrase, tt), tt)
       writes_of prior before events result after (client.cut unsent is) pre = ((tt, tt), (tt, tt), tt)
@@ -121,10 +121,10 @@ module _ (rules : Rules) where
     abbrev Held : Fact
     Held prior held = (ticket : ℕ) → held ≡ Some ticket → HasTicket rules kept request prior ticket
 
-    held_more : {prior : List (EventWith FurtherEvent)} {held : Option ℕ} (more : List (EventWith FurtherEvent)) → Held prior held → Held (prior ++ more) held
+    held_more : {prior : List (EventWith PortCall)} {held : Option ℕ} (more : List (EventWith PortCall)) → Held prior held → Held (prior ++ more) held
     held_more more own ticket is = ticket_more more (own ticket is)
 
-    opened_own : {prior : List (EventWith FurtherEvent)} {ticket : ℕ} → HasTicket rules kept request prior ticket → Held prior (Some ticket)
+    opened_own : {prior : List (EventWith PortCall)} {ticket : ℕ} → HasTicket rules kept request prior ticket → Held prior (Some ticket)
     opened_own {prior} has other is = subst (HasTicket rules kept request prior) (cc is) has
 
     seats_of : Owns Held (Seats (Seat None None)) (λ seated. Held)
@@ -147,8 +147,8 @@ module _ (rules : Rules) where
       Known (Some secret) = IsFound secret
 
       module _ (step : MarkStep) (quiet : HandsIn step → ⊥)
-          (gives : (prior : List (EventWith FurtherEvent)) (grant : Grant) → Has (cache_turn step (Given grant)) prior → IsAnswered rules kept.options request prior fields grant.entry.secret) where
-        asks_of : (prior : List (EventWith FurtherEvent)) (before : Option ℕ) (events : List (EventWith FurtherEvent)) (result : Result (Option (List ℕ)) Refusal) (after : Option ℕ)
+          (gives : (prior : List (EventWith PortCall)) (grant : Grant) → Has (cache_turn step (Given grant)) prior → IsAnswered rules kept.options request prior fields grant.entry.secret) where
+        asks_of : (prior : List (EventWith PortCall)) (before : Option ℕ) (events : List (EventWith PortCall)) (result : Result (Option (List ℕ)) Refusal) (after : Option ℕ)
             → ((ticket : ℕ) → FitsStep step (turns.Open ticket) → WantsTicket rules kept request (prior ++ events) step) → Asks step before events result after → Held prior before
             → AreOwn Mine prior events × Open rules events × HoldsOf (λ found. Known found (prior ++ events) after) result
         asks_of prior before events result after wants (turning.given {grant} can) pre = (((λ hands. absurd (quiet hands)), tt), (tt, tt), gives _ grant (has_right prior here))
@@ -180,7 +180,7 @@ module _ (rules : Rules) where
       keeps_under : (id : Option (List ℕ)) → fields.id ≡ id → (secret : List ℕ) → OwnUntold (IsSaid secret) (KeepsUnder id secret) (λ kept. IsSaid secret)
       keeps_under None same secret = returned tt (λ prior held says. says)
       keeps_under (Some id) same secret =
-          let says_so : List (EventWith FurtherEvent) → Type 0 = λ prior. IsSaid secret prior None in
+          let says_so : List (EventWith PortCall) → Type 0 = λ prior. IsSaid secret prior None in
           changes says_so says_so (Put id User Default secret) (λ prior says hands. whose.sent (by_command (given fields is_get same)) (for_get fields is_get) says) (λ prior more says. sent_more more says)
 
       by_client : OwnUntold Held (ByClient fields.id) IsFound
@@ -243,7 +243,7 @@ module _ (rules : Rules) where
     changes_plainly quiet = plainly (each_changes (IsPlain rules) (λ turn. (quiet, tt)))
 
     module _ (id : List ℕ) (life : Life) where
-      abbrev IsPreset : List ℕ → List (EventWith FurtherEvent) → Type 0
+      abbrev IsPreset : List ℕ → List (EventWith PortCall) → Type 0
       IsPreset pass prior = StoresOwn rules kept request prior (put id life pass)
 
       given_or_asked : (secret : Option (List ℕ)) → request ≡ Cache (on.PresetPassphrase id life secret) → OwnUntold Anything (GivenOrAsked secret) (λ pass prior held. IsPreset pass prior)
@@ -274,7 +274,7 @@ module _ (rules : Rules) where
 
     -- ---- exchanges
 
-    says_more : {prior : List (EventWith FurtherEvent)} {text : List ℕ} (more : List (EventWith FurtherEvent)) → SaysOwn rules kept.options request prior text → SaysOwn rules kept.options request (prior ++ more) text
+    says_more : {prior : List (EventWith PortCall)} {text : List ℕ} (more : List (EventWith PortCall)) → SaysOwn rules kept.options request prior text → SaysOwn rules kept.options request (prior ++ more) text
     says_more more (public is) = public is
     says_more more (passphrase fields is_get found is) = passphrase fields is_get (found_more found) is
       where
@@ -285,10 +285,10 @@ module _ (rules : Rules) where
         found_more (answers.sent says) = answers.sent (sent_more more says)
 
     -- what is done for a request is its own, and what is written for it
-    abbrev AllOwn : List (EventWith FurtherEvent) → Type 0
+    abbrev AllOwn : List (EventWith PortCall) → Type 0
     AllOwn events = AreOwn Mine [] events × SaysOwnAlone rules kept.options request events
 
-    exchange_own : {part : CachePart CacheReply} {before after : OptionValues} {events : List (EventWith FurtherEvent)} {went : Went} → OwnUntold Held part Says
+    exchange_own : {part : CachePart CacheReply} {before after : OptionValues} {events : List (EventWith PortCall)} {went : Went} → OwnUntold Held part Says
         → AnyExchange refusal_line went_after part before events after went → AllOwn events
     exchange_own own (exchange.answered events held reply {back} does closes_so) =
         let so = (own.of None events (Ok reply) held does).so [] (λ ticket is. absurd (cc is)) in
@@ -307,18 +307,18 @@ module _ (rules : Rules) where
           open_are_own rules kept.options request (events ++ last) (each_append (IsOpen rules) events last so.1 (each_second IsQuiet (IsOpen rules) last plain)),
         )
 
-  pub cache_own : (kept : Kept) (request : Request) (events : List (EventWith FurtherEvent)) (after : OptionValues) (went : Went) → CacheExchange rules kept.options request events after went → AllOwn kept request events
+  pub cache_own : (kept : SessionState) (request : Request) (events : List (EventWith PortCall)) (after : OptionValues) (went : Went) → CacheExchange rules kept.options request events after went → AllOwn kept request events
   cache_own kept (Cache command) events after went exchanged = exchange_own kept (Cache command) (replies kept (Cache command) command refl) exchanged
   cache_own kept (Bad why) events after went exchanged = exchange_own kept (Bad why) (refused kept (Bad why) {Post = Says kept (Bad why)} (Agent why)) exchanged
   cache_own kept (OnKeys line) events after went exchanged = absurd exchanged
 
-pub request_own : {rules : Rules} {kept now : Kept} (request : Request) {events : List (EventWith FurtherEvent)} {went : Went} → RequestExchange rules kept request events now went → Fit events
+pub request_own : {rules : Rules} {kept now : SessionState} (request : Request) {events : List (EventWith PortCall)} {went : Went} → RequestExchange rules kept request events now went → Fit events
     → AreOwn (StoresOwn rules kept request) [] events
 request_own {rules} {kept} request {events} {went} (cache {options} exchanged) fits = (cache_own rules kept request events options went exchanged).0
 request_own {rules} {kept} request (keys exchanged) fits = key_own rules kept request _ refl exchanged fits
 
 -- each passphrase in a line for a request that isn't on keys is its own
-pub request_says_own : {rules : Rules} {kept now : Kept} (request : Request) {events : List (EventWith FurtherEvent)} {went : Went} → RequestExchange rules kept request events now went → on_keys request ≡ None
+pub request_says_own : {rules : Rules} {kept now : SessionState} (request : Request) {events : List (EventWith PortCall)} {went : Went} → RequestExchange rules kept request events now went → on_keys request ≡ None
     → SaysOwnAlone rules kept.options request events
 request_says_own {rules} {kept} request {events} {went} (cache {options} exchanged) is = (cache_own rules kept request events options went exchanged).1
 request_says_own request (keys exchanged) is = absurd (cc is)

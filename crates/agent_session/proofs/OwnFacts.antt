@@ -1,9 +1,9 @@
 -- What was done for a request stays so, whatever is done then; and the parts of requests on keys by which nothing is handed to the cache and the ticket stays.
 use Rattle.std.proofs.Common.{◌≡◌, ℕ, List, ◌++◌, codes, Option, Some, None, Ok, refl, ap, ◌∙◌, append_assoc}
-use Rattle.{agent_ask.specs.{Further.FurtherEvent, declared.{ask.Asked.Asked, spec.AskPlan.AskPlan}, ClientParts.Inquires, TurnParts.Asks}, cache_policy.specs.declared.mark.MarkStep.MarkStep}
+use Rattle.{agent_ask.specs.{PortCalls.PortCall, declared.{ask.Asked.Asked, spec.AskPlan.AskPlan}, ClientParts.Inquires, TurnParts.Asks}, cache_policy.specs.declared.mark.MarkStep.MarkStep}
 use Rattle.{agent_ports.specs.declared.grip.Grip.Grip, secret_file.specs.Opens.{LockedKey, IsLocked}, sexp_keys.specs.{Key.Key, Lists.grip_of}, agent_commands.specs.{Events.EventWith, declared.request.Request.Request}}
 use Rattle.key_commands.specs.{Lines.max_key_data, Wrapping.WrappedSays, KeyParts.{ReadsFile, LooksOver, AsksKeyData, Unwraps, NamesKey}, Parts.Draws, Passphrases.{LooksForNonce, Locks, TriesPassphrase, OpensBy, ask_nonce}}
-use Rattle.{assuan_server.specs.Clients.session_lines, agent_origin.specs.declared.kept.Kept.Kept, session_options.specs.{OptionValues.OptionValues, declared.rules.Rules.Rules}}
+use Rattle.{assuan_server.specs.Clients.session_lines, agent_origin.specs.declared.session_state.SessionState.SessionState, session_options.specs.{OptionValues.OptionValues, declared.rules.Rules.Rules}}
 use Rattle.agent_session.specs.Causes.{here, StandIn, HasPrompt, ComesBy, cached_by_nonce, cached_by_key, sent_by_client, typed_by_user, OpensRead, is_clear, opens, KeyDataSays, data_says, IsSent, sent, IsDrawn, IsRead, read, IsReadLocked}
 use Rattle.agent_session.specs.OwnPassphrases.{IsAbout, named, brought, WantsTicket, by_id, by_key, by_seat, unkept, HasTicket, has_ticket, IsAccepted, any, opening, IsGivenNew, given, NamesNew}
 use Rattle.agent_session.proofs.{OwnParts.{Quiet, QuietWith}, Standing.{has_left, has_right}}
@@ -21,19 +21,19 @@ stand_more {part} more stands = record {
   is = ap (λ w. w ++ more) stands.is ∙ append_assoc stands.before (part ++ stands.after) more ∙ ap (λ x. stands.before ++ x) (append_assoc part stands.after more);
 }
 
-pub sent_more : {prior : List (EventWith FurtherEvent)} {word pass : List ℕ} {limit : ℕ} (more : List (EventWith FurtherEvent)) → IsSent prior word limit pass → IsSent (prior ++ more) word limit pass
+pub sent_more : {prior : List (EventWith PortCall)} {word pass : List ℕ} {limit : ℕ} (more : List (EventWith PortCall)) → IsSent prior word limit pass → IsSent (prior ++ more) word limit pass
 sent_more more (sent says has) = sent says (has_left more has)
 
-pub drawn_more : {prior : List (EventWith FurtherEvent)} {count : ℕ} {bytes : List ℕ} (more : List (EventWith FurtherEvent)) → IsDrawn prior count bytes → IsDrawn (prior ++ more) count bytes
+pub drawn_more : {prior : List (EventWith PortCall)} {count : ℕ} {bytes : List ℕ} (more : List (EventWith PortCall)) → IsDrawn prior count bytes → IsDrawn (prior ++ more) count bytes
 drawn_more more drawn = record { long = drawn.long; has = has_left more drawn.has }
 
-pub read_more : {prior : List (EventWith FurtherEvent)} {grip : Grip} {says : _} (more : List (EventWith FurtherEvent)) → IsRead prior grip says → IsRead (prior ++ more) grip says
+pub read_more : {prior : List (EventWith PortCall)} {grip : Grip} {says : _} (more : List (EventWith PortCall)) → IsRead prior grip says → IsRead (prior ++ more) grip says
 read_more more (read is says has) = read is says (has_left more has)
 
-pub locked_more : {prior : List (EventWith FurtherEvent)} {grip : Grip} {locked : LockedKey} (more : List (EventWith FurtherEvent)) → IsReadLocked prior grip locked → IsReadLocked (prior ++ more) grip locked
+pub locked_more : {prior : List (EventWith PortCall)} {grip : Grip} {locked : LockedKey} (more : List (EventWith PortCall)) → IsReadLocked prior grip locked → IsReadLocked (prior ++ more) grip locked
 locked_more more locked = record { key = read_more more locked.key; protection = locked.protection }
 
-pub prompt_more : {prior : List (EventWith FurtherEvent)} {plan : AskPlan} {Rule : List ℕ → Type 0} {answer : Asked} (more : List (EventWith FurtherEvent)) → HasPrompt prior plan Rule answer → HasPrompt (prior ++ more) plan Rule answer
+pub prompt_more : {prior : List (EventWith PortCall)} {plan : AskPlan} {Rule : List ℕ → Type 0} {answer : Asked} (more : List (EventWith PortCall)) → HasPrompt prior plan Rule answer → HasPrompt (prior ++ more) plan Rule answer
 prompt_more more prompted = record {
   spec = prompted.spec;
   prompt = prompted.prompt;
@@ -43,7 +43,7 @@ prompt_more more prompted = record {
   stands = stand_more more prompted.stands;
 }
 
-module _ {rules : Rules} {options : OptionValues} {request : Request} {prior : List (EventWith FurtherEvent)} (more : List (EventWith FurtherEvent)) where
+module _ {rules : Rules} {options : OptionValues} {request : Request} {prior : List (EventWith PortCall)} (more : List (EventWith PortCall)) where
   pub accepted_more : {pin : List ℕ} → IsAccepted rules options request prior pin → IsAccepted rules options request (prior ++ more) pin
   accepted_more (any asks prompted) = any asks (prompt_more more prompted)
   accepted_more (opening keeps locked prompted) = opening keeps (locked_more more locked) (prompt_more more prompted)
@@ -58,7 +58,7 @@ module _ {rules : Rules} {options : OptionValues} {request : Request} {prior : L
   opens_more (is_clear is_read clear) = is_clear (read_more more is_read) clear
   opens_more (opens locked comes to) = opens (locked_more more locked) (comes_more comes) to
 
-module _ {rules : Rules} {kept : Kept} {request : Request} {prior : List (EventWith FurtherEvent)} (more : List (EventWith FurtherEvent)) where
+module _ {rules : Rules} {kept : SessionState} {request : Request} {prior : List (EventWith PortCall)} (more : List (EventWith PortCall)) where
   pub key_data_more : {says : _} → KeyDataSays prior rules kept request says → KeyDataSays (prior ++ more) rules kept request says
   key_data_more (data_says wrap says key) = data_says wrap (sent_more more says) key
 
@@ -120,9 +120,9 @@ module _ (locked : LockedKey) (pass : List ℕ) where
   tries_quiet prior before events result after (passphrases.stays closed) fits = (tt, refl, λ opened is. absurd (cc is))
   tries_quiet prior before events result after passphrases.no_memory fits = ((tt, tt), refl, tt)
 
-module _ (rules : Rules) (kept : Kept) (request : Request) where
+module _ (rules : Rules) (kept : SessionState) (request : Request) where
   -- what was found under the nonce of a new one
-  abbrev pub FoundNew : Option (List ℕ) → List (EventWith FurtherEvent) → Type 0
+  abbrev pub FoundNew : Option (List ℕ) → List (EventWith PortCall) → Type 0
   FoundNew None prior = Unit {0}
   FoundNew (Some pass) prior = IsGivenNew rules kept request prior pass
 

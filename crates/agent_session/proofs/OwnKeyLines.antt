@@ -1,7 +1,7 @@
 -- No line of a request on keys has a passphrase in it: what is written before its reply are notices, and the reply is one of these.
 use Rattle.std.{specs.{List.AllByRecursion, Prelude.{⊤, drop}, Option.option_map}, proofs.Common.{◌≡◌, ℕ, Bool, true, false, List, [], ◌∷◌, ◌++◌, Option, Some, None, Result, Ok, Err, refl, sym, subst, append-nil, append_assoc}}
 use Rattle.agent_ask.specs.{PartExchanges.{answered, refused}, Parts.{goes_on, returns, needed, or_else}, SessionEvents.{Received, Sent, Cut, Inquiry, CacheTurn, said_last}, TurnParts.{Closes, unheld, closed}}
-use Rattle.{agent_commands.specs.declared.{request.Request.{Request, TheVariants.{Cache, Bad, Key as OnKeys}}, went.Went.Went}, agent_origin.specs.{SessionExchanges.{RequestExchange, cache, keys}, declared.kept.Kept.Kept}}
+use Rattle.{agent_commands.specs.declared.{request.Request.{Request, TheVariants.{Cache, Bad, Key as OnKeys}}, went.Went.Went}, agent_origin.specs.{SessionExchanges.{RequestExchange, cache, keys}, declared.session_state.SessionState.SessionState}}
 use Rattle.{agent_ports.specs.declared.grip.Grip.Grip, assuan_server.specs.Written.{failed, refusal_line}, session_client.specs.{Refusals.refusal_code, declared.{code.Code.Code, refusal.Refusal.Refusal}}}
 use Rattle.{session_client.specs.declared.refusal.Refusal.TheVariants.{Agent, Pinentry, Client}, session_options.specs.declared.rules.Rules.Rules, sexp_keys.specs.Key.Key, key_commands.specs.Events.Event}
 use Rattle.key_commands.specs.Exchanges.{KeyExchange, KeyReply, KeyReplies, HaveKeyReplies, KeyInfoReplies, ListKeysReplies, KeyWrapReplies, ImportKeyReplies, ExportKeyReplies, PasswdReplies, VerifyReplies, DeleteKeyReplies, wrap_key}
@@ -27,7 +27,7 @@ work_noted (Received took) work = tt
 work_noted (Cut text) work = tt
 work_noted (Inquiry word params limit inquired) work = tt
 work_noted (CacheTurn taken) work = tt
-work_noted (events.Further what) work = tt
+work_noted (events.Port what) work = tt
 
 back_noted : {held : Option ℕ} {back : List Event} → Closes None held back (Ok tt) None → AllByRecursion IsNoted back
 back_noted unheld = tt
@@ -41,7 +41,7 @@ drawn_by (parts.drawn long) = record { long = long; has = here }
 drawn_behind : (first : List Event) {more : List Event} {count : ℕ} {bytes : List ℕ} → IsDrawn more count bytes → IsDrawn (first ++ more) count bytes
 drawn_behind first drawn_so = record { long = drawn_so.long; has = has_right first drawn_so.has }
 
-module _ (rules : Rules) (kept : Kept) (request : Request) where
+module _ (rules : Rules) (kept : SessionState) (request : Request) where
   -- ---- the reply
 
   wrap_of : (way : Direction) (had : Option (List ℕ)) → wrap_key way kept.wraps ≡ had → (before after : Option ℕ) {more : List Event} {key : List ℕ} → or_else had (Draws 16) before more (Ok key) after
@@ -173,7 +173,7 @@ module _ (rules : Rules) (kept : Kept) (request : Request) where
       subst (TellsOfKeysAlone rules kept request) (append_assoc some back (said_last (refusal_line why)))
       (refusal_told (some ++ back) why (each_append IsNoted some back (noted asked some (Err why) held does) (back_noted closes)))
 
-pub request_told : (rules : Rules) (kept : Kept) (request : Request) {asked : KeyRequest} → on_keys request ≡ Some asked → {now : Kept} {events : List Event} {went : Went} → RequestExchange rules kept request events now went
+pub request_told : (rules : Rules) (kept : SessionState) (request : Request) {asked : KeyRequest} → on_keys request ≡ Some asked → {now : SessionState} {events : List Event} {went : Went} → RequestExchange rules kept request events now went
     → TellsOfKeysAlone rules kept request events
 request_told rules kept (Cache command) is exchanged = absurd (cc is)
 request_told rules kept (Bad why) is exchanged = absurd (cc is)

@@ -1,6 +1,6 @@
 -- What requests on keys hand to the cache is their own.
 use Rattle.std.{specs.{List.AllByRecursion, Prelude.{not, drop}}, proofs.Common.{◌≡◌, ◌==◌, ℕ, Bool, true, false, List, [], ◌∷◌, ◌++◌, length, codes, Option, Some, None, Result, Ok, Err, refl, sym, ap, subst, append-nil}}
-use Rattle.agent_ask.specs.{Further.FurtherEvent, SessionEvents.{Received, Sent, Cut, Inquiry, CacheTurn, Further, cache_turn, said_last}, ClientParts.AsksClient, TurnParts.{Asks, Changes, Closes}, Parts.{needed, or_else}}
+use Rattle.agent_ask.specs.{PortCalls.PortCall, SessionEvents.{Received, Sent, Cut, Inquiry, CacheTurn, Port, cache_turn, said_last}, ClientParts.AsksClient, TurnParts.{Asks, Changes, Closes}, Parts.{needed, or_else}}
 use Rattle.{agent_ask.proofs.Within.HoldsOf, assuan_server.specs.{Clients.session_lines, Written.{refusal_line, limit_line}}, agent_ports.specs.declared.grip.Grip.Grip, assuan_escape.specs.Escapes.hex_text, cache_policy.specs.Turns.Open}
 use Rattle.{cache_policy.specs.declared.{life.Life.TheVariants.Default, mark.MarkStep.{MarkStep, TheVariants.{Close, Put}}, mode.Mode.TheVariants.Nonce, secret.TheConstants.MAX_SECRET_LEN}, secret_file.specs.Opens.{LockedKey, IsLocked}}
 use Rattle.{session_options.specs.declared.{options.PinMode.PinMode, rules.Rules.Rules}, sexp_keys.specs.Key.Key, agent_commands.specs.{Events.EventWith, declared.request.Request.Request}}
@@ -9,7 +9,7 @@ use Rattle.key_commands.specs.{Exchanges.{PasswdReplies, VerifyReplies, ImportKe
 use Rattle.key_commands.specs.{Passphrases.{OpensBy, PromptsOld, PromptsNew, ClientOld, UncachedOld, OpensLocked, ClientNew, TakesSeat, TriesFound, Locks, ask_key, put_key, way_of}, declared.request.Direction.Direction}
 use Rattle.key_commands.specs.declared.{request.KeyRequest.KeyRequest, went.KeyWent.KeyWent, wrap_keys.WrapKeys.WrapKeys}
 use Rattle.key_commands.proofs.EachEvent.{each_append, each_shown, IsStill, EachSo, each_bind, each_returned, each_refused, each_otherwise, each_wanted, each_seats, each_changes, finds, draws, reads_file, lists, told, has_one, removes}
-use Rattle.{key_commands.proofs.EachEvent.{tells_info, writes_infos, agrees_to}, session_client.specs.declared.refusal.Refusal.{Refusal, TheVariants.Agent}, agent_origin.specs.declared.kept.Kept.Kept}
+use Rattle.{key_commands.proofs.EachEvent.{tells_info, writes_infos, agrees_to}, session_client.specs.declared.refusal.Refusal.{Refusal, TheVariants.Agent}, agent_origin.specs.declared.session_state.SessionState.SessionState}
 use Rattle.agent_session.specs.Causes.{here, StandIn, on_keys, Unlocks, KeyDataSays, data_says, AsksAny, of_new, of_import, new_plan, IsSent, IsDrawn, IsRead, IsReadLocked}
 use Rattle.agent_session.specs.OwnPassphrases.{KeepsOld, exports, verifies, GivesBy, for_change, for_import, IsAbout, named, brought, by_command, of_key, NamesNew, brings, changes, WantsTicket, by_key, by_seat, HasTicket, has_ticket}
 use Rattle.agent_session.specs.{OwnPassphrases.{IsAccepted, any, opening, IsGivenNew, StoresOwn, HandsIn}, Refusals.{imported, nonce_of}}
@@ -30,23 +30,23 @@ use Rattle.agent_session.proofs.Works as work
 
 -- ---- what stays so
 
-pub still_quiet : (event : EventWith FurtherEvent) → IsStill event → IsQuiet event
+pub still_quiet : (event : EventWith PortCall) → IsStill event → IsQuiet event
 still_quiet (Sent text) still = tt
 still_quiet (Cut text) still = tt
 still_quiet (Inquiry word params limit inquired) still = tt
-still_quiet (Further event) still = tt
+still_quiet (Port event) still = tt
 still_quiet (CacheTurn taken) still = absurd still
 still_quiet (Received took) still = tt
 
 -- no ticket is held
-abbrev Unheld : List (EventWith FurtherEvent) → Option ℕ → Type 0
+abbrev Unheld : List (EventWith PortCall) → Option ℕ → Type 0
 Unheld prior held = held ≡ None
 
-pub stand_last : (prior shown : List (EventWith FurtherEvent)) → StandIn shown (prior ++ shown)
+pub stand_last : (prior shown : List (EventWith PortCall)) → StandIn shown (prior ++ shown)
 stand_last prior shown = record { before = prior; after = []; is = ap (λ x. prior ++ x) (sym (append-nil shown)) }
 
-module _ (rules : Rules) (kept : Kept) (request : Request) where
-  abbrev Mine : List (EventWith FurtherEvent) → MarkStep → Type 0
+module _ (rules : Rules) (kept : SessionState) (request : Request) where
+  abbrev Mine : List (EventWith PortCall) → MarkStep → Type 0
   Mine = StoresOwn rules kept request
 
   unheld_stays : Stays Unheld
@@ -56,38 +56,38 @@ module _ (rules : Rules) (kept : Kept) (request : Request) where
   any_stays = record { of = λ prior more held so. tt }
 
   -- none is, or the request's own, where the client wants prompts
-  data TicketAt (way : PinMode) (prior : List (EventWith FurtherEvent)) : Option ℕ → Type 0 where
+  data TicketAt (way : PinMode) (prior : List (EventWith PortCall)) : Option ℕ → Type 0 where
     no_ticket : TicketAt way prior None
     own_ticket : {ticket : ℕ} → way ≡ mode.Ask → HasTicket rules kept request prior ticket → TicketAt way prior (Some ticket)
 
-  ticket_stays_of : (way : PinMode) (prior more : List (EventWith FurtherEvent)) (held : Option ℕ) → TicketAt way prior held → TicketAt way (prior ++ more) held
+  ticket_stays_of : (way : PinMode) (prior more : List (EventWith PortCall)) (held : Option ℕ) → TicketAt way prior held → TicketAt way (prior ++ more) held
   ticket_stays_of way prior more held no_ticket = no_ticket
   ticket_stays_of way prior more held (own_ticket is has) = own_ticket is (ticket_more more has)
 
   ticket_stays : (way : PinMode) → Stays (TicketAt way)
   ticket_stays way = record { of = ticket_stays_of way }
 
-  unheld_ticket : (way : PinMode) (prior : List (EventWith FurtherEvent)) (held : Option ℕ) → held ≡ None → TicketAt way prior held
+  unheld_ticket : (way : PinMode) (prior : List (EventWith PortCall)) (held : Option ℕ) → held ≡ None → TicketAt way prior held
   unheld_ticket way prior held none = subst (TicketAt way prior) (sym none) no_ticket
 
-  loopback_unheld : (prior : List (EventWith FurtherEvent)) (held : Option ℕ) → TicketAt mode.Loopback prior held → held ≡ None
+  loopback_unheld : (prior : List (EventWith PortCall)) (held : Option ℕ) → TicketAt mode.Loopback prior held → held ≡ None
   loopback_unheld prior held no_ticket = refl
   loopback_unheld prior held (own_ticket is has) = absurd (cc is)
 
   -- the request's own is
-  data Seated (prior : List (EventWith FurtherEvent)) : Option ℕ → Type 0 where
+  data Seated (prior : List (EventWith PortCall)) : Option ℕ → Type 0 where
     seated : {ticket : ℕ} → HasTicket rules kept request prior ticket → Seated prior (Some ticket)
 
-  seat_of : {prior : List (EventWith FurtherEvent)} {ticket : ℕ} → Seated prior (Some ticket) → HasTicket rules kept request prior ticket
+  seat_of : {prior : List (EventWith PortCall)} {ticket : ℕ} → Seated prior (Some ticket) → HasTicket rules kept request prior ticket
   seat_of (seated has) = has
 
-  or_own : {A : Type 0} {Pre : List (EventWith FurtherEvent) → Option ℕ → Type 0} {Post : A → List (EventWith FurtherEvent) → Option ℕ → Type 0} {other : Part A} (value : Option A)
-      → ((some : A) → value ≡ Some some → (prior : List (EventWith FurtherEvent)) (held : Option ℕ) → Pre prior held → Post some prior held) → (value ≡ None → OwnSo Mine Pre other Post)
+  or_own : {A : Type 0} {Pre : List (EventWith PortCall) → Option ℕ → Type 0} {Post : A → List (EventWith PortCall) → Option ℕ → Type 0} {other : Part A} (value : Option A)
+      → ((some : A) → value ≡ Some some → (prior : List (EventWith PortCall)) (held : Option ℕ) → Pre prior held → Post some prior held) → (value ≡ None → OwnSo Mine Pre other Post)
       → OwnSo Mine Pre (or_else value other) Post
   or_own None some other = other refl
   or_own (Some value) some other = own_returned Mine value (some value refl)
 
-  asks_client : {Pre : List (EventWith FurtherEvent) → Option ℕ → Type 0} (word : List ℕ) (limit : ℕ) → Stays Pre
+  asks_client : {Pre : List (EventWith PortCall) → Option ℕ → Type 0} (word : List ℕ) (limit : ℕ) → Stays Pre
       → OwnSo Mine Pre (AsksClient session_lines (limit_line limit) word limit) (λ pass prior held. Pre prior held × IsSent prior word limit pass)
   asks_client word limit stays = own_bind Mine (quietly Mine stays (quiet_keeps (work.writes IsQuiet (λ text. tt) tt))) (λ told. quiet_with Mine stays (quiet.inquires_quiet word limit))
 
@@ -96,22 +96,22 @@ module _ (rules : Rules) (kept : Kept) (request : Request) where
   module _ (grip : Grip) (unlocks : Unlocks request grip) where
     module _ (way : PinMode) where
       -- what was opened: where a ticket is held, a prompt accepted its passphrase
-      data OpenedAt (by : Option (List ℕ)) (prior : List (EventWith FurtherEvent)) : Option ℕ → Type 0 where
+      data OpenedAt (by : Option (List ℕ)) (prior : List (EventWith PortCall)) : Option ℕ → Type 0 where
         unheld : OpenedAt by prior None
         by_prompt : {ticket : ℕ} → way ≡ mode.Ask → HasTicket rules kept request prior ticket → ((pass : List ℕ) → by ≡ Some pass → KeepsOld request grip → IsAccepted rules kept.options request prior pass) → OpenedAt by prior (Some ticket)
 
-      unheld_opened : (by : Option (List ℕ)) (prior : List (EventWith FurtherEvent)) (held : Option ℕ) → held ≡ None → OpenedAt by prior held
+      unheld_opened : (by : Option (List ℕ)) (prior : List (EventWith PortCall)) (held : Option ℕ) → held ≡ None → OpenedAt by prior held
       unheld_opened by prior held none = subst (OpenedAt by prior) (sym none) unheld
 
-      opened_ticket : (by : Option (List ℕ)) (prior : List (EventWith FurtherEvent)) (held : Option ℕ) → OpenedAt by prior held → TicketAt way prior held
+      opened_ticket : (by : Option (List ℕ)) (prior : List (EventWith PortCall)) (held : Option ℕ) → OpenedAt by prior held → TicketAt way prior held
       opened_ticket by prior held unheld = no_ticket
       opened_ticket by prior held (by_prompt is has accepted) = own_ticket is has
 
     module _ (locked : LockedKey) where
-      abbrev Free : List (EventWith FurtherEvent) → Option ℕ → Type 0
+      abbrev Free : List (EventWith PortCall) → Option ℕ → Type 0
       Free prior held = IsReadLocked prior grip locked × (held ≡ None)
 
-      abbrev Ready : PinMode → List (EventWith FurtherEvent) → Option ℕ → Type 0
+      abbrev Ready : PinMode → List (EventWith PortCall) → Option ℕ → Type 0
       Ready way prior held = IsReadLocked prior grip locked × TicketAt way prior held
 
       free_stays : Stays Free
@@ -120,11 +120,11 @@ module _ (rules : Rules) (kept : Kept) (request : Request) where
       ready_stays : (way : PinMode) → Stays (Ready way)
       ready_stays way = record { of = λ prior more held so. (locked_more more so.0, ticket_stays_of way prior more held so.1) }
 
-      free_ready : (way : PinMode) (prior : List (EventWith FurtherEvent)) (held : Option ℕ) → Free prior held → Ready way prior held
+      free_ready : (way : PinMode) (prior : List (EventWith PortCall)) (held : Option ℕ) → Free prior held → Ready way prior held
       free_ready way prior held free = (free.0, unheld_ticket way prior held free.1)
 
       -- a prompt's ticket
-      takes_of : (prior : List (EventWith FurtherEvent)) (before : Option ℕ) (events : List (EventWith FurtherEvent)) (result : Result (Unit {0}) Refusal) (after : Option ℕ) → TakesSeat grip before events result after
+      takes_of : (prior : List (EventWith PortCall)) (before : Option ℕ) (events : List (EventWith PortCall)) (result : Result (Unit {0}) Refusal) (after : Option ℕ) → TakesSeat grip before events result after
           → Fit events → Ready mode.Ask prior before → AreOwn Mine prior events × HoldsOf (λ done. IsReadLocked (prior ++ events) grip locked × Seated (prior ++ events) after) result
       takes_of prior None events result after (turning.opened {ticket} can) fits pre =
           (((λ hands. elim hands [ ]), tt), (locked_more _ pre.0, seated (has_ticket (by_seat (named unlocks)) (has_right prior here))))
@@ -135,7 +135,7 @@ module _ (rules : Rules) (kept : Kept) (request : Request) where
           seat_at : TicketAt mode.Ask prior (Some number) → Seated prior (Some number)
           seat_at (own_ticket is has) = seated has
 
-      old_of : (prior : List (EventWith FurtherEvent)) (before : Option ℕ) (events : List (EventWith FurtherEvent)) (result : Result _ Refusal) (after : Option ℕ) → PromptsOld rules kept.options grip locked before events result after
+      old_of : (prior : List (EventWith PortCall)) (before : Option ℕ) (events : List (EventWith PortCall)) (result : Result _ Refusal) (after : Option ℕ) → PromptsOld rules kept.options grip locked before events result after
           → Fit events → IsReadLocked prior grip locked × Seated prior before → AreOwn Mine prior events × HoldsOf (λ opened. OpenedAt mode.Ask opened.by (prior ++ events) after) result
       old_of prior before events result after (passphrases.opens_by {shown} {pin} spec is prompt to) fits pre = (
         quiet_are_own Mine prior shown (each_shown IsQuiet still_quiet (λ event. tt) prompt.in_session),
@@ -145,13 +145,13 @@ module _ (rules : Rules) (kept : Kept) (request : Request) where
       old_of prior before events result after (passphrases.refused {shown} spec is prompt refusal) fits pre = (quiet_are_own Mine prior shown (each_shown IsQuiet still_quiet (λ event. tt) prompt.in_session), tt)
 
       -- a passphrase that the client gave, and that opens the key, is kept
-      abbrev GaveOld : List ℕ → List (EventWith FurtherEvent) → Option ℕ → Type 0
+      abbrev GaveOld : List ℕ → List (EventWith PortCall) → Option ℕ → Type 0
       GaveOld pass prior held = Free prior held × IsSent prior (codes "PASSPHRASE") MAX_SECRET_LEN pass
 
       gave_stays : (pass : List ℕ) → Stays (GaveOld pass)
       gave_stays pass = record { of = λ prior more held so. (free_stays.of prior more held so.0, sent_more more so.1) }
 
-      put_of : (pass : List ℕ) (prior : List (EventWith FurtherEvent)) (before : Option ℕ) (events : List (EventWith FurtherEvent)) (result : Result (Unit {0}) Refusal) (after : Option ℕ)
+      put_of : (pass : List ℕ) (prior : List (EventWith PortCall)) (before : Option ℕ) (events : List (EventWith PortCall)) (result : Result (Unit {0}) Refusal) (after : Option ℕ)
           → Changes (put_key grip pass) before events result after → Fit events → GaveOld pass prior before × OpensBy locked pass
           → AreOwn Mine prior events × HoldsOf (λ done. Unheld (prior ++ events) after) result
       put_of pass prior before events result after (turning.done can) fits pre = (((λ hands. whose.sent_old unlocks pre.0.0.0 pre.0.1 pre.1), tt), pre.0.0.1)
@@ -175,29 +175,29 @@ module _ (rules : Rules) (kept : Kept) (request : Request) where
       uncached_old mode.Loopback = own_where Mine (λ prior held ready. (ready.0, loopback_unheld prior held ready.1)) (client_old mode.Loopback)
 
       -- what the cache was asked, and what came of it: nothing, and perhaps a ticket, or something, and none
-      data AskedAt (way : PinMode) {A : Type 0} (value : Option A) (prior : List (EventWith FurtherEvent)) (held : Option ℕ) : Type 0 where
+      data AskedAt (way : PinMode) {A : Type 0} (value : Option A) (prior : List (EventWith PortCall)) (held : Option ℕ) : Type 0 where
         free : Free prior held → AskedAt way value prior held
         missed : value ≡ None → Ready way prior held → AskedAt way value prior held
 
-      asked_ready : (way : PinMode) {A : Type 0} {value : Option A} (prior : List (EventWith FurtherEvent)) (held : Option ℕ) → AskedAt way value prior held → Ready way prior held
+      asked_ready : (way : PinMode) {A : Type 0} {value : Option A} (prior : List (EventWith PortCall)) (held : Option ℕ) → AskedAt way value prior held → Ready way prior held
       asked_ready way prior held (free so) = free_ready way prior held so
       asked_ready way prior held (missed none ready) = ready
 
-      asked_free : (way : PinMode) {A : Type 0} (value : A) (prior : List (EventWith FurtherEvent)) (held : Option ℕ) → AskedAt way (Some value) prior held → Free prior held
+      asked_free : (way : PinMode) {A : Type 0} (value : A) (prior : List (EventWith PortCall)) (held : Option ℕ) → AskedAt way (Some value) prior held → Free prior held
       asked_free way value prior held (free so) = so
       asked_free way value prior held (missed none ready) = absurd (cc none)
 
-      asked_none : (way : PinMode) {A B : Type 0} (prior : List (EventWith FurtherEvent)) (held : Option ℕ) → AskedAt way {A = A} None prior held → AskedAt way {A = B} None prior held
+      asked_none : (way : PinMode) {A B : Type 0} (prior : List (EventWith PortCall)) (held : Option ℕ) → AskedAt way {A = A} None prior held → AskedAt way {A = B} None prior held
       asked_none way prior held (free so) = free so
       asked_none way prior held (missed none ready) = missed refl ready
 
-      wants_of : (prior : List (EventWith FurtherEvent)) (way : PinMode) (ticket : ℕ) → Fit (cache_turn (ask_key grip (way_of way)) (Open ticket) ∷ []) → (way ≡ mode.Ask) × WantsTicket rules kept request prior (ask_key grip (way_of way))
+      wants_of : (prior : List (EventWith PortCall)) (way : PinMode) (ticket : ℕ) → Fit (cache_turn (ask_key grip (way_of way)) (Open ticket) ∷ []) → (way ≡ mode.Ask) × WantsTicket rules kept request prior (ask_key grip (way_of way))
       wants_of prior mode.Ask ticket fits = (refl, by_key (named unlocks))
       wants_of prior mode.Cancel ticket fits = absurd fits.0
       wants_of prior mode.Error ticket fits = absurd fits.0
       wants_of prior mode.Loopback ticket fits = absurd fits.0
 
-      asks_of : (way : PinMode) (prior : List (EventWith FurtherEvent)) (before : Option ℕ) (events : List (EventWith FurtherEvent)) (result : Result (Option (List ℕ)) Refusal) (after : Option ℕ)
+      asks_of : (way : PinMode) (prior : List (EventWith PortCall)) (before : Option ℕ) (events : List (EventWith PortCall)) (result : Result (Option (List ℕ)) Refusal) (after : Option ℕ)
           → Asks (ask_key grip (way_of way)) before events result after → Fit events → Free prior before → AreOwn Mine prior events × HoldsOf (λ cached. AskedAt way cached (prior ++ events) after) result
       asks_of way prior before events result after (turning.given can) fits pre = (((λ hands. elim hands [ ]), tt), free (locked_more _ pre.0, pre.1))
       asks_of way prior before events result after (turning.empty can) fits pre = (((λ hands. elim hands [ ]), tt), free (locked_more _ pre.0, pre.1))
@@ -226,13 +226,13 @@ module _ (rules : Rules) (kept : Kept) (request : Request) where
           (λ none. own_bind Mine (owns Mine (asks_of kept.options.mode)) (λ cached. own_bind Mine (tries_asked kept.options.mode cached) (λ second. after_asked kept.options.mode second)))))
 
     -- a key's file was read, and no ticket is held
-    abbrev ReadAt : Key → List (EventWith FurtherEvent) → Option ℕ → Type 0
+    abbrev ReadAt : Key → List (EventWith PortCall) → Option ℕ → Type 0
     ReadAt key prior held = (held ≡ None) × IsRead prior grip (Ok key)
 
     read_stays : (key : Key) → Stays (ReadAt key)
     read_stays key = record { of = λ prior more held so. (so.0, read_more more so.1) }
 
-    locked_so : (key : Key) (locked : LockedKey) (prior : List (EventWith FurtherEvent)) (held : Option ℕ) → ReadAt key prior held × ((locked.key ≡ key) × IsLocked locked) → Free locked prior held
+    locked_so : (key : Key) (locked : LockedKey) (prior : List (EventWith PortCall)) (held : Option ℕ) → ReadAt key prior held × ((locked.key ≡ key) × IsLocked locked) → Free locked prior held
     locked_so key locked prior held so = (record { key = subst (λ k. IsRead prior grip (Ok k)) (sym so.1.0) so.0.1; protection = so.1.1 }, so.0.0)
 
     locks_free : (key : Key) → OwnSo Mine (ReadAt key) (Locks key) (λ locked. Free locked)
@@ -248,16 +248,16 @@ module _ (rules : Rules) (kept : Kept) (request : Request) where
 
     -- the ticket is given back with what opened the key
     module _ (keeps : KeepsOld request grip) where
-      close_own : (by : Option (List ℕ)) (prior : List (EventWith FurtherEvent)) (ticket : ℕ) → HasTicket rules kept request prior ticket
+      close_own : (by : Option (List ℕ)) (prior : List (EventWith PortCall)) (ticket : ℕ) → HasTicket rules kept request prior ticket
           → ((pass : List ℕ) → by ≡ Some pass → KeepsOld request grip → IsAccepted rules kept.options request prior pass) → HandsIn (Close ticket by) → StoresOwn rules kept request prior (Close ticket by)
       close_own None prior ticket has accepted hands = absurd (kept_none ticket hands)
       close_own (Some pass) prior ticket has accepted hands = whose.accepted has (accepted pass refl keeps)
 
-      opened_own : (way : PinMode) (by : Option (List ℕ)) (prior : List (EventWith FurtherEvent)) (ticket : ℕ) → OpenedAt way by prior (Some ticket) → HandsIn (Close ticket by)
+      opened_own : (way : PinMode) (by : Option (List ℕ)) (prior : List (EventWith PortCall)) (ticket : ℕ) → OpenedAt way by prior (Some ticket) → HandsIn (Close ticket by)
           → StoresOwn rules kept request prior (Close ticket by)
       opened_own way by prior ticket (by_prompt is has accepted) hands = close_own by prior ticket has accepted hands
 
-      closes_of : (way : PinMode) (by : Option (List ℕ)) (prior : List (EventWith FurtherEvent)) (before : Option ℕ) (events : List (EventWith FurtherEvent)) (result : Result (Unit {0}) Refusal) (after : Option ℕ)
+      closes_of : (way : PinMode) (by : Option (List ℕ)) (prior : List (EventWith PortCall)) (before : Option ℕ) (events : List (EventWith PortCall)) (result : Result (Unit {0}) Refusal) (after : Option ℕ)
           → Closes by before events result after → Fit events → OpenedAt way by prior before → AreOwn Mine prior events × HoldsOf (λ done. Anything (prior ++ events) after) result
       closes_of way by prior before events result after turning.unheld fits pre = (tt, tt)
       closes_of way by prior before events result after (turning.closed {ticket} turn can) fits pre = (((λ hands. opened_own way by prior ticket pre hands), tt), tt)
@@ -269,41 +269,41 @@ module _ (rules : Rules) (kept : Kept) (request : Request) where
 
   module _ (grip : Grip) (gives : GivesBy request (codes "NEW_PASSPHRASE")) (takes : AsksAny rules kept.options request (new_plan rules kept.options)) where
     -- the key is the request's
-    abbrev IsMine : List (EventWith FurtherEvent) → Type 0
+    abbrev IsMine : List (EventWith PortCall) → Type 0
     IsMine prior = IsAbout rules kept request prior grip
 
     -- what a new passphrase is of, by whether the request's ticket is held
-    data NewAt (pass : List ℕ) (prior : List (EventWith FurtherEvent)) : Option ℕ → Type 0 where
+    data NewAt (pass : List ℕ) (prior : List (EventWith PortCall)) : Option ℕ → Type 0 where
       by_client : IsSent prior (codes "NEW_PASSPHRASE") MAX_SECRET_LEN pass → NewAt pass prior None
       by_cache : IsGivenNew rules kept request prior pass → NewAt pass prior None
       at_prompt : {ticket : ℕ} → HasTicket rules kept request prior ticket → IsAccepted rules kept.options request prior pass → NewAt pass prior (Some ticket)
       renewed : {ticket : ℕ} {other : Grip} {old new : Option (List ℕ)} → on_keys request ≡ Some (on.Passwd other old new false) → HasTicket rules kept request prior ticket → IsGivenNew rules kept request prior pass
           → NewAt pass prior (Some ticket)
 
-    abbrev MineAt : List ℕ → List (EventWith FurtherEvent) → Option ℕ → Type 0
+    abbrev MineAt : List ℕ → List (EventWith PortCall) → Option ℕ → Type 0
     MineAt pass prior held = IsMine prior × NewAt pass prior held
 
-    new_stays_of : (pass : List ℕ) (prior more : List (EventWith FurtherEvent)) (held : Option ℕ) → NewAt pass prior held → NewAt pass (prior ++ more) held
+    new_stays_of : (pass : List ℕ) (prior more : List (EventWith PortCall)) (held : Option ℕ) → NewAt pass prior held → NewAt pass (prior ++ more) held
     new_stays_of pass prior more held (by_client says) = by_client (sent_more more says)
     new_stays_of pass prior more held (by_cache gave) = by_cache (given_more more gave)
     new_stays_of pass prior more held (at_prompt has accepted) = at_prompt (ticket_more more has) (accepted_more more accepted)
     new_stays_of pass prior more held (renewed is has gave) = renewed is (ticket_more more has) (given_more more gave)
 
-    mine_stays : {Pre : List (EventWith FurtherEvent) → Option ℕ → Type 0} → Stays Pre → Stays (λ prior held. IsMine prior × Pre prior held)
+    mine_stays : {Pre : List (EventWith PortCall) → Option ℕ → Type 0} → Stays Pre → Stays (λ prior held. IsMine prior × Pre prior held)
     mine_stays stays = record { of = λ prior more held so. (about_more more so.0, stays.of prior more held so.1) }
 
     new_stays : (pass : List ℕ) → Stays (MineAt pass)
     new_stays pass = mine_stays (record { of = new_stays_of pass })
 
-    put_new : (pass : List ℕ) (prior : List (EventWith FurtherEvent)) → MineAt pass prior None → StoresOwn rules kept request prior (put_key grip pass)
+    put_new : (pass : List ℕ) (prior : List (EventWith PortCall)) → MineAt pass prior None → StoresOwn rules kept request prior (put_key grip pass)
     put_new pass prior (mine, by_client says) = whose.sent (of_key mine) gives says
     put_new pass prior (mine, by_cache gave) = whose.given_new (of_key mine) gave
 
-    close_new : (pass : List ℕ) (prior : List (EventWith FurtherEvent)) (ticket : ℕ) → MineAt pass prior (Some ticket) → StoresOwn rules kept request prior (Close ticket (Some pass))
+    close_new : (pass : List ℕ) (prior : List (EventWith PortCall)) (ticket : ℕ) → MineAt pass prior (Some ticket) → StoresOwn rules kept request prior (Close ticket (Some pass))
     close_new pass prior ticket (mine, at_prompt has accepted) = whose.accepted has accepted
     close_new pass prior ticket (mine, renewed is has gave) = whose.changed is has gave
 
-    keeps_of : (pass : List ℕ) (prior : List (EventWith FurtherEvent)) (before : Option ℕ) (events : List (EventWith FurtherEvent)) (result : Result (Unit {0}) Refusal) (after : Option ℕ) → KeepsNew grip pass before events result after
+    keeps_of : (pass : List ℕ) (prior : List (EventWith PortCall)) (before : Option ℕ) (events : List (EventWith PortCall)) (result : Result (Unit {0}) Refusal) (after : Option ℕ) → KeepsNew grip pass before events result after
         → Fit events → MineAt pass prior before → AreOwn Mine prior events × HoldsOf (λ done. Anything (prior ++ events) after) result
     keeps_of pass prior None events result after (turning.done can) fits pre = (((λ hands. put_new pass prior pre), tt), tt)
     keeps_of pass prior None events result after (turning.interrupted can why) fits pre = (((λ hands. put_new pass prior pre), tt), tt)
@@ -312,7 +312,7 @@ module _ (rules : Rules) (kept : Kept) (request : Request) where
     keeps_new : (pass : List ℕ) → OwnSo Mine (MineAt pass) (KeepsNew grip pass) (λ done. Anything)
     keeps_new pass = owns Mine (keeps_of pass)
 
-    takes_new : (prior : List (EventWith FurtherEvent)) (before : Option ℕ) (events : List (EventWith FurtherEvent)) (result : Result (Unit {0}) Refusal) (after : Option ℕ) → TakesSeat grip before events result after
+    takes_new : (prior : List (EventWith PortCall)) (before : Option ℕ) (events : List (EventWith PortCall)) (result : Result (Unit {0}) Refusal) (after : Option ℕ) → TakesSeat grip before events result after
         → Fit events → IsMine prior × TicketAt mode.Ask prior before → AreOwn Mine prior events × HoldsOf (λ done. IsMine (prior ++ events) × Seated (prior ++ events) after) result
     takes_new prior None events result after (turning.opened can) fits pre =
         (((λ hands. elim hands [ ]), tt), (about_more _ pre.0, seated (has_ticket (by_seat (about_more _ pre.0)) (has_right prior here))))
@@ -322,7 +322,7 @@ module _ (rules : Rules) (kept : Kept) (request : Request) where
         seat_at : TicketAt mode.Ask prior (Some number) → Seated prior (Some number)
         seat_at (own_ticket is has) = seated has
 
-    prompts_new_of : (prior : List (EventWith FurtherEvent)) (before : Option ℕ) (events : List (EventWith FurtherEvent)) (result : Result (List ℕ) Refusal) (after : Option ℕ) → PromptsNew rules kept.options grip before events result after
+    prompts_new_of : (prior : List (EventWith PortCall)) (before : Option ℕ) (events : List (EventWith PortCall)) (result : Result (List ℕ) Refusal) (after : Option ℕ) → PromptsNew rules kept.options grip before events result after
         → Fit events → IsMine prior × Seated prior before → AreOwn Mine prior events × HoldsOf (λ pass. MineAt pass (prior ++ events) after) result
     prompts_new_of prior before events result after (passphrases.given {shown} spec is prompt) fits pre = (
       quiet_are_own Mine prior shown (each_shown IsQuiet still_quiet (λ event. tt) prompt.in_session),
@@ -352,11 +352,11 @@ module _ (rules : Rules) (kept : Kept) (request : Request) where
         (λ new_file. own_bind Mine (quietly Mine (new_stays pass) (quiet_keeps (work.replaces IsQuiet tt (λ answer. tt)))) (λ replaced. keeps_new pass))))
 
     module _ {old new : Option (List ℕ)} (passwd : on_keys request ≡ Some (on.Passwd grip old new false)) where
-      renewed_at : (pass : List ℕ) (prior : List (EventWith FurtherEvent)) (held : Option ℕ) → TicketAt kept.options.mode prior held → IsGivenNew rules kept request prior pass → NewAt pass prior held
+      renewed_at : (pass : List ℕ) (prior : List (EventWith PortCall)) (held : Option ℕ) → TicketAt kept.options.mode prior held → IsGivenNew rules kept request prior pass → NewAt pass prior held
       renewed_at pass prior held no_ticket gave = by_cache gave
       renewed_at pass prior held (own_ticket is has) gave = renewed passwd has gave
 
-      abbrev ToRenew : List (EventWith FurtherEvent) → Option ℕ → Type 0
+      abbrev ToRenew : List (EventWith PortCall) → Option ℕ → Type 0
       ToRenew prior held = IsMine prior × TicketAt kept.options.mode prior held
 
       after_new : (found : Option (List ℕ)) → OwnSo Mine (λ prior held. ToRenew prior held × FoundNew rules kept request found prior) (or_else found (passphrases.new_by rules kept.options grip kept.options.mode)) MineAt
@@ -373,7 +373,7 @@ module _ (rules : Rules) (kept : Kept) (request : Request) where
           (λ short. own_bind Mine (own_bind Mine (quiet_with Mine stays (quiet.new_nonce_quiet rules kept request new names_new)) after_new) (λ pass. rewrites_file file key pass))
 
     module _ {force : Bool} {nonce : Option (List ℕ)} (brings_it : on_keys request ≡ Some (on.ImportKey force nonce)) where
-      abbrev ToProtect : List (EventWith FurtherEvent) → Option ℕ → Type 0
+      abbrev ToProtect : List (EventWith PortCall) → Option ℕ → Type 0
       ToProtect prior held = IsMine prior × Unheld prior held
 
       names_brought : (named_so : List ℕ) → nonce ≡ Some named_so → NamesNew request named_so
@@ -386,14 +386,14 @@ module _ (rules : Rules) (kept : Kept) (request : Request) where
       found_or_new : OwnSo Mine ToProtect (FoundOrNew rules kept.options nonce grip) MineAt
       found_or_new = own_bind Mine (quiet_with Mine (mine_stays unheld_stays) (quiet.looks_over_quiet rules kept request nonce names_brought)) after_found
 
-      nonce_own : (pass drawn : List ℕ) (prior : List (EventWith FurtherEvent)) (held : Option ℕ) → NewAt pass prior held → IsDrawn prior 32 drawn
+      nonce_own : (pass drawn : List ℕ) (prior : List (EventWith PortCall)) (held : Option ℕ) → NewAt pass prior held → IsDrawn prior 32 drawn
           → StoresOwn rules kept request prior (Put (hex_text (drop 20 drawn)) Nonce Default pass)
       nonce_own pass drawn prior held (by_client says) has = whose.sent (by_command (imported brings_it (nonce_of has))) gives says
       nonce_own pass drawn prior held (by_cache gave) has = whose.given_new (by_command (imported brings_it (nonce_of has))) gave
       nonce_own pass drawn prior held (at_prompt ticket accepted) has = whose.under_nonce brings_it (nonce_of has) accepted
       nonce_own pass drawn prior held (renewed is ticket gave) has = whose.given_new (by_command (imported brings_it (nonce_of has))) gave
 
-      put_drawn_of : (pass drawn : List ℕ) (prior : List (EventWith FurtherEvent)) (before : Option ℕ) (events : List (EventWith FurtherEvent)) (result : Result (Unit {0}) Refusal) (after : Option ℕ)
+      put_drawn_of : (pass drawn : List ℕ) (prior : List (EventWith PortCall)) (before : Option ℕ) (events : List (EventWith PortCall)) (result : Result (Unit {0}) Refusal) (after : Option ℕ)
           → Changes (Put (hex_text (drop 20 drawn)) Nonce Default pass) before events result after → Fit events → MineAt pass prior before × IsDrawn prior 32 drawn
           → AreOwn Mine prior events × HoldsOf (λ done. MineAt pass (prior ++ events) after) result
       put_drawn_of pass drawn prior before events result after (turning.done can) fits pre =
@@ -412,7 +412,7 @@ module _ (rules : Rules) (kept : Kept) (request : Request) where
   -- ---- requests
 
   -- the key that came in
-  abbrev Brought : Key → List (EventWith FurtherEvent) → Option ℕ → Type 0
+  abbrev Brought : Key → List (EventWith PortCall) → Option ℕ → Type 0
   Brought key prior held = Unheld prior held × KeyDataSays prior rules kept request (Ok key)
 
   brought_stays : (key : Key) → Stays (Brought key)
@@ -427,7 +427,7 @@ module _ (rules : Rules) (kept : Kept) (request : Request) where
       (λ told. own_bind Mine (quiet_with Mine unheld_stays quiet.key_data_quiet)
       (λ wrapped. own_weaker Mine (quiet_with Mine (sent_stays wrapped) (quiet.unwraps_quiet wrap wrapped)) (λ key prior held so. (so.0.0, data_says drawn so.0.1 so.1))))
 
-  is_free : {Pre : List (EventWith FurtherEvent) → Option ℕ → Type 0} → Stays Pre → (force : Bool) (grip : Grip) → OwnSo Mine Pre (IsFree force grip) (λ free. Pre)
+  is_free : {Pre : List (EventWith PortCall) → Option ℕ → Type 0} → Stays Pre → (force : Bool) (grip : Grip) → OwnSo Mine Pre (IsFree force grip) (λ free. Pre)
   is_free stays true grip = own_returned Mine tt (λ prior held so. so)
   is_free stays false grip = own_bind Mine (quietly Mine stays (quiet_keeps (work.finds IsQuiet tt (λ answer. tt)))) (λ there. own_wanted Mine code.FileExists (not there))
 
@@ -512,18 +512,18 @@ module _ (rules : Rules) (kept : Kept) (request : Request) where
 
   -- ---- exchanges
 
-  refusal_quiet : (line : Option (List ℕ)) → AllByRecursion IsQuiet (said_last {T = session_lines.Took} {O = session_lines.Outcome} {F = FurtherEvent} line)
+  refusal_quiet : (line : Option (List ℕ)) → AllByRecursion IsQuiet (said_last {T = session_lines.Took} {O = session_lines.Outcome} {F = PortCall} line)
   refusal_quiet None = tt
   refusal_quiet (Some line) = (tt, tt)
 
-  back_quiet : {held : Option ℕ} {back : List (EventWith FurtherEvent)} → Closes None held back (Ok tt) None → AllByRecursion IsQuiet back
+  back_quiet : {held : Option ℕ} {back : List (EventWith PortCall)} → Closes None held back (Ok tt) None → AllByRecursion IsQuiet back
   back_quiet turning.unheld = tt
   back_quiet (turning.closed turn can) = (kept_none _, tt)
 
-  ended_own : (events back last : List (EventWith FurtherEvent)) → AreOwn Mine [] events → AllByRecursion IsQuiet back → AllByRecursion IsQuiet last → AreOwn Mine [] (events ++ (back ++ last))
+  ended_own : (events back last : List (EventWith PortCall)) → AreOwn Mine [] events → AllByRecursion IsQuiet back → AllByRecursion IsQuiet last → AreOwn Mine [] (events ++ (back ++ last))
   ended_own events back last own back_so last_so = own_then Mine [] events (back ++ last) own (quiet_are_own Mine events (back ++ last) (each_append IsQuiet back last back_so last_so))
 
-  pub key_own : (asked : KeyRequest) → on_keys request ≡ Some asked → {events : List (EventWith FurtherEvent)} {after : WrapKeys} {went : KeyWent} → KeyExchange rules kept.options kept.wraps asked events after went → Fit events
+  pub key_own : (asked : KeyRequest) → on_keys request ≡ Some asked → {events : List (EventWith PortCall)} {after : WrapKeys} {went : KeyWent} → KeyExchange rules kept.options kept.wraps asked events after went → Fit events
       → AreOwn Mine [] events
   key_own asked is (part_exchanges.answered events held reply {back} does closes_so) fits =
       ended_own events back (Sent reply.text ∷ []) (((replies asked is).of None events (Ok reply) held does).so [] (each_left FitsTurn events _ fits) refl).0 (back_quiet closes_so) (tt, tt)

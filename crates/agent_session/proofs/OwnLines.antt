@@ -1,6 +1,6 @@
 -- Lines of requests on the cache and on the session that have no passphrase in them, and the events beside them by which nothing is handed to the cache.
 use Rattle.std.{specs.{List.AllByRecursion, Option.option_map, Prelude.⊤}, proofs.Common.{◌≡◌, ℕ, List, [], ◌∷◌, ◌++◌, Option, Some, None, Ok, refl, sym, ap, ◌∙◌, subst, append-nil}}
-use Rattle.{agent_ask.specs.{Events.PromptEvent, Further.FurtherEvent, SessionEvents.{Sent, said_last}, TurnParts.Closes, SessionPrompts.AnyInSession}, assuan_server.specs.{Clients.session_lines, Written.{failed, refusal_line}}}
+use Rattle.{agent_ask.specs.{Events.PromptEvent, PortCalls.PortCall, SessionEvents.{Sent, said_last}, TurnParts.Closes, SessionPrompts.AnyInSession}, assuan_server.specs.{Clients.session_lines, Written.{failed, refusal_line}}}
 use Rattle.{session_client.specs.{Refusals.refusal_code, declared.{code.Code.Code, refusal.Refusal.{Refusal, TheVariants.{Agent, Pinentry, Client}}}}, session_options.specs.{OptionValues.OptionValues, declared.rules.Rules.Rules}}
 use Rattle.agent_commands.specs.{Events.EventWith, declared.request.Request.Request}
 use Rattle.agent_session.{specs.OwnAnswers.{IsPublic, error, SaysOwn, public, SaysOwnAlone}, proofs.{OwnParts.{IsQuiet, kept_none}, Standing.each_right}}
@@ -38,45 +38,45 @@ in_either (first ∷ xs) ys (second ∷ front) x back is =
 module _ (rules : Rules) where
   -- ---- what hands nothing in, and has no passphrase in it
 
-  abbrev pub IsOpen : EventWith FurtherEvent → Type 0
+  abbrev pub IsOpen : EventWith PortCall → Type 0
   IsOpen (Sent text) = IsPublic rules text
   IsOpen _ = ⊤
 
-  abbrev pub IsPlain : EventWith FurtherEvent → Type 0
+  abbrev pub IsPlain : EventWith PortCall → Type 0
   IsPlain event = IsQuiet event × IsOpen event
 
-  abbrev pub Open : List (EventWith FurtherEvent) → Type 0
+  abbrev pub Open : List (EventWith PortCall) → Type 0
   Open events = AllByRecursion IsOpen events
 
-  abbrev pub Plain : List (EventWith FurtherEvent) → Type 0
+  abbrev pub Plain : List (EventWith PortCall) → Type 0
   Plain events = AllByRecursion IsPlain events
 
-  pub shown_plain : {prompt : List PromptEvent} {shown : List (EventWith FurtherEvent)} → AnyInSession session_lines prompt shown → Plain shown
+  pub shown_plain : {prompt : List PromptEvent} {shown : List (EventWith PortCall)} → AnyInSession session_lines prompt shown → Plain shown
   shown_plain session.none = tt
   shown_plain (session.called more) = ((tt, tt), shown_plain more)
   shown_plain (session.noted says more) = ((tt, tt), shown_plain more)
   shown_plain (session.out_of_memory more) = ((tt, tt), shown_plain more)
 
-  failed_plain : (why : Option Code) → Plain (said_last {T = session_lines.Took} {O = session_lines.Outcome} {F = FurtherEvent} (option_map failed why))
+  failed_plain : (why : Option Code) → Plain (said_last {T = session_lines.Took} {O = session_lines.Outcome} {F = PortCall} (option_map failed why))
   failed_plain None = tt
   failed_plain (Some why) = ((tt, error why origin.Agent), tt)
 
-  pub refusal_plain : (why : Refusal) → Plain (said_last {T = session_lines.Took} {O = session_lines.Outcome} {F = FurtherEvent} (refusal_line why))
+  pub refusal_plain : (why : Refusal) → Plain (said_last {T = session_lines.Took} {O = session_lines.Outcome} {F = PortCall} (refusal_line why))
   refusal_plain (Agent why) = ((tt, error why origin.Agent), tt)
   refusal_plain (Pinentry why) = ((tt, error why origin.Pinentry), tt)
   refusal_plain (Client why) = failed_plain (refusal_code why)
 
-  pub back_plain : {held : Option ℕ} {back : List (EventWith FurtherEvent)} → Closes None held back (Ok tt) None → Plain back
+  pub back_plain : {held : Option ℕ} {back : List (EventWith PortCall)} → Closes None held back (Ok tt) None → Plain back
   back_plain turning.unheld = tt
   back_plain (turning.closed turn can) = ((kept_none _, tt), tt)
 
   -- ---- whose they are
 
-  pub open_are_own : (options : OptionValues) (request : Request) (events : List (EventWith FurtherEvent)) → Open events → SaysOwnAlone rules options request events
+  pub open_are_own : (options : OptionValues) (request : Request) (events : List (EventWith PortCall)) → Open events → SaysOwnAlone rules options request events
   open_are_own options request events each front later text is = public ((each_right IsOpen front (Sent text ∷ later) (subst Open is each)).0)
 
   -- the last one may have a passphrase in it
-  pub said_last_own : (options : OptionValues) (request : Request) (first : List (EventWith FurtherEvent)) (text : List ℕ) → Open first → SaysOwn rules options request first text
+  pub said_last_own : (options : OptionValues) (request : Request) (first : List (EventWith PortCall)) (text : List ℕ) → Open first → SaysOwn rules options request first text
       → SaysOwnAlone rules options request (first ++ Sent text ∷ [])
   said_last_own options request first text each own front later said is =
       elim (in_either first (Sent text ∷ []) front (Sent said) later is) [
@@ -84,7 +84,7 @@ module _ (rules : Rules) where
         | in_second rest there here ↦ subst (λ f. SaysOwn rules options request f said) (sym there) (at_last rest here)
       ]
     where
-      at_last : (rest : List (EventWith FurtherEvent)) → Sent text ∷ [] ≡ rest ++ Sent said ∷ later → SaysOwn rules options request (first ++ rest) said
+      at_last : (rest : List (EventWith PortCall)) → Sent text ∷ [] ≡ rest ++ Sent said ∷ later → SaysOwn rules options request (first ++ rest) said
       at_last [] here = let same : text ≡ said = cc here in subst (λ f. SaysOwn rules options request f said) (sym (append-nil first)) (subst (SaysOwn rules options request first) same own)
       at_last (event ∷ []) here = cc here
       at_last (event ∷ second ∷ rest) here = cc here

@@ -1,6 +1,6 @@
 -- Requests on the trust list hand nothing to the cache.
 use Rattle.std.{specs.List.AllByRecursion, proofs.Common.{ℕ, List, ◌++◌, Option, Some, None, Ok, Err}}
-use Rattle.{agent_ask.{proofs.Within.{Does, does_join}, specs.{SessionEvents.{Received, Sent, Cut, Inquiry, CacheTurn, Further, said_last}, TurnParts.Closes}}, agent_commands.specs.declared.went.Went.Went}
+use Rattle.{agent_ask.{proofs.Within.{Does, does_join}, specs.{SessionEvents.{Received, Sent, Cut, Inquiry, CacheTurn, Port, said_last}, TurnParts.Closes}}, agent_commands.specs.declared.went.Went.Went}
 use Rattle.{assuan_server.specs.Written.{ok, refusal_line}, key_commands.{specs.Events.Event, proofs.EachEvent.{IsStill, each_append, each_seats, agrees_to, each_answer}}, session_options.specs.OptionValues.OptionValues}
 use Rattle.{session_options.specs.declared.rules.Rules.Rules, agent_origin.specs.{TrustExchanges.TrustExchange, declared.trust.request.TrustRequest.TrustRequest}}
 use Rattle.agent_origin.proofs.EachTrust.{TrustLaws, carried_so, each_reads, each_adds, each_replaces}
@@ -14,7 +14,7 @@ still_idle : (event : Event) → IsStill event → IsIdle event
 still_idle (Sent text) still = (tt, tt)
 still_idle (Cut text) still = (tt, tt)
 still_idle (Inquiry word params limit inquired) still = (tt, tt)
-still_idle (Further event) still = (tt, tt)
+still_idle (Port event) still = (tt, tt)
 still_idle (CacheTurn taken) still = absurd still
 still_idle (Received took) still = absurd still
 

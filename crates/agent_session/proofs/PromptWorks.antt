@@ -1,9 +1,9 @@
 -- Prompts in which each event goes on, but one by which the request is refused or its client is gone, which is the last before the prompter is shut.
 use Rattle.std.{specs.{List.AllByRecursion, Option.option_map}, proofs.Common.{◌≡◌, ◌≢◌, ℕ, zero, suc, List, [], ◌∙◌, ◌∷◌, ◌++◌, Option, Some, None, Result, Ok, Err, refl, sym, ap, subst, append_assoc}}
 use Rattle.agent_ask.specs.{Callers.{SaysNote, unheard_of}, ConsentParts.{AgreesTo, consent_refusal}, PinParts.pin_refusal, Consents.{AsksConsent, ConsentBefore, agreed_of}}
-use Rattle.agent_ask.specs.{Events.{Call, Start, Confirm, Shut, PromptEvent, Called, Notified, OutOfMemory}, Further.Prompt, Prompts.{AsksPin, AsksBefore, Tries, repeated}, SessionEvents.Further, SessionPrompts.AnyInSession}
+use Rattle.agent_ask.specs.{Events.{Call, Start, Confirm, Shut, PromptEvent, Called, Notified, OutOfMemory}, PortCalls.Prompt, Prompts.{AsksPin, AsksBefore, Tries, repeated}, SessionEvents.Port, SessionPrompts.AnyInSession}
 use Rattle.{agent_ask.specs.declared.{ask.Asked.Asked, caller.Heard.Heard, consent.Agreed.Agreed, prompter.Consent.Consent, spec.{AskPlan.AskPlan, PromptSpec.PromptSpec}}, assuan_server.specs.Clients.session_lines}
-use Rattle.{session_client.specs.{Asking.{said_by, without_data}, declared.{code.Code.Code, refusal.Refusal.{Refusal, TheVariants.{Agent, Client}}, unheard.Unheard.Unheard}}, session_options.specs.OptionValues.OptionValues}
+use Rattle.{session_client.specs.{Asking.{said_by, without_data}, declared.{code.Code.Code, refusal.Refusal.{Refusal, TheVariants.{Agent, Client}}, client_error.ClientError.ClientError}}, session_options.specs.OptionValues.OptionValues}
 use Rattle.{session_options.specs.declared.rules.Rules.Rules, key_commands.{specs.Events.Event, proofs.EachEvent.each_append}}
 use Rattle.agent_session.{specs.Refusals.call_refuses, proofs.Works.{unsaid, GoesOn, refused, lost, WorksTo, works, WorksSo}}
 use Rattle.agent_ask.specs.ConsentParts as consenting
@@ -129,11 +129,11 @@ consent_goes (consents.asked consent (prompts.told is)) = after_these (_ ∷ _ �
 -- ---- in the session
 
 -- what the client says by a note
-note_heard : (result : Result (List ℕ) Unheard) (heard : Heard) → SaysNote (without_data result) heard → heard_stop heard ≡ None → unsaid result ≡ None
+note_heard : (result : Result (List ℕ) ClientError) (heard : Heard) → SaysNote (without_data result) heard → heard_stop heard ≡ None → unsaid result ≡ None
 note_heard (Ok bytes) heard says goes_on = refl
 note_heard (Err why) heard says goes_on = let both : Some (Client why) ≡ None = sym (ap (option_map Client) says) ∙ goes_on in absurd (cc both)
 
-note_lost : (result : Result (List ℕ) Unheard) (heard : Heard) {why : Unheard} → SaysNote (without_data result) heard → unheard_of heard ≡ Some why → unsaid result ≡ Some why
+note_lost : (result : Result (List ℕ) ClientError) (heard : Heard) {why : ClientError} → SaysNote (without_data result) heard → unheard_of heard ≡ Some why → unsaid result ≡ Some why
 note_lost (Ok bytes) heard says is = let none : None ≡ Some _ = sym (ap unheard_of says) ∙ is in absurd (cc none)
 note_lost (Err other) heard says is = sym says ∙ is
 
@@ -168,7 +168,7 @@ consent_comes agreed.TimedOut refusal other is = absurd (cc is)
 consent_comes (agreed.Heard heard) refusal other is = cc (refusal, is)
 consent_comes agreed.NoPinentry refusal other is = cc (refusal, is)
 
-module _ (Fits : Event → Type 0) (calls : (event : PromptEvent) → Fits (Further (Prompt event))) (notes : (pid : ℕ) (inquired : _) → Fits (session.note pid inquired)) where
+module _ (Fits : Event → Type 0) (calls : (event : PromptEvent) → Fits (Port (Prompt event))) (notes : (pid : ℕ) (inquired : _) → Fits (session.note pid inquired)) where
   data Split (rest : List PromptEvent) : List Event → Type 0 where
     split : {more : List Event} (work : List Event) → AllByRecursion (GoesOn Fits) work → AnyInSession session_lines rest more → Split rest (work ++ more)
 
@@ -182,7 +182,7 @@ module _ (Fits : Event → Type 0) (calls : (event : PromptEvent) → Fits (Furt
       split_later _ (notes _ inquired, refl, note_heard (said_by session_lines inquired) heard says each.0) (split_shown work rest each.1 more)
   split_shown (OutOfMemory ∷ work) rest each (session.out_of_memory more) = absurd (cc (each.0))
 
-  shut_goes : GoesOn Fits (Further (Prompt (Called Shut)))
+  shut_goes : GoesOn Fits (Port (Prompt (Called Shut)))
   shut_goes = (calls _, refl, refl)
 
   module _ {A : Type 0} where
@@ -190,25 +190,25 @@ module _ (Fits : Event → Type 0) (calls : (event : PromptEvent) → Fits (Furt
     shut_works (split work each (session.called session.none)) = works Fits (each_append (GoesOn Fits) work _ each (shut_goes, tt))
 
     call_works : (call : Call) (work : List Event) {why : Refusal} (stop : Option Code) → call_refuses call ≡ stop → option_map Agent stop ≡ Some why → AllByRecursion (GoesOn Fits) work
-        → WorksTo Fits {A = A} (work ++ Further (Prompt (Called call)) ∷ Further (Prompt (Called Shut)) ∷ []) (Err why)
+        → WorksTo Fits {A = A} (work ++ Port (Prompt (Called call)) ∷ Port (Prompt (Called Shut)) ∷ []) (Err why)
     call_works call work None same is each = absurd (cc is)
     call_works call work (Some given) same is each =
         let why_is : Agent given ≡ _ = cc is in
-        subst (λ w. WorksTo Fits {A = A} (work ++ Further (Prompt (Called call)) ∷ Further (Prompt (Called Shut)) ∷ []) (Err w)) why_is
+        subst (λ w. WorksTo Fits {A = A} (work ++ Port (Prompt (Called call)) ∷ Port (Prompt (Called Shut)) ∷ []) (Err w)) why_is
         (record { work = work; last = _; is = refl; each = each; end = refused (calls _) same })
 
-    note_works : (pid : ℕ) (inquired : _) (work : List Event) (heard : Heard) {why : Refusal} (said : Option Unheard) → SaysNote (without_data (said_by session_lines inquired)) heard → unheard_of heard ≡ said
-        → option_map Client said ≡ Some why → AllByRecursion (GoesOn Fits) work → WorksTo Fits {A = A} (work ++ session.note pid inquired ∷ Further (Prompt (Called Shut)) ∷ []) (Err why)
+    note_works : (pid : ℕ) (inquired : _) (work : List Event) (heard : Heard) {why : Refusal} (said : Option ClientError) → SaysNote (without_data (said_by session_lines inquired)) heard → unheard_of heard ≡ said
+        → option_map Client said ≡ Some why → AllByRecursion (GoesOn Fits) work → WorksTo Fits {A = A} (work ++ session.note pid inquired ∷ Port (Prompt (Called Shut)) ∷ []) (Err why)
     note_works pid inquired work heard None says same is each = absurd (cc is)
     note_works pid inquired work heard (Some given) says same is each =
         let why_is : Client given ≡ _ = cc is in
-        subst (λ w. WorksTo Fits {A = A} (work ++ session.note pid inquired ∷ Further (Prompt (Called Shut)) ∷ []) (Err w)) why_is
+        subst (λ w. WorksTo Fits {A = A} (work ++ session.note pid inquired ∷ Port (Prompt (Called Shut)) ∷ []) (Err w)) why_is
         (record { work = work; last = _; is = refl; each = each; end = lost (notes _ inquired) (note_lost (said_by session_lines inquired) heard says same) (shut_goes, tt) })
 
     stop_works : (event : PromptEvent) {why : Refusal} {shown : List Event} → prompt_stops event ≡ Some why → Split (event ∷ Called Shut ∷ []) shown → WorksTo Fits {A = A} shown (Err why)
     stop_works OutOfMemory is (split work each (session.out_of_memory (session.called session.none))) =
         let why_is : Agent code.NoMemory ≡ _ = cc is in
-        subst (λ w. WorksTo Fits {A = A} (work ++ Further (Prompt OutOfMemory) ∷ Further (Prompt (Called Shut)) ∷ []) (Err w)) why_is
+        subst (λ w. WorksTo Fits {A = A} (work ++ Port (Prompt OutOfMemory) ∷ Port (Prompt (Called Shut)) ∷ []) (Err w)) why_is
         (record { work = work; last = _; is = refl; each = each; end = refused {why = code.NoMemory} (calls _) refl })
     stop_works (Called call) is (split work each (session.called (session.called session.none))) = call_works call work (call_refuses call) refl is each
     stop_works (Notified pid heard) is (split work each (session.noted {inquired} says (session.called session.none))) = note_works pid inquired work heard (unheard_of heard) says refl is each

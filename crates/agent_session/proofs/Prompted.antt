@@ -1,9 +1,9 @@
 -- What the events of a prompt say of its answer.
 use Rattle.std.{proofs.Common.{◌≡◌, ◌⊎◌, ℕ, Bool, true, List, ◌∷◌, Some, Result, Ok, Err, refl, sym, subst, inl, inr}, specs.Prelude.⊤}
-use Rattle.agent_ask.specs.{Callers.{SaysNote, unheard_of}, Consents.{AsksConsent, ConsentBefore, agreed_of}, Events.{Call, GetPin, Confirm, Called, Notified, OutOfMemory, PromptEvent}, Further.{FurtherEvent, Prompt}, Prompters.is_failed}
-use Rattle.agent_ask.specs.{Prompts.{AsksPin, AsksBefore, Tries, repeated, repeat_text}, SessionEvents.Further, Tests.PinTest, SessionPrompts.{AnyInSession, note}, declared.{ask.Asked.Asked, caller.Heard.Heard, consent.Agreed.Agreed}}
+use Rattle.agent_ask.specs.{Callers.{SaysNote, unheard_of}, Consents.{AsksConsent, ConsentBefore, agreed_of}, Events.{Call, GetPin, Confirm, Called, Notified, OutOfMemory, PromptEvent}, PortCalls.{PortCall, Prompt}, Prompters.is_failed}
+use Rattle.agent_ask.specs.{Prompts.{AsksPin, AsksBefore, Tries, repeated, repeat_text}, SessionEvents.Port, Tests.PinTest, SessionPrompts.{AnyInSession, note}, declared.{ask.Asked.Asked, caller.Heard.Heard, consent.Agreed.Agreed}}
 use Rattle.{agent_ask.specs.{declared.{prompter.Consent.Consent, spec.{AskPlan.AskPlan, PromptSpec.PromptSpec}}, PinParts.PromptsPin}, assuan_server.specs.Clients.session_lines, session_client.specs.Asking.{said_by, without_data}}
-use Rattle.{session_client.specs.declared.unheard.Unheard.Unheard, agent_commands.specs.Events.{EventWith, Inquired}}
+use Rattle.{session_client.specs.declared.client_error.ClientError.ClientError, agent_commands.specs.Events.{EventWith, Inquired}}
 use Rattle.agent_session.{specs.Causes.{Has, here, later, HasPrompt, StandIn, is_cancelled, is_timed_out, is_disagreed, is_broken}, proofs.Standing.{has_left, has_right}}
 use Rattle.agent_ask.specs.Consents as consents
 use Rattle.agent_ask.specs.Prompts as prompts
@@ -14,7 +14,7 @@ use Rattle.agent_ask.specs.declared.prompter.Consent.TheVariants as consent
 use Rattle.agent_ask.specs.declared.prompter.Outcome.TheVariants as outcome
 
 -- it is among the events of its request
-pub has_prompt : {spec : PromptSpec} {plan : AskPlan} {Rule : List ℕ → Type 0} {shown whole : List (EventWith FurtherEvent)} {answer : Asked} → PromptsPin session_lines spec plan Rule shown answer → StandIn shown whole
+pub has_prompt : {spec : PromptSpec} {plan : AskPlan} {Rule : List ℕ → Type 0} {shown whole : List (EventWith PortCall)} {answer : Asked} → PromptsPin session_lines spec plan Rule shown answer → StandIn shown whole
     → HasPrompt whole plan Rule answer
 has_prompt {spec} {shown} prompts_so stands = record { spec = spec; prompt = prompts_so.prompt; shown = shown; asks = prompts_so.asks; in_session = prompts_so.in_session; stands = stands }
 
@@ -137,18 +137,18 @@ consent_shows {events} {end} asks = subst (λ e. ConsentShows end e) (sym asks.w
 -- ---- in the session
 
 -- an event of the prompt among those of the session
-abbrev pub ShownAs : PromptEvent → List (EventWith FurtherEvent) → Type 0
-ShownAs (Called call) shown = Has (Further (Prompt (Called call))) shown
+abbrev pub ShownAs : PromptEvent → List (EventWith PortCall) → Type 0
+ShownAs (Called call) shown = Has (Port (Prompt (Called call))) shown
 ShownAs (Notified pid heard) shown = (inquired : Inquired) × SaysNote (without_data (said_by session_lines inquired)) heard × Has (note pid inquired) shown
-ShownAs OutOfMemory shown = Has (Further (Prompt OutOfMemory)) shown
+ShownAs OutOfMemory shown = Has (Port (Prompt OutOfMemory)) shown
 
-module _ (first : EventWith FurtherEvent) (shown : List (EventWith FurtherEvent)) where
+module _ (first : EventWith PortCall) (shown : List (EventWith PortCall)) where
   shown_later : (event : PromptEvent) → ShownAs event shown → ShownAs event (first ∷ shown)
   shown_later (Called call) shows = later shows
   shown_later (Notified pid heard) shows = (shows.0, shows.1, later shows.2)
   shown_later OutOfMemory shows = later shows
 
-pub shown_as : (event : PromptEvent) {prompt : List PromptEvent} {shown : List (EventWith FurtherEvent)} → AnyInSession session_lines prompt shown → Has event prompt → ShownAs event shown
+pub shown_as : (event : PromptEvent) {prompt : List PromptEvent} {shown : List (EventWith PortCall)} → AnyInSession session_lines prompt shown → Has event prompt → ShownAs event shown
 shown_as event session.none has = elim has [ ]
 shown_as event (session.called more) here = here
 shown_as event (session.called more) (later has) = shown_later _ _ event (shown_as event more has)
@@ -157,11 +157,11 @@ shown_as event (session.noted says more) (later has) = shown_later _ _ event (sh
 shown_as event (session.out_of_memory more) here = here
 shown_as event (session.out_of_memory more) (later has) = shown_later _ _ event (shown_as event more has)
 
-note_says_of : (result : Result (List ℕ) Unheard) (heard : Heard) (why : Unheard) → SaysNote (without_data result) heard → unheard_of heard ≡ Some why → result ≡ Err why
+note_says_of : (result : Result (List ℕ) ClientError) (heard : Heard) (why : ClientError) → SaysNote (without_data result) heard → unheard_of heard ≡ Some why → result ≡ Err why
 note_says_of (Ok bytes) heard why says is = absurd (cc (rw says at is))
 note_says_of (Err other) heard why says is = cc
 
 -- the client said by the note why it was unheard
-pub note_says : (inquired : Inquired) (heard : Heard) (why : Unheard) → SaysNote (without_data (said_by session_lines inquired)) heard → unheard_of heard ≡ Some why
+pub note_says : (inquired : Inquired) (heard : Heard) (why : ClientError) → SaysNote (without_data (said_by session_lines inquired)) heard → unheard_of heard ≡ Some why
     → said_by session_lines inquired ≡ Err why
 note_says inquired heard why says is = note_says_of (said_by session_lines inquired) heard why says is

@@ -1,9 +1,9 @@
 -- A call of the trust file that decides its request is the last thing that is done for it.
 use Rattle.std.{specs.List.AllByRecursion, proofs.Common.{◌≡◌, ◌∙◌, ℕ, List, [], ◌∷◌, ◌++◌, Option, Some, None, Result, Ok, Err, refl, sym, ap, subst, append_assoc}}
-use Rattle.agent_ask.{specs.{Further.{Keys, Dice, NoMemory, Prompt, Trust}, SessionEvents.{Received, Sent, Cut, Inquiry, CacheTurn, Further, cache_turn, said_last}, TrustCalls.Read, TurnParts.Closes}, proofs.Within.{Within, weaker}}
+use Rattle.agent_ask.{specs.{PortCalls.{Keys, Dice, NoMemory, Prompt, Trust}, SessionEvents.{Received, Sent, Cut, Inquiry, CacheTurn, Port, cache_turn, said_last}, TrustCalls.Read, TurnParts.Closes}, proofs.Within.{Within, weaker}}
 use Rattle.{assuan_server.specs.Written.{ok, refusal_line}, agent_commands.specs.{Requests.request_of, declared.went.Went.Went}, agent_ports.specs.declared.trust.TrustRead.TrustRead, cache_policy.specs.Turns.Turn}
 use Rattle.{cache_policy.specs.declared.mark.MarkStep.TheVariants.Close, session_client.specs.declared.refusal.Refusal.Refusal, session_options.specs.{OptionValues.OptionValues, declared.rules.Rules.Rules}}
-use Rattle.agent_origin.specs.{DoorSessions.{AllowedExchange, DoorExchange}, TrustExchanges.{Carried, TrustExchange}, TrustParts.{ReadsFile, Replaces, file_in, trust_called}, declared.{door.Door.Door, kept.Kept.Kept}}
+use Rattle.agent_origin.specs.{DoorSessions.{AllowedExchange, DoorExchange}, TrustExchanges.{Carried, TrustExchange}, TrustParts.{ReadsFile, Replaces, file_in, trust_called}, declared.{door.Door.Door, session_state.SessionState.SessionState}}
 use Rattle.{agent_origin.{specs.declared.trust.request.TrustRequest.TrustRequest, proofs.{EachLine.each_request, EachTrust.{TrustLaws, carried_so, each_adds}}}, key_commands.specs.{Parts.{Part, refusal_events}, Events.Event}}
 use Rattle.key_commands.proofs.{EachEvent.{IsStill, EachSo, each_append, each_seats, agrees_to}, EachRequest.{IsBesideTrust, still_beside}}
 use Rattle.agent_session.{specs.TrustCalls.{decided_line, IsLastLine, alone, given_back, EndsAtCalls}, proofs.TrustTold.{Told, answered, refused, told}}
@@ -31,11 +31,11 @@ beside_undecided (Sent text ∷ more) each = (refl, beside_undecided more each.1
 beside_undecided (Cut text ∷ more) each = (refl, beside_undecided more each.1)
 beside_undecided (Inquiry word params limit inquired ∷ more) each = (refl, beside_undecided more each.1)
 beside_undecided (CacheTurn taken ∷ more) each = (refl, beside_undecided more each.1)
-beside_undecided (Further (Prompt event) ∷ more) each = (refl, beside_undecided more each.1)
-beside_undecided (Further (Keys call) ∷ more) each = (refl, beside_undecided more each.1)
-beside_undecided (Further (Dice draw) ∷ more) each = (refl, beside_undecided more each.1)
-beside_undecided (Further NoMemory ∷ more) each = (refl, beside_undecided more each.1)
-beside_undecided (Further (Trust call) ∷ more) each = absurd each.0
+beside_undecided (Port (Prompt event) ∷ more) each = (refl, beside_undecided more each.1)
+beside_undecided (Port (Keys call) ∷ more) each = (refl, beside_undecided more each.1)
+beside_undecided (Port (Dice draw) ∷ more) each = (refl, beside_undecided more each.1)
+beside_undecided (Port NoMemory ∷ more) each = (refl, beside_undecided more each.1)
+beside_undecided (Port (Trust call) ∷ more) each = absurd each.0
 
 still_undecided : (event : Event) → IsStill event → IsUndecided event
 still_undecided event still = (beside_undecided (event ∷ []) (still_beside event still, tt)).0
@@ -183,13 +183,13 @@ told_ends rules options request (refused events back why does closes) =
 trust_ends : (rules : Rules) (options : OptionValues) (request : TrustRequest) {events : List Event} {went : Went} → TrustExchange rules options request events went → EndsAtCalls events
 trust_ends rules options request exchanged = told_ends rules options request (told rules options request exchanged)
 
-module _ {rules : Rules} {before : Kept} {line : List ℕ} where
-  allowed_ends : {command : _} {events : List Event} {after : Kept} {went : Went} → AllowedExchange rules before line command events after went → EndsAtCalls events
+module _ {rules : Rules} {before : SessionState} {line : List ℕ} where
+  allowed_ends : {command : _} {events : List Event} {after : SessionState} {went : Went} → AllowedExchange rules before line command events after went → EndsAtCalls events
   allowed_ends doors.helped = ((λ text is. absurd (cc is)), tt)
   allowed_ends doors.unset = ((λ text is. absurd (cc is)), tt)
   allowed_ends (doors.trusts exchanged) = trust_ends _ _ _ exchanged
   allowed_ends (doors.any {events = own} exchanged) = none_ends own (beside_undecided own (each_request IsBesideTrust (λ event is. is) (request_of line) exchanged))
 
-  pub door_ends : {door : Door} {events : List Event} {after : Kept} {went : Went} → DoorExchange door rules before line events after went → EndsAtCalls events
+  pub door_ends : {door : Door} {events : List Event} {after : SessionState} {went : Went} → DoorExchange door rules before line events after went → EndsAtCalls events
   door_ends (doors.forbidden refuses) = ((λ text is. absurd (cc is)), tt)
   door_ends (doors.is_allowed allows exchanged) = allowed_ends exchanged

@@ -1,16 +1,16 @@
 -- What a session does for a request on the trust list has one answer, and each error line in it its cause.
 use Rattle.std.specs.{List.AllByRecursion, Option.option_map, Prelude.{⊤, IfSome}}
 use Rattle.std.proofs.Common.{◌≡◌, ◌<◌, ℕ, Bool, true, false, List, [], ◌∷◌, ◌++◌, length, Option, Some, None, Result, Ok, Err, refl, sym, ap, subst, append_assoc, inl, inr}
-use Rattle.agent_ask.specs.{Callers.unheard_of, Events.PromptEvent, Further.NoMemory, SessionEvents.{Further, cache_turn, said_last}, TrustCalls.{Read, Replaced}, SessionPrompts.AnyInSession, declared.caller.Heard.Heard}
+use Rattle.agent_ask.specs.{Callers.unheard_of, Events.PromptEvent, PortCalls.NoMemory, SessionEvents.{Port, cache_turn, said_last}, TrustCalls.{Read, Replaced}, SessionPrompts.AnyInSession, declared.caller.Heard.Heard}
 use Rattle.{agent_ask.specs.{declared.consent.Agreed.Agreed, Interrupts.Interrupts, ConsentParts.{consent_refusal, AgreesTo}, TurnParts.{Seats, Closes}}, assuan_server.specs.{Written.ok, Clients.session_lines}}
 use Rattle.{assuan_server.specs.declared.errors.Origin.{Origin, TheVariants.{Agent, Pinentry}}, agent_commands.specs.{Endings.went_after, declared.{request.Request.Request, went.Went.Went}}, agent_ports.specs.declared.grip.Grip.Grip}
-use Rattle.{arrayvec.specs.ArrayVec.ArrayVec, session_client.specs.{Refusals.{refusal_code, gone_by}, declared.{code.Code.Code, refusal.Refusal.{Refusal, TheVariants.Client}, unheard.Unheard.Unheard}, Fields.in_form, Asking.gone_of}}
+use Rattle.{arrayvec.specs.ArrayVec.ArrayVec, session_client.specs.{Refusals.{refusal_code, gone_by}, declared.{code.Code.Code, refusal.Refusal.{Refusal, TheVariants.Client}, client_error.ClientError.ClientError}, Fields.in_form, Asking.gone_of}}
 use Rattle.{cache_policy.specs.{Turns.{Turn, Refused, closes}, declared.mark.MarkStep.{MarkStep, TheVariants.Seat}}, assuan_text.specs.{Options.arguments_of, Words.{rest_of, words}}, key_commands.specs.Events.Event}
 use Rattle.{key_commands.specs.{Requests.{grip, first_grip}, Parts.{Part, refusal_events}}, session_options.specs.declared.{options.PinMode.PinMode, rules.Rules.Rules}, trust_list.specs.Trust.{trust, with_entry}}
 use Rattle.trust_list.specs.declared.TheConstants.{MAX_TRUST_FILE_LEN}
 use Rattle.agent_origin.specs.TrustExchanges.{flag_of, trust_question, fingerprint_question, unless_said, TrustedNow, Stores, StoresUnsaid, Consented, asked_in, Marked, Carried, TrustExchange}
 use Rattle.agent_origin.specs.{TrustParts.{ReadsFile, AddsEntry, Replaces, trust_called}, TrustRequests.{purpose, owner, mark_trusted_of, trust_asked_by, trust_or_bad, trust_request_by, trust_request_of, trust_command}}
-use Rattle.{agent_origin.specs.declared.{kept.Kept.Kept, trust.request.{TrustPurpose.TrustPurpose, TrustRequest.{TrustRequest, TheVariants.{IsTrusted, MarkTrusted, Bad}}}}, command_table.specs.Commands.command_in}
+use Rattle.{agent_origin.specs.declared.{session_state.SessionState.SessionState, trust.request.{TrustPurpose.TrustPurpose, TrustRequest.{TrustRequest, TheVariants.{IsTrusted, MarkTrusted, Bad}}}}, command_table.specs.Commands.command_in}
 use Rattle.command_table.specs.declared.commands.{Command.Command, TrustCommandName.TrustCommandName}
 use Rattle.agent_session.specs.{Causes.{StandIn, IsSaid, one, called_trust, turned}, Completeness.AnswersNothing}
 use Rattle.agent_session.specs.DoorCauses.{IsReadTrust, read_trust, IsReadAgain, read_again, IsMarked, IsTrustCaused, by_mode, by_client, by_stop, unsaid, denied, denied_mark, inquired, too_long, error, loopback}
@@ -25,8 +25,8 @@ use Rattle.assuan_server.specs.Written as written
 use Rattle.session_client.specs.declared.code.Code.TheVariants as code
 use Rattle.session_client.specs.Fields as fields
 use Rattle.session_client.specs.declared.refusal.Refusal.TheVariants as refusals
-use Rattle.session_client.specs.declared.unheard.Gone.TheVariants as gone
-use Rattle.session_client.specs.declared.unheard.Unheard.TheVariants as unheard
+use Rattle.session_client.specs.declared.client_error.Gone.TheVariants as gone
+use Rattle.session_client.specs.declared.client_error.ClientError.TheVariants as client_error
 use Rattle.session_options.specs.declared.options.PinMode.TheVariants as mode
 use Rattle.agent_ask.specs.ConsentParts as consent
 use Rattle.agent_ask.specs.Parts as chain
@@ -39,7 +39,7 @@ use Rattle.agent_session.proofs.Prompted as prompted
 use Rattle.agent_session.proofs.TrustTold as telling
 
 -- `other` is a request of any session, of which nothing is said. A part is done within some of the events of the whole exchange.
-module _ (rules : Rules) (kept : Kept) (other : Request) (request : TrustRequest) (whole within : List Event) (lift : (events : List Event) → StandIn events within → StandIn events whole) where
+module _ (rules : Rules) (kept : SessionState) (other : Request) (request : TrustRequest) (whole within : List Event) (lift : (events : List Event) → StandIn events within → StandIn events whole) where
   abbrev Caused : Code → Origin → Type 0
   Caused = IsTrustCaused whole request kept.options
 
@@ -74,16 +74,16 @@ module _ (rules : Rules) (kept : Kept) (other : Request) (request : TrustRequest
     abbrev IfRefused : Option Refusal → Type 0
     IfRefused refusal = IfSome refusal (CausedRefusal within Caused)
 
-    heard_so : (heard : Heard) (why : Unheard) → unheard_of heard ≡ Some why → HasHeard heard prompt → ClientSays within why
+    heard_so : (heard : Heard) (why : ClientError) → unheard_of heard ≡ Some why → HasHeard heard prompt → ClientSays within why
     heard_so heard why is has = client_said (heard_caused rules kept other within shows stands heard why is has)
 
     heard_refused : (heard : Heard) → HasHeard heard prompt → IfRefused (consent_refusal (agreed.Heard heard))
     heard_refused heard_as.Fine has = tt
     heard_refused (heard_as.Secret secret) has = tt
-    heard_refused heard_as.Cancelled has = heard_so heard_as.Cancelled unheard.Cancelled refl has
-    heard_refused heard_as.TooMuch has = heard_so heard_as.TooMuch unheard.TooMuch refl has
-    heard_refused heard_as.Unexpected has = heard_so heard_as.Unexpected unheard.Unexpected refl has
-    heard_refused (heard_as.Gone how) has = heard_so (heard_as.Gone how) (unheard.Gone how) refl has
+    heard_refused heard_as.Cancelled has = heard_so heard_as.Cancelled client_error.Cancelled refl has
+    heard_refused heard_as.TooMuch has = heard_so heard_as.TooMuch client_error.TooMuch refl has
+    heard_refused heard_as.Unexpected has = heard_so heard_as.Unexpected client_error.Unexpected refl has
+    heard_refused (heard_as.Gone how) has = heard_so (heard_as.Gone how) (client_error.Gone how) refl has
 
     unopened : prompted.Unopened prompt → Caused code.NoPinentry Agent
     unopened (inl fails) = inr (inl (has_call rules kept other whole shows (lift _ stands) fails))
@@ -125,7 +125,7 @@ module _ (rules : Rules) (kept : Kept) (other : Request) (request : TrustRequest
           → ComesHere Anything events result
       adds_of before events result after (parts.added fits) stands = record { silent = tt; explained = tt }
       adds_of before events result after (parts.too_long long) stands = record { silent = tt; explained = too_much long }
-      adds_of before events result after parts.no_memory stands = record { silent = (tt, tt); explained = one (Further NoMemory) tt (has_first (lift _ stands)) }
+      adds_of before events result after parts.no_memory stands = record { silent = (tt, tt); explained = one (Port NoMemory) tt (has_first (lift _ stands)) }
 
   -- ---- whole requests
 
@@ -189,7 +189,7 @@ behind_first {event} {more} {whole} stands = go stands.before stands.is
       stands = record { before = before ++ event ∷ []; after = stands.after; is = sym (append_assoc before (event ∷ []) (more ++ stands.after)) };
     }
 
-module _ (rules : Rules) (kept : Kept) (other : Request) (request : TrustRequest) (whole : List Event) where
+module _ (rules : Rules) (kept : SessionState) (other : Request) (request : TrustRequest) (whole : List Event) where
   abbrev WholeCaused : Code → Origin → Type 0
   WholeCaused = IsTrustCaused whole request kept.options
 
@@ -200,15 +200,15 @@ module _ (rules : Rules) (kept : Kept) (other : Request) (request : TrustRequest
   back_silent taken.unheld = tt
   back_silent (taken.closed turn can) = (tt, tt)
 
-  client_explained : (why : Unheard) → IsSaid whole why → Here (said_last (option_map written.failed (refusal_code why))) (went_after (gone_of why))
-  client_explained unheard.Cancelled is = failed [] code.Cancelled Agent tt (by_client is) tt
-  client_explained unheard.TooMuch is = failed [] code.TooMuch Agent tt (inquired is) tt
-  client_explained unheard.Unexpected is = failed [] code.Unexpected Agent tt is tt
-  client_explained (unheard.Gone gone.TooLong) is = failed [] code.LineTooLong Agent tt is refl
-  client_explained (unheard.Gone gone.Ended) is = silent tt is
-  client_explained (unheard.Gone gone.Spent) is = silent tt is
-  client_explained (unheard.Gone gone.ReadFault) is = silent tt is
-  client_explained (unheard.Gone gone.WriteFault) is = silent tt tt
+  client_explained : (why : ClientError) → IsSaid whole why → Here (said_last (option_map written.failed (refusal_code why))) (went_after (gone_of why))
+  client_explained client_error.Cancelled is = failed [] code.Cancelled Agent tt (by_client is) tt
+  client_explained client_error.TooMuch is = failed [] code.TooMuch Agent tt (inquired is) tt
+  client_explained client_error.Unexpected is = failed [] code.Unexpected Agent tt is tt
+  client_explained (client_error.Gone gone.TooLong) is = failed [] code.LineTooLong Agent tt is refl
+  client_explained (client_error.Gone gone.Ended) is = silent tt is
+  client_explained (client_error.Gone gone.Spent) is = silent tt is
+  client_explained (client_error.Gone gone.ReadFault) is = silent tt is
+  client_explained (client_error.Gone gone.WriteFault) is = silent tt tt
 
   refusal_here : (why : Refusal) → CausedRefusal whole WholeCaused why → Here (refusal_events why) (went_after (gone_by why))
   refusal_here (refusals.Agent why) caused = failed [] why Agent tt caused tt
@@ -218,7 +218,7 @@ module _ (rules : Rules) (kept : Kept) (other : Request) (request : TrustRequest
 
   -- ---- MARKTRUSTED, whose file is read first
 
-  said_behind : {rest : List Event} {why : Unheard} → ((events : List Event) → StandIn events rest → StandIn events whole) → ClientSays rest why → ClientSays whole why
+  said_behind : {rest : List Event} {why : ClientError} → ((events : List Event) → StandIn events rest → StandIn events whole) → ClientSays rest why → ClientSays whole why
   said_behind lift cut = cut
   said_behind {rest} lift (client_said (causes.said is has)) = client_said (causes.said is (has_in (lift rest (stand_all rest)) has))
 

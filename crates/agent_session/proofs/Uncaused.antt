@@ -1,10 +1,10 @@
 -- A request none of whose errors has a cause is answered by OK.
 use Rattle.std.proofs.Common.{ℕ, List, sym, subst}
-use Rattle.{agent_ask.specs.{Further.FurtherEvent, SessionEvents.Sent}, session_client.specs.declared.code.Code.Code, assuan_server.specs.declared.errors.Origin.Origin, agent_commands.specs.Events.EventWith}
+use Rattle.{agent_ask.specs.{PortCalls.PortCall, SessionEvents.Sent}, session_client.specs.declared.code.Code.Code, assuan_server.specs.declared.errors.Origin.Origin, agent_commands.specs.Events.EventWith}
 use Rattle.agent_commands.specs.declared.went.{SessionEnd.TheVariants.{Bye, Killed, Ended, TooLong, Spent, ReadFault, WriteFault}, Went.{Went, TheVariants.{On, End}}}
 use Rattle.agent_session.{specs.{Causes.{Has, here}, Completeness.{AnswersAtLast, IsAnswer, done, error, IsAnsweredBy, HasError, HasOk, IsAnsweredOk}}, proofs.Standing.has_right}
 
-module _ (events : List (EventWith FurtherEvent)) (never : (why : Code) (origin : Origin) → HasError why origin events → ⊥) where
+module _ (events : List (EventWith PortCall)) (never : (why : Code) (origin : Origin) → HasError why origin events → ⊥) where
   ok_text : (text : List ℕ) → IsAnswer text → Has (Sent text) events → HasOk events
   ok_text text (done ends) has = (text, has, ends)
   ok_text text (error why origin is) has = absurd (never why origin (subst (λ (t : List ℕ). Has (Sent t) events) is has))

@@ -1,13 +1,13 @@
 -- Worked examples: exchanges in which a cause stands, and their answers.
 use Rattle.std.{specs.List.AllByRecursion, proofs.Common.{◌≡◌, ◌<◌, ◌≤◌, ◌⊎◌, ◌∙◌, ◌++◌, ℕ, Bool, true, false, List, [], ◌∷◌, length, take, drop, codes, Option, Some, None, Ok, refl, sym, ap, subst, inl, inr}}
-use Rattle.{arrayvec.specs.ArrayVec.ArrayVec, agent_ask.specs.{Answering.whole, Further.Replaced, SessionEvents.{Received, Sent, Inquiry, cache_turn}}, agent_commands.specs.{Exchanges.CacheExchange, Passphrases.ask}}
+use Rattle.{arrayvec.specs.ArrayVec.ArrayVec, agent_ask.specs.{Answering.whole, PortCalls.Replaced, SessionEvents.{Received, Sent, Inquiry, cache_turn}}, agent_commands.specs.{Exchanges.CacheExchange, Passphrases.ask}}
 use Rattle.agent_commands.specs.{Requests.{GetFields, get_passphrase, request_of}, declared.{request.{CacheCommand.TheVariants.PresetPassphrase, Request.{Request, TheVariants.{Cache, Key as OnKeys}}}, went.Went.Went}}
 use Rattle.{agent_commands.specs.declared.went.Went.TheVariants.{On, End}, assuan_server.specs.{Written.{limit_line, failed, greeting}, Inquiries.TooLong, declared.errors.Origin.TheVariants.Agent}, agent_ports.specs.declared.grip.Grip.Grip}
 use Rattle.{agent_ports.specs.declared.keys.KeyRead.KeyRead, assuan_text.specs.LineEnds.line_of, cache_policy.specs.{Turns.{Empty, Given, FitsStep}, declared.{grant.Grant.Grant, life.Life.Life, secret.TheConstants.MAX_SECRET_LEN}}}
 use Rattle.key_commands.specs.{Events.{Event, called, read, drew}, Exchanges.{KeyExchange, KeyInfoReplies, PasswdReplies, RewritesFile}, Files.{FileSays, IsWithList}, KeyParts.file_in, Passphrases.{old_by, ask_nonce}}
 use Rattle.{key_commands.specs.{Requests.key_request_of, declared.wrapping.TheConstants.MAX_LIST_LEN}, key_lines.specs.Canon.{Canon, is_canonical}, secret_file.specs.Protects.{ocb_protection, protected_file}}
 use Rattle.{session_client.specs.Asking.Asked, session_options.specs.declared.rules.Rules.Rules, sexp_canonical.specs.Spelling.most_bytes, sexp_keys.specs.{Key.Key, Lists.key_list_of}, agent_origin.specs.DoorSessions.DoorExchange}
-use Rattle.agent_origin.specs.{Doors.allowed, TrustRequests.{trust_request_of, trust_command}, SessionExchanges.{RequestExchange, cache, keys}, declared.{door.Door.Door, kept.Kept.Kept, trust.request.TrustRequest.TheVariants.Bad}}
+use Rattle.agent_origin.specs.{Doors.allowed, TrustRequests.{trust_request_of, trust_command}, SessionExchanges.{RequestExchange, cache, keys}, declared.{door.Door.Door, session_state.SessionState.SessionState, trust.request.TrustRequest.TheVariants.Bad}}
 use Rattle.command_table.specs.Commands.{command_in}
 use Rattle.agent_session.specs.{Causes.{Has, here, later, LacksKeys, empty, IsRead, IsReadOf, read_of, OpensRead, opens, protected, said}, Completeness.{Remembers, HasError}}
 use Rattle.agent_session.{specs.Exactly.{on_trust, clear, long, long_file, HasLongList, HasLongFile, EndsTooLong, at_inquiry}, proofs.{Exact.{cause_answered, door_cause}, ExactEnds.end_told, ExactFiles.one_says}}
@@ -28,8 +28,8 @@ use Rattle.agent_ask.specs.TurnParts as turning
 use Rattle.session_client.specs.declared.refusal.Refusal.TheVariants as refusals
 use Rattle.key_commands.specs.declared.request.KeyRequest.TheVariants as on
 use Rattle.key_commands.specs.declared.went.KeyWent.TheVariants as key_went
-use Rattle.session_client.specs.declared.unheard.Gone.TheVariants as gone
-use Rattle.session_client.specs.declared.unheard.Unheard.TheVariants as unheard
+use Rattle.session_client.specs.declared.client_error.Gone.TheVariants as gone
+use Rattle.session_client.specs.declared.client_error.ClientError.TheVariants as client_error
 use Rattle.command_table.specs.declared.commands.TrustCommandName.TheVariants as name
 use Rattle.agent_session.specs.Causes as causes
 
@@ -55,7 +55,7 @@ found_recalls grip key_read.Absent found wants = wants
 found_recalls grip key_read.Failed found wants = wants
 found_recalls grip key_read.NoMemory found wants = absurd (cc found)
 
-module _ (one_canon : (file : List ℕ) (a b : Option (List ℕ)) → Canon file a → Canon file b → a ≡ b) (rules : Rules) (kept : Kept) where
+module _ (one_canon : (file : List ℕ) (a b : Option (List ℕ)) → Canon file a → Canon file b → a ≡ b) (rules : Rules) (kept : SessionState) where
   -- GET_PASSPHRASE of the cache alone, which has nothing
   abbrev quietly : GetFields
   quietly = record { plain = true; check = false; no_ask = true; repeat = 0; quality = false; id = Some (codes "k"); texts = None }
@@ -85,7 +85,7 @@ module _ (one_canon : (file : List ℕ) (a b : Option (List ℕ)) → Canon file
 
     long_exchange : CacheExchange allowing kept.options (Cache (PresetPassphrase id life None)) (long_lines ++ Sent (failed code.LineTooLong) ∷ []) kept.options (End ends.TooLong)
     long_exchange =
-        exchanges.refused long_lines None (refusals.Client (unheard.Gone gone.TooLong)) (chain.stops (chain.goes_on chain.returns (chain.stops (chain.goes_on client.written (client.not_given refl))))) turning.unheld
+        exchanges.refused long_lines None (refusals.Client (client_error.Gone gone.TooLong)) (chain.stops (chain.goes_on chain.returns (chain.stops (chain.goes_on client.written (client.not_given refl))))) turning.unheld
 
     long_line : HasError code.LineTooLong Agent (long_lines ++ Sent (failed code.LineTooLong) ∷ [])
     long_line = end_told {rules = allowing} {kept = kept} {request = Cache (PresetPassphrase id life None)} (cache long_exchange) refl

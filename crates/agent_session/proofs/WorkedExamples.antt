@@ -1,9 +1,9 @@
 -- Worked examples: error lines that have no cause.
 use Rattle.std.{specs.{List.{AllByRecursion, count_by}, Prelude.⊤}, proofs.Common.{◌≡◌, ℕ, false, List, [], ◌∷◌, Some, None, refl, inl, inr}}
-use Rattle.agent_ask.specs.{Events.{GetPin, Start, Shut, Called}, Further.{FurtherEvent, Prompt, Dice, Trust, Drew, NotDrawn}, Prompters.is_failed, SessionEvents.{Sent, Further, cache_turn}, TrustCalls.Read}
+use Rattle.agent_ask.specs.{Events.{GetPin, Start, Shut, Called}, PortCalls.{PortCall, Prompt, Dice, Trust, Drew, NotDrawn}, Prompters.is_failed, SessionEvents.{Sent, Port, cache_turn}, TrustCalls.Read}
 use Rattle.{agent_ask.specs.declared.spec.PromptSpec.PromptSpec, assuan_server.specs.{Written.failed, declared.errors.Origin.TheVariants.Agent}, cache_policy.specs.{Turns.{Given, Open, Done}, declared.grant.Grant.Grant}}
 use Rattle.{cache_policy.specs.declared.mark.MarkStep.{MarkStep, TheVariants.Close}, session_options.specs.declared.rules.Rules.Rules, agent_commands.specs.{Events.EventWith, Passphrases.{ask, ask_or_open}}}
-use Rattle.{agent_commands.specs.{Requests.{GetFields, get_passphrase}, declared.request.Request.{Request, TheVariants.Cache}}, agent_origin.specs.declared.kept.Kept.Kept}
+use Rattle.{agent_commands.specs.{Requests.{GetFields, get_passphrase}, declared.request.Request.{Request, TheVariants.Cache}}, agent_origin.specs.declared.session_state.SessionState.SessionState}
 use Rattle.agent_session.{specs.{Causes.{here, later, IsCaused, HasNoEntry, GivesNone, HasCall, is_broken}, Counting.{fails_at_keys, fails_at_dice, fails_at_trust}}, proofs.Standing.each_has}
 use Rattle.agent_ports.specs.declared.trust.TrustRead.TheVariants as trust_read
 use Rattle.agent_ask.specs.declared.prompter.Opened.TheVariants as opened
@@ -12,7 +12,7 @@ use Rattle.session_client.specs.declared.code.Code.TheVariants as code
 use Rattle.session_options.specs.declared.options.PinMode.TheVariants as mode
 use Rattle.agent_session.specs.Causes as causes
 
-module _ (rules : Rules) (kept : Kept) where
+module _ (rules : Rules) (kept : SessionState) where
   -- a request in which the keys and the dice weren't called isn't answered by a General error
   uncalled : (request : Request) → IsCaused (Sent (failed code.General) ∷ []) rules kept request code.General Agent → ⊥
   uncalled request (causes.one event fails here) = fails
@@ -20,13 +20,13 @@ module _ (rules : Rules) (kept : Kept) where
 
   -- the user cancelled a prompt, and the request isn't answered by No pinentry
   module _ (spec : PromptSpec) (id : List ℕ) (pid ticket : ℕ) where
-    abbrev cancelled : List (EventWith FurtherEvent)
+    abbrev cancelled : List (EventWith PortCall)
     cancelled =
-        cache_turn (ask_or_open id) (Open ticket) ∷ Further (Prompt (Called (Start spec (opened.Pid pid)))) ∷ Further (Prompt (Called (GetPin [] outcome.Cancelled)))
-        ∷ Further (Prompt (Called Shut)) ∷ cache_turn (Close ticket None) Done ∷ Sent (failed code.NoPinentry) ∷ []
+        cache_turn (ask_or_open id) (Open ticket) ∷ Port (Prompt (Called (Start spec (opened.Pid pid)))) ∷ Port (Prompt (Called (GetPin [] outcome.Cancelled)))
+        ∷ Port (Prompt (Called Shut)) ∷ cache_turn (Close ticket None) Done ∷ Sent (failed code.NoPinentry) ∷ []
 
-    abbrev IsFine : EventWith FurtherEvent → Type 0
-    IsFine (Further (Prompt (Called call))) = (is_failed call ≡ false) × (is_broken call ≡ false)
+    abbrev IsFine : EventWith PortCall → Type 0
+    IsFine (Port (Prompt (Called call))) = (is_failed call ≡ false) × (is_broken call ≡ false)
     IsFine _ = ⊤
 
     all_fine : AllByRecursion IsFine cancelled
@@ -46,7 +46,7 @@ module _ (rules : Rules) (kept : Kept) where
 
   -- an entry was given, and the request isn't cancelled because its client wants no prompt
   module _ (fields : GetFields) (id : List ℕ) (grant : Grant) (has_id : fields.id ≡ Some id) where
-    abbrev cached : List (EventWith FurtherEvent)
+    abbrev cached : List (EventWith PortCall)
     cached = cache_turn (ask id) (Given grant) ∷ Sent (failed code.Cancelled) ∷ []
 
     gives_none : (step : MarkStep) → GivesNone cached step → ⊥
@@ -70,8 +70,8 @@ module _ (rules : Rules) (kept : Kept) where
     answered (causes.by_stop (causes.turned asked keeps (later (later has)))) = elim has [ ]
 
 -- a draw that failed, then one that didn't, and a trust file that couldn't be read: one failure on each of two ends
-abbrev failing : List (EventWith FurtherEvent)
-failing = Further (Dice (NotDrawn 32)) ∷ Further (Dice (Drew (0 ∷ []))) ∷ Further (Trust (Read trust_read.Failed)) ∷ []
+abbrev failing : List (EventWith PortCall)
+failing = Port (Dice (NotDrawn 32)) ∷ Port (Dice (Drew (0 ∷ []))) ∷ Port (Trust (Read trust_read.Failed)) ∷ []
 
 one_at_the_dice : count_by fails_at_dice failing ≡ 1
 one_at_the_dice = refl

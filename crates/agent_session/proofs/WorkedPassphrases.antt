@@ -1,7 +1,7 @@
 -- Worked exchanges: whose their passphrases are, and what stands after a refusal.
 use Rattle.std.{specs.Prelude.{⊤, take, drop}, proofs.Common.{◌≡◌, ◌≤◌, ℕ, false, true, List, [], ◌∷◌, ◌++◌, length, Some, None, Ok, Err, refl, sym, ap, subst, arith, codes}}
-use Rattle.{arrayvec.specs.ArrayVec.ArrayVec, agent_ask.specs.{Answering.whole, Events.{PromptEvent, Start, GetPin, Shut, Called}, Further.{FurtherEvent, Prompt, Replaced}, Plans.{IsSpec, plan_of}}}
-use Rattle.agent_ask.specs.{Prompts.{AsksPin, tried, quiet, good, accepted, same}, SessionEvents.{Received, Sent, Inquiry, Further, cache_turn}, Tests.test_of, SessionPrompts.AnyInSession, declared.spec.AskPlan.AskPlan}
+use Rattle.{arrayvec.specs.ArrayVec.ArrayVec, agent_ask.specs.{Answering.whole, Events.{PromptEvent, Start, GetPin, Shut, Called}, PortCalls.{PortCall, Prompt, Replaced}, Plans.{IsSpec, plan_of}}}
+use Rattle.agent_ask.specs.{Prompts.{AsksPin, tried, quiet, good, accepted, same}, SessionEvents.{Received, Sent, Inquiry, Port, cache_turn}, Tests.test_of, SessionPrompts.AnyInSession, declared.spec.AskPlan.AskPlan}
 use Rattle.{agent_ask.specs.{declared.{spec.PromptSpec.PromptSpec, test.Tested.TheVariants.Yes}, Parts.{goes_on, stops, returns, wanted, or_else}}, agent_ports.specs.declared.grip.Grip.Grip, assuan_escape.specs.Escapes.hex_text}
 use Rattle.{assuan_server.specs.{Clients.session_lines, Inquiries.Data, Written.{failed, greeting, ok_text, limit_line, IsDataAnswer}, declared.errors.Origin.TheVariants.Agent as OfAgent}, assuan_text.specs.LineEnds.line_of}
 use Rattle.{cache_policy.specs.{Turns.{Given, Open, Done, Refused, FitsStep}, declared.{grant.Grant.Grant, life.Life.Life, mark.MarkStep.TheVariants.Close}}, secret_file.specs.Protects.{ocb_protection, protected_file}}
@@ -10,7 +10,7 @@ use Rattle.agent_commands.specs.{Events.EventWith, Exchanges.{CacheExchange, Pre
 use Rattle.agent_commands.specs.declared.{request.{CacheCommand.TheVariants.PresetPassphrase, Request.{Request, TheVariants.{Cache, Key as OnKeys}}, Texts.Texts}, went.{SessionEnd.TheVariants.Ended, Went.TheVariants.On}}
 use Rattle.key_commands.specs.{Lines.max_key_data, Events.{drew, called}, Exchanges.{KeyExchange, KeyWrapReplies, ImportKeyReplies, key_reply, wrap_key, with_wrap_key}, Parts.Draws, Requests.key_request_of}
 use Rattle.{key_commands.specs.{declared.{request.Direction.Direction, wrap_keys.WrapKeys.WrapKeys}, Passphrases.ask_nonce, Wrapping.WrappedSays}, agent_origin.specs.SessionExchanges.{SessionExchange, RequestExchange, cache, keys}}
-use Rattle.agent_origin.specs.declared.kept.Kept.{Kept}
+use Rattle.agent_origin.specs.declared.session_state.SessionState.{SessionState}
 use Rattle.agent_session.{specs.{Causes.{Has, here, later}, Imports.{put_nonce, ImportCourse}, OwnAnswers.{SaysOwn, TellsOfKeys}, OwnPassphrases.{StoresOwn, StoresOwnIn, keeps}}, proofs.ImportCourses.import_exchange}
 use Rattle.agent_session.proofs.{KeyExplained.exchange_goes_on, OwnCache.{cache_own, request_own}, OwnKeyLines.request_told, OwnParts.{Fit, own_at}, OwnSessions.{exchange_own, session_own}}
 use Rattle.agent_ask.specs.SessionPrompts as under
@@ -35,7 +35,7 @@ use Rattle.key_commands.specs.declared.request.KeyRequest.TheVariants as on
 
 -- ---- a passphrase is typed, and kept
 
-module _ (rules : Rules) (kept : Kept) (id pin : List ℕ) (texts : Texts) (spec : PromptSpec) (mode_is : kept.options.mode ≡ mode.Ask) (unnoted : kept.options.notify ≡ false)
+module _ (rules : Rules) (kept : SessionState) (id pin : List ℕ) (texts : Texts) (spec : PromptSpec) (mode_is : kept.options.mode ≡ mode.Ask) (unnoted : kept.options.notify ≡ false)
     (is_spec : IsSpec rules kept.options texts.description texts.prompt false spec) (pid ticket : ℕ) where
   abbrev fields : GetFields
   fields = record { plain = false; check = false; no_ask = false; repeat = 0; quality = false; id = Some id; texts = Some texts }
@@ -49,8 +49,8 @@ module _ (rules : Rules) (kept : Kept) (id pin : List ℕ) (texts : Texts) (spec
   abbrev prompt : List PromptEvent
   prompt = Called (Start spec (opened.Pid pid)) ∷ Called (GetPin texts.error.items (outcome.Pin pin)) ∷ Called Shut ∷ []
 
-  abbrev shown : List (EventWith FurtherEvent)
-  shown = Further (Prompt (Called (Start spec (opened.Pid pid)))) ∷ Further (Prompt (Called (GetPin texts.error.items (outcome.Pin pin)))) ∷ Further (Prompt (Called Shut)) ∷ []
+  abbrev shown : List (EventWith PortCall)
+  shown = Port (Prompt (Called (Start spec (opened.Pid pid)))) ∷ Port (Prompt (Called (GetPin texts.error.items (outcome.Pin pin)))) ∷ Port (Prompt (Called Shut)) ∷ []
 
   one_try : 1 ≤ 3
   one_try = omega arith
@@ -66,10 +66,10 @@ module _ (rules : Rules) (kept : Kept) (id pin : List ℕ) (texts : Texts) (spec
   in_session : AnyInSession session_lines prompt shown
   in_session = under.called (under.called (under.called under.AnyInSession.none))
 
-  abbrev before_close : List (EventWith FurtherEvent)
+  abbrev before_close : List (EventWith PortCall)
   before_close = cache_turn (ask_or_open id) (Open ticket) ∷ shown
 
-  abbrev events : List (EventWith FurtherEvent)
+  abbrev events : List (EventWith PortCall)
   events = before_close ++ cache_turn (Close ticket (Some pin)) Done ∷ Sent (line_of (ok_text (hex_text pin))) ∷ []
 
   asked_by : ByUser rules kept.options texts false false 0 (Some id) None (before_close ++ cache_turn (Close ticket (Some pin)) Done ∷ []) (Ok pin) None
@@ -97,7 +97,7 @@ module _ (rules : Rules) (kept : Kept) (id pin : List ℕ) (texts : Texts) (spec
 
   -- and in a session by that of the line that was read last
   module _ (line : List ℕ) (says : request_of line ≡ request) where
-    abbrev all : List (EventWith FurtherEvent)
+    abbrev all : List (EventWith PortCall)
     all = Sent (line_of greeting) ∷ Received (took.Line line) ∷ (events ++ Received took.End ∷ [])
 
     line_exchange : SessionExchange rules kept line events kept On
@@ -113,12 +113,12 @@ module _ (rules : Rules) (kept : Kept) (id pin : List ℕ) (texts : Texts) (spec
 
 -- ---- a preset finds no memory, and the session goes on
 
-module _ (rules : Rules) (kept : Kept) (allowed : rules.allow_preset ≡ true) (id pass : List ℕ) (life : Life) (line : List ℕ) (says : request_of line ≡ Cache (PresetPassphrase id life (Some pass))) where
-  abbrev refused : List (EventWith FurtherEvent)
+module _ (rules : Rules) (kept : SessionState) (allowed : rules.allow_preset ≡ true) (id pass : List ℕ) (life : Life) (line : List ℕ) (says : request_of line ≡ Cache (PresetPassphrase id life (Some pass))) where
+  abbrev refused : List (EventWith PortCall)
   refused = cache_turn (put id life pass) Refused ∷ Sent (failed code.NoMemory) ∷ []
 
   refused_so : Presets rules id life (Some pass) None (cache_turn (put id life pass) Refused ∷ []) (Err (Agent code.NoMemory)) None
-  refused_so = goes_on {first = []} (subst (λ so. wanted {E = EventWith FurtherEvent} code.NotSupported so None [] (Ok tt) None) (sym allowed) returns) (goes_on returns (turning.interrupted tt interrupts.refused))
+  refused_so = goes_on {first = []} (subst (λ so. wanted {E = EventWith PortCall} code.NotSupported so None [] (Ok tt) None) (sym allowed) returns) (goes_on returns (turning.interrupted tt interrupts.refused))
 
   refused_exchange : SessionExchange rules kept line refused kept On
   refused_exchange =
@@ -142,7 +142,7 @@ module _ (rules : Rules) (options : OptionValues) (wrap wrapped : List ℕ) (key
   abbrev file : List ℕ
   file = protected_file key (ocb_protection key grant.entry.secret (take 8 drawn) (take 12 (drop 8 drawn)) options.s2k_count None) None
 
-  abbrev imports : List (EventWith FurtherEvent)
+  abbrev imports : List (EventWith PortCall)
   imports =
       Sent (limit_line max_key_data) ∷ Inquiry (codes "KEYDATA") [] max_key_data (Asked (Data wrapped)) ∷ cache_turn (ask_nonce nonce) (Given grant) ∷ drew drawn
       ∷ cache_turn (put_nonce drawn grant.entry.secret) Done ∷ called (Replaced grip file key_done.Failed) ∷ []
@@ -159,7 +159,7 @@ module _ (rules : Rules) (options : OptionValues) (wrap wrapped : List ℕ) (key
 
 -- ---- a wrapping key is drawn, and is told
 
-module _ (rules : Rules) (kept : Kept) (way : Direction) (line : ArrayVec ℕ) (says : key_request_of line.items ≡ on.KeyWrap way) (fresh : wrap_key way kept.wraps ≡ None) (key text : List ℕ) (long : length key ≡ 16)
+module _ (rules : Rules) (kept : SessionState) (way : Direction) (line : ArrayVec ℕ) (says : key_request_of line.items ≡ on.KeyWrap way) (fresh : wrap_key way kept.wraps ≡ None) (key text : List ℕ) (long : length key ≡ 16)
     (shows : IsDataAnswer key text) where
   abbrev wraps_now : WrapKeys
   wraps_now = with_wrap_key way key kept.wraps

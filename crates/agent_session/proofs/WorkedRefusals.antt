@@ -1,10 +1,10 @@
 -- Worked lists of events that no request has: what a prompt didn't accept isn't kept, a file that was read once isn't too long, and a key that didn't come in is
 -- no request's.
 use Rattle.std.{specs.Prelude.if◌then◌else◌, proofs.Common.{◌≡◌, ℕ, true, List, [], ◌∷◌, Option, Some, None, Ok, ap, subst}}
-use Rattle.agent_ask.specs.{Prompts.{AsksPin, AsksBefore, Tries, IsTry, MeetsCheck}, SessionEvents.Sent, TrustCalls.Read, declared.spec.{AskPlan.AskPlan, PromptSpec.PromptSpec}, Further.FurtherEvent}
+use Rattle.agent_ask.specs.{Prompts.{AsksPin, AsksBefore, Tries, IsTry, MeetsCheck}, SessionEvents.Sent, TrustCalls.Read, declared.spec.{AskPlan.AskPlan, PromptSpec.PromptSpec}, PortCalls.PortCall}
 use Rattle.{agent_ports.specs.declared.{grip.Grip.Grip, trust.TrustRead.TrustRead}, assuan_server.specs.Written.failed, cache_policy.specs.declared.mark.MarkStep.TheVariants.Close, secret_file.specs.Opens.LockedKey}
 use Rattle.{session_options.specs.{OptionValues.OptionValues, declared.rules.Rules.Rules}, agent_commands.specs.{Events.EventWith, Requests.{GetFields, get_passphrase}, declared.request.Request.{Request, TheVariants.Cache}}}
-use Rattle.{key_commands.specs.Passphrases.OpensBy, agent_origin.specs.{TrustParts.trust_called, declared.{kept.Kept.Kept, trust.request.TrustRequest.TrustRequest}}}
+use Rattle.{key_commands.specs.Passphrases.OpensBy, agent_origin.specs.{TrustParts.trust_called, declared.{session_state.SessionState.SessionState, trust.request.TrustRequest.TrustRequest}}}
 use Rattle.agent_session.specs.{Causes.{later, on_keys, IsReadLocked, exports, changes, wanted, of_new, of_import, data_says, sent, said}, DoorCauses.{IsTooMuch, inquired, too_long, read_again, read_trust}}
 use Rattle.agent_session.specs.{OwnPassphrases.{IsAccepted, any, opening, verifies, StoresOwn, accepted, changed, IsAbout, named, brought}, Refusals.{IsNonceOf, nonce_of}}
 use Rattle.agent_ask.specs.Prompts as prompts
@@ -40,7 +40,7 @@ module _ {plan : AskPlan} {Rule : List ℕ → Type 0} where
   pin_right : {spec : PromptSpec} {pin : List ℕ} {events : _} → AsksPin spec plan Rule events (asked.Pin pin) → MeetsCheck plan.check pin × Rule pin
   pin_right asks = before_right asks.asks
 
-module _ {rules : Rules} {options : OptionValues} {request : Request} {before : List (EventWith FurtherEvent)} {pin : List ℕ} where
+module _ {rules : Rules} {options : OptionValues} {request : Request} {before : List (EventWith PortCall)} {pin : List ℕ} where
   -- so at an EXPORT_KEY it opens the key whose file was read
   export_opens : {grip : Grip} {nonce : Option (List ℕ)} → on_keys request ≡ Some (on.ExportKey grip nonce) → IsAccepted rules options request before pin
       → (locked : LockedKey) × IsReadLocked before grip locked × OpensBy locked pin
@@ -62,7 +62,7 @@ module _ {rules : Rules} {options : OptionValues} {request : Request} {before : 
   get_meets fields is (opening (whose.exports other) locked_so prompted) = let none : on_keys request ≡ None = ap on_keys is in absurd (cc (other, none))
   get_meets fields is (opening (verifies other) locked_so prompted) = let none : on_keys request ≡ None = ap on_keys is in absurd (cc (other, none))
 
-module _ {rules : Rules} {kept : Kept} {request : Request} {before : List (EventWith FurtherEvent)} {pin : List ℕ} {ticket : ℕ} where
+module _ {rules : Rules} {kept : SessionState} {request : Request} {before : List (EventWith PortCall)} {pin : List ℕ} {ticket : ℕ} where
   -- an EXPORT_KEY keeps no passphrase that was typed and doesn't open the key, whatever was shown
   wrong_pin_is_not_kept : {grip : Grip} {nonce : Option (List ℕ)} → on_keys request ≡ Some (on.ExportKey grip nonce) → ((locked : LockedKey) → IsReadLocked before grip locked → ¬ OpensBy locked pin)
       → StoresOwn rules kept request before (Close ticket (Some pin)) → ⊥
@@ -77,7 +77,7 @@ module _ {rules : Rules} {kept : Kept} {request : Request} {before : List (Event
   weak_pin_is_not_kept fields is checked weak (changed other has gave) = let none : on_keys request ≡ None = ap on_keys is in cc (other, none)
 
 -- an IMPORT_KEY is about no key before its client sent one
-nothing_came : {rules : Rules} {kept : Kept} {request : Request} {grip : Grip} {force : _} {nonce : Option (List ℕ)} → on_keys request ≡ Some (on.ImportKey force nonce) → IsAbout rules kept request [] grip → ⊥
+nothing_came : {rules : Rules} {kept : SessionState} {request : Request} {grip : Grip} {force : _} {nonce : Option (List ℕ)} → on_keys request ≡ Some (on.ImportKey force nonce) → IsAbout rules kept request [] grip → ⊥
 nothing_came is (named (exports other)) = cc (is, other)
 nothing_came is (named (changes other)) = cc (is, other)
 nothing_came is (brought other (data_says wrap (sent says has) key) named_so) = elim has [ ]

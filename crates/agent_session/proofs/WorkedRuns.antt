@@ -2,7 +2,7 @@
 use Rattle.std.{proofs.Common.{◌≡◌, List, [], ◌∷◌, None, refl, sym, subst}, specs.Prelude.{⊤, codes}}
 use Rattle.{agent_ask.specs.{Events.Call, Parts.returns, Prompters.AtPrompter, SessionEvents.{Received, Sent}, TurnParts.unheld, Worlds.{Outside, Does}}, assuan_server.specs.{Written.{ok, greeting}, Reading.Supply}}
 use Rattle.{command_table.specs.Commands.command_named, agent_commands.specs.{Requests.request_of, Talks.Session, declared.{request.{CacheCommand.TheVariants.Nop, Request.{Request, TheVariants.Cache}}, went.SessionEnd.TheVariants.Ended}}}
-use Rattle.{agent_commands.specs.declared.went.Went.TheVariants.On, agent_origin.specs.{FurtherStates.FurtherWorld, SessionExchanges.{SessionExchange, RequestExchange, cache}, declared.kept.Kept.Kept}, agent_ports.specs.KeyFiles.KeyFiles}
+use Rattle.{agent_commands.specs.declared.went.Went.TheVariants.On, agent_origin.specs.{PortStates.PortWorld, SessionExchanges.{SessionExchange, RequestExchange, cache}, declared.session_state.SessionState.SessionState}, agent_ports.specs.KeyFiles.KeyFiles}
 use Rattle.{agent_ports.specs.{Leads.{Leads, none, one}, Sides.Side, TrustFiles.TrustState}, assuan_text.specs.LineEnds.line_of, cache_policy.specs.{Desks.AtDesk, Turns.Turn, declared.mark.MarkStep.MarkStep}}
 use Rattle.{key_commands.specs.Events.Event, session_options.specs.declared.rules.Rules.Rules}
 use Rattle.agent_session.{specs.{Completeness.SessionCauses, RunExchanges.{ExchangeBetween, LawfulExchange}}, proofs.{Answering.in_session, RunExchanges.{between, session_between, lawful}}}
@@ -23,8 +23,8 @@ nop_line : request_of (codes "NOP") ≡ Cache Nop
 unfolding request_of command_named
 nop_line = refl
 
-module _ (rules : Rules) (kept : Kept) (supply : Supply) (desk : AtDesk) (prompter : AtPrompter) (keys : KeyFiles) (dice : Side) (trust : TrustState) where
-  abbrev at : Outside (FurtherWorld no_turn no_call)
+module _ (rules : Rules) (kept : SessionState) (supply : Supply) (desk : AtDesk) (prompter : AtPrompter) (keys : KeyFiles) (dice : Side) (trust : TrustState) where
+  abbrev at : Outside (PortWorld no_turn no_call)
   at = record { input = None; source = None; output = None; desk = tt; ends = record { prompter = tt; keys = keys; dice = dice; trust = trust } }
 
   abbrev events : List Event
@@ -36,7 +36,7 @@ module _ (rules : Rules) (kept : Kept) (supply : Supply) (desk : AtDesk) (prompt
   session : Session (SessionExchange rules) kept events Ended
   session = talks.greeted (talks.goes_on (codes "NOP") (answering.whole nop) talks.ended)
 
-  leads : Leads (Does (FurtherWorld no_turn no_call) supply) at events at
+  leads : Leads (Does (PortWorld no_turn no_call) supply) at events at
   leads = one worlds.sent (one (worlds.received {input = None} {source = None} tt tt) (one worlds.sent (one (worlds.received {input = None} {source = None} tt tt) none)))
 
   lawful_session : Session (ExchangeBetween supply (SessionExchange rules) (LawfulExchange no_turn no_call (λ at_rest. prompter) rules (SessionCauses rules) (λ line. ⊤) (λ at_rest. ⊤))) (between kept at) events Ended

@@ -5,7 +5,7 @@ use Rattle.{assuan_server.specs.{Clients.session_lines, Written.failed, declared
 use Rattle.{key_commands.specs.Parts.Part, key_lines.specs.Canon.Canon, session_client.specs.declared.refusal.Refusal.Refusal, session_options.specs.declared.rules.Rules.Rules, trust_list.specs.Trust.{trust, with_entry}}
 use Rattle.{trust_list.specs.declared.TheConstants.MAX_TRUST_FILE_LEN, agent_commands.specs.declared.went.Went.TheVariants.On, agent_origin.specs.{DoorSessions.DoorExchange, Doors.allowed}}
 use Rattle.agent_origin.specs.{TrustExchanges.{flag_of, trust_question, fingerprint_question, unless_said, TrustExchange, Marked, Consented, StoresUnsaid, Stores}, TrustParts.{file_in, trust_called, has_read}}
-use Rattle.agent_origin.specs.{TrustRequests.{trust_request_of, trust_command}, declared.{door.Door.Door, kept.Kept.Kept, trust.request.{TrustPurpose.TrustPurpose, TrustRequest.TheVariants.MarkTrusted}}}
+use Rattle.agent_origin.specs.{TrustRequests.{trust_request_of, trust_command}, declared.{door.Door.Door, session_state.SessionState.SessionState, trust.request.{TrustPurpose.TrustPurpose, TrustRequest.TheVariants.MarkTrusted}}}
 use Rattle.command_table.specs.Commands.{command_in}
 use Rattle.agent_session.{specs.{Causes.{here, later}, Completeness.{Remembers, HasError}, DoorCauses.{IsTooMuch, too_long, read_again, read_trust}, Exactly.on_trust}, proofs.{Exact.door_cause, Standing.{has_left, has_right}}}
 use Rattle.agent_ask.specs.PartExchanges as exchanges
@@ -22,11 +22,11 @@ asked_next : {said : Option Bool} (otherwise : Part (Unit {0})) {before after : 
     → unless_said said otherwise before events result after
 asked_next {said} otherwise {before} {after} {events} {result} none does = subst (λ s. unless_said s otherwise before events result after) (sym none) does
 
-module _ (rules : Rules) (kept : Kept) (fingerprint : Grip) (purpose : TrustPurpose) (owner : ArrayVec ℕ) (first_read second_read : TrustRead) (early late : List ℕ) (found : file_in first_read ≡ Some early)
+module _ (rules : Rules) (kept : SessionState) (fingerprint : Grip) (purpose : TrustPurpose) (owner : ArrayVec ℕ) (first_read second_read : TrustRead) (early late : List ℕ) (found : file_in first_read ≡ Some early)
     (found_again : file_in second_read ≡ Some late) (unsaid : trust early fingerprint.0 ≡ None) (unsaid_still : trust late fingerprint.0 ≡ None) (much : MAX_TRUST_FILE_LEN < length (with_entry late fingerprint.0 (flag_of purpose)))
     (ticket : ℕ) (first second : List Event) where
   -- its client wants prompts
-  abbrev asking : Kept
+  abbrev asking : SessionState
   asking = record kept { options = record kept.options { mode = mode.Ask } }
 
   abbrev work : List Event

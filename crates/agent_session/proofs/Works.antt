@@ -1,11 +1,11 @@
 -- The one form of what is done for a request: each event goes on, but a last one by which the request is refused or its client is gone. It is so of nothing, of a
 -- part and what follows on its value, and of the smallest parts of a request.
 use Rattle.std.{specs.List.AllByRecursion, proofs.Common.{codes, ◌≡◌, ◌≢◌, ℕ, Bool, List, [], ◌∷◌, ◌++◌, Option, Some, None, Result, Ok, Err, refl, sym, ap, ◌∙◌, subst, append_assoc, append-nil}}
-use Rattle.agent_ask.specs.{ClientParts.{Writes, Inquires, AsksClient}, Events.{Called, Shut}, Further.{Listed, Replaced, Dice, Draw, Prompt}, Interrupts.Interrupts, Parts.{◌>>=◌, Returns, Refuses, needed, or_else, unless, wanted}}
-use Rattle.agent_ask.{specs.{SessionEvents.{Received, Sent, Cut, Inquiry, CacheTurn, Further, cache_turn}, TurnParts.{Asks, Seats, Changes, Peeks, Closes}}, proofs.Within.{Within, Joins, OfNothing}}
+use Rattle.agent_ask.specs.{ClientParts.{Writes, Inquires, AsksClient}, Events.{Called, Shut}, PortCalls.{Listed, Replaced, Dice, Draw, Prompt}, Interrupts.Interrupts, Parts.{◌>>=◌, Returns, Refuses, needed, or_else, unless, wanted}}
+use Rattle.agent_ask.{specs.{SessionEvents.{Received, Sent, Cut, Inquiry, CacheTurn, Port, cache_turn}, TurnParts.{Asks, Seats, Changes, Peeks, Closes}}, proofs.Within.{Within, Joins, OfNothing}}
 use Rattle.{agent_ports.specs.declared.{grip.Grip.Grip, keys.{KeyDone.KeyDone, KeyNames.KeyNames, KeyRead.KeyRead}}, assuan_server.specs.{Clients.session_lines, Inquiries.{Outcome, IsAtEnd}}, cache_policy.specs.Turns.{Turn, closes}}
 use Rattle.{cache_policy.specs.declared.{mark.MarkStep.{MarkStep, TheVariants.{Peek, Close}}, mode.Mode.Mode}, secret_file.specs.Opens.LockedKey, session_client.specs.{Asking.{Asked, said_by}, declared.code.Code.Code}}
-use Rattle.{session_client.specs.declared.{refusal.Refusal.{Refusal, TheVariants.{Agent, Client}}, unheard.Unheard.Unheard}, sexp_keys.specs.Key.Key, key_commands.specs.{Lines.max_key_data, Events.{Event, called, read, out_of_memory}}}
+use Rattle.{session_client.specs.declared.{refusal.Refusal.{Refusal, TheVariants.{Agent, Client}}, client_error.ClientError.ClientError}, sexp_keys.specs.Key.Key, key_commands.specs.{Lines.max_key_data, Events.{Event, called, read, out_of_memory}}}
 use Rattle.key_commands.specs.{Files.Rewrites, KeyParts.{Tells, tells, ReadsFile, Replaces, KeepsNew, Protects, IsShort, ListsGrips, ReadsListed, AsksKeyData, Unwraps, NamesKey, LooksOver, WrapsKey, file_in, grips_in, change_fault}}
 use Rattle.key_commands.{specs.{Parts.{Part, Finds, Draws, read_fault}, Passphrases.{LooksForNonce, TakesSeat, Locks, TriesPassphrase, TriesFound, ask_nonce, put_key, seat_for}}, proofs.EachEvent.each_append}
 use Rattle.agent_session.specs.Refusals.{turn_refuses, change_refuses, refuses, shuts}
@@ -18,8 +18,8 @@ use Rattle.agent_ports.specs.declared.keys.KeyNames.TheVariants as key_names
 use Rattle.agent_ports.specs.declared.keys.KeyRead.TheVariants as key_read
 use Rattle.assuan_server.specs.Inquiries as outcomes
 use Rattle.session_client.specs.declared.code.Code.TheVariants as code
-use Rattle.session_client.specs.declared.unheard.Gone.TheVariants as gone
-use Rattle.session_client.specs.declared.unheard.Unheard.TheVariants as unheard
+use Rattle.session_client.specs.declared.client_error.Gone.TheVariants as gone
+use Rattle.session_client.specs.declared.client_error.ClientError.TheVariants as client_error
 use Rattle.key_commands.specs.Files as files
 use Rattle.key_commands.specs.KeyParts as parts
 use Rattle.key_commands.specs.Parts as small
@@ -27,24 +27,24 @@ use Rattle.key_commands.specs.Passphrases as passphrases
 
 -- ---- single events
 
-abbrev pub unsaid : Result (List ℕ) Unheard → Option Unheard
+abbrev pub unsaid : Result (List ℕ) ClientError → Option ClientError
 unsaid (Err why) = Some why
 unsaid (Ok bytes) = None
 
 -- what the client said by an event in place of what it was asked for, or that it is gone
-abbrev pub unheard_by : Event → Option Unheard
-unheard_by (Cut text) = Some (unheard.Gone gone.WriteFault)
+abbrev pub unheard_by : Event → Option ClientError
+unheard_by (Cut text) = Some (client_error.Gone gone.WriteFault)
 unheard_by (Inquiry word params limit inquired) = unsaid (said_by session_lines inquired)
 unheard_by _ = None
 
 -- an event that refuses the request is none of those
-pub lost_goes : (event : Event) {why : Unheard} → unheard_by event ≡ Some why → refuses event ≡ None
+pub lost_goes : (event : Event) {why : ClientError} → unheard_by event ≡ Some why → refuses event ≡ None
 lost_goes (Cut text) is = refl
 lost_goes (Inquiry word params limit inquired) is = refl
 lost_goes (Received took) is = refl
 lost_goes (Sent text) is = refl
 lost_goes (CacheTurn taken) is = absurd (cc is)
-lost_goes (Further what) is = absurd (cc is)
+lost_goes (Port what) is = absurd (cc is)
 
 -- a turn of a step that gives no ticket back refuses its request by its outcome alone
 pub by_turn : (asked : MarkStep) (turn : Turn) {said : Option Code} → closes asked ≡ None → turn_refuses None turn ≡ said → turn_refuses (closes asked) turn ≡ said
@@ -61,9 +61,9 @@ module _ (Fits : Event → Type 0) where
   pub data WorkEnd {A : Type 0} : List Event → Result A Refusal → Type 0 where
     no_more : {result : Result A Refusal} → WorkEnd [] result
     refused : {event : Event} {why : Code} → Fits event → refuses event ≡ Some why → WorkEnd (event ∷ shuts event) (Err (Agent why))
-    lost : {event : Event} {last : List Event} {why : Unheard} → Fits event → unheard_by event ≡ Some why → AllByRecursion GoesOn last → WorkEnd (event ∷ last) (Err (Client why))
+    lost : {event : Event} {last : List Event} {why : ClientError} → Fits event → unheard_by event ≡ Some why → AllByRecursion GoesOn last → WorkEnd (event ∷ last) (Err (Client why))
     -- too much was said, and there was no memory for it
-    forgot : {event : Event} → Fits event → unheard_by event ≡ Some unheard.TooMuch → Fits out_of_memory → WorkEnd (event ∷ out_of_memory ∷ []) (Err (Agent code.NoMemory))
+    forgot : {event : Event} → Fits event → unheard_by event ≡ Some client_error.TooMuch → Fits out_of_memory → WorkEnd (event ∷ out_of_memory ∷ []) (Err (Agent code.NoMemory))
 
   pub record WorksTo {A : Type 0} (events : List Event) (result : Result A Refusal) : Type 0 where
     pub work : List Event
@@ -110,9 +110,9 @@ module _ (Fits : Event → Type 0) where
   pub refused_second : {A : Type 0} {first event : Event} {why : Code} → GoesOn first → Fits event → refuses event ≡ Some why → shuts event ≡ [] → WorksTo {A = A} (first ∷ event ∷ []) (Err (Agent why))
   refused_second {first} goes fits is alone = behind_work (first ∷ []) (goes, tt) (refused_by fits is alone)
 
-  pub shuts_fit : Fits (Further (Prompt (Called Shut))) → (event : Event) → AllByRecursion Fits (shuts event)
-  shuts_fit shut (Further (Prompt event)) = (shut, tt)
-  shuts_fit shut (Further _) = tt
+  pub shuts_fit : Fits (Port (Prompt (Called Shut))) → (event : Event) → AllByRecursion Fits (shuts event)
+  shuts_fit shut (Port (Prompt event)) = (shut, tt)
+  shuts_fit shut (Port _) = tt
   shuts_fit shut (Received took) = tt
   shuts_fit shut (Sent text) = tt
   shuts_fit shut (Cut text) = tt
@@ -120,7 +120,7 @@ module _ (Fits : Event → Type 0) where
   shuts_fit shut (Inquiry word params limit inquired) = tt
 
   -- all events are so, where the end of a prompt is
-  pub each_fits : {A : Type 0} {events : List Event} {result : Result A Refusal} → Fits (Further (Prompt (Called Shut))) → WorksTo events result → AllByRecursion Fits events
+  pub each_fits : {A : Type 0} {events : List Event} {result : Result A Refusal} → Fits (Port (Prompt (Called Shut))) → WorksTo events result → AllByRecursion Fits events
   each_fits shut does = subst (AllByRecursion Fits) (sym does.is) (each_append Fits does.work does.last (all_fit does.work does.each) (last_fits does.end))
     where
       all_fit : (events : List Event) → AllByRecursion GoesOn events → AllByRecursion Fits events
@@ -142,11 +142,11 @@ module _ (Fits : Event → Type 0) where
   WorksSo part = Within part WorkLaw
 
   -- one that leaves the ticket, too
-  abbrev pub Kept : {A : Type 0} → Option ℕ → List Event → Result A Refusal → Option ℕ → Type 0
-  Kept before events result after = WorksTo events result × (after ≡ before)
+  abbrev pub SessionState : {A : Type 0} → Option ℕ → List Event → Result A Refusal → Option ℕ → Type 0
+  SessionState before events result after = WorksTo events result × (after ≡ before)
 
   abbrev pub Keeps : {A : Type 0} → Part A → Type 0
-  Keeps {A} part = (before : Option ℕ) (events : List Event) (result : Result A Refusal) (after : Option ℕ) → part before events result after → Kept before events result after
+  Keeps {A} part = (before : Option ℕ) (events : List Event) (result : Result A Refusal) (after : Option ℕ) → part before events result after → SessionState before events result after
 
   pub keeps_works : {A : Type 0} {part : Part A} → Keeps part → WorksSo part
   keeps_works keeps = record { of = λ before events result after does. (keeps before events result after does).0 }
@@ -259,7 +259,7 @@ module _ (Fits : Event → Type 0) where
   -- ---- the client
 
   module _ (cut : (text : List ℕ) → Fits (Cut text)) where
-    cut_works : {A : Type 0} (text : List ℕ) → WorksTo {A = A} (Cut text ∷ []) (Err (Client (unheard.Gone gone.WriteFault)))
+    cut_works : {A : Type 0} (text : List ℕ) → WorksTo {A = A} (Cut text ∷ []) (Err (Client (client_error.Gone gone.WriteFault)))
     cut_works text = record { work = []; last = _; is = refl; each = tt; end = lost (cut text) refl tt }
 
     pub writes : {text : List ℕ} → Fits (Sent text) → Keeps (Writes text)
@@ -270,7 +270,7 @@ module _ (Fits : Event → Type 0) where
     given_works : {A : Type 0} {result : Result A Refusal} {bytes : List ℕ} (inquired : _) → said_by session_lines inquired ≡ Ok bytes → WorksTo (Inquiry word [] limit inquired ∷ []) result
     given_works inquired is = one_works (asked inquired) refl (ap unsaid is)
 
-    unheard_works : {A : Type 0} {why : Unheard} (inquired : _) → said_by session_lines inquired ≡ Err why → WorksTo {A = A} (Inquiry word [] limit inquired ∷ []) (Err (Client why))
+    unheard_works : {A : Type 0} {why : ClientError} (inquired : _) → said_by session_lines inquired ≡ Err why → WorksTo {A = A} (Inquiry word [] limit inquired ∷ []) (Err (Client why))
     unheard_works inquired is = record { work = []; last = _; is = refl; each = tt; end = lost (asked inquired) (ap unsaid is) tt }
 
     pub inquires : Keeps (Inquires session_lines word limit)
@@ -301,7 +301,7 @@ module _ (Fits : Event → Type 0) where
     pub no_memory : {A : Type 0} → WorksTo {A = A} (out_of_memory ∷ []) (Err (Agent code.NoMemory))
     no_memory = refused_by memory refl refl
 
-    pub draws : {count : ℕ} → ((draw : Draw) → Fits (Further (Dice draw))) → Keeps (Draws count)
+    pub draws : {count : ℕ} → ((draw : Draw) → Fits (Port (Dice draw))) → Keeps (Draws count)
     draws dice _ _ _ _ (small.drawn long) = (one_works (dice _) refl refl, refl)
     draws dice _ _ _ _ small.faulted = (refused_by (dice _) refl refl, refl)
 

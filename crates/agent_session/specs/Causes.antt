@@ -2,16 +2,16 @@
 -- own.
 use Rattle.std.specs.Prelude.{◌≡◌, ◌<◌, ◌⊎◌, ◌++◌, ℕ, Bool, true, false, List, [], ◌∷◌, length, map, take, drop, codes, Option, Some, None, Result, Ok, Err, ⊤}
 use Rattle.{arrayvec.specs.ArrayVec.ArrayVec, agent_ask.specs.Events.{Call, GetPin, Confirm, Start, Called, OutOfMemory, PromptEvent}}
-use Rattle.agent_ask.specs.{Further.{FurtherEvent, KeyCall, Read, Listed, Replaced, Removed, Drew, NotDrawn, Prompt, Keys, Dice, Trust, NoMemory}, Prompters.is_failed, Plans.plan_of, Prompts.AsksPin}
-use Rattle.agent_ask.specs.{SessionEvents.{Inquiry, CacheTurn, Further, cache_turn}, TrustCalls.TrustCall, SessionPrompts.AnyInSession, declared.{ask.Asked.Asked, spec.{AskPlan.AskPlan, PromptSpec.PromptSpec}}}
+use Rattle.agent_ask.specs.{PortCalls.{PortCall, KeyCall, Read, Listed, Replaced, Removed, Drew, NotDrawn, Prompt, Keys, Dice, Trust, NoMemory}, Prompters.is_failed, Plans.plan_of, Prompts.AsksPin}
+use Rattle.agent_ask.specs.{SessionEvents.{Inquiry, CacheTurn, Port, cache_turn}, TrustCalls.TrustCall, SessionPrompts.AnyInSession, declared.{ask.Asked.Asked, spec.{AskPlan.AskPlan, PromptSpec.PromptSpec}}}
 use Rattle.{agent_ports.specs.declared.{grip.Grip.Grip, keys.KeyRead.KeyRead}, assuan_server.specs.{Clients.session_lines, declared.errors.Origin.{Origin, TheVariants.{Agent, Pinentry}}}, session_client.specs.declared.code.Code.Code}
-use Rattle.{session_client.specs.{declared.unheard.Unheard.Unheard, Asking.said_by}, cache_policy.specs.{Turns.{Turn, Given, Empty, Stopping, Late, Refused, closes}, declared.{grant.Grant.Grant, mark.{MarkStep.MarkStep, Way.Way}}}}
+use Rattle.{session_client.specs.{declared.client_error.ClientError.ClientError, Asking.said_by}, cache_policy.specs.{Turns.{Turn, Given, Empty, Stopping, Late, Refused, closes}, declared.{grant.Grant.Grant, mark.{MarkStep.MarkStep, Way.Way}}}}
 use Rattle.{cache_policy.specs.declared.secret.TheConstants.MAX_SECRET_LEN, secret_file.specs.{Answers.IsLockedFault, Opens.{LockedKey, IsLocked, OpensTo}, Protects.{ocb_protection, protected_file}}, key_lines.specs.Canon.is_canonical}
 use Rattle.{session_options.specs.{OptionValues.{OptionValues, applied}, declared.{options.OptionAnswer.OptionAnswer, rules.Rules.Rules}}, sexp_canonical.specs.Spelling.most_bytes, sexp_keys.specs.{Key.Key, Lists.{grip_of, key_list_of}}}
 use Rattle.{sexp_keys.specs.declared.fault.KeyFault.KeyFault, agent_commands.specs.{Events.{EventWith, Inquired}, Exchanges.is_quiet, Passphrases.ask, Requests.{GetFields, get_passphrase}}}
 use Rattle.{agent_commands.specs.declared.request.{CacheCommand.TheVariants.{SetOption, PresetPassphrase, GetConfirmation}, Request.{Request, TheVariants.{Cache, Key as OnKeys, Bad}}, Texts.Texts}, key_commands.specs.Lines.max_key_data}
 use Rattle.key_commands.specs.{Faults.fault_code, Files.{FileSays, IsWithList}, KeyParts.file_in, Passphrases.{OpensBy, ask_nonce, ask_key}, Requests.key_request_of, Wrapping.WrappedSays, declared.request.KeyRequest.KeyRequest}
-use Rattle.{key_commands.specs.declared.wrapping.TheConstants.MAX_LIST_LEN, agent_origin.specs.declared.kept.Kept.Kept}
+use Rattle.{key_commands.specs.declared.wrapping.TheConstants.MAX_LIST_LEN, agent_origin.specs.declared.session_state.SessionState.SessionState}
 use Rattle.agent_ask.specs.Plans as plans
 use Rattle.agent_ask.specs.TrustCalls as trust_call
 use Rattle.agent_ask.specs.declared.ask.Asked.TheVariants as asked
@@ -24,8 +24,8 @@ use Rattle.agent_ports.specs.declared.keys.KeyRead.TheVariants as key_read
 use Rattle.agent_ports.specs.declared.trust.TrustDone.TheVariants as trust_done
 use Rattle.agent_ports.specs.declared.trust.TrustRead.TheVariants as trust_read
 use Rattle.session_client.specs.declared.code.Code.TheVariants as code
-use Rattle.session_client.specs.declared.unheard.Gone.TheVariants as gone
-use Rattle.session_client.specs.declared.unheard.Unheard.TheVariants as unheard
+use Rattle.session_client.specs.declared.client_error.Gone.TheVariants as gone
+use Rattle.session_client.specs.declared.client_error.ClientError.TheVariants as client_error
 use Rattle.session_options.specs.declared.options.OptionAnswer.TheVariants as option_answer
 use Rattle.session_options.specs.declared.options.PinMode.TheVariants as mode
 use Rattle.key_commands.specs.declared.request.KeyRequest.TheVariants as on
@@ -72,18 +72,18 @@ FailsAtTrust (trust_call.Replaced file trust_done.Failed) = ⊤
 FailsAtTrust _ = ⊥
 
 -- an event that is a want of memory: a turn that was refused, a test of a passphrase, a call of the keys or of the trust file, or work of the command's own
-abbrev pub WantsMemory : EventWith FurtherEvent → Type 0
+abbrev pub WantsMemory : EventWith PortCall → Type 0
 WantsMemory (CacheTurn taken) = taken.turn ≡ Refused
-WantsMemory (Further NoMemory) = ⊤
-WantsMemory (Further (Prompt OutOfMemory)) = ⊤
-WantsMemory (Further (Keys call)) = WantsMemoryAtKeys call
-WantsMemory (Further (Trust call)) = WantsMemoryAtTrust call
+WantsMemory (Port NoMemory) = ⊤
+WantsMemory (Port (Prompt OutOfMemory)) = ⊤
+WantsMemory (Port (Keys call)) = WantsMemoryAtKeys call
+WantsMemory (Port (Trust call)) = WantsMemoryAtTrust call
 WantsMemory _ = ⊥
 
 -- a call of the keys that failed, or a draw
-abbrev pub FailsAtKeysOrDice : EventWith FurtherEvent → Type 0
-FailsAtKeysOrDice (Further (Keys call)) = FailsAtKeys call
-FailsAtKeysOrDice (Further (Dice (NotDrawn count))) = ⊤
+abbrev pub FailsAtKeysOrDice : EventWith PortCall → Type 0
+FailsAtKeysOrDice (Port (Keys call)) = FailsAtKeys call
+FailsAtKeysOrDice (Port (Dice (NotDrawn count))) = ⊤
 FailsAtKeysOrDice _ = ⊥
 
 -- what the prompter answered to a question: the user cancelled it, didn't answer in time, or didn't agree; or the child broke the protocol
@@ -157,20 +157,20 @@ pub data Judges (request : Request) (grip : Grip) : Type 0 where
   tells : on_keys request ≡ Some (on.KeyInfo grip) → Judges request grip
   unlocks : Unlocks request grip → Judges request grip
 
-module _ (events : List (EventWith FurtherEvent)) where
+module _ (events : List (EventWith PortCall)) where
   -- ---- what happened in an exchange with these events
 
   -- some event is so
-  pub data HasOne (Is : EventWith FurtherEvent → Type 0) : Type 0 where
-    one : (event : EventWith FurtherEvent) → Is event → Has event events → HasOne Is
+  pub data HasOne (Is : EventWith PortCall → Type 0) : Type 0 where
+    one : (event : EventWith PortCall) → Is event → Has event events → HasOne Is
 
   -- a call of the prompter was answered so
   pub data HasCall (is : Call → Bool) : Type 0 where
-    called : (call : Call) → is call ≡ true → Has (Further (Prompt (Called call))) events → HasCall is
+    called : (call : Call) → is call ≡ true → Has (Port (Prompt (Called call))) events → HasCall is
 
   -- a call of the trust file is so
   pub data HasTrustCall (Is : TrustCall → Type 0) : Type 0 where
-    called_trust : (call : TrustCall) → Is call → Has (Further (Trust call)) events → HasTrustCall Is
+    called_trust : (call : TrustCall) → Is call → Has (Port (Trust call)) events → HasTrustCall Is
 
   -- a turn came out so, but one that gives a ticket back
   pub data HasTurn (turn : Turn) : Type 0 where
@@ -191,7 +191,7 @@ module _ (events : List (EventWith FurtherEvent)) where
   ByNonce IsSo (Some nonce) = IsSo (ask_nonce nonce)
 
   -- the client said this in place of what an inquiry wanted
-  pub data IsSaid (why : Unheard) : Type 0 where
+  pub data IsSaid (why : ClientError) : Type 0 where
     said : {word params : List ℕ} {limit : ℕ} {inquired : Inquired} → said_by session_lines inquired ≡ Err why → Has (Inquiry word params limit inquired) events → IsSaid why
 
   -- the client gave these bytes, by an inquiry with this word
@@ -200,16 +200,16 @@ module _ (events : List (EventWith FurtherEvent)) where
 
   -- the file of this key was read, and says this
   pub data IsRead (grip : Grip) (says : Result Key KeyFault) : Type 0 where
-    read : {answer : KeyRead} {file : List ℕ} → file_in answer ≡ Some file → FileSays file says → Has (Further (Keys (Read grip answer))) events → IsRead grip says
+    read : {answer : KeyRead} {file : List ℕ} → file_in answer ≡ Some file → FileSays file says → Has (Port (Keys (Read grip answer))) events → IsRead grip says
 
   -- the file of this key was read, and has these bytes
   pub data IsReadOf (grip : Grip) (file : List ℕ) : Type 0 where
-    read_of : {answer : KeyRead} → file_in answer ≡ Some file → Has (Further (Keys (Read grip answer))) events → IsReadOf grip file
+    read_of : {answer : KeyRead} → file_in answer ≡ Some file → Has (Port (Keys (Read grip answer))) events → IsReadOf grip file
 
   -- so many random bytes were drawn
   pub record IsDrawn (count : ℕ) (bytes : List ℕ) : Type 0 where
     pub long : length bytes ≡ count
-    pub has : Has (Further (Dice (Drew bytes))) events
+    pub has : Has (Port (Dice (Drew bytes))) events
 
   -- the list of a clear key once it is protected by this passphrase: with a salt of 8 bytes that were drawn, and an initialization vector of 12
   pub data IsListOf (key : Key) (pass : List ℕ) (count : ℕ) (list : List ℕ) : Type 0 where
@@ -224,7 +224,7 @@ module _ (events : List (EventWith FurtherEvent)) where
   pub record HasPrompt (plan : AskPlan) (Rule : List ℕ → Type 0) (answer : Asked) : Type 0 where
     pub spec : PromptSpec
     pub prompt : List PromptEvent
-    pub shown : List (EventWith FurtherEvent)
+    pub shown : List (EventWith PortCall)
     pub asks : AsksPin spec plan Rule prompt answer
     pub in_session : AnyInSession session_lines prompt shown
     pub stands : StandIn shown events
@@ -263,14 +263,14 @@ module _ (events : List (EventWith FurtherEvent)) where
 
   -- a read, or a removal, said that no key of this grip is there
   abbrev pub IsUnread : Grip → Type 0
-  IsUnread grip = Has (Further (Keys (Read grip key_read.Absent))) events
+  IsUnread grip = Has (Port (Keys (Read grip key_read.Absent))) events
 
   abbrev pub IsUnremoved : Grip → Type 0
-  IsUnremoved grip = Has (Further (Keys (Removed grip key_done.Absent))) events
+  IsUnremoved grip = Has (Port (Keys (Removed grip key_done.Absent))) events
 
   -- these were read one after another, and each read said so
   abbrev pub AreUnread : List Grip → Type 0
-  AreUnread grips = StandIn (map (λ grip. Further (Keys (Read grip key_read.Absent))) grips) events
+  AreUnread grips = StandIn (map (λ grip. Port (Keys (Read grip key_read.Absent))) grips) events
 
   -- of the keys that a request names none is there
   abbrev pub LacksKeys : Option KeyRequest → Type 0
@@ -281,7 +281,7 @@ module _ (events : List (EventWith FurtherEvent)) where
   LacksKeys (Some (on.DeleteKey grip force)) = IsUnread grip ⊎ IsUnremoved grip
   LacksKeys _ = ⊥
 
-  module _ (rules : Rules) (kept : Kept) (request : Request) where
+  module _ (rules : Rules) (kept : SessionState) (request : Request) where
     -- ---- the causes of each code
 
     -- OPTION was answered so
@@ -308,7 +308,7 @@ module _ (events : List (EventWith FurtherEvent)) where
     -- the client wants no prompt, and no entry is of use; the client cancelled its inquiry; or the agent ends
     pub data IsCancelled : Type 0 where
       by_mode : kept.options.mode ≡ mode.Cancel → HasNoEntry request → IsCancelled
-      by_client : IsSaid unheard.Cancelled → IsCancelled
+      by_client : IsSaid client_error.Cancelled → IsCancelled
       by_stop : HasTurn Stopping → IsCancelled
 
     -- the client wants no prompt, and no entry is of use; or it wants none for consent
@@ -348,7 +348,7 @@ module _ (events : List (EventWith FurtherEvent)) where
     -- the file of the key that the client sent is there, and isn't to be replaced
     pub data IsThere : Type 0 where
       there : {key : Key} {grip : Grip} {file : _} {nonce : Option (List ℕ)} → on_keys request ≡ Some (on.ImportKey false nonce) → KeyDataSays (Ok key) → grip.0 ≡ grip_of key
-          → Has (Further (Keys (Read grip (key_read.Found file)))) events → IsThere
+          → Has (Port (Keys (Read grip (key_read.Found file)))) events → IsThere
 
     -- an error line with this code and origin has its cause in this exchange
     abbrev pub IsCaused : Code → Origin → Type 0
@@ -371,7 +371,7 @@ module _ (events : List (EventWith FurtherEvent)) where
     IsCaused code.UnknownCommand Agent = IsRefusedBy request code.UnknownCommand
     IsCaused code.UnknownOption Agent = IsOption option_answer.Unknown
     IsCaused code.Parameter Agent = IsMalformed
-    IsCaused code.TooMuch Agent = IsSaid unheard.TooMuch
-    IsCaused code.Unexpected Agent = IsSaid unheard.Unexpected
-    IsCaused code.LineTooLong Agent = IsSaid (unheard.Gone gone.TooLong)
+    IsCaused code.TooMuch Agent = IsSaid client_error.TooMuch
+    IsCaused code.Unexpected Agent = IsSaid client_error.Unexpected
+    IsCaused code.LineTooLong Agent = IsSaid (client_error.Gone gone.TooLong)
     IsCaused _ _ = ⊥

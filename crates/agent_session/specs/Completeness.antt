@@ -1,17 +1,17 @@
 -- Sessions whose requests are all answered. This is the project's own.
 use Rattle.std.specs.{List.AllByRecursion, Prelude.{◌≡◌, ◌⊎◌, ◌++◌, ℕ, Bool, true, List, [], ◌∷◌, codes, Option, Some, None, ⊤, false}}
-use Rattle.{agent_ask.specs.{Events.Call, Further.FurtherEnds, Prompters.{AtPrompter, is_failed}, SessionEvents.{Received, Sent, CacheTurn, cache_turn}}, agent_ports.specs.Counts.Rose, assuan_server.specs.Errors.error_text}
+use Rattle.{agent_ask.specs.{Events.Call, PortCalls.PortEnds, Prompters.{AtPrompter, is_failed}, SessionEvents.{Received, Sent, CacheTurn, cache_turn}}, agent_ports.specs.Counts.Rose, assuan_server.specs.Errors.error_text}
 use Rattle.{assuan_server.specs.{Written.{greeting, failed, ok}, declared.errors.Origin.{Origin, TheVariants.Agent}}, session_client.specs.declared.code.Code.Code, assuan_text.specs.LineEnds.{line_of, has_lf}}
 use Rattle.{cache_policy.specs.{Turns.{Turn, Given, Empty, Done, Stopping}, declared.{grant.Grant.Grant, mark.MarkStep.{MarkStep, TheVariants.{Clear, Flush}}}}, key_commands.specs.Events.Event}
 use Rattle.{session_options.specs.declared.rules.Rules.Rules, agent_commands.specs.{Answers.IsPassphrase, Events.EventWith as SessionEvent, Exchanges.{put, is_quiet}, Passphrases.ask, Requests.request_of}}
 use Rattle.agent_commands.specs.declared.{request.{CacheCommand.TheVariants.{GetPassphrase, PresetPassphrase, ClearPassphrase, ReloadAgent}, Request.{Request, TheVariants.Cache}}, went.SessionEnd.SessionEnd}
 use Rattle.{agent_commands.specs.declared.went.{SessionEnd.TheVariants.{Bye, Killed, Ended, TooLong, Spent, ReadFault, WriteFault}, Went.{Went, TheVariants.{On, End}}}, agent_origin.specs.{DoorSessions.DoorExchange, Doors.allowed}}
-use Rattle.agent_origin.specs.{FurtherStates.FurtherWorld, SessionExchanges.{SessionExchange, kept_at_start}, Sessions.Surroundings, TrustRequests.trust_request_of, declared.{door.Door.Door, kept.Kept.Kept}}
+use Rattle.agent_origin.specs.{PortStates.PortWorld, SessionExchanges.{SessionExchange, kept_at_start}, Sessions.Surroundings, TrustRequests.trust_request_of, declared.{door.Door.Door, session_state.SessionState.SessionState}}
 use Rattle.agent_session.specs.{DoorCauses.{IsMarkUnprompted, IsNotTrusted, IsCausedAtDoor}, Causes.{Has, IsCaused, HasOne, HasCall, HasTrustCall, WantsMemory, FailsAtKeysOrDice, FailsAtTrust, is_broken, IsUnprompted, IsSaid}}
 use Rattle.assuan_line.specs.declared.reader.Took.TheVariants as took
 use Rattle.session_client.specs.declared.code.Code.TheVariants as code
-use Rattle.session_client.specs.declared.unheard.Gone.TheVariants as gone
-use Rattle.session_client.specs.declared.unheard.Unheard.TheVariants as unheard
+use Rattle.session_client.specs.declared.client_error.Gone.TheVariants as gone
+use Rattle.session_client.specs.declared.client_error.ClientError.TheVariants as client_error
 
 -- ---- answers
 
@@ -66,9 +66,9 @@ IsAnsweredBy On events = AnswersAtLast events
 IsAnsweredBy (End Bye) events = AnswersAtLast events
 IsAnsweredBy (End Killed) events = AnswersAtLast events
 IsAnsweredBy (End TooLong) events = AnswersAtLast events
-IsAnsweredBy (End Ended) events = AllByRecursion AnswersNothing events × IsSaid events (unheard.Gone gone.Ended)
-IsAnsweredBy (End Spent) events = AllByRecursion AnswersNothing events × IsSaid events (unheard.Gone gone.Spent)
-IsAnsweredBy (End ReadFault) events = AllByRecursion AnswersNothing events × IsSaid events (unheard.Gone gone.ReadFault)
+IsAnsweredBy (End Ended) events = AllByRecursion AnswersNothing events × IsSaid events (client_error.Gone gone.Ended)
+IsAnsweredBy (End Spent) events = AllByRecursion AnswersNothing events × IsSaid events (client_error.Gone gone.Spent)
+IsAnsweredBy (End ReadFault) events = AllByRecursion AnswersNothing events × IsSaid events (client_error.Gone gone.ReadFault)
 IsAnsweredBy (End WriteFault) events = AllByRecursion AnswersNothing events
 
 -- an error line was written
@@ -77,19 +77,19 @@ HasError why origin events = Has (Sent (line_of (error_text why origin))) events
 
 -- what is done for a line, as what is kept before and after it, its events, and how the session goes on show it; and when an error line has its cause
 abbrev pub Exchanges : Type 1
-Exchanges = Kept → List ℕ → List Event → Kept → Went → Type 0
+Exchanges = SessionState → List ℕ → List Event → SessionState → Went → Type 0
 
 abbrev pub Causes : Type 1
-Causes = Kept → List ℕ → List Event → Code → Origin → Type 0
+Causes = SessionState → List ℕ → List Event → Code → Origin → Type 0
 
 -- The exchange of a line, in which the request has its one answer, and each error line its cause.
-pub record CausedExchange (relation : Exchanges) (cause : Causes) (before : Kept) (line : List ℕ) (events : List Event) (after : Kept) (went : Went) : Type 0 where
+pub record CausedExchange (relation : Exchanges) (cause : Causes) (before : SessionState) (line : List ℕ) (events : List Event) (after : SessionState) (went : Went) : Type 0 where
   pub exchange : relation before line events after went
   pub answered : IsAnsweredBy went events
   pub caused : (why : Code) (origin : Origin) → HasError why origin events → cause before line events why origin
 
 -- no error line has a cause in this exchange
-abbrev pub IsUncaused : Causes → Kept → List ℕ → List Event → Type 0
+abbrev pub IsUncaused : Causes → SessionState → List ℕ → List Event → Type 0
 IsUncaused cause before line events = (why : Code) (origin : Origin) → ¬ cause before line events why origin
 
 -- the request is answered by a text that ends in an OK line
@@ -108,7 +108,7 @@ IsAnsweredOk (End ReadFault) events = ⊤
 IsAnsweredOk (End WriteFault) events = ⊤
 
 -- A failure among these events has raised its count, between these ends: that of the keys or of the dice, the prompter's, or the trust file's.
-pub record FailuresRise {P : Type 0} (at : P → AtPrompter) (events : List Event) (before after : FurtherEnds P) : Type 0 where
+pub record FailuresRise {P : Type 0} (at : P → AtPrompter) (events : List Event) (before after : PortEnds P) : Type 0 where
   pub keys_or_dice : HasOne events FailsAtKeysOrDice → Rose before.keys.faults after.keys.faults ⊎ Rose before.dice.faults after.dice.faults
   pub prompter : HasCall events is_failed → Rose (at before.prompter).faults (at after.prompter).faults
   pub trust : HasTrustCall events FailsAtTrust → Rose before.trust.faults after.trust.faults
@@ -145,7 +145,7 @@ abbrev pub Remembers : Event → Type 0
 Remembers event = ¬ WantsMemory event
 
 -- such an exchange, in which nothing failed and no memory was wanted
-pub record FaultlessExchange (relation : Exchanges) (unprompted : Kept → List ℕ → List Event → Type 0) (before : Kept) (line : List ℕ) (events : List Event) (after : Kept) (went : Went) : Type 0 where
+pub record FaultlessExchange (relation : Exchanges) (unprompted : SessionState → List ℕ → List Event → Type 0) (before : SessionState) (line : List ℕ) (events : List Event) (after : SessionState) (went : Went) : Type 0 where
   pub caused : relation before line events after went
   -- so no error is for want of memory, or without a code of its own
   pub remembers : ¬ HasError code.NoMemory Agent events
@@ -178,7 +178,7 @@ IsFaultless _ = ⊤
 
 -- no count of faults has risen: of neither side of the link, nor of the prompter, the keys, the dice and the trust file
 pub record NoCountRose {D P : Type 0} (turned : D → MarkStep → Turn → D → Type 0) (prompted : P → Call → P → Type 0) (at : P → AtPrompter)
-    (before after : Surroundings (FurtherWorld turned prompted)) : Type 0 where
+    (before after : Surroundings (PortWorld turned prompted)) : Type 0 where
   pub input : ¬ Rose before.input.faults after.input.faults
   pub output : ¬ Rose before.output.faults after.output.faults
   pub prompter : ¬ Rose (at before.ends.prompter).faults (at after.ends.prompter).faults
@@ -206,12 +206,12 @@ module _ (rules : Rules) where
 -- ---- the sessions of `serve_door`
 
 -- the client wants no prompt
-pub data WantsNoPrompt (rules : Rules) (before : Kept) (line : List ℕ) (events : List Event) : Type 0 where
+pub data WantsNoPrompt (rules : Rules) (before : SessionState) (line : List ℕ) (events : List Event) : Type 0 where
   any : IsUnprompted events rules before (request_of line) → WantsNoPrompt rules before line events
   on_trust : IsMarkUnprompted events (trust_request_of line) before.options → WantsNoPrompt rules before line events
 
 -- The exchange of a line, in which the request has its one answer, and each error line its cause.
-pub record CausedAtDoor (door : Door) (rules : Rules) (before : Kept) (line : List ℕ) (events : List Event) (after : Kept) (went : Went) : Type 0 where
+pub record CausedAtDoor (door : Door) (rules : Rules) (before : SessionState) (line : List ℕ) (events : List Event) (after : SessionState) (went : Went) : Type 0 where
   pub by_cause : CausedExchange (DoorExchange door rules) (IsCausedAtDoor door rules) before line events after went
   -- and Not trusted is answered wherever a read of the trust file has that cause
   pub not_trusted : IsNotTrusted events (trust_request_of line) → HasError code.NotTrusted Agent events

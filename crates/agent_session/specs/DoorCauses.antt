@@ -4,12 +4,12 @@ use Rattle.std.specs.Prelude.{◌≡◌, ◌<◌, ◌⊎◌, ℕ, Bool, true, fa
 use Rattle.{agent_ask.specs.{Prompters.is_failed, TrustCalls.Read}, agent_commands.specs.Requests.request_of, agent_ports.specs.declared.{grip.Grip.Grip, trust.TrustRead.TrustRead}, arrayvec.specs.ArrayVec.ArrayVec}
 use Rattle.{session_client.specs.declared.code.Code.Code, assuan_server.specs.declared.errors.Origin.{Origin, TheVariants.{Agent, Pinentry}}, cache_policy.specs.Turns.{Stopping, Late}, key_commands.specs.Events.Event}
 use Rattle.{session_options.specs.{OptionValues.OptionValues, declared.rules.Rules.Rules}, trust_list.specs.{Trust.{trust, with_entry}, declared.TheConstants.MAX_TRUST_FILE_LEN}, agent_origin.specs.{Doors.allowed, TrustExchanges.flag_of}}
-use Rattle.agent_origin.specs.{TrustParts.{file_in, trust_called}, TrustRequests.{trust_request_of, trust_command}, declared.{door.Door.Door, kept.Kept.Kept, trust.request.{TrustPurpose.TrustPurpose, TrustRequest.TrustRequest}}}
+use Rattle.agent_origin.specs.{TrustParts.{file_in, trust_called}, TrustRequests.{trust_request_of, trust_command}, declared.{door.Door.Door, session_state.SessionState.SessionState, trust.request.{TrustPurpose.TrustPurpose, TrustRequest.TrustRequest}}}
 use Rattle.{agent_origin.specs.declared.trust.request.TrustRequest.TheVariants.{IsTrusted, MarkTrusted, Bad}, command_table.specs.{Commands.command_in, declared.commands.TrustCommandName.TrustCommandName}}
 use Rattle.agent_session.specs.Causes.{Has, HasOne, HasCall, HasTrustCall, HasTurn, IsSaid, WantsMemory, FailsAtTrust, IsCaused, is_broken, is_cancelled, is_disagreed, is_timed_out}
 use Rattle.session_client.specs.declared.code.Code.TheVariants as code
-use Rattle.session_client.specs.declared.unheard.Gone.TheVariants as gone
-use Rattle.session_client.specs.declared.unheard.Unheard.TheVariants as unheard
+use Rattle.session_client.specs.declared.client_error.Gone.TheVariants as gone
+use Rattle.session_client.specs.declared.client_error.ClientError.TheVariants as client_error
 use Rattle.session_options.specs.declared.options.PinMode.TheVariants as mode
 
 module _ (events : List Event) where
@@ -49,7 +49,7 @@ module _ (events : List Event) where
 
     -- the client sent too much by an inquiry; or MARKTRUSTED's file says nothing once the user consented, and is too long with one entry more
     pub data IsTooMuch : Type 0 where
-      inquired : IsSaid events unheard.TooMuch → IsTooMuch
+      inquired : IsSaid events client_error.TooMuch → IsTooMuch
       too_long : {fingerprint : Grip} {purpose : TrustPurpose} {name : ArrayVec ℕ} {file : List ℕ} → request ≡ MarkTrusted fingerprint purpose name → IsReadAgain file events
           → trust file fingerprint.0 ≡ None → MAX_TRUST_FILE_LEN < length (with_entry file fingerprint.0 (flag_of purpose)) → IsTooMuch
 
@@ -57,7 +57,7 @@ module _ (events : List Event) where
       -- the client wants no prompt, and the file that was read says nothing; the client cancelled an inquiry; or the agent ends
       pub data IsMarkCancelled : Type 0 where
         by_mode : {fingerprint : Grip} {purpose : TrustPurpose} {file : List ℕ} → IsMarked fingerprint purpose file None → options.mode ≡ mode.Cancel → IsMarkCancelled
-        by_client : IsSaid events unheard.Cancelled → IsMarkCancelled
+        by_client : IsSaid events client_error.Cancelled → IsMarkCancelled
         by_stop : HasTurn events Stopping → IsMarkCancelled
 
       -- the client wants no prompt, and the file that was read says nothing
@@ -78,18 +78,18 @@ module _ (events : List Event) where
       IsTrustCaused code.NoPinentry Agent = IsMarkUnprompted ⊎ (HasCall events is_failed ⊎ HasCall events is_broken)
       IsTrustCaused code.Parameter Agent = request ≡ Bad code.Parameter
       IsTrustCaused code.TooMuch Agent = IsTooMuch
-      IsTrustCaused code.Unexpected Agent = IsSaid events unheard.Unexpected
-      IsTrustCaused code.LineTooLong Agent = IsSaid events (unheard.Gone gone.TooLong)
+      IsTrustCaused code.Unexpected Agent = IsSaid events client_error.Unexpected
+      IsTrustCaused code.LineTooLong Agent = IsSaid events (client_error.Gone gone.TooLong)
       IsTrustCaused _ _ = ⊥
 
-module _ (rules : Rules) (before : Kept) (line : List ℕ) (events : List Event) where
+module _ (rules : Rules) (before : SessionState) (line : List ℕ) (events : List Event) where
   -- the same of a line that is allowed: a request on the trust list, where its command is one, or one of any session
   abbrev pub IsCausedBy : Option TrustCommandName → Code → Origin → Type 0
   IsCausedBy (Some name) why origin = IsTrustCaused events (trust_request_of line) before.options why origin
   IsCausedBy None why origin = IsCaused events rules before (request_of line) why origin
 
 -- an error line with this code and origin has its cause in this exchange of a line
-pub data IsCausedAtDoor (door : Door) (rules : Rules) (before : Kept) (line : List ℕ) (events : List Event) : Code → Origin → Type 0 where
+pub data IsCausedAtDoor (door : Door) (rules : Rules) (before : SessionState) (line : List ℕ) (events : List Event) : Code → Origin → Type 0 where
   forbidden : allowed door line ≡ false → IsCausedAtDoor door rules before line events code.Forbidden Agent
   is_allowed : {why : Code} {origin : Origin} → allowed door line ≡ true → IsCausedBy rules before line events (trust_command (command_in line)) why origin
       → IsCausedAtDoor door rules before line events why origin

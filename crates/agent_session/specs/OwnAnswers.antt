@@ -2,11 +2,11 @@
 -- asked for: what the cache gave to its own question, what its own prompt accepted, or what its own client gave. No line of a request on keys has one. This is the
 -- project's own.
 use Rattle.std.specs.Prelude.{◌≡◌, ℕ, Bool, List, ◌∷◌, ◌++◌, drop, codes, Option, Some}
-use Rattle.{agent_ask.specs.{Further.FurtherEvent, SessionEvents.{Sent, cache_turn}}, assuan_server.specs.{Errors.error_text, declared.errors.Origin.Origin, Written.{ok, IsDataAnswer}}, session_client.specs.declared.code.Code.Code}
+use Rattle.{agent_ask.specs.{PortCalls.PortCall, SessionEvents.{Sent, cache_turn}}, assuan_server.specs.{Errors.error_text, declared.errors.Origin.Origin, Written.{ok, IsDataAnswer}}, session_client.specs.declared.code.Code.Code}
 use Rattle.{assuan_text.specs.LineEnds.line_of, cache_policy.specs.{Turns.Given, declared.{grant.Grant.Grant, secret.TheConstants.MAX_SECRET_LEN}}, agent_commands.specs.{Answers.{closing, help, IsInfo, IsPassphrase}, Events.EventWith}}
 use Rattle.{agent_commands.specs.{Passphrases.{ask, ask_or_open}, Requests.{GetFields, get_passphrase}, declared.request.{Info.Info, Request.{Request, TheVariants.Cache}}}, agent_ports.specs.declared.grip.Grip.Grip}
 use Rattle.{assuan_escape.specs.Escapes.hex_text, sexp_keys.specs.Key.Key, key_commands.specs.{Exchanges.wrap_key, Lines.{info_line, nonce_line, IsNotice}, Wrapping.wrapped_key, declared.request.Direction.Direction}}
-use Rattle.{session_options.specs.{OptionValues.OptionValues, declared.rules.Rules.Rules}, agent_origin.specs.declared.kept.Kept.Kept}
+use Rattle.{session_options.specs.{OptionValues.OptionValues, declared.rules.Rules.Rules}, agent_origin.specs.declared.session_state.SessionState.SessionState}
 use Rattle.agent_session.specs.{Causes.{Has, IsSent, IsDrawn, OpensRead, on_keys}, OwnPassphrases.IsAccepted}
 use Rattle.key_commands.specs.declared.request.KeyRequest.TheVariants as on
 
@@ -19,7 +19,7 @@ pub data IsPublic (rules : Rules) : List ℕ → Type 0 where
   tells : (what : Info) {text : List ℕ} → IsInfo rules what text → IsPublic rules text
   notice : {text : List ℕ} → IsNotice text → IsPublic rules text
 
-module _ (rules : Rules) (options : OptionValues) (request : Request) (before : List (EventWith FurtherEvent)) where
+module _ (rules : Rules) (options : OptionValues) (request : Request) (before : List (EventWith PortCall)) where
   -- the passphrase that a request with these fields asked for
   pub data IsAnswered (fields : GetFields) : List ℕ → Type 0 where
     -- the cache gave it to its question, for itself alone or before a prompt
@@ -33,13 +33,13 @@ module _ (rules : Rules) (options : OptionValues) (request : Request) (before : 
     passphrase : {pass text : List ℕ} (fields : GetFields) → request ≡ Cache (get_passphrase fields) → IsAnswered fields pass → IsPassphrase fields.plain pass text → SaysOwn text
 
 -- so of each line that is written for a request
-abbrev pub SaysOwnAlone : Rules → OptionValues → Request → List (EventWith FurtherEvent) → Type 0
+abbrev pub SaysOwnAlone : Rules → OptionValues → Request → List (EventWith PortCall) → Type 0
 SaysOwnAlone rules options request events =
-    (before later : List (EventWith FurtherEvent)) (text : List ℕ) → events ≡ before ++ Sent text ∷ later → SaysOwn rules options request before text
+    (before later : List (EventWith PortCall)) (text : List ℕ) → events ≡ before ++ Sent text ∷ later → SaysOwn rules options request before text
 
 -- ---- requests on keys, none of whose lines has a passphrase in it
 
-module _ (rules : Rules) (kept : Kept) (request : Request) (before : List (EventWith FurtherEvent)) where
+module _ (rules : Rules) (kept : SessionState) (request : Request) (before : List (EventWith PortCall)) where
   -- the wrapping key of a direction: the one that the session keeps, or else one that the request drew
   pub data IsWrapKey (way : Direction) (key : List ℕ) : Type 0 where
     had : wrap_key way kept.wraps ≡ Some key → IsWrapKey way key
@@ -60,6 +60,6 @@ module _ (rules : Rules) (kept : Kept) (request : Request) (before : List (Event
         → OpensRead before rules kept.options request grip key → IsDataAnswer (wrapped_key by key) text → TellsOfKeys text
 
 -- so of each line that is written for it
-abbrev pub TellsOfKeysAlone : Rules → Kept → Request → List (EventWith FurtherEvent) → Type 0
+abbrev pub TellsOfKeysAlone : Rules → SessionState → Request → List (EventWith PortCall) → Type 0
 TellsOfKeysAlone rules kept request events =
-    (before later : List (EventWith FurtherEvent)) (text : List ℕ) → events ≡ before ++ Sent text ∷ later → TellsOfKeys rules kept request before text
+    (before later : List (EventWith PortCall)) (text : List ℕ) → events ≡ before ++ Sent text ∷ later → TellsOfKeys rules kept request before text

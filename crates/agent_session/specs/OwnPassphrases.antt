@@ -1,12 +1,12 @@
 -- Whose a passphrase is: what a request stores comes from what was done for this request alone, before it was stored. A prompt's answer enters the
 -- cache by the return of the prompt's own ticket, or by an IMPORT_KEY under the nonce that it drew, and by no other turn. This is the project's own.
 use Rattle.std.specs.{List.AllByRecursion, Prelude.{◌≡◌, ℕ, true, false, List, [], ◌∷◌, ◌++◌, codes, Option, Some, None, Ok, ⊤}}
-use Rattle.{agent_ask.specs.{Further.FurtherEvent, SessionEvents.{Received, Sent, cache_turn}, declared.spec.AskPlan.AskPlan}, agent_ports.specs.declared.grip.Grip.Grip, assuan_line.specs.declared.reader.Took.TheVariants.Line}
+use Rattle.{agent_ask.specs.{PortCalls.PortCall, SessionEvents.{Received, Sent, cache_turn}, declared.spec.AskPlan.AskPlan}, agent_ports.specs.declared.grip.Grip.Grip, assuan_line.specs.declared.reader.Took.TheVariants.Line}
 use Rattle.{assuan_server.specs.Written.greeting, assuan_text.specs.LineEnds.line_of, cache_policy.specs.{Turns.{Turn, Given, Open}, declared.{grant.Grant.Grant, life.Life.Life, mark.MarkStep.{MarkStep, TheVariants.{Seat, Put, Close}}}}}
 use Rattle.{cache_policy.specs.declared.{mark.Way.TheVariants.Prompt, mode.Mode.{Mode, TheVariants.{Any, Normal, Nonce}}, secret.TheConstants.MAX_SECRET_LEN}, secret_file.specs.Opens.LockedKey}
 use Rattle.{session_options.specs.{OptionValues.OptionValues, declared.rules.Rules.Rules}, sexp_keys.specs.{Key.Key, Lists.grip_of}, agent_commands.specs.{Events.EventWith, Passphrases.ask_or_open}}
 use Rattle.agent_commands.specs.{Requests.{GetFields, get_passphrase, request_of}, declared.{request.{CacheCommand.TheVariants.PresetPassphrase, Request.{Request, TheVariants.Cache}}, went.Went.TheVariants.On}}
-use Rattle.{key_commands.specs.{Lines.grip_text, Passphrases.{OpensBy, ask_nonce, ask_key, put_key, seat_for}}, agent_origin.specs.declared.kept.Kept.Kept}
+use Rattle.{key_commands.specs.{Lines.grip_text, Passphrases.{OpensBy, ask_nonce, ask_key, put_key, seat_for}}, agent_origin.specs.declared.session_state.SessionState.SessionState}
 use Rattle.agent_session.specs.{Causes.{Has, HasPrompt, KeyDataSays, on_keys, old_plan, AsksAny, Unlocks, IsSent, IsReadLocked}, Completeness.Exchanges, Refusals.{IsNonceOf, MayStore}}
 use Rattle.agent_ask.specs.declared.ask.Asked.TheVariants as asked
 use Rattle.key_commands.specs.declared.request.KeyRequest.TheVariants as on
@@ -31,13 +31,13 @@ pub data GivesBy (request : Request) : List ℕ → Type 0 where
   for_import : {force : _} {nonce : Option (List ℕ)} → on_keys request ≡ Some (on.ImportKey force nonce) → GivesBy request (codes "NEW_PASSPHRASE")
 
 -- a prompt of the request's accepted this passphrase: one at which every passphrase is right, or one that opens the key whose file was read
-pub data IsAccepted (rules : Rules) (options : OptionValues) (request : Request) (before : List (EventWith FurtherEvent)) (pin : List ℕ) : Type 0 where
+pub data IsAccepted (rules : Rules) (options : OptionValues) (request : Request) (before : List (EventWith PortCall)) (pin : List ℕ) : Type 0 where
   any : {plan : AskPlan} → AsksAny rules options request plan → HasPrompt before plan (λ pin. ⊤) (asked.Pin pin) → IsAccepted rules options request before pin
   opening : {grip : Grip} {locked : LockedKey} → KeepsOld request grip → IsReadLocked before grip locked → HasPrompt before (old_plan rules options) (OpensBy locked) (asked.Pin pin)
       → IsAccepted rules options request before pin
 
 -- `before` is what was done for it before
-module _ (rules : Rules) (kept : Kept) (request : Request) (before : List (EventWith FurtherEvent)) where
+module _ (rules : Rules) (kept : SessionState) (request : Request) (before : List (EventWith PortCall)) where
   -- the key of this grip is the request's: it names it, or it is the key that the client sent
   pub data IsAbout (grip : Grip) : Type 0 where
     named : Unlocks request grip → IsAbout grip
@@ -91,33 +91,33 @@ pub data HandsIn : MarkStep → Type 0 where
   keeps : {ticket : ℕ} {pass : List ℕ} → HandsIn (Close ticket (Some pass))
 
 -- In an exchange each passphrase that is handed to the cache is the request's own.
-abbrev pub StoresOwnAlone : Rules → Kept → Request → List (EventWith FurtherEvent) → Type 0
+abbrev pub StoresOwnAlone : Rules → SessionState → Request → List (EventWith PortCall) → Type 0
 StoresOwnAlone rules kept request events =
-    (before later : List (EventWith FurtherEvent)) (step : MarkStep) (turn : Turn) → events ≡ before ++ cache_turn step turn ∷ later → HandsIn step → StoresOwn rules kept request before step
+    (before later : List (EventWith PortCall)) (step : MarkStep) (turn : Turn) → events ≡ before ++ cache_turn step turn ∷ later → HandsIn step → StoresOwn rules kept request before step
 
 -- no line is read by it
-abbrev pub IsUnreceived : EventWith FurtherEvent → Type 0
+abbrev pub IsUnreceived : EventWith PortCall → Type 0
 IsUnreceived (Received took) = ⊥
 IsUnreceived _ = ⊤
 
 module _ (rules : Rules) (exchange : Exchanges) where
   -- lines that were answered, one after another, and what is kept behind them
-  pub data Served : Kept → List (EventWith FurtherEvent) → Kept → Type 0 where
-    none : {kept : Kept} → Served kept [] kept
-    one_more : {before mid after : Kept} {events more : List (EventWith FurtherEvent)} (line : List ℕ) → exchange before line events mid On → Served mid more after
+  pub data Served : SessionState → List (EventWith PortCall) → SessionState → Type 0 where
+    none : {kept : SessionState} → Served kept [] kept
+    one_more : {before mid after : SessionState} {events more : List (EventWith PortCall)} (line : List ℕ) → exchange before line events mid On → Served mid more after
         → Served before (Received (Line line) ∷ (events ++ more)) after
 
   -- The same within a session: it is of the last line that was read before, with what was kept then, and of what was done for that line alone.
-  pub record StoresOwnIn (start : Kept) (before : List (EventWith FurtherEvent)) (step : MarkStep) : Type 0 where
-    pub front : List (EventWith FurtherEvent)
-    pub kept : Kept
+  pub record StoresOwnIn (start : SessionState) (before : List (EventWith PortCall)) (step : MarkStep) : Type 0 where
+    pub front : List (EventWith PortCall)
+    pub kept : SessionState
     pub served : Served start front kept
     pub line : List ℕ
-    pub own : List (EventWith FurtherEvent)
+    pub own : List (EventWith PortCall)
     pub before_is : before ≡ Sent (line_of greeting) ∷ (front ++ Received (Line line) ∷ own)
     pub alone : AllByRecursion IsUnreceived own
     pub stores : StoresOwn rules kept (request_of line) own step
 
-  abbrev pub StoresOwnThroughout : Kept → List (EventWith FurtherEvent) → Type 0
+  abbrev pub StoresOwnThroughout : SessionState → List (EventWith PortCall) → Type 0
   StoresOwnThroughout start events =
-      (before later : List (EventWith FurtherEvent)) (step : MarkStep) (turn : Turn) → events ≡ before ++ cache_turn step turn ∷ later → HandsIn step → StoresOwnIn start before step
+      (before later : List (EventWith PortCall)) (step : MarkStep) (turn : Turn) → events ≡ before ++ cache_turn step turn ∷ later → HandsIn step → StoresOwnIn start before step

@@ -1,8 +1,8 @@
 -- What stands after a refusal: how each request is carried out, as far as what it stores, clears, replaces and gives back goes, and what an event that refuses
 -- it leaves to be done. This is the project's own.
 use Rattle.std.specs.{List.AllByRecursion, Prelude.{◌≡◌, ◌≢◌, ◌⊎◌, ◌++◌, ℕ, Bool, true, false, List, [], ◌∷◌, drop, Option, Some, None, ⊤}}
-use Rattle.agent_ask.specs.{Events.{Call, GetPin, Confirm, Start, Shut, Called, OutOfMemory}, Further.{FurtherEvent, KeyCall, Read, Listed, Replaced, Removed, NotDrawn, Prompt, Keys, Dice, NoMemory, Trust}}
-use Rattle.{agent_ask.specs.{SessionEvents.{Received, Sent, CacheTurn, Further, cache_turn}, TrustCalls.TrustCall, Interrupts.Interrupts}, agent_ports.specs.declared.{grip.Grip.Grip, keys.{KeyDone.KeyDone, KeyRead.KeyRead}}}
+use Rattle.agent_ask.specs.{Events.{Call, GetPin, Confirm, Start, Shut, Called, OutOfMemory}, PortCalls.{PortCall, KeyCall, Read, Listed, Replaced, Removed, NotDrawn, Prompt, Keys, Dice, NoMemory, Trust}}
+use Rattle.{agent_ask.specs.{SessionEvents.{Received, Sent, CacheTurn, Port, cache_turn}, TrustCalls.TrustCall, Interrupts.Interrupts}, agent_ports.specs.declared.{grip.Grip.Grip, keys.{KeyDone.KeyDone, KeyRead.KeyRead}}}
 use Rattle.{assuan_escape.specs.Escapes.hex_text, assuan_server.specs.Written.failed, session_client.specs.declared.code.Code.Code, cache_policy.specs.{Desks.{AtDesk, is_of}, Histories.History, Runs.joined}}
 use Rattle.cache_policy.specs.{Turns.{Turn, Done, Refused, closes, opens}, declared.{life.Life.Life, mark.{Mark.Mark, MarkStep.{MarkStep, TheVariants.{Put, Clear, Flush, Stop, Close}}}, mode.Mode.Mode}}
 use Rattle.{cache_policy.specs.declared.mode.Mode.TheVariants.{Any, User, Normal, Nonce}, agent_commands.specs.{Events.EventWith, Exchanges.is_quiet, Requests.{GetFields, get_passphrase}}}
@@ -66,20 +66,20 @@ trust_refuses (trust_call.Replaced file trust_done.NoMemory) = Some code.NoMemor
 trust_refuses _ = None
 
 -- the code by which an event refuses its request, where it does: for want of memory, or since the prompter, the keys, the dice or the trust file failed
-abbrev pub refuses : EventWith FurtherEvent → Option Code
+abbrev pub refuses : EventWith PortCall → Option Code
 refuses (CacheTurn taken) = turn_refuses (closes taken.asked) taken.turn
-refuses (Further (Prompt (Called call))) = call_refuses call
-refuses (Further (Prompt OutOfMemory)) = Some code.NoMemory
-refuses (Further (Keys call)) = keys_refuse call
-refuses (Further (Dice (NotDrawn count))) = Some code.General
-refuses (Further (Trust call)) = trust_refuses call
-refuses (Further NoMemory) = Some code.NoMemory
+refuses (Port (Prompt (Called call))) = call_refuses call
+refuses (Port (Prompt OutOfMemory)) = Some code.NoMemory
+refuses (Port (Keys call)) = keys_refuse call
+refuses (Port (Dice (NotDrawn count))) = Some code.General
+refuses (Port (Trust call)) = trust_refuses call
+refuses (Port NoMemory) = Some code.NoMemory
 refuses _ = None
 
 -- ---- the work of a request
 
 -- the nonce of a key that comes in: the hexadecimal text of the last 12 of 32 bytes that were drawn among these events
-pub data IsNonceOf (events : List (EventWith FurtherEvent)) : List ℕ → Type 0 where
+pub data IsNonceOf (events : List (EventWith PortCall)) : List ℕ → Type 0 where
   nonce_of : {drawn : List ℕ} → IsDrawn events 32 drawn → IsNonceOf events (hex_text (drop 20 drawn))
 
 -- `IsNonce` is what is so of a nonce that is new
@@ -103,37 +103,37 @@ module _ (request : Request) (IsNonce : List ℕ → Type 0) where
   IsWorkStep _ = ⊤
 
   -- what is done of a request: no key's file is changed by it, the trust file isn't called, and no ticket is given back
-  abbrev pub IsAllowed : EventWith FurtherEvent → Type 0
+  abbrev pub IsAllowed : EventWith PortCall → Type 0
   IsAllowed (Received took) = ⊥
   IsAllowed (Sent text) = IsNotice text
   IsAllowed (CacheTurn taken) = IsWorkStep taken.asked
-  IsAllowed (Further (Keys (Replaced grip file answer))) = answer ≢ key_done.Done
-  IsAllowed (Further (Keys (Removed grip answer))) = answer ≢ key_done.Done
-  IsAllowed (Further (Trust call)) = ⊥
+  IsAllowed (Port (Keys (Replaced grip file answer))) = answer ≢ key_done.Done
+  IsAllowed (Port (Keys (Removed grip answer))) = answer ≢ key_done.Done
+  IsAllowed (Port (Trust call)) = ⊥
   IsAllowed _ = ⊤
 
   -- and it isn't refused by it
-  abbrev pub IsWork : EventWith FurtherEvent → Type 0
+  abbrev pub IsWork : EventWith PortCall → Type 0
   IsWork event = IsAllowed event × (refuses event ≡ None)
 
-  abbrev pub AreWork : List (EventWith FurtherEvent) → Type 0
+  abbrev pub AreWork : List (EventWith PortCall) → Type 0
   AreWork events = AllByRecursion IsWork events
 
 -- ---- its end
 
 -- the answer, or none where the client is gone
-pub data IsLast : List (EventWith FurtherEvent) → Type 0 where
+pub data IsLast : List (EventWith PortCall) → Type 0 where
   gone : IsLast []
   said : {text : List ℕ} → IsAnswer text → IsLast (Sent text ∷ [])
 
 -- a ticket that is still held is given back, and nothing is kept
-pub data GivesBack (last : List (EventWith FurtherEvent)) : List (EventWith FurtherEvent) → Type 0 where
+pub data GivesBack (last : List (EventWith PortCall)) : List (EventWith PortCall) → Type 0 where
   no_ticket : GivesBack last last
   with_ticket : {ticket : ℕ} (turn : Turn) → GivesBack last (cache_turn (Close ticket None) turn ∷ last)
 
 -- a prompt by which its request is refused is shut
-abbrev pub shuts : EventWith FurtherEvent → List (EventWith FurtherEvent)
-shuts (Further (Prompt event)) = Further (Prompt (Called Shut)) ∷ []
+abbrev pub shuts : EventWith PortCall → List (EventWith PortCall)
+shuts (Port (Prompt event)) = Port (Prompt (Called Shut)) ∷ []
 shuts _ = []
 
 -- what the one turn behind a changed file comes to, and the answer: it is done, or it interrupts the request, whose file stays changed
@@ -142,56 +142,56 @@ pub data Settles : Turn → List ℕ → Type 0 where
   interrupted : {turn : Turn} {why : Code} → Interrupts turn why → Settles turn (failed why)
 
 -- How a request ends, once its work is done.
-pub data IsEnd (request : Request) (IsNonce : List ℕ → Type 0) : List (EventWith FurtherEvent) → Type 0 where
-  answered : {last : List (EventWith FurtherEvent)} → IsLast last → IsEnd request IsNonce last
+pub data IsEnd (request : Request) (IsNonce : List ℕ → Type 0) : List (EventWith PortCall) → Type 0 where
+  answered : {last : List (EventWith PortCall)} → IsLast last → IsEnd request IsNonce last
   -- a prompt's ticket is given back, and its passphrase may be kept
-  given_back : {ticket : ℕ} {keep : Option (List ℕ)} {last : List (EventWith FurtherEvent)} (turn : Turn) → IsLast last → IsEnd request IsNonce (cache_turn (Close ticket keep) turn ∷ last)
+  given_back : {ticket : ℕ} {keep : Option (List ℕ)} {last : List (EventWith PortCall)} (turn : Turn) → IsLast last → IsEnd request IsNonce (cache_turn (Close ticket keep) turn ∷ last)
   -- it is, and then there is no memory for the answer: what was kept stays
-  unanswered : {ticket : ℕ} {keep : Option (List ℕ)} (turn : Turn) → IsEnd request IsNonce (cache_turn (Close ticket keep) turn ∷ Further NoMemory ∷ Sent (failed code.NoMemory) ∷ [])
+  unanswered : {ticket : ℕ} {keep : Option (List ℕ)} (turn : Turn) → IsEnd request IsNonce (cache_turn (Close ticket keep) turn ∷ Port NoMemory ∷ Sent (failed code.NoMemory) ∷ [])
   -- an event refuses it: nothing is done behind it but to shut the prompt, to give the ticket back and to answer
-  refused : {event : EventWith FurtherEvent} {why : Code} {ending : List (EventWith FurtherEvent)} → IsAllowed request IsNonce event → refuses event ≡ Some why → GivesBack (Sent (failed why) ∷ []) ending
+  refused : {event : EventWith PortCall} {why : Code} {ending : List (EventWith PortCall)} → IsAllowed request IsNonce event → refuses event ≡ Some why → GivesBack (Sent (failed why) ∷ []) ending
       → IsEnd request IsNonce (event ∷ (shuts event ++ ending))
   -- a key's file is replaced, and the passphrase kept by the return of the ticket, or by a turn
   kept : {grip : Grip} {file : List ℕ} {ticket : ℕ} {pass text : List ℕ} (turn : Turn) → EndsInOk text
-      → IsEnd request IsNonce (Further (Keys (Replaced grip file key_done.Done)) ∷ cache_turn (Close ticket (Some pass)) turn ∷ Sent text ∷ [])
+      → IsEnd request IsNonce (Port (Keys (Replaced grip file key_done.Done)) ∷ cache_turn (Close ticket (Some pass)) turn ∷ Sent text ∷ [])
   stored : {grip : Grip} {file pass text : List ℕ} {turn : Turn} → Settles turn text
-      → IsEnd request IsNonce (Further (Keys (Replaced grip file key_done.Done)) ∷ cache_turn (put_key grip pass) turn ∷ Sent text ∷ [])
+      → IsEnd request IsNonce (Port (Keys (Replaced grip file key_done.Done)) ∷ cache_turn (put_key grip pass) turn ∷ Sent text ∷ [])
   -- a key's file is removed, and its passphrase cleared
-  cleared : {grip : Grip} {text : List ℕ} {turn : Turn} {ending : List (EventWith FurtherEvent)} → Settles turn text → GivesBack (Sent text ∷ []) ending
-      → IsEnd request IsNonce (Further (Keys (Removed grip key_done.Done)) ∷ cache_turn (Clear (grip_text grip) Normal) turn ∷ ending)
+  cleared : {grip : Grip} {text : List ℕ} {turn : Turn} {ending : List (EventWith PortCall)} → Settles turn text → GivesBack (Sent text ∷ []) ending
+      → IsEnd request IsNonce (Port (Keys (Removed grip key_done.Done)) ∷ cache_turn (Clear (grip_text grip) Normal) turn ∷ ending)
 
 -- What is done for a request, from its first event to its last: its work, and its end. A failed write of its answer ends the whole session, and is no part
 -- of this.
-pub record CourseBy (request : Request) (IsNonce : List ℕ → Type 0) (events : List (EventWith FurtherEvent)) : Type 0 where
-  pub work : List (EventWith FurtherEvent)
-  pub last : List (EventWith FurtherEvent)
+pub record CourseBy (request : Request) (IsNonce : List ℕ → Type 0) (events : List (EventWith PortCall)) : Type 0 where
+  pub work : List (EventWith PortCall)
+  pub last : List (EventWith PortCall)
   pub is : events ≡ work ++ last
   pub each : AreWork request IsNonce work
   pub end : IsEnd request IsNonce last
 
 -- and what it stores under a nonce is stored under one that was drawn for it
-abbrev pub Course : Request → List (EventWith FurtherEvent) → Type 0
+abbrev pub Course : Request → List (EventWith PortCall) → Type 0
 Course request events = CourseBy request (IsNonceOf events) events
 
 -- ---- requests that are refused so
 
 -- how a request ends that an event of its own refuses by this code
-pub data RefusedEnd (request : Request) (IsNonce : List ℕ → Type 0) : Code → List (EventWith FurtherEvent) → Type 0 where
+pub data RefusedEnd (request : Request) (IsNonce : List ℕ → Type 0) : Code → List (EventWith PortCall) → Type 0 where
   -- at its work: nothing more is done for it
-  at_work : {event : EventWith FurtherEvent} {why : Code} {ending : List (EventWith FurtherEvent)} → IsAllowed request IsNonce event → refuses event ≡ Some why → GivesBack (Sent (failed why) ∷ []) ending
+  at_work : {event : EventWith PortCall} {why : Code} {ending : List (EventWith PortCall)} → IsAllowed request IsNonce event → refuses event ≡ Some why → GivesBack (Sent (failed why) ∷ []) ending
       → RefusedEnd request IsNonce why (event ∷ (shuts event ++ ending))
   -- behind the return of its ticket, by which a passphrase may have been kept
   at_answer : {ticket : ℕ} {keep : Option (List ℕ)} (turn : Turn)
-      → RefusedEnd request IsNonce code.NoMemory (cache_turn (Close ticket keep) turn ∷ Further NoMemory ∷ Sent (failed code.NoMemory) ∷ [])
+      → RefusedEnd request IsNonce code.NoMemory (cache_turn (Close ticket keep) turn ∷ Port NoMemory ∷ Sent (failed code.NoMemory) ∷ [])
   -- behind a key's file that was replaced, whose passphrase found no memory to be stored; or that was removed, whose passphrase found none to be cleared
   at_store : {grip : Grip} {file pass : List ℕ}
-      → RefusedEnd request IsNonce code.NoMemory (Further (Keys (Replaced grip file key_done.Done)) ∷ cache_turn (put_key grip pass) Refused ∷ Sent (failed code.NoMemory) ∷ [])
-  at_clear : {grip : Grip} {ending : List (EventWith FurtherEvent)} → GivesBack (Sent (failed code.NoMemory) ∷ []) ending
-      → RefusedEnd request IsNonce code.NoMemory (Further (Keys (Removed grip key_done.Done)) ∷ cache_turn (Clear (grip_text grip) Normal) Refused ∷ ending)
+      → RefusedEnd request IsNonce code.NoMemory (Port (Keys (Replaced grip file key_done.Done)) ∷ cache_turn (put_key grip pass) Refused ∷ Sent (failed code.NoMemory) ∷ [])
+  at_clear : {grip : Grip} {ending : List (EventWith PortCall)} → GivesBack (Sent (failed code.NoMemory) ∷ []) ending
+      → RefusedEnd request IsNonce code.NoMemory (Port (Keys (Removed grip key_done.Done)) ∷ cache_turn (Clear (grip_text grip) Normal) Refused ∷ ending)
 
-pub record RefusedCourse (request : Request) (why : Code) (events : List (EventWith FurtherEvent)) : Type 0 where
-  pub work : List (EventWith FurtherEvent)
-  pub last : List (EventWith FurtherEvent)
+pub record RefusedCourse (request : Request) (why : Code) (events : List (EventWith PortCall)) : Type 0 where
+  pub work : List (EventWith PortCall)
+  pub last : List (EventWith PortCall)
   pub is : events ≡ work ++ last
   pub each : AreWork request (IsNonceOf events) work
   pub end : RefusedEnd request (IsNonceOf events) why last
@@ -204,12 +204,12 @@ pub data IsOwnCode : Code → Type 0 where
 -- ---- prompts
 
 -- one that isn't a turn that may open a prompt
-abbrev pub IsUnopening : EventWith FurtherEvent → Type 0
+abbrev pub IsUnopening : EventWith PortCall → Type 0
 IsUnopening (CacheTurn taken) = opens taken.asked ≡ false
 IsUnopening _ = ⊤
 
 -- Behind a call of the prompter stands no turn that may open a prompt. So where such a turn is refused, the prompter wasn't called before it.
-abbrev pub OpensFirst : List (EventWith FurtherEvent) → Type 0
+abbrev pub OpensFirst : List (EventWith PortCall) → Type 0
 OpensFirst [] = ⊤
 OpensFirst (event ∷ more) = (IsUncalled event ⊎ AllByRecursion IsUnopening more) × OpensFirst more
 
@@ -232,7 +232,7 @@ pub record LeavesDesk (before : AtDesk) (asked : MarkStep) (after : AtDesk) : Ty
 -- ---- requests that want no memory
 
 -- what is done for a request that asks the cache alone, or clears it
-abbrev pub AnswersAlone : Request → List (EventWith FurtherEvent) → Type 0
+abbrev pub AnswersAlone : Request → List (EventWith PortCall) → Type 0
 AnswersAlone (Cache (GetPassphrase plain check no_ask repeat quality id texts)) events = is_quiet no_ask texts ≡ true → AnswersFromCache plain id events
 AnswersAlone (Cache (ClearPassphrase id mode)) events = AnswersDone (Clear id mode) events
 AnswersAlone (Cache ReloadAgent) events = AnswersDone Flush events

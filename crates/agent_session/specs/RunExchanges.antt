@@ -1,8 +1,8 @@
--- Exchanges of a session between the states of its desk and of its further ends, and what the laws on single requests say of each. This is the project's
+-- Exchanges of a session between the states of its desk and of its ports, and what the laws on single requests say of each. This is the project's
 -- own.
 use Rattle.std.specs.{List.AllByRecursion, Prelude.{◌≡◌, ◌≢◌, ℕ, List, Option, Some, None}}
-use Rattle.{agent_ask.specs.{Events.Call, Further.FurtherEnds, Prompters.AtPrompter, Worlds.{Outside, Does}}, agent_commands.specs.{Events.EventWith, Outside.World, Requests.request_of, declared.went.{SessionEnd.SessionEnd, Went.Went}}}
-use Rattle.{agent_commands.specs.declared.went.Went.TheVariants.On, agent_origin.specs.{FurtherStates.FurtherWorld, Sessions.LineRelation, declared.kept.Kept.Kept}, agent_ports.specs.Leads.Leads, assuan_server.specs.Reading.Supply}
+use Rattle.{agent_ask.specs.{Events.Call, PortCalls.PortEnds, Prompters.AtPrompter, Worlds.{Outside, Does}}, agent_commands.specs.{Events.EventWith, Outside.World, Requests.request_of, declared.went.{SessionEnd.SessionEnd, Went.Went}}}
+use Rattle.{agent_commands.specs.declared.went.Went.TheVariants.On, agent_origin.specs.{PortStates.PortWorld, Sessions.LineRelation, declared.session_state.SessionState.SessionState}, agent_ports.specs.Leads.Leads, assuan_server.specs.Reading.Supply}
 use Rattle.{assuan_server.specs.declared.errors.Origin.{Origin, TheVariants.Agent}, session_client.specs.declared.code.Code.{Code, TheVariants.LineTooLong}, cache_policy.specs.{Turns.Turn, declared.mark.MarkStep.MarkStep}}
 use Rattle.{key_commands.specs.{Events.Event as SessionEvent, declared.request.KeyRequest.KeyRequest}, session_options.specs.declared.rules.Rules.Rules}
 use Rattle.agent_session.specs.{Causes.on_keys, Completeness.{Causes, Remembers, IsStopped, HasError, AnswersAtOnce, FailuresRise, IsUncaused, IsAnsweredOk}, Counting.CountsFailures, Exactly.EndsTooLong}
@@ -10,7 +10,7 @@ use Rattle.agent_session.specs.{OwnAnswers.{SaysOwnAlone, TellsOfKeysAlone}, Own
 
 -- ---- exchanges between two states
 
--- what stands between two exchanges: what is kept, the desk, and the further ends
+-- what stands between two exchanges: what is kept, the desk, and the ports
 pub record Between (w : World) (S : Type 0) : Type 0 where
   pub kept : S
   pub desk : w.Desk
@@ -29,10 +29,10 @@ module _ {w : World} {S : Type 0} where
 
 -- what is said of an exchange, by what stood before and behind it
 abbrev pub Saying : World → Type 0 → Type 1
-Saying w S = Between w S → List ℕ → List (EventWith w.Further) → Between w S → Went → Type 0
+Saying w S = Between w S → List ℕ → List (EventWith w.Port) → Between w S → Went → Type 0
 
 -- The exchange of a line, whose events lead from what stands before it to what stands behind it, and of which this is so.
-pub record ExchangeBetween {w : World} {S : Type 0} (supply : Supply) (relation : LineRelation w S) (Says : Saying w S) (before : Between w S) (line : List ℕ) (events : List (EventWith w.Further))
+pub record ExchangeBetween {w : World} {S : Type 0} (supply : Supply) (relation : LineRelation w S) (Says : Saying w S) (before : Between w S) (line : List ℕ) (events : List (EventWith w.Port))
     (after : Between w S) (went : Went) : Type 0 where
   pub exchange : relation before.kept line events after.kept went
   pub link : LinkBytes
@@ -43,7 +43,7 @@ pub record ExchangeBetween {w : World} {S : Type 0} (supply : Supply) (relation 
 -- ---- what the laws say of it
 
 -- What they say of a request of every session, at a desk where this holds that finds no memory only for steps that may want some.
-pub record LawfulRequest (rules : Rules) (kept : Kept) (Spares : Type 0) (line : List ℕ) (events : List SessionEvent) : Type 0 where
+pub record LawfulRequest (rules : Rules) (kept : SessionState) (Spares : Type 0) (line : List ℕ) (events : List SessionEvent) : Type 0 where
   -- one that asks nobody is answered at once
   pub at_once : AllByRecursion Remembers events → AllByRecursion (λ event. ¬ IsStopped event) events → AnswersAtOnce rules (request_of line) events
   -- and wants no memory, where it is one on the cache alone
@@ -58,8 +58,8 @@ pub record LawfulRequest (rules : Rules) (kept : Kept) (Spares : Type 0) (line :
 
 -- What they say of the exchange of a line, which may be one of every session.
 pub record LawfulExchange {D P : Type 0} (turned : D → MarkStep → Turn → D → Type 0) (prompted : P → Call → P → Type 0) (at : P → AtPrompter) (rules : Rules) (cause : Causes)
-    (IsOfEvery : List ℕ → Type 0) (Spares : D → Type 0) (before : Between (FurtherWorld turned prompted) Kept) (line : List ℕ) (events : List SessionEvent)
-    (after : Between (FurtherWorld turned prompted) Kept) (went : Went) : Type 0 where
+    (IsOfEvery : List ℕ → Type 0) (Spares : D → Type 0) (before : Between (PortWorld turned prompted) SessionState) (line : List ℕ) (events : List SessionEvent)
+    (after : Between (PortWorld turned prompted) SessionState) (went : Went) : Type 0 where
   pub request : IsOfEvery line → LawfulRequest rules before.kept (Spares before.desk) line events
   -- a failure in it raised its count, and at most as many failed on an end as its count rose by
   pub raised : FailuresRise at events before.ends after.ends
@@ -71,7 +71,7 @@ pub record LawfulExchange {D P : Type 0} (turned : D → MarkStep → Turn → D
 
 -- What they say of a session as a whole, beside what its exchanges are: where a line was too long it ends by that, unless a write failed, and its client is told so exactly where it ends by
 -- that; a failure in it raised its count, and at most as many failed on an end as its count rose by, from before the session to behind it.
-pub record LawfulSession {P : Type 0} (at : P → AtPrompter) (Exchanges : Type 0) (events : List SessionEvent) (end : SessionEnd) (before after : FurtherEnds P) : Type 0 where
+pub record LawfulSession {P : Type 0} (at : P → AtPrompter) (Exchanges : Type 0) (events : List SessionEvent) (end : SessionEnd) (before after : PortEnds P) : Type 0 where
   pub exchanges : Exchanges
   pub too_long : EndsTooLong events end
   pub raised : FailuresRise at events before after

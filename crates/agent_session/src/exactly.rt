@@ -10,9 +10,9 @@ ghost use Rattle.agent_commands.specs.declared.went.SessionEnd.{SessionEnd as En
 ghost use Rattle.agent_commands.specs.declared.went.{SessionEnd.TheVariants.TooLong, Went.Went};
 ghost use Rattle.agent_commands.specs.declared.went.Went.TheVariants.{End};
 ghost use Rattle.agent_origin.specs.DoorSessions.{DoorExchange, ServesDoor};
-ghost use Rattle.agent_origin.specs.{FurtherStates.FurtherWorld, SessionExchanges.SessionExchange};
+ghost use Rattle.agent_origin.specs.{PortStates.PortWorld, SessionExchanges.SessionExchange};
 ghost use Rattle.agent_origin.specs.{Sessions.Surroundings, declared.door.Door.Door};
-ghost use Rattle.{agent_origin.specs.declared.kept.Kept.Kept, key_commands.specs.Events.Event};
+ghost use Rattle.{agent_origin.specs.declared.session_state.SessionState.SessionState, key_commands.specs.Events.Event};
 ghost use Rattle.session_options.specs.declared.rules.Rules.{Rules};
 ghost use Rattle.agent_session.specs.Completeness.{HasError, Remembers};
 ghost use Rattle.agent_session.specs.Exactly.{EndsTooLong, ExactCause, ExactCauseAtDoor};
@@ -29,12 +29,12 @@ use cache_policy::Desk;
 /// The same of a line at a door, whether it isn't allowed there, is a request on the trust list, or
 /// is one of any session.
 pub fn each_cause_has_its_error()
-    ensures session { (rules : Rules) (kept now : Kept) (line : List ℕ) (events : List Event)
-        (went : Went) → SessionExchange rules kept line events now went
+    ensures session { (rules : Rules) (kept now : SessionState) (line : List ℕ)
+        (events : List Event) (went : Went) → SessionExchange rules kept line events now went
         → AllByRecursion Remembers events
         → (why : Code) → ExactCause events rules kept (request_of line) why
         → HasError why Agent events }
-    ensures door { (door : Door) (rules : Rules) (kept now : Kept) (line : List ℕ)
+    ensures door { (door : Door) (rules : Rules) (kept now : SessionState) (line : List ℕ)
         (events : List Event) (went : Went) → DoorExchange door rules kept line events now went
         → AllByRecursion Remembers events
         → (why : Code) → ExactCauseAtDoor door rules kept line events why
@@ -47,7 +47,7 @@ pub fn each_cause_has_its_error()
 /// whose inquiry that line was to answer, or where the line was to be a request, as the session's
 /// own end says.
 pub fn a_line_that_ends_a_session_is_answered()
-    ensures { (rules : Rules) (kept now : Kept) (line : List ℕ) (events : List Event)
+    ensures { (rules : Rules) (kept now : SessionState) (line : List ℕ) (events : List Event)
         → SessionExchange rules kept line events now (End TooLong)
         → HasError LineTooLong Agent events }
 {}
@@ -57,11 +57,11 @@ pub fn a_line_that_ends_a_session_is_answered()
 /// told `Line too long` exactly where it ends so. The same of a session that came in by a door.
 pub fn a_line_that_is_too_long_ends_its_session<D: Desk, P: Prompter>()
     ensures session { (rules : Rules)
-        (before after : Surroundings (FurtherWorld D.turned P.prompted)) (end : Ends)
+        (before after : Surroundings (PortWorld D.turned P.prompted)) (end : Ends)
         → (served : ServesRules D.turned P.prompted rules before end after)
         → EndsTooLong served.events end }
     ensures door { (door : Door) (rules : Rules)
-        (before after : Surroundings (FurtherWorld D.turned P.prompted)) (end : Ends)
+        (before after : Surroundings (PortWorld D.turned P.prompted)) (end : Ends)
         → (served : ServesDoor D.turned P.prompted door rules before end after)
         → EndsTooLong served.events end }
 {}

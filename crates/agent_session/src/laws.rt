@@ -8,9 +8,9 @@ ghost use Rattle.agent_commands.specs.declared.went.{SessionEnd.SessionEnd as En
 ghost use Rattle.key_commands.specs.Events.{Event};
 ghost use Rattle.session_options.specs.declared.rules.Rules.{Rules};
 ghost use Rattle.agent_origin.specs.DoorSessions.{DoorExchange, ServesDoor, door_command};
-ghost use Rattle.agent_origin.specs.{Doors.allowed, FurtherStates.FurtherWorld};
+ghost use Rattle.agent_origin.specs.{Doors.allowed, PortStates.PortWorld};
 ghost use Rattle.agent_origin.specs.{SessionExchanges.SessionExchange, Sessions.Surroundings};
-ghost use Rattle.agent_origin.specs.declared.{door.Door.Door, kept.Kept.Kept};
+ghost use Rattle.agent_origin.specs.declared.{door.Door.Door, session_state.SessionState.SessionState};
 ghost use Rattle.agent_session.specs.Sessions.{ServesRules};
 
 use agent_ask::Prompter;
@@ -21,11 +21,11 @@ use cache_policy::{Desk, turns_extend_a_run};
 /// came in by a door.
 pub fn a_session_extends_a_run<D: Desk, P: Prompter>()
     ensures session { (rules : Rules)
-        (before after : Surroundings (FurtherWorld D.turned P.prompted)) (end : Ends)
+        (before after : Surroundings (PortWorld D.turned P.prompted)) (end : Ends)
         → (served : ServesRules D.turned P.prompted rules before end after)
         → ExtendsDesk (D.at before.desk) (turns_in served.events) (D.at after.desk) }
     ensures door { (door : Door) (rules : Rules)
-        (before after : Surroundings (FurtherWorld D.turned P.prompted)) (end : Ends)
+        (before after : Surroundings (PortWorld D.turned P.prompted)) (end : Ends)
         → (served : ServesDoor D.turned P.prompted door rules before end after)
         → ExtendsDesk (D.at before.desk) (turns_in served.events) (D.at after.desk) }
 {
@@ -36,7 +36,7 @@ pub fn a_session_extends_a_run<D: Desk, P: Prompter>()
 /// answer, is what a session without doors does for it. So each law on such requests, as those
 /// of what stands after a refusal, is one on this line.
 pub fn an_exchange_at_a_door_is_a_sessions()
-    ensures { (door : Door) (rules : Rules) (kept now : Kept) (line : List ℕ)
+    ensures { (door : Door) (rules : Rules) (kept now : SessionState) (line : List ℕ)
         (events : List Event) (went : Went) → DoorExchange door rules kept line events now went
         → allowed door line ≡ true → door_command door line ≡ None
         → SessionExchange rules kept line events now went }

@@ -10,10 +10,10 @@ ghost use Rattle.agent_commands.specs.declared.went.{SessionEnd.SessionEnd as En
 ghost use Rattle.key_commands.specs.{Events.Event, declared.request.KeyRequest.KeyRequest};
 ghost use Rattle.session_options.specs.{OptionValues.OptionValues, declared.rules.Rules.Rules};
 ghost use Rattle.agent_origin.specs.DoorSessions.{DoorExchange, ServesDoor};
-ghost use Rattle.agent_origin.specs.FurtherStates.{FurtherWorld};
+ghost use Rattle.agent_origin.specs.PortStates.{PortWorld};
 ghost use Rattle.agent_origin.specs.SessionExchanges.{SessionExchange, kept_at_start};
 ghost use Rattle.agent_origin.specs.{Sessions.Surroundings, declared.door.Door.Door};
-ghost use Rattle.agent_origin.specs.declared.kept.Kept.{Kept};
+ghost use Rattle.agent_origin.specs.declared.session_state.SessionState.{SessionState};
 ghost use Rattle.agent_session.specs.{Causes.on_keys, OwnAnswers.{SaysOwnAlone, TellsOfKeysAlone}};
 ghost use Rattle.agent_session.specs.OwnPassphrases.{StoresOwnAlone, StoresOwnThroughout};
 ghost use Rattle.agent_session.specs.Sessions.{ServesRules};
@@ -26,10 +26,10 @@ use cache_policy::Desk;
 /// accepted. A prompt's answer enters the cache by the return of the prompt's own ticket, under
 /// what the request names, or by an IMPORT_KEY under the nonce that it drew, and by no other turn.
 pub fn each_request_stores_its_own<D: Desk, P: Prompter>()
-    ensures { (rules : Rules) (kept now : Kept) (line : List ℕ) (events : List Event) (went : Went)
-        (supply : Supply) (before after : Outside (FurtherWorld D.turned P.prompted))
+    ensures { (rules : Rules) (kept now : SessionState) (line : List ℕ) (events : List Event)
+        (went : Went) (supply : Supply) (before after : Outside (PortWorld D.turned P.prompted))
         → SessionExchange rules kept line events now went
-        → Leads (Does (FurtherWorld D.turned P.prompted) supply) before events after
+        → Leads (Does (PortWorld D.turned P.prompted) supply) before events after
         → StoresOwnAlone rules kept (request_of line) events }
 {}
 
@@ -46,7 +46,7 @@ pub fn each_passphrase_is_written_to_its_request()
 /// may send, what is known of a key, a nonce that the request drew, the session's wrapping key, or
 /// the key that it asked for, as it opened it itself, which this one wrapped.
 pub fn no_passphrase_is_written_for_a_request_on_keys()
-    ensures { (rules : Rules) (kept now : Kept) (line : List ℕ) (asked : KeyRequest)
+    ensures { (rules : Rules) (kept now : SessionState) (line : List ℕ) (asked : KeyRequest)
         (events : List Event) (went : Went) → SessionExchange rules kept line events now went
         → on_keys (request_of line) ≡ Some asked
         → TellsOfKeysAlone rules kept (request_of line) events }
@@ -57,11 +57,11 @@ pub fn no_passphrase_is_written_for_a_request_on_keys()
 /// another.
 pub fn a_session_stores_its_requests_own<D: Desk, P: Prompter>()
     ensures session { (rules : Rules)
-        (before after : Surroundings (FurtherWorld D.turned P.prompted)) (end : Ends)
+        (before after : Surroundings (PortWorld D.turned P.prompted)) (end : Ends)
         → (served : ServesRules D.turned P.prompted rules before end after)
         → StoresOwnThroughout rules (SessionExchange rules) (kept_at_start rules) served.events }
     ensures door { (door : Door) (rules : Rules)
-        (before after : Surroundings (FurtherWorld D.turned P.prompted)) (end : Ends)
+        (before after : Surroundings (PortWorld D.turned P.prompted)) (end : Ends)
         → (served : ServesDoor D.turned P.prompted door rules before end after)
         → StoresOwnThroughout rules (DoorExchange door rules) (kept_at_start rules)
         served.events }

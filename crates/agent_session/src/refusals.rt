@@ -16,8 +16,8 @@ ghost use Rattle.key_commands.specs.Events.{Event};
 ghost use Rattle.key_commands.specs.declared.request.KeyRequest.TheVariants.{ImportKey};
 ghost use Rattle.session_options.specs.declared.rules.Rules.{Rules};
 ghost use Rattle.agent_origin.specs.{SessionExchanges.SessionExchange, DoorSessions.DoorExchange};
-ghost use Rattle.agent_origin.specs.{FurtherStates.FurtherWorld, declared.door.Door.Door};
-ghost use Rattle.agent_origin.specs.declared.kept.Kept.{Kept};
+ghost use Rattle.agent_origin.specs.{PortStates.PortWorld, declared.door.Door.Door};
+ghost use Rattle.agent_origin.specs.declared.session_state.SessionState.{SessionState};
 ghost use Rattle.agent_session.specs.{Causes.on_keys, Completeness.{HasError, IsStopped}};
 ghost use Rattle.agent_session.specs.Imports.{ImportCourse};
 ghost use Rattle.agent_session.specs.Refusals.{AnswersAlone, Course, IsOwnCode, LeavesDesk};
@@ -33,7 +33,8 @@ use cache_policy::Desk;
 /// and its ticket given back, with nothing kept. A changed key's file is followed by one turn
 /// alone.
 pub fn each_request_takes_its_course()
-    ensures { (rules : Rules) (kept now : Kept) (line : List ℕ) (events : List Event) (went : Went)
+    ensures { (rules : Rules) (kept now : SessionState) (line : List ℕ) (events : List Event)
+        (went : Went)
         → SessionExchange rules kept line events now went → Course (request_of line) events }
 {}
 
@@ -41,26 +42,27 @@ pub fn each_request_takes_its_course()
 /// of its own: it changed no key's file and did nothing more; or it kept its prompt's passphrase
 /// before; or it changed a key's file, and the one turn behind that found no memory.
 pub fn a_refused_request_does_nothing_more<D: Desk, P: Prompter>()
-    ensures { (rules : Rules) (kept now : Kept) (line : List ℕ) (events : List Event)
-        (went : Went) (supply : Supply) (before after : Outside (FurtherWorld D.turned P.prompted))
+    ensures { (rules : Rules) (kept now : SessionState) (line : List ℕ) (events : List Event)
+        (went : Went) (supply : Supply) (before after : Outside (PortWorld D.turned P.prompted))
         (why : Code) → SessionExchange rules kept line events now went
-        → Leads (Does (FurtherWorld D.turned P.prompted) supply) before events after → IsOwnCode why
+        → Leads (Does (PortWorld D.turned P.prompted) supply) before events after → IsOwnCode why
         → HasError why Agent events → RefusedCourse (request_of line) why events }
 {}
 
 /// After an error line the session goes on, so after `Cannot allocate memory` too. One alone ends
 /// it: that a line of the client's was too long. The same of a line at a door.
 pub fn a_session_goes_on_after_an_error<D: Desk, P: Prompter>()
-    ensures session { (rules : Rules) (kept now : Kept) (line : List ℕ) (events : List Event)
-        (went : Went) (supply : Supply) (before after : Outside (FurtherWorld D.turned P.prompted))
+    ensures session { (rules : Rules) (kept now : SessionState) (line : List ℕ)
+        (events : List Event)
+        (went : Went) (supply : Supply) (before after : Outside (PortWorld D.turned P.prompted))
         (why : Code) (origin : Origin) → SessionExchange rules kept line events now went
-        → Leads (Does (FurtherWorld D.turned P.prompted) supply) before events after
+        → Leads (Does (PortWorld D.turned P.prompted) supply) before events after
         → HasError why origin events → why ≢ LineTooLong → went ≡ On }
-    ensures door { (door : Door) (rules : Rules) (kept now : Kept) (line : List ℕ)
+    ensures door { (door : Door) (rules : Rules) (kept now : SessionState) (line : List ℕ)
         (events : List Event) (went : Went) (supply : Supply)
-        (before after : Outside (FurtherWorld D.turned P.prompted)) (why : Code) (origin : Origin)
+        (before after : Outside (PortWorld D.turned P.prompted)) (why : Code) (origin : Origin)
         → DoorExchange door rules kept line events now went
-        → Leads (Does (FurtherWorld D.turned P.prompted) supply) before events after
+        → Leads (Does (PortWorld D.turned P.prompted) supply) before events after
         → HasError why origin events → why ≢ LineTooLong → went ≡ On }
 {}
 
@@ -68,8 +70,8 @@ pub fn a_session_goes_on_after_an_error<D: Desk, P: Prompter>()
 /// nonce, and where this is done it replaces the key's file next. So one that is refused before it
 /// calls the keys for that has stored nothing, under the nonce neither.
 pub fn an_import_stores_with_its_file()
-    ensures { (rules : Rules) (kept now : Kept) (line : List ℕ) (events : List Event) (went : Went)
-        (force : Bool) (nonce : Option (List ℕ))
+    ensures { (rules : Rules) (kept now : SessionState) (line : List ℕ) (events : List Event)
+        (went : Went) (force : Bool) (nonce : Option (List ℕ))
         → on_keys (request_of line) ≡ Some (ImportKey force nonce)
         → SessionExchange rules kept line events now went → ImportCourse events }
 {}
@@ -77,8 +79,8 @@ pub fn an_import_stores_with_its_file()
 /// A prompt is opened before the prompter is called, and no other one behind that. So where a turn
 /// that may open one is refused, no child was launched.
 pub fn a_prompt_is_opened_first()
-    ensures { (rules : Rules) (kept now : Kept) (line : List ℕ) (events : List Event) (went : Went)
-        → SessionExchange rules kept line events now went → OpensFirst events }
+    ensures { (rules : Rules) (kept now : SessionState) (line : List ℕ) (events : List Event)
+        (went : Went) → SessionExchange rules kept line events now went → OpensFirst events }
 {}
 
 /// A turn that found no memory gave no ticket back and made no mark.
@@ -93,10 +95,10 @@ pub fn a_refused_turn_leaves_the_desk<D: Desk>()
 pub fn requests_on_the_cache_alone_want_no_memory<D: Desk, P: Prompter>()
     ensures { ((before after : D) (asked : MarkStep)
         → D.turned before asked Refused after → MayWantMemory asked)
-        → (rules : Rules) (kept now : Kept) (line : List ℕ) (events : List Event)
-        (went : Went) (supply : Supply) (before after : Outside (FurtherWorld D.turned P.prompted))
+        → (rules : Rules) (kept now : SessionState) (line : List ℕ) (events : List Event)
+        (went : Went) (supply : Supply) (before after : Outside (PortWorld D.turned P.prompted))
         → SessionExchange rules kept line events now went
-        → Leads (Does (FurtherWorld D.turned P.prompted) supply) before events after
+        → Leads (Does (PortWorld D.turned P.prompted) supply) before events after
         → AllByRecursion (λ event. ¬ IsStopped event) events
         → AnswersAlone (request_of line) events }
 {}
@@ -106,6 +108,7 @@ pub fn requests_on_the_cache_alone_want_no_memory<D: Desk, P: Prompter>()
 /// new file took the old one's place, whose request is answered by OK: one that is answered by an
 /// error line has left the file as it was.
 pub fn a_call_of_the_trust_file_decides_its_request()
-    ensures { (door : Door) (rules : Rules) (kept now : Kept) (line : List ℕ) (events : List Event)
+    ensures { (door : Door) (rules : Rules) (kept now : SessionState) (line : List ℕ)
+        (events : List Event)
         (went : Went) → DoorExchange door rules kept line events now went → EndsAtCalls events }
 {}

@@ -8,7 +8,7 @@ ghost use Rattle.agent_session.specs.Sessions.{no_trust, without_trust, ServesRu
 
 use agent_ask::Prompter;
 use agent_commands::{SessionEnd, Went};
-use agent_origin::{Answers, Kept, answer, serve};
+use agent_origin::{Answers, SessionState, answer, serve};
 use agent_ports::{Dice, Keys, Link, TrustDone, TrustFile, TrustRead};
 use assuan_server::Conn;
 use cache_policy::Desk;
@@ -30,7 +30,7 @@ impl Answers for EveryLine {
         alloc: Global,
         line: &CutLine<'_>,
         rules: &Rules,
-        kept: &mut Kept,
+        kept: &mut SessionState,
         conn: &mut Conn<'_, L>,
         desk: &mut D,
         prompter: &mut P,

@@ -1,19 +1,19 @@
 -- A session at the desk is one at what the desk shows.
 use Rattle.std.proofs.Common.{◌≡◌, ℕ, List, None, refl, ap, ◌∙◌, subst}
-use Rattle.agent_ask.specs.{Further.{FurtherEvent, prompt, keys, dice, trust, no_memory}, Doing.{called, out_of_memory}, Prompters.IsShut, SessionEvents.turns_in}
-use Rattle.{agent_ask.specs.Worlds.{Outside, Does, received, sent, cut, asked, not_asked, turned, further}, agent_core.specs.Solos.{SoloState, AtSolo, seen, TurnsSolo, SoloTurn}, agent_ports.specs.{KeyFiles.KeyFiles, Launches.Launches}}
+use Rattle.agent_ask.specs.{PortCalls.{PortCall, prompt, keys, dice, trust, no_memory}, Doing.{called, out_of_memory}, Prompters.IsShut, SessionEvents.turns_in}
+use Rattle.{agent_ask.specs.Worlds.{Outside, Does, received, sent, cut, asked, not_asked, turned, ported}, agent_core.specs.Solos.{SoloState, AtSolo, seen, TurnsSolo, SoloTurn}, agent_ports.specs.{KeyFiles.KeyFiles, Launches.Launches}}
 use Rattle.{agent_ports.specs.{Leads.{Leads, none, one}, Readings.Readings, Sides.Side}, cache_policy.specs.Extending.TakesTurn, agent_commands.specs.{Events.EventWith, Outside.World, declared.went.SessionEnd.SessionEnd}}
-use Rattle.{assuan_server.specs.Clients.session_lines, agent_origin.{proofs.Turning.turns_lead, specs.{Sessions.{ends_with, supply_of}, FurtherStates.FurtherWorld}}, agent_serve.proofs.Lifting.shut_is_idle}
+use Rattle.{assuan_server.specs.Clients.session_lines, agent_origin.{proofs.Turning.turns_lead, specs.{Sessions.{ends_with, supply_of}, PortStates.PortWorld}}, agent_serve.proofs.Lifting.shut_is_idle}
 use Rattle.{agent_session.specs.Sessions.{without_trust, ServesRules}, pinentry_client.specs.{Dialogues.{PinentryDoes, PinentryCall}, States.{PinentryState, AtPinentry, at_pinentry, at_prompter}}}
 use Rattle.session_options.specs.declared.rules.Rules.{Rules}
 use Rattle.agent_top.{proofs.Replays.{turns_extend, turns_are_legal, turns_replay}, specs.{Cache.{limits_of, fresh_desk}, Top.{machine, no_child, RunsServer, ran, exit_number, status_of}}}
 
 -- a session at a desk and with a pinentry, and what they show of it
 abbrev pub held_world : {C La : Type 0} → (C → Readings) → (La → Launches) → World
-held_world readings launches = FurtherWorld (SoloTurn readings) (PinentryCall launches)
+held_world readings launches = PortWorld (SoloTurn readings) (PinentryCall launches)
 
 abbrev pub seen_world : World
-seen_world = FurtherWorld TurnsSolo PinentryDoes
+seen_world = PortWorld TurnsSolo PinentryDoes
 
 module _ {C La : Type 0} (readings : C → Readings) (launches : La → Launches) (supply : session_lines.Supply) where
   -- the ends with what the desk and the pinentry show in their place
@@ -26,13 +26,13 @@ module _ {C La : Type 0} (readings : C → Readings) (launches : La → Launches
     ends = record { prompter = at_pinentry launches ends.ends.prompter; keys = ends.ends.keys; dice = ends.ends.dice; trust = ends.ends.trust };
   }
 
-  pub record Lifts (before after : Outside (held_world readings launches)) (events : List (EventWith FurtherEvent)) : Type 0 where
+  pub record Lifts (before after : Outside (held_world readings launches)) (events : List (EventWith PortCall)) : Type 0 where
     pub leads : Leads (Does seen_world supply) (with_seen before) events (with_seen after)
     pub lent : after.desk.lent ≡ before.desk.lent
     pub launcher : after.ends.prompter.lent ≡ before.ends.prompter.lent
     pub program : after.ends.prompter.program ≡ before.ends.prompter.program
 
-  pub lifts : {before after : Outside (held_world readings launches)} {events : List (EventWith FurtherEvent)}
+  pub lifts : {before after : Outside (held_world readings launches)} {events : List (EventWith PortCall)}
       → Leads (Does (held_world readings launches) supply) before events after → Lifts before after events
   lifts none = record { leads = none; lent = refl; launcher = refl; program = refl }
   lifts (one (received known needed) more) = let r = lifts more in record { leads = one (received known needed) r.leads; lent = r.lent; launcher = r.launcher; program = r.program }
@@ -41,12 +41,12 @@ module _ {C La : Type 0} (readings : C → Readings) (launches : La → Launches
   lifts (one (asked known needed) more) = let r = lifts more in record { leads = one (asked known needed) r.leads; lent = r.lent; launcher = r.launcher; program = r.program }
   lifts (one (not_asked unsent split) more) = let r = lifts more in record { leads = one (not_asked unsent split) r.leads; lent = r.lent; launcher = r.launcher; program = r.program }
   lifts (one (turned does) more) = let r = lifts more in record { leads = one (turned does.turns) r.leads; lent = r.lent ∙ does.lent; launcher = r.launcher; program = r.program }
-  lifts (one (further (prompt (called does))) more) = let r = lifts more in record { leads = one (further (prompt (called does.does))) r.leads; lent = r.lent; launcher = r.launcher ∙ does.lent; program = r.program ∙ does.program }
-  lifts (one (further (prompt out_of_memory)) more) = let r = lifts more in record { leads = one (further (prompt out_of_memory)) r.leads; lent = r.lent; launcher = r.launcher; program = r.program }
-  lifts (one (further (keys does)) more) = let r = lifts more in record { leads = one (further (keys does)) r.leads; lent = r.lent; launcher = r.launcher; program = r.program }
-  lifts (one (further (dice does)) more) = let r = lifts more in record { leads = one (further (dice does)) r.leads; lent = r.lent; launcher = r.launcher; program = r.program }
-  lifts (one (further (trust does)) more) = let r = lifts more in record { leads = one (further (trust does)) r.leads; lent = r.lent; launcher = r.launcher; program = r.program }
-  lifts (one (further no_memory) more) = let r = lifts more in record { leads = one (further no_memory) r.leads; lent = r.lent; launcher = r.launcher; program = r.program }
+  lifts (one (ported (prompt (called does))) more) = let r = lifts more in record { leads = one (ported (prompt (called does.does))) r.leads; lent = r.lent; launcher = r.launcher ∙ does.lent; program = r.program ∙ does.program }
+  lifts (one (ported (prompt out_of_memory)) more) = let r = lifts more in record { leads = one (ported (prompt out_of_memory)) r.leads; lent = r.lent; launcher = r.launcher; program = r.program }
+  lifts (one (ported (keys does)) more) = let r = lifts more in record { leads = one (ported (keys does)) r.leads; lent = r.lent; launcher = r.launcher; program = r.program }
+  lifts (one (ported (dice does)) more) = let r = lifts more in record { leads = one (ported (dice does)) r.leads; lent = r.lent; launcher = r.launcher; program = r.program }
+  lifts (one (ported (trust does)) more) = let r = lifts more in record { leads = one (ported (trust does)) r.leads; lent = r.lent; launcher = r.launcher; program = r.program }
+  lifts (one (ported no_memory) more) = let r = lifts more in record { leads = one (ported no_memory) r.leads; lent = r.lent; launcher = r.launcher; program = r.program }
 
 -- what a session at the desk is for the agent
 module _ {C La : Type 0} (readings : C → Readings) (launches : La → Launches) (rules : Rules) (input output input_now output_now : Side) (desk desk_now : SoloState C)

@@ -2,8 +2,8 @@
 use Rattle.std.proofs.{Common.{◌≡◌, ◌∙◌, ◌≤◌, ◌<◌, ◌+◌, ◌*◌, ℕ, zero, suc, List, [], ◌∷◌, length, map, Option, None, Some, refl, ap, ap₂, sym, subst, arith, ◌-◌, ◌%◌, ◌/◌, mod-lt, lit<, true, eqb-true, append-nil}, lemmas.List.length-map}
 use Rattle.std.specs.{Prelude.{nat_lt, ◌==◌, if◌then◌else◌, IfSome, IfOk, Result}, Int.{w32, to_be_bytes}, List.{AllByRecursion, cons_option, filter_map}, Option.ok_or}
 use Rattle.cache_policy.specs.declared.{life.{Life.TheVariants.Seconds, Limits.Limits}, mark.{MarkStep.{MarkStep, TheVariants.{Ask, Put, Clear}}, Way.TheVariants.Quiet, Mark.Mark}, mode.Mode.TheVariants.{Any, User}, tally.Tally.Tally}
-use Rattle.{cache_policy.specs.{Histories.{History, moments}, Legal.IsLegalRun, Replay.{Replays, NoneEmpty, first_history, moments_at}, Runs.{joined, moment_of, start_of_run}}, agent_ask.specs.{Events.Call, Further.FurtherEvent}}
-use Rattle.{agent_ask.specs.Worlds.{Outside, Does, received, sent, cut, asked, not_asked, turned, further}, agent_commands.specs.Events.EventWith, agent_origin.specs.FurtherStates.FurtherWorld, agent_core.specs.Solos.{SoloState, SoloTurn}}
+use Rattle.{cache_policy.specs.{Histories.{History, moments}, Legal.IsLegalRun, Replay.{Replays, NoneEmpty, first_history, moments_at}, Runs.{joined, moment_of, start_of_run}}, agent_ask.specs.{Events.Call, PortCalls.PortCall}}
+use Rattle.{agent_ask.specs.Worlds.{Outside, Does, received, sent, cut, asked, not_asked, turned, ported}, agent_commands.specs.Events.EventWith, agent_origin.specs.PortStates.PortWorld, agent_core.specs.Solos.{SoloState, SoloTurn}}
 use Rattle.{agent_core.specs.Tallies.tally_of, agent_ports.specs.{Leads.{Leads, none, one}, Readings.Readings}, assuan_server.specs.Clients.session_lines, rand_pcg.specs.{Lcg.Lcg, Pcg.pcg32}, session_options.specs.Defaults.default_rules}
 use Rattle.agent_top.{proofs.Replays.first_legal, specs.Cache.{limits_of, session}}
 use Rattle.agent_top.specs.Load.{IsLoadTally, IsMadeByLoad, load_steps, load_words, load_readings, generator_of, key, KeepsRun, AreOfWords, IsOfWord, step_of, words_from, readings_from}
@@ -29,8 +29,8 @@ module _ {C P : Type 0} (readings : C → Readings) (prompted : P → Call → P
   }
 
   -- a session keeps the run of its desk
-  pub session_keeps : {before after : Outside (FurtherWorld (SoloTurn readings) prompted)} {events : List (EventWith FurtherEvent)}
-      → Leads (Does (FurtherWorld (SoloTurn readings) prompted) supply) before events after → KeepsRun before.desk after.desk
+  pub session_keeps : {before after : Outside (PortWorld (SoloTurn readings) prompted)} {events : List (EventWith PortCall)}
+      → Leads (Does (PortWorld (SoloTurn readings) prompted) supply) before events after → KeepsRun before.desk after.desk
   session_keeps {before} none = keeps_itself before.desk
   session_keeps (one (received reads needed) more) = session_keeps more
   session_keeps (one sent more) = session_keeps more
@@ -38,7 +38,7 @@ module _ {C P : Type 0} (readings : C → Readings) (prompted : P → Call → P
   session_keeps (one (asked known needed) more) = session_keeps more
   session_keeps (one (not_asked unsent split) more) = session_keeps more
   session_keeps (one (turned does) more) = keeps_on _ _ _ (keeps_turn does) (session_keeps more)
-  session_keeps (one (further does) more) = session_keeps more
+  session_keeps (one (ported does) more) = session_keeps more
 
 -- ---- marks of words
 

@@ -94,10 +94,10 @@ module _ {E : Type 0} (faults : E → ℕ) (Work : List AtPass → List E → Li
   NewOrGoOn began es js ks = ((js ≡ began) × (ks ≡ es)) ⊎ (Rounds faults Work began es js ks × DaemonGoesOn faults js ks)
 
   -- a round, which ends with a look
-  pub further_round : (began : List AtPass) (es : List E) (js : List AtPass) (ks : List E) (fs : List AtPass) (bs : List E) (now : List AtPass) → NewOrGoOn began es js ks → Work js ks fs bs → FirstLooks fs now
+  pub port_round : (began : List AtPass) (es : List E) (js : List AtPass) (ks : List E) (fs : List AtPass) (bs : List E) (now : List AtPass) → NewOrGoOn began es js ks → Work js ks fs bs → FirstLooks fs now
       → Rounds faults Work began es now bs
-  further_round began es js ks fs bs now (inl new) each looks = one_round (subst (λ j. Work j es fs bs) new.0 (subst (λ k. Work js k fs bs) new.1 each)) looks
-  further_round began es js ks fs bs now (inr before) each looks = one_more_round before.0 before.1 each looks
+  port_round began es js ks fs bs now (inl new) each looks = one_round (subst (λ j. Work j es fs bs) new.0 (subst (λ k. Work js k fs bs) new.1 each)) looks
+  port_round began es js ks fs bs now (inr before) each looks = one_more_round before.0 before.1 each looks
 
 module _ {Ls E Li La C R K T : Type 0} (host : HostViews Ls E Li La C R K T) (rules : Rules) (listener : Ls) (extra : Option Ls) where
   -- the ears of the workers stay their listeners'

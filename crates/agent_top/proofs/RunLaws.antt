@@ -2,7 +2,7 @@
 use Rattle.std.{proofs.Common.{◌≡◌, ◌<◌, ◌+◌, ℕ, Bool, List, Option, Some, None, length, refl, ap, subst, ◌∙◌, arith}, specs.{List.AllByRecursion, Prelude.{⊤, IfSome, true}}}
 use Rattle.{agent_ask.specs.{Events.Call, Prompters.IsCall, Worlds.{Outside, Does}}, agent_commands.specs.{Requests.request_of, declared.went.{SessionEnd.SessionEnd, Went.Went}}}
 use Rattle.{agent_core.{specs.{Known.{MayRefuse, TakesStep, wants, begins, leaves}, Solos.{AtSolo, TurnsSolo, at_desk}, Cores.WantsMemory}, proofs.Alone.{IsAlone, alone_turn}}, agent_origin.specs.DoorSessions.{DoorExchange, door_command}}
-use Rattle.{agent_origin.specs.{Doors.allowed, FurtherStates.FurtherWorld, SessionExchanges.SessionExchange, declared.{door.Door.Door, kept.Kept.Kept}}, agent_ports.specs.{HostParts.Views, Leads.Leads, Readings.Readings}}
+use Rattle.{agent_origin.specs.{Doors.allowed, PortStates.PortWorld, SessionExchanges.SessionExchange, declared.{door.Door.Door, session_state.SessionState.SessionState}}, agent_ports.specs.{HostParts.Views, Leads.Leads, Readings.Readings}}
 use Rattle.{agent_ports.specs.{TrustFiles.TrustState, declared.session.SessionId.SessionId}, agent_serve.{proofs.{PromptedLines.request_prompted, PromptedSessions.{session_prompted, have_prompts}}, specs.Serves.{LinkSides, ServesOne}}}
 use Rattle.agent_session.proofs.{Answering.in_session, AtOnce.all_fit, DoorAnswering.{at_door, door_is_session}, Fair.{all_fair, alone}, LongLines.{long_session, session_long, door_long}}
 use Rattle.agent_session.{proofs.RunExchanges.{session_between, lawful, lawful_session}, specs.{Completeness.{IsStopped, SessionCauses}, DoorCauses.IsCausedAtDoor, Refusals.AnswersAlone, RunExchanges.LawfulExchange}}
@@ -71,15 +71,15 @@ turn_leaves_alone before asked turn after turns alone =
     let step = alone_turn asked before turn after alone turns in
     record { script = ap (λ (s : AtSolo). s.script) step.same ∙ alone.script; nobody = ap (λ (s : AtSolo). s.holder) step.same ∙ alone.nobody }
 
-event_leaves_alone : {supply : Supply} (before : Outside (FurtherWorld TurnsSolo PinentryDoes)) (event : Event) (after : Outside (FurtherWorld TurnsSolo PinentryDoes))
-    → Does (FurtherWorld TurnsSolo PinentryDoes) supply before event after → IsAlone before.desk → IsAlone after.desk
+event_leaves_alone : {supply : Supply} (before : Outside (PortWorld TurnsSolo PinentryDoes)) (event : Event) (after : Outside (PortWorld TurnsSolo PinentryDoes))
+    → Does (PortWorld TurnsSolo PinentryDoes) supply before event after → IsAlone before.desk → IsAlone after.desk
 event_leaves_alone before event after (worlds.received known_so needed) alone = alone
 event_leaves_alone before event after worlds.sent alone = alone
 event_leaves_alone before event after worlds.cut alone = alone
 event_leaves_alone before event after (worlds.asked known_so needed) alone = alone
 event_leaves_alone before event after (worlds.not_asked unsent split) alone = alone
 event_leaves_alone before event after (worlds.turned {taken} {desk} does) alone = turn_leaves_alone before.desk taken.asked taken.turn desk does alone
-event_leaves_alone before event after (worlds.further does) alone = alone
+event_leaves_alone before event after (worlds.ported does) alone = alone
 
 -- ---- the laws
 
@@ -115,9 +115,9 @@ module _ (promise : (before : AtPinentry) (call : Call) (after : AtPinentry) →
         (long_session (door_long door rules) (daemon_caused promise one)) one.served.leads
 
 -- a request on the cache alone that is allowed wants no memory
-pub daemon_alone : {door : Door} {rules : Rules} {kept now : Kept} {line : List ℕ} {events : List Event} {went : Went} {supply : Supply} {before after : Outside (FurtherWorld (CountedTurn (λ (readings : Readings). readings)) PinentryDoes)}
+pub daemon_alone : {door : Door} {rules : Rules} {kept now : SessionState} {line : List ℕ} {events : List Event} {went : Went} {supply : Supply} {before after : Outside (PortWorld (CountedTurn (λ (readings : Readings). readings)) PinentryDoes)}
     → DoorExchange door rules kept line events now went → allowed door line ≡ true → door_command door line ≡ None
-    → Leads (Does (FurtherWorld (CountedTurn (λ (readings : Readings). readings)) PinentryDoes) supply) before events after → AllByRecursion (λ event. ¬ IsStopped event) events → AnswersAlone (request_of line) events
+    → Leads (Does (PortWorld (CountedTurn (λ (readings : Readings). readings)) PinentryDoes) supply) before events after → AllByRecursion (λ event. ¬ IsStopped event) events → AnswersAlone (request_of line) events
 daemon_alone {rules = rules} {line = line} exchange allows is leads still =
     alone rules (request_of line) (door_is_session exchange allows is)
     (all_fit (CountedTurn (λ (readings : Readings). readings)) PinentryDoes (λ (desk : AtCountedDesk Readings). at_counted desk.pass desk.session desk.out) (λ before asked turn after does. does.is) leads)

@@ -1,7 +1,7 @@
 -- What the laws on whole runs say of what the agent does: of a run of a server, of a daemon with each of its workers and each of their sessions, and of a load. This is the project's own.
 use Rattle.std.specs.{List.AllByRecursion, Prelude.{◌<◌, ◌+◌, ◌-◌, ◌^◌, ℕ, List, [], ◌∷◌, Option, None, ⊤}}
-use Rattle.{agent_ask.specs.SessionEvents.turns_in, agent_commands.specs.{Requests.request_of, Talks.Session, declared.went.SessionEnd.SessionEnd}, agent_origin.specs.{DoorSessions.DoorExchange, FurtherStates.FurtherWorld}}
-use Rattle.agent_origin.specs.{OuterPrompts.{no_words, PromptsName}, OuterRuns.LeavesDesk, OuterTurns.LeavesCache, SessionExchanges.kept_at_start, Sessions.supply_of, declared.{door.Door.{Door, TheVariants.{Home, Outer}}, kept.Kept.Kept}}
+use Rattle.{agent_ask.specs.SessionEvents.turns_in, agent_commands.specs.{Requests.request_of, Talks.Session, declared.went.SessionEnd.SessionEnd}, agent_origin.specs.{DoorSessions.DoorExchange, PortStates.PortWorld}}
+use Rattle.agent_origin.specs.{OuterPrompts.{no_words, PromptsName}, OuterRuns.LeavesDesk, OuterTurns.LeavesCache, SessionExchanges.kept_at_start, Sessions.supply_of, declared.{door.Door.{Door, TheVariants.{Home, Outer}}, session_state.SessionState.SessionState}}
 use Rattle.{agent_ports.specs.{Counts.Rose, HostParts.Views, Sides.Side, TrustFiles.TrustState, declared.{listener.Next.TheVariants.Stopped, session.SessionId.SessionId}}, agent_serve.specs.Prompts.HavePrompts}
 use Rattle.{agent_serve.specs.{Serves.{LinkSides, ServesOne, at_pass}, Working.{HostViews, Post, ServesLinks, none, one_more, Works, WorkEach}}, agent_session.specs.Causes.Has}
 use Rattle.agent_session.specs.{Completeness.{AnswersAll, CausedAtDoor, FaultlessAtDoor, IsStopped, Remembers}, OwnPassphrases.HandsIn, Refusals.AnswersAlone, RunExchanges.{ExchangeBetween, Saying}}
@@ -30,7 +30,7 @@ IfOuter Home P = ⊤
 IfOuter Outer P = P
 
 -- What is said of an exchange at a door of the daemon: one that is on the cache alone wants no memory.
-abbrev pub WantsNone : Door → Saying (FurtherWorld (CountedTurn (λ readings. readings)) PinentryDoes) Kept
+abbrev pub WantsNone : Door → Saying (PortWorld (CountedTurn (λ readings. readings)) PinentryDoes) SessionState
 WantsNone door before line events after went = IsOfEverySession door line → AllByRecursion (λ event. ¬ IsStopped event) events → AnswersAlone (request_of line) events
 
 -- What the laws say of a session of a daemon.
@@ -40,7 +40,7 @@ pub record LawfulOne {La C R K T : Type 0} {views : Views La C R K} {trusts : T 
   pub causes : Session (CausedAtDoor door rules) (kept_at_start rules) one.served.events end
   pub answered : NoFaultOfOne one → AllByRecursion Remembers one.served.events → AnswersAll (FaultlessAtDoor door rules) rules one.served.events end
   pub own : (mark : Mark) → Has mark one.own → HandsIn mark.step → IsOwnTurn door rules one.served.events mark
-  pub alone : Session (ExchangeBetween {w = FurtherWorld (CountedTurn (λ readings. readings)) PinentryDoes} (supply_of before.input.bytes) (DoorExchange door rules) (WantsNone door))
+  pub alone : Session (ExchangeBetween {w = PortWorld (CountedTurn (λ readings. readings)) PinentryDoes} (supply_of before.input.bytes) (DoorExchange door rules) (WantsNone door))
       (first_state (kept_at_start rules)
       (at_pass rules session before (record pass { sessions = session.count + 1 }) (views.readings one.parts.clock) (views.launches one.parts.launcher) (views.keys one.parts.keys)
       (views.draws one.parts.dice) (trusts one.trust_file)))

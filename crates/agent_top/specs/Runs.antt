@@ -1,7 +1,7 @@
 -- Runs of `--server`, and sessions of a daemon: what the laws on single requests say of each of their exchanges, and their prompts. This is the project's own.
 use Rattle.std.specs.Prelude.{◌≡◌, ◌<◌, ◌+◌, ℕ, List, true, length, IfSome, None, ⊤}
 use Rattle.{agent_commands.specs.{Talks.Session, declared.went.SessionEnd.SessionEnd, Outside.World}, agent_core.specs.Solos.{AtSolo, TurnsSolo}, agent_origin.specs.{DoorSessions.{DoorExchange, door_command}, Doors.allowed}}
-use Rattle.{agent_origin.specs.{FurtherStates.FurtherWorld, SessionExchanges.{SessionExchange, kept_at_start}, Sessions.{Surroundings, supply_of}, declared.door.Door.Door}, agent_ports.specs.{HostParts.Views, Readings.Readings}}
+use Rattle.{agent_origin.specs.{PortStates.PortWorld, SessionExchanges.{SessionExchange, kept_at_start}, Sessions.{Surroundings, supply_of}, declared.door.Door.Door}, agent_ports.specs.{HostParts.Views, Readings.Readings}}
 use Rattle.{agent_ports.specs.{TrustFiles.TrustState, declared.session.SessionId.SessionId}, agent_serve.specs.{Prompts.HavePrompts, Serves.{LinkSides, ServesOne, at_pass}}, agent_session.specs.Completeness.SessionCauses}
 use Rattle.{agent_session.specs.{DoorCauses.IsCausedAtDoor, RunExchanges.{Between, ExchangeBetween, LawfulExchange, LawfulSession}}, cache_policy.specs.{Runs.last_history, declared.bounds.TheConstants.MAX_MARKS}}
 use Rattle.{counted_lock.specs.{Passes.AtPass, Turns.{AtCountedDesk, CountedTurn}}, pinentry_client.specs.{Dialogues.PinentryDoes, States.at_prompter}, session_options.specs.declared.rules.Rules.Rules}
@@ -25,7 +25,7 @@ abbrev pub IsLawfulRun : {rules : Rules} {before : Machine} {number : ℕ} {afte
 IsLawfulRun {rules} {before} {after} (ran run) =
     let start = with_desk rules (fresh_desk (limits_of rules) before.clock) before in
     LawfulSession at_prompter
-    (Session (ExchangeBetween {w = FurtherWorld TurnsSolo PinentryDoes} (supply_of before.input.bytes) (SessionExchange rules)
+    (Session (ExchangeBetween {w = PortWorld TurnsSolo PinentryDoes} (supply_of before.input.bytes) (SessionExchange rules)
     (LawfulExchange TurnsSolo PinentryDoes at_prompter rules (SessionCauses rules) (λ line. ⊤) IsWithinHistory)) (first_state (kept_at_start rules) start) run.served.events run.end)
     run.served.events run.end start.ends (with_desk rules run.desk after).ends
 IsLawfulRun top.no_memory = ⊤
@@ -43,7 +43,7 @@ IsLawfulSession {views} {trusts} {rules} {door} {session} {before} {after} {pass
     at_pass rules session before (record pass { sessions = session.count + 1 }) (views.readings one.parts.clock) (views.launches one.parts.launcher) (views.keys one.parts.keys) (views.draws one.parts.dice)
     (trusts one.trust_file) in
     LawfulSession at_prompter
-    (Session (ExchangeBetween {w = FurtherWorld (CountedTurn (λ readings. readings)) PinentryDoes} (supply_of before.input.bytes) (DoorExchange door rules)
+    (Session (ExchangeBetween {w = PortWorld (CountedTurn (λ readings. readings)) PinentryDoes} (supply_of before.input.bytes) (DoorExchange door rules)
     (LawfulExchange (CountedTurn (λ (readings : Readings). readings)) PinentryDoes at_prompter rules (IsCausedAtDoor door rules) (IsOfEverySession door) (λ (desk : AtCountedDesk Readings). ⊤)))
     (first_state (kept_at_start rules) start) one.served.events end)
     one.served.events end start.ends (at_pass rules session after now one.clock_now one.launches_now one.keys_now one.dice_now one.trust_now).ends

@@ -3,7 +3,7 @@ use Rattle.std.specs.{Prelude.{◌≡◌, ◌⊎◌, ℕ, List, [], ◌∷◌, O
 use Rattle.{agent_core.specs.Solos.{AtSolo, TurnsSolo}, agent_ports.specs.{HostParts.{Views, AreSettled, settled_at}, KeyFiles.KeyFiles, Readings.{Readings, HasGiven}, Sides.Side, Launches.Launches, declared.host.Parts.Parts}}
 use Rattle.cache_policy.specs.{Histories.History, declared.{life.Limits.Limits, mark.MarkStep.MarkStep}, Extending.{Taken, IsExtended}, Legal.IsLegalRun, Replay.{first_history, Replays, Marked}, Turns.since_of}
 use Rattle.{session_options.specs.declared.rules.{Rules.Rules, RunMode.{RunMode, TheVariants.{Server, Daemon, Load}}}, agent_ask.specs.SessionEvents.turns_in, agent_commands.specs.declared.went.SessionEnd.SessionEnd}
-use Rattle.{agent_commands.specs.declared.went.SessionEnd.TheVariants.{Bye, Killed, Ended, TooLong, Spent, ReadFault, WriteFault}, agent_origin.specs.{Sessions.Surroundings, FurtherStates.FurtherWorld}}
+use Rattle.{agent_commands.specs.declared.went.SessionEnd.TheVariants.{Bye, Killed, Ended, TooLong, Spent, ReadFault, WriteFault}, agent_origin.specs.{Sessions.Surroundings, PortStates.PortWorld}}
 use Rattle.{agent_session.specs.Sessions.{without_trust, ServesRules}, pinentry_client.specs.{Dialogues.PinentryDoes, States.{AtPinentry, idle}}}
 use Rattle.agent_top.specs.{Cache.{limits_of, session, fresh_desk}, declared.status.Status.Status}
 use Rattle.agent_top.specs.declared.status.Status.TheVariants as status
@@ -47,7 +47,7 @@ no_child rules launches = idle rules.pinentry.items launches
 
 -- the machine as a session's surroundings: with this desk, and the rules' pinentry without a
 -- child
-abbrev pub with_desk : Rules → AtSolo → Machine → Surroundings (FurtherWorld TurnsSolo PinentryDoes)
+abbrev pub with_desk : Rules → AtSolo → Machine → Surroundings (PortWorld TurnsSolo PinentryDoes)
 with_desk rules desk around = without_trust TurnsSolo PinentryDoes around.input around.output desk (no_child rules around.launches) around.keys around.dice
 
 -- The run is the replay of the turns that made a mark, none of which waited: no step has a since. Each turn took one reading of the clock, and

@@ -7,8 +7,8 @@ ghost use Rattle.{agent_ask.specs.Worlds.{Outside, Does}, agent_commands.specs.R
 ghost use Rattle.agent_commands.specs.{Talks.Session, declared.went.SessionEnd.SessionEnd as Ends};
 ghost use Rattle.agent_commands.specs.declared.went.Went.{Went};
 ghost use Rattle.agent_origin.specs.{DoorSessions.{DoorExchange, door_command}, Doors.allowed};
-ghost use Rattle.agent_origin.specs.{FurtherStates.FurtherWorld, SessionExchanges.kept_at_start};
-ghost use Rattle.agent_origin.specs.declared.{door.Door.Door, kept.Kept.Kept};
+ghost use Rattle.agent_origin.specs.{PortStates.PortWorld, SessionExchanges.kept_at_start};
+ghost use Rattle.agent_origin.specs.declared.{door.Door.Door, session_state.SessionState.SessionState};
 ghost use Rattle.agent_ports.specs.{Counts.Rose, Leads.Leads, Sides.Side};
 ghost use Rattle.agent_ports.specs.declared.session.SessionId.{SessionId};
 ghost use Rattle.agent_serve.specs.Serves.{LinkSides, ServesOne};
@@ -99,12 +99,12 @@ pub fn each_error_of_a_daemon_has_its_cause<H: Host>()
 /// RELOADAGENT that are allowed at its door want no memory: the passphrase or No data, or OK, is
 /// their answer, unless a turn was replied Stopping.
 pub fn a_daemon_wants_no_memory_for_the_cache_alone()
-    ensures { (door : Door) (rules : Rules) (kept now : Kept) (line : List ℕ)
+    ensures { (door : Door) (rules : Rules) (kept now : SessionState) (line : List ℕ)
         (events : List Event) (went : Went) (supply : Supply)
-        (before after : Outside (FurtherWorld (CountedTurn (λ readings. readings)) PinentryDoes))
+        (before after : Outside (PortWorld (CountedTurn (λ readings. readings)) PinentryDoes))
         → DoorExchange door rules kept line events now went → allowed door line ≡ true
         → door_command door line ≡ None
-        → Leads (Does (FurtherWorld (CountedTurn (λ readings. readings)) PinentryDoes) supply)
+        → Leads (Does (PortWorld (CountedTurn (λ readings. readings)) PinentryDoes) supply)
         before events after → AllByRecursion (λ event. ¬ IsStopped event) events
         → AnswersAlone (request_of line) events }
 {}

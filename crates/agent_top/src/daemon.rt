@@ -74,10 +74,10 @@ where
     let Some((listener, extra)) = listeners(rules, host) else {
         return Status::ListenFault.number();
     };
-    let further = extra.as_ref();
-    let ears = with_ears::<H>(&listener, further, room, rules.workers as usize);
+    let ported = extra.as_ref();
+    let ears = with_ears::<H>(&listener, ported, room, rules.workers as usize);
     let (passes, ears) = serve_rounds(
-        rt, alloc, rules, host, &listener, further, &counted, passes, ears,
+        rt, alloc, rules, host, &listener, ported, &counted, passes, ears,
     );
     let tally = counted.close(passes);
     drop(listener);

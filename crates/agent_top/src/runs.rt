@@ -16,7 +16,7 @@ use agent_ports::Host;
 use pinentry_client::a_pinentry_is_a_prompter;
 
 /// The laws on single requests hold of each exchange of a run, between the states of its desk and
-/// its further ends before and behind it. A request that asks nobody is answered at once, and wants
+/// its ports before and behind it. A request that asks nobody is answered at once, and wants
 /// no memory within a history, where it is one on the cache alone; one that was refused did nothing
 /// more; what it hands to the cache is its own; a failure raised its count, and at most as many
 /// failed on an end as its count rose by; after an error line the session goes on, unless that is

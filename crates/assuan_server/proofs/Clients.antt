@@ -3,13 +3,13 @@ use Rattle.std.{proofs.Common.{◌≡◌, ℕ, true, List, [], ◌++◌, ◌⊎�
 use Rattle.{agent_ports.specs.{Counts.Rose, Sides.{Side, WhereKnown}, declared.link.WriteFault.WriteFault}, assuan_line.specs.{Lines.IsLine, Next.{Reader, WereNeeded, held}, declared.reader.Took.Took}}
 use Rattle.{assuan_line.proofs.ReadingOn.{fewer_are_held, fault_count_rose}, assuan_text.specs.Forms.is_ignored, cache_policy.specs.declared.secret.TheConstants.MAX_SECRET_LEN}
 use Rattle.session_client.specs.{Asking.{Asked, NotAsked, LeavesInput, HasSaid, SaysLine, HasInquired, LeftBy, Inquires, TellsClient, AsksClient, without_data, is_unread}, Lines.TakesNeeded, declared.client.TheConstants.MAX_NOTE_LEN}
-use Rattle.session_client.{specs.declared.unheard.Unheard.Unheard, proofs.Received.HasReceived}
+use Rattle.session_client.{specs.declared.client_error.ClientError.ClientError, proofs.Received.HasReceived}
 use Rattle.assuan_server.specs.{Asking.{Gather, Inquire, IsNotAsked, Asks, not_written}, Clients.{HasSupply, connection_views, is_read_fault, outcome_says, asked, unsaid, Wishes}, Connections.{Connection, IsOpen}}
 use Rattle.assuan_server.specs.{Inquiries.{Outcome, Inquiry as Comes, IsData, Answers, AnswersDropped, drop_outcome, secret_outcome, ended_of, inquire_text, is_skipped}, Reading.{Supply, ReadsRequest, ReadsInquiry, IsSupply, unread}}
 use Rattle.assuan_server.{specs.{Requests.NextRequest, Written.{WritesText, WritesLine}}, proofs.{NoteLines.note_text, Reading.{read_known, reads_past, here_going}}}
 use Rattle.assuan_line.specs.declared.reader.Took.TheVariants as took
-use Rattle.session_client.specs.declared.unheard.Gone.TheVariants as gone
-use Rattle.session_client.specs.declared.unheard.Unheard.TheVariants as unheard
+use Rattle.session_client.specs.declared.client_error.Gone.TheVariants as gone
+use Rattle.session_client.specs.declared.client_error.ClientError.TheVariants as client_error
 use Rattle.assuan_server.specs.Inquiries as outcome
 
 -- a connection that was left alone but for its output has the same bytes to come
@@ -118,18 +118,18 @@ left_by start now outcome.TooLong ended rose = record { ended = ended; read_faul
 left_by start now outcome.Spent ended rose = record { ended = ended; read_fault = λ e. absurd (cc e); write_fault = λ e. absurd (cc e) }
 left_by start now outcome.ReadFault ended rose = record { ended = ended; read_fault = λ e. rose refl; write_fault = λ e. absurd (cc e) }
 
-left_dropped : (start now : Connection) (result : Result (List ℕ) Unheard) → LeftBy connection_views result start now → LeftBy connection_views (without_data result) start now
+left_dropped : (start now : Connection) (result : Result (List ℕ) ClientError) → LeftBy connection_views result start now → LeftBy connection_views (without_data result) start now
 left_dropped start now (Ok bytes) left = left
-left_dropped start now (Err unheard.Cancelled) left = left
-left_dropped start now (Err unheard.TooMuch) left = left
-left_dropped start now (Err unheard.Unexpected) left = left
-left_dropped start now (Err (unheard.Gone how)) left = left
+left_dropped start now (Err client_error.Cancelled) left = left
+left_dropped start now (Err client_error.TooMuch) left = left
+left_dropped start now (Err client_error.Unexpected) left = left
+left_dropped start now (Err (client_error.Gone how)) left = left
 
 -- an inquiry by this word and these parameters
 module _ (word params : List ℕ) (limit : ℕ) (start now : Connection) where
   -- its line wasn't written whole
   pub not_inquired : {A : Type 0} (not : IsNotAsked (inquire_text word params) start now)
-      → Inquires connection_views {A = A} word params limit (NotAsked not.1.output.stopped.sent) (Err (unheard.Gone gone.WriteFault)) start now
+      → Inquires connection_views {A = A} word params limit (NotAsked not.1.output.stopped.sent) (Err (client_error.Gone gone.WriteFault)) start now
   not_inquired (count, part) = record {
     done = record { leaves = leaves start now part.input part.reader part.link; stopped = part.output.stopped; sent_is = refl; faults = part.faults };
     fewer = λ is. omega (arith, ap held part.reader);
@@ -204,18 +204,18 @@ module _ {pid : ℕ} {start now : Connection} (going : IsOpen start) where
         inquires = record { done = inquires.done; fewer = inquires.fewer; left = left_dropped start now (outcome_says what) inquires.left };
       }
 
-  pub told : (result : Result (Unit {0}) Unheard) → Asks (Err not_written) MAX_NOTE_LEN (note_text pid) result (AnswersDropped (drop_outcome result)) start now → TellsClient connection_views pid result start now
+  pub told : (result : Result (Unit {0}) ClientError) → Asks (Err not_written) MAX_NOTE_LEN (note_text pid) result (AnswersDropped (drop_outcome result)) start now → TellsClient connection_views pid result start now
   told (Ok noted) asks =
       let gave = inquired_data (codes "PINENTRY_LAUNCHED") (decimal pid) MAX_NOTE_LEN start now going (asks.inquiry (λ e. cc e)) in
       record { inquired = Asked (outcome.Data gave.0); result_is = refl; inquires = gave.1 }
-  told (Err unheard.Cancelled) asks = told_as outcome.Cancelled (asks.inquiry (λ e. cc e))
-  told (Err unheard.TooMuch) asks = told_as outcome.TooMuch (asks.inquiry (λ e. cc e))
-  told (Err unheard.Unexpected) asks = told_as outcome.Unexpected (asks.inquiry (λ e. cc e))
-  told (Err (unheard.Gone gone.Ended)) asks = told_as outcome.Ended (asks.inquiry (λ e. cc e))
-  told (Err (unheard.Gone gone.TooLong)) asks = told_as outcome.TooLong (asks.inquiry (λ e. cc e))
-  told (Err (unheard.Gone gone.Spent)) asks = told_as outcome.Spent (asks.inquiry (λ e. cc e))
-  told (Err (unheard.Gone gone.ReadFault)) asks = told_as outcome.ReadFault (asks.inquiry (λ e. cc e))
-  told (Err (unheard.Gone gone.WriteFault)) asks = record {
+  told (Err client_error.Cancelled) asks = told_as outcome.Cancelled (asks.inquiry (λ e. cc e))
+  told (Err client_error.TooMuch) asks = told_as outcome.TooMuch (asks.inquiry (λ e. cc e))
+  told (Err client_error.Unexpected) asks = told_as outcome.Unexpected (asks.inquiry (λ e. cc e))
+  told (Err (client_error.Gone gone.Ended)) asks = told_as outcome.Ended (asks.inquiry (λ e. cc e))
+  told (Err (client_error.Gone gone.TooLong)) asks = told_as outcome.TooLong (asks.inquiry (λ e. cc e))
+  told (Err (client_error.Gone gone.Spent)) asks = told_as outcome.Spent (asks.inquiry (λ e. cc e))
+  told (Err (client_error.Gone gone.ReadFault)) asks = told_as outcome.ReadFault (asks.inquiry (λ e. cc e))
+  told (Err (client_error.Gone gone.WriteFault)) asks = record {
     inquired = _;
     result_is = refl;
     inquires = not_inquired (codes "PINENTRY_LAUNCHED") (decimal pid) MAX_NOTE_LEN start now (asks.cut refl);
@@ -227,20 +227,20 @@ module _ {word : List ℕ} {start now : Connection} (going : IsOpen start) where
       → AsksClient connection_views word MAX_SECRET_LEN (outcome_says what) start now
   wished_as what inquire = record { inquired = Asked what; result_is = refl; inquires = inquiry_is_done word [] MAX_SECRET_LEN start now going what inquire }
 
-  pub wished : (result : Result (List ℕ) Unheard) → Asks (Err not_written) MAX_SECRET_LEN (inquire_text word []) result (Answers (secret_outcome result)) start now
+  pub wished : (result : Result (List ℕ) ClientError) → Asks (Err not_written) MAX_SECRET_LEN (inquire_text word []) result (Answers (secret_outcome result)) start now
       → AsksClient connection_views word MAX_SECRET_LEN result start now
   wished (Ok secret) asks = wished_as (outcome.Data secret) (asks.inquiry (λ e. cc e))
-  wished (Err unheard.Cancelled) asks = wished_as outcome.Cancelled (asks.inquiry (λ e. cc e))
-  wished (Err unheard.TooMuch) asks = wished_as outcome.TooMuch (asks.inquiry (λ e. cc e))
-  wished (Err unheard.Unexpected) asks = wished_as outcome.Unexpected (asks.inquiry (λ e. cc e))
-  wished (Err (unheard.Gone gone.Ended)) asks = wished_as outcome.Ended (asks.inquiry (λ e. cc e))
-  wished (Err (unheard.Gone gone.TooLong)) asks = wished_as outcome.TooLong (asks.inquiry (λ e. cc e))
-  wished (Err (unheard.Gone gone.Spent)) asks = wished_as outcome.Spent (asks.inquiry (λ e. cc e))
-  wished (Err (unheard.Gone gone.ReadFault)) asks = wished_as outcome.ReadFault (asks.inquiry (λ e. cc e))
-  wished (Err (unheard.Gone gone.WriteFault)) asks = record { inquired = _; result_is = refl; inquires = not_inquired word [] MAX_SECRET_LEN start now (asks.cut refl) }
+  wished (Err client_error.Cancelled) asks = wished_as outcome.Cancelled (asks.inquiry (λ e. cc e))
+  wished (Err client_error.TooMuch) asks = wished_as outcome.TooMuch (asks.inquiry (λ e. cc e))
+  wished (Err client_error.Unexpected) asks = wished_as outcome.Unexpected (asks.inquiry (λ e. cc e))
+  wished (Err (client_error.Gone gone.Ended)) asks = wished_as outcome.Ended (asks.inquiry (λ e. cc e))
+  wished (Err (client_error.Gone gone.TooLong)) asks = wished_as outcome.TooLong (asks.inquiry (λ e. cc e))
+  wished (Err (client_error.Gone gone.Spent)) asks = wished_as outcome.Spent (asks.inquiry (λ e. cc e))
+  wished (Err (client_error.Gone gone.ReadFault)) asks = wished_as outcome.ReadFault (asks.inquiry (λ e. cc e))
+  wished (Err (client_error.Gone gone.WriteFault)) asks = record { inquired = _; result_is = refl; inquires = not_inquired word [] MAX_SECRET_LEN start now (asks.cut refl) }
 
-  pub wishes : (result : Result (List ℕ) Unheard) → Asks (Err not_written) MAX_SECRET_LEN (inquire_text word []) result (Answers (secret_outcome result)) start now → Wishes start word result now
+  pub wishes : (result : Result (List ℕ) ClientError) → Asks (Err not_written) MAX_SECRET_LEN (inquire_text word []) result (Answers (secret_outcome result)) start now → Wishes start word result now
   wishes result asks = let is = wished result asks in record { wished = asked is; left = is.inquires.left }
 
-pub wishes_unsaid : {word : List ℕ} {start : Connection} → IsOpen start → ¬ IsLine (inquire_text word []) → Wishes start word (Err unheard.Unexpected) start
+pub wishes_unsaid : {word : List ℕ} {start : Connection} → IsOpen start → ¬ IsLine (inquire_text word []) → Wishes start word (Err client_error.Unexpected) start
 wishes_unsaid going unfit = record { wished = unsaid unfit; left = going }

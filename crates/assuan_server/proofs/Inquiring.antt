@@ -1,7 +1,7 @@
 -- An inquiry: from its question to what its answer says.
 use Rattle.std.{proofs.{Common.{◌≡◌, ◌≢◌, ◌≤◌, ◌<◌, ℕ, List, [], length, Some, None, refl, ap, sym, ◌∙◌, subst, arith, inl, inr}, lemmas.Bool.cases_lt}, specs.{Prelude.codes, List.flat_map}}
 use Rattle.{agent_ports.specs.{Sides.Side, declared.link.Sent.TheVariants.All}, assuan_escape.specs.DataLines.carried, assuan_line.specs.{Next.{Reader, ended_by}, Reading.HasRead, Skipping.{IsUndecided, ReadsOn}, declared.reader.Took.Took}}
-use Rattle.{assuan_line.{specs.declared.reader.Took.TheVariants.Line, proofs.ReadingOn.read_says_less}, assuan_text.specs.LineEnds.line_of, session_client.specs.declared.unheard.Unheard.Unheard}
+use Rattle.{assuan_line.{specs.declared.reader.Took.TheVariants.Line, proofs.ReadingOn.read_says_less}, assuan_text.specs.LineEnds.line_of, session_client.specs.declared.client_error.ClientError.ClientError}
 use Rattle.assuan_server.specs.{Asking.{Gather, Inquire, not_written}, Connections.Connection, Ends.{IsAnswer, GivesNone}}
 use Rattle.assuan_server.specs.Inquiries.{Outcome, Data, TooMuch, Cancelled, Unexpected, Ended, TooLong, Spent, ReadFault, ended_of, error_outcome, IsAtEnd, IsData, IsWord, Names, Answers, AnswersDropped, is_skipped, ComesTo, can, end}
 use Rattle.assuan_server.specs.{Inquiries.{past, foreign, ended, too_long, spent, read_fault}, Written.HasWritten}
@@ -34,7 +34,7 @@ ended_by_outcome spent = refl
 ended_by_outcome read_fault = refl
 
 -- the client gave nothing, whatever the bytes are
-module _ {took : Took} {error : Unheard} (none : GivesNone took error) where
+module _ {took : Took} {error : ClientError} (none : GivesNone took error) where
   pub failed : {limit : ℕ} {keeps : List ℕ → Type 0} (Else : Outcome → Type 0) → IsAnswer limit keeps took (Names Else (error_outcome error))
   failed {limit} Else = rw none.named (record {
     answers = λ bytes kept. (none.outcome, none.comes_to limit bytes, refl);

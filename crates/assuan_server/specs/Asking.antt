@@ -1,7 +1,7 @@
 -- What asking the client does to a connection.
 use Rattle.std.specs.Prelude.{◌≡◌, ◌≢◌, ◌≤◌, ℕ, List, []}
 use Rattle.{agent_ports.specs.{Sides.with_bytes, declared.link.Sent.TheVariants.Failed}, assuan_line.specs.{Next.{Reader, ended_by}, Reading.HasRead, Skipping.IsUndecided, declared.reader.Took.Took}, assuan_text.specs.LineEnds.line_of}
-use Rattle.session_client.specs.declared.unheard.{Unheard.{Unheard, TheVariants.Gone}, Gone.TheVariants.WriteFault}
+use Rattle.session_client.specs.declared.client_error.{ClientError.{ClientError, TheVariants.Gone}, Gone.TheVariants.WriteFault}
 use Rattle.assuan_server.specs.{Connections.Connection, Inquiries.{Outcome, Inquiry, ended_of, is_skipped}, Written.HasWritten}
 
 -- a line was written, and lines were read up to the first answer that an inquiry doesn't skip
@@ -26,10 +26,10 @@ abbrev pub IsNotAsked : List ℕ → Connection → Connection → Type 0
 IsNotAsked line before after = (count : ℕ) × HasWritten (line_of line) before (Failed count) after
 
 -- the error of a client whom nothing was asked, since its link takes nothing
-abbrev pub not_written : Unheard
+abbrev pub not_written : ClientError
 not_written = Gone WriteFault
 
-abbrev pub NotWritten : List ℕ → Connection → Connection → Unheard → Type 0
+abbrev pub NotWritten : List ℕ → Connection → Connection → ClientError → Type 0
 NotWritten line before after error = (error ≡ not_written) × IsNotAsked line before after
 
 -- The client was asked by this line, and its answer, of which so much is said, came to this; or it came to that the line wasn't written.

@@ -2,22 +2,22 @@
 -- inquiry (Assuan manual, "server responses").
 use Rattle.std.specs.Prelude.{ℕ, Bool, true, false, List, [], Option, Some, None, Result, Ok, Err, IfSome}
 use Rattle.{assuan_line.specs.{Lines.IsLine, Next.{WereNeeded, held}, Skipping.IsUndecided, declared.reader.Took.Took}, assuan_text.specs.{Forms.is_ignored, LineEnds.line_of}, cache_policy.specs.declared.secret.TheConstants.MAX_SECRET_LEN}
-use Rattle.session_client.specs.{Asking.{AsksClient, LeftBy}, Lines.{Lines, Views}, declared.unheard.{Gone.Gone, Unheard.Unheard}}
+use Rattle.session_client.specs.{Asking.{AsksClient, LeftBy}, Lines.{Lines, Views}, declared.client_error.{Gone.Gone, ClientError.ClientError}}
 use Rattle.assuan_server.specs.{Connections.Connection, Inquiries.{Outcome, Data, Cancelled, TooMuch, Unexpected, Ended, TooLong, Spent, ReadFault, inquire_text, is_skipped}, Reading.{Supply, ReadsRequest, ReadsInquiry, IsSupply, unread}}
 use Rattle.assuan_line.specs.declared.reader.Took.TheVariants as took
-use Rattle.session_client.specs.declared.unheard.Gone.TheVariants as gone
-use Rattle.session_client.specs.declared.unheard.Unheard.TheVariants as unheard
+use Rattle.session_client.specs.declared.client_error.Gone.TheVariants as gone
+use Rattle.session_client.specs.declared.client_error.ClientError.TheVariants as client_error
 
 -- what the client has said by an inquiry that came to this
-abbrev pub outcome_says : Outcome → Result (List ℕ) Unheard
+abbrev pub outcome_says : Outcome → Result (List ℕ) ClientError
 outcome_says (Data bytes) = Ok bytes
-outcome_says Cancelled = Err unheard.Cancelled
-outcome_says TooMuch = Err unheard.TooMuch
-outcome_says Unexpected = Err unheard.Unexpected
-outcome_says Ended = Err (unheard.Gone gone.Ended)
-outcome_says TooLong = Err (unheard.Gone gone.TooLong)
-outcome_says Spent = Err (unheard.Gone gone.Spent)
-outcome_says ReadFault = Err (unheard.Gone gone.ReadFault)
+outcome_says Cancelled = Err client_error.Cancelled
+outcome_says TooMuch = Err client_error.TooMuch
+outcome_says Unexpected = Err client_error.Unexpected
+outcome_says Ended = Err (client_error.Gone gone.Ended)
+outcome_says TooLong = Err (client_error.Gone gone.TooLong)
+outcome_says Spent = Err (client_error.Gone gone.Spent)
+outcome_says ReadFault = Err (client_error.Gone gone.ReadFault)
 
 -- the answer that ended the reader of a client that is gone so
 abbrev pub answer_of : Gone → Option Took
@@ -65,11 +65,11 @@ connection_views = record {
 }
 
 -- it was asked for a passphrase by a word, or the word fits no line, and nothing is asked
-pub data Wished (before : Connection) (word : List ℕ) : Result (List ℕ) Unheard → Connection → Type 0 where
-  asked : {result : Result (List ℕ) Unheard} {after : Connection} → AsksClient connection_views word MAX_SECRET_LEN result before after → Wished before word result after
-  unsaid : ¬ IsLine (inquire_text word []) → Wished before word (Err unheard.Unexpected) before
+pub data Wished (before : Connection) (word : List ℕ) : Result (List ℕ) ClientError → Connection → Type 0 where
+  asked : {result : Result (List ℕ) ClientError} {after : Connection} → AsksClient connection_views word MAX_SECRET_LEN result before after → Wished before word result after
+  unsaid : ¬ IsLine (inquire_text word []) → Wished before word (Err client_error.Unexpected) before
 
 -- and how the connection is left
-pub record Wishes (before : Connection) (word : List ℕ) (result : Result (List ℕ) Unheard) (after : Connection) : Type 0 where
+pub record Wishes (before : Connection) (word : List ℕ) (result : Result (List ℕ) ClientError) (after : Connection) : Type 0 where
   pub wished : Wished before word result after
   pub left : LeftBy connection_views result before after

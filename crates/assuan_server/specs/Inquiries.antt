@@ -2,11 +2,11 @@
 -- CAN. What is skipped between these, and what becomes of any other line, is this project's own rule.
 use Rattle.std.specs.{Prelude.{◌≡◌, ◌<◌, ◌≤◌, ◌==◌, ◌||◌, Bool, ℕ, List, [], ◌++◌, length, map, codes, if◌then◌else◌, Option, Some, None, Result, Ok, Err}, List.{flat_map, before_first}, Char.to_ascii_lowercase}
 use Rattle.{assuan_text.specs.{Forms.{is_data, is_idle}, Blanks.is_blank}, assuan_escape.specs.DataLines.carried, assuan_line.specs.{Next.Reader, Skipping.ReadsAfter, declared.reader.Took.Took}}
-use Rattle.session_client.specs.declared.unheard.Unheard.{Unheard}
+use Rattle.session_client.specs.declared.client_error.ClientError.{ClientError}
 use Rattle.assuan_server.specs.declared.inquiry.{Dropped.Dropped, Inquired.Inquired, InquiredSecret.InquiredSecret}
 use Rattle.assuan_line.specs.declared.reader.Took.TheVariants as took
-use Rattle.session_client.specs.declared.unheard.Unheard.TheVariants as unheard
-use Rattle.session_client.specs.declared.unheard.Gone.TheVariants as gone
+use Rattle.session_client.specs.declared.client_error.ClientError.TheVariants as client_error
+use Rattle.session_client.specs.declared.client_error.Gone.TheVariants as gone
 use Rattle.assuan_server.specs.declared.inquiry.Dropped.TheVariants as dropped
 use Rattle.assuan_server.specs.declared.inquiry.Inquired.TheVariants as inquired
 use Rattle.assuan_server.specs.declared.inquiry.InquiredSecret.TheVariants as inquired_secret
@@ -116,21 +116,21 @@ outcome_of_dropped dropped.ReadFault = Some ReadFault
 outcome_of_dropped dropped.WriteFault = None
 
 -- and a client that gave a passphrase or took note, or else its error
-abbrev pub error_outcome : Unheard → Option Outcome
-error_outcome unheard.Cancelled = Some Cancelled
-error_outcome unheard.TooMuch = Some TooMuch
-error_outcome unheard.Unexpected = Some Unexpected
-error_outcome (unheard.Gone gone.Ended) = Some Ended
-error_outcome (unheard.Gone gone.TooLong) = Some TooLong
-error_outcome (unheard.Gone gone.Spent) = Some Spent
-error_outcome (unheard.Gone gone.ReadFault) = Some ReadFault
-error_outcome (unheard.Gone gone.WriteFault) = None
+abbrev pub error_outcome : ClientError → Option Outcome
+error_outcome client_error.Cancelled = Some Cancelled
+error_outcome client_error.TooMuch = Some TooMuch
+error_outcome client_error.Unexpected = Some Unexpected
+error_outcome (client_error.Gone gone.Ended) = Some Ended
+error_outcome (client_error.Gone gone.TooLong) = Some TooLong
+error_outcome (client_error.Gone gone.Spent) = Some Spent
+error_outcome (client_error.Gone gone.ReadFault) = Some ReadFault
+error_outcome (client_error.Gone gone.WriteFault) = None
 
-abbrev pub secret_outcome : Result (List ℕ) Unheard → Option Outcome
+abbrev pub secret_outcome : Result (List ℕ) ClientError → Option Outcome
 secret_outcome (Ok secret) = Some (Data secret)
 secret_outcome (Err error) = error_outcome error
 
-abbrev pub drop_outcome : Result (Unit {0}) Unheard → Option Outcome
+abbrev pub drop_outcome : Result (Unit {0}) ClientError → Option Outcome
 drop_outcome (Ok noted) = None
 drop_outcome (Err error) = error_outcome error
 

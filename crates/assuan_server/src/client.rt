@@ -8,7 +8,7 @@ use assuan_line::Line;
 use assuan_text::MAX_LINE_LEN;
 use cache_policy::Secret;
 use itoa::Buffer;
-use session_client::{Client, MAX_NOTE_LEN, Unheard};
+use session_client::{Client, ClientError, MAX_NOTE_LEN};
 
 /// What stands before the word of an inquiry in its line.
 const INQUIRE: &[u8] = b"INQUIRE ";
@@ -24,16 +24,16 @@ impl<'l, L: Link> Client<Secret> for Conn<'l, L> {
 
     ghost promise = { λ before word result after going wishes. wishes.left };
 
-    fn tell(&mut self, pid: u32) -> Result<(), Unheard> {
+    fn tell(&mut self, pid: u32) -> Result<(), ClientError> {
         let mut digits = Buffer::new();
         let params = digits.format(pid).as_bytes();
         self.ask_dropped(b"PINENTRY_LAUNCHED", params, MAX_NOTE_LEN)
     }
 
     /// A word that doesn't fit its line is none that a client can answer.
-    fn ask(&mut self, word: &[u8]) -> Result<Secret, Unheard> {
+    fn ask(&mut self, word: &[u8]) -> Result<Secret, ClientError> {
         if word.len() > MAX_LINE_LEN - INQUIRE.len() || Line::of(word).is_none() {
-            return Err(Unheard::Unexpected);
+            return Err(ClientError::Unexpected);
         }
         self.ask_secret(word, b"")
     }

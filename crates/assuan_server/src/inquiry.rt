@@ -26,7 +26,7 @@ use buffer::{Buffer as Bytes, ByteCounter, InquiryLines, Overflow, SecretBuffer,
 use cache_policy::{MAX_SECRET_LEN, Secret};
 use end::end_of;
 use itoa::Buffer;
-use session_client::{Gone, Unheard};
+use session_client::{ClientError, Gone};
 use std::alloc::Global;
 
 /// What an inquiry came to. After `Ended`, `TooLong`, `Spent` and `ReadFault` no more is read.
@@ -138,7 +138,7 @@ impl<'a, L: Link> Conn<'a, L> {
     }
 
     /// Asks as `inquire_secret` does.
-    pub fn ask_secret(&mut self, word: &[u8], params: &[u8]) -> Result<Secret, Unheard>
+    pub fn ask_secret(&mut self, word: &[u8], params: &[u8]) -> Result<Secret, ClientError>
         requires going { IsOpen self.old }
         requires one_line { IsLine (inquire_text word.now params.now) }
         ensures { Asks (Err not_written) MAX_SECRET_LEN (inquire_text word.now params.now)
@@ -173,7 +173,7 @@ impl<'a, L: Link> Conn<'a, L> {
         word: &[u8],
         params: &[u8],
         limit: usize,
-    ) -> Result<(), Unheard>
+    ) -> Result<(), ClientError>
         requires going { IsOpen self.old }
         requires one_line { IsLine (inquire_text word.now params.now) }
         ensures { Asks (Err not_written) limit (inquire_text word.now params.now) result
@@ -203,7 +203,7 @@ impl<'a, L: Link> Conn<'a, L> {
         word: &[u8],
         params: &[u8],
         lines: &mut InquiryLines<B>,
-    ) -> Result<Took, Unheard>
+    ) -> Result<Took, ClientError>
         requires going { IsOpen self.old }
         requires one_line { IsLine (inquire_text word.now params.now) }
         ensures gathered { B.keeps lines.old.buffer
@@ -216,7 +216,7 @@ impl<'a, L: Link> Conn<'a, L> {
     {
         match self.ask(word, params) {
             Sent::All => Ok(self.next_after(lines)),
-            Sent::Failed { .. } => Err(Unheard::Gone(Gone::WriteFault)),
+            Sent::Failed { .. } => Err(ClientError::Gone(Gone::WriteFault)),
         }
     }
 
@@ -261,7 +261,7 @@ fn collected(took: &mut Took, buffer: VecBuffer) -> Inquired
 
 /// What an inquiry for a secret comes to whose bytes are kept so, by the answer after its data
 /// lines.
-fn buffered(took: &mut Took, buffer: &SecretBuffer) -> Result<Secret, Unheard>
+fn buffered(took: &mut Took, buffer: &SecretBuffer) -> Result<Secret, ClientError>
     ensures answer { IsAnswer MAX_SECRET_LEN (IsSecretOf buffer.now.bytes buffer.now.too_much)
         took.old (Answers (secret_outcome result)) }
     ensures others { result ≢ Err not_written }
@@ -269,19 +269,19 @@ fn buffered(took: &mut Took, buffer: &SecretBuffer) -> Result<Secret, Unheard>
     end_of(took)?;
     match buffer.secret() {
         Some(secret) => Ok(secret),
-        None => Err(Unheard::TooMuch),
+        None => Err(ClientError::TooMuch),
     }
 }
 
 /// What an inquiry comes to whose bytes are counted so, by the answer after its data lines.
-fn counted(took: &mut Took, counter: ByteCounter) -> Result<(), Unheard>
+fn counted(took: &mut Took, counter: ByteCounter) -> Result<(), ClientError>
     ensures answer { IsAnswer counter.limit (IsCountOf counter.limit counter.left counter.past)
         took.old (AnswersDropped (drop_outcome result)) }
     ensures others { result ≢ Err not_written }
 {
     end_of(took)?;
     if counter.past {
-        Err(Unheard::TooMuch)
+        Err(ClientError::TooMuch)
     } else {
         Ok(())
     }

@@ -1,7 +1,7 @@
 -- Parts of a request in which the keys are called, dice are thrown or memory is wanted, and such calls one after another.
 use Rattle.std.proofs.Common.{◌≡◌, ℕ, List, [], ◌∷◌, ◌++◌, Option, Some, None, Result, Ok, Err, refl, subst}
-use Rattle.agent_ask.specs.{Events.Call, Further.{FurtherEvent, KeyCall, DoesKeys, Keys, Dice, NoMemory, world_with}, Parts.{◌>>=◌, goes_on, stops}, PartStates.{gone_in, DoesPart, part_state}, SessionEvents.Further, States.AnyLead}
-use Rattle.{agent_ask.proofs.{Doing.{done_none, done_then, done_further}, PartsDone.{part_still, still_open, no_fault}}, agent_ports.specs.{KeyFiles.KeyFiles, Sides.Side, declared.keys.KeyDone.{KeyDone, TheVariants.Done}}}
+use Rattle.agent_ask.specs.{Events.Call, PortCalls.{PortCall, KeyCall, DoesKeys, Keys, Dice, NoMemory, world_with}, Parts.{◌>>=◌, goes_on, stops}, PartStates.{gone_in, DoesPart, part_state}, SessionEvents.Port, States.AnyLead}
+use Rattle.{agent_ask.proofs.{Doing.{done_none, done_then, done_port}, PartsDone.{part_still, still_open, no_fault}}, agent_ports.specs.{KeyFiles.KeyFiles, Sides.Side, declared.keys.KeyDone.{KeyDone, TheVariants.Done}}}
 use Rattle.{assuan_server.specs.{Clients.{connection_views, session_lines}, Connections.{Connection, IsOpen}}, cache_policy.specs.{declared.mark.MarkStep.MarkStep, Turns.Turn}, session_client.specs.declared.code.Code.Code}
 use Rattle.session_client.specs.declared.refusal.Refusal.{Refusal, TheVariants.Agent}
 use Rattle.key_commands.specs.{Events.{Event, called, out_of_memory}, KeyEnds.{KeyEnds, DoesAtKeys, keys as does_keys, dice as does_dice, no_memory}, KeyParts.change_fault}
@@ -55,20 +55,20 @@ change_made call answer (Err why) does is done refused = rw is.2 (one_call (call
 -- ---- as parts of a request, while the connection is open
 
 -- nothing, or being out of memory
-module _ {D E A : Type 0} {turned : D → MarkStep → Turn → D → Type 0} {further : E → FurtherEvent → E → Type 0} {part : Part A} {result : Result A Refusal} {conn : Connection} {desk : D} {ends : E} {held : Option ℕ}
-    (forgets : further ends NoMemory ends) (going : IsOpen conn) where
+module _ {D E A : Type 0} {turned : D → MarkStep → Turn → D → Type 0} {ported : E → PortCall → E → Type 0} {part : Part A} {result : Result A Refusal} {conn : Connection} {desk : D} {ends : E} {held : Option ℕ}
+    (forgets : ported ends NoMemory ends) (going : IsOpen conn) where
   alone_at : DoesAlone part result
-      → DoesPart connection_views turned further part held (part_state connection_views turned further conn desk ends) result held (part_state connection_views turned further conn desk ends)
+      → DoesPart connection_views turned ported part held (part_state connection_views turned ported conn desk ends) result held (part_state connection_views turned ported conn desk ends)
   alone_at (nothing does on) = part_still going on (does held)
   alone_at (memory does on) = record {
     events = out_of_memory ∷ [];
     does = does held;
-    done = done_further {w = world_with {lines = session_lines} turned further} NoMemory conn desk ends ends forgets;
+    done = done_port {w = world_with {lines = session_lines} turned ported} NoMemory conn desk ends ends forgets;
     fits = still_open connection_views (gone_in result) on conn going;
     faults = no_fault connection_views (gone_in result) on conn conn;
   }
 
--- the further ends, with these keys and dice
+-- the ports, with these keys and dice
 abbrev ends : {P : Type 0} → P → KeyFiles → Side → KeyEnds P
 ends prompter keys dice = record { prompter = prompter; keys = keys; dice = dice }
 
@@ -77,18 +77,18 @@ module _ {D P : Type 0} (turned : D → MarkStep → Turn → D → Type 0) (pro
       → AnyLead {w = KeyWorld turned prompted} connection_views events (key_state turned prompted conn desk prompter start dice) (key_state turned prompted conn desk prompter now dice)
   keys_lead {start} none = done_none (key_state turned prompted conn desk prompter start dice)
   keys_lead {start} (calls {mid} {call} does more) =
-      done_then (done_further {w = KeyWorld turned prompted} (Keys call) conn desk (ends prompter start dice) (ends prompter mid dice) (does_keys does)) (keys_lead more)
+      done_then (done_port {w = KeyWorld turned prompted} (Keys call) conn desk (ends prompter start dice) (ends prompter mid dice) (does_keys does)) (keys_lead more)
   keys_lead {start} (wants_memory more) =
-      done_then (done_further {w = KeyWorld turned prompted} NoMemory conn desk (ends prompter start dice) (ends prompter start dice) no_memory) (keys_lead more)
+      done_then (done_port {w = KeyWorld turned prompted} NoMemory conn desk (ends prompter start dice) (ends prompter start dice) no_memory) (keys_lead more)
 
 module _ {D P A : Type 0} {turned : D → MarkStep → Turn → D → Type 0} {prompted : P → Call → P → Type 0} {part : Part A} {result : Result A Refusal} {conn : Connection} (going : IsOpen conn)
     {desk : D} {prompter : P} {held : Option ℕ} where
   pub leaves_alone : DoesAlone part result → LeavesKeys turned prompted part held conn desk prompter result held conn desk prompter
-  leaves_alone alone = alone_at {further = DoesBesideKeys prompted} no_memory_beside going alone
+  leaves_alone alone = alone_at {ported = DoesBesideKeys prompted} no_memory_beside going alone
 
   pub part_alone : {keys : KeyFiles} {dice : Side} → DoesAlone part result
       → DoesKeyPart turned prompted part held (key_state turned prompted conn desk prompter keys dice) result held (key_state turned prompted conn desk prompter keys dice)
-  part_alone alone = alone_at {further = DoesAtKeys prompted} no_memory going alone
+  part_alone alone = alone_at {ported = DoesAtKeys prompted} no_memory going alone
 
   pub part_called : {keys now : KeyFiles} {dice : Side} → DoesKeyCalls part keys result now
       → DoesKeyPart turned prompted part held (key_state turned prompted conn desk prompter keys dice) result held (key_state turned prompted conn desk prompter now dice)
@@ -103,9 +103,9 @@ module _ {D P A : Type 0} {turned : D → MarkStep → Turn → D → Type 0} {p
   pub part_drawn : {keys : KeyFiles} {dice now : Side} → DoesDrawing part dice result now
       → DoesKeyPart turned prompted part held (key_state turned prompted conn desk prompter keys dice) result held (key_state turned prompted conn desk prompter keys now)
   part_drawn {keys} {dice} {now} done = record {
-    events = Further (Dice done.draw) ∷ [];
+    events = Port (Dice done.draw) ∷ [];
     does = done.does held;
-    done = done_further {w = KeyWorld turned prompted} (Dice done.draw) conn desk (ends prompter keys dice) (ends prompter keys now) (does_dice done.draws);
+    done = done_port {w = KeyWorld turned prompted} (Dice done.draw) conn desk (ends prompter keys dice) (ends prompter keys now) (does_dice done.draws);
     fits = still_open connection_views (gone_in result) done.on conn going;
     faults = no_fault connection_views (gone_in result) done.on conn conn;
   }

@@ -1,6 +1,6 @@
 -- Parts of a request on keys each of whose events is so.
 use Rattle.std.{specs.{List.AllByRecursion, Prelude.{⊤, not, take, drop}}, proofs.Common.{◌==◌, ◌++◌, ℕ, Bool, true, false, List, [], ◌∷◌, length, codes, Option, Some, None, Result, Ok}}
-use Rattle.agent_ask.specs.{Events.PromptEvent, Further.{Keys, Dice, NoMemory, Prompt, Trust}, SessionEvents.{Received, Sent, Cut, Inquiry, CacheTurn, Further, cache_turn, said_last}, SessionPrompts.AnyInSession}
+use Rattle.agent_ask.specs.{Events.PromptEvent, PortCalls.{Keys, Dice, NoMemory, Prompt, Trust}, SessionEvents.{Received, Sent, Cut, Inquiry, CacheTurn, Port, cache_turn, said_last}, SessionPrompts.AnyInSession}
 use Rattle.agent_ask.specs.{Parts.{◌>>=◌, goes_on, stops, Returns, returns, Refuses, needed, or_else, unless, wanted}, TurnParts.{Asks, Seats, Changes, Peeks, Closes}, ClientParts.{Writes, Inquires}, ConsentParts.AgreesTo}
 use Rattle.{agent_ask.proofs.Within.{Within, Joins, OfNothing, Does, does_join, bind, returned, refused, is_needed, or_otherwise, is_unless, is_wanted}, agent_ports.specs.declared.grip.Grip.Grip, assuan_server.specs.Clients.session_lines}
 use Rattle.{assuan_server.specs.Written.limit_line, session_client.specs.declared.{code.Code.Code, refusal.Refusal.{Refusal, TheVariants.Agent}}, cache_policy.specs.{Turns.Turn, declared.life.Life.TheVariants.Default}}
@@ -30,20 +30,20 @@ abbrev pub IsStill : Event → Type 0
 IsStill (Sent text) = IsNotice text
 IsStill (Cut text) = ⊤
 IsStill (Inquiry word params limit inquired) = ⊤
-IsStill (Further (Keys call)) = ⊤
-IsStill (Further (Dice draw)) = ⊤
-IsStill (Further NoMemory) = ⊤
+IsStill (Port (Keys call)) = ⊤
+IsStill (Port (Dice draw)) = ⊤
+IsStill (Port NoMemory) = ⊤
 IsStill _ = ⊥
 
 pub still_uncalled : (event : Event) → IsStill event → IsUncalled event
 still_uncalled (Sent text) still = tt
 still_uncalled (Cut text) still = tt
 still_uncalled (Inquiry word params limit inquired) still = tt
-still_uncalled (Further (Keys call)) still = tt
-still_uncalled (Further (Dice draw)) still = tt
-still_uncalled (Further (Trust call)) still = absurd still
-still_uncalled (Further NoMemory) still = tt
-still_uncalled (Further (Prompt event)) still = absurd still
+still_uncalled (Port (Keys call)) still = tt
+still_uncalled (Port (Dice draw)) still = tt
+still_uncalled (Port (Trust call)) still = absurd still
+still_uncalled (Port NoMemory) still = tt
+still_uncalled (Port (Prompt event)) still = absurd still
 still_uncalled (CacheTurn taken) still = tt
 still_uncalled (Received took) still = tt
 
@@ -335,7 +335,7 @@ module _ (Is : Event → Type 0) where
     client_new = each_bind (asks_secret (codes "NEW_PASSPHRASE")) (λ pass. each_bind (each_wanted code.BadPass (not (length pass == 0))) (λ some. each_returned pass))
 
     -- ---- prompts
-    module _ (calls : (event : PromptEvent) → Is (Further (Prompt event))) where
+    module _ (calls : (event : PromptEvent) → Is (Port (Prompt event))) where
       pub each_shown : {prompt : List PromptEvent} {shown : List Event} → AnyInSession session_lines prompt shown → All shown
       each_shown session.none = tt
       each_shown (session.called more) = (calls _, each_shown more)

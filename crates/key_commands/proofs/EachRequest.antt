@@ -1,9 +1,9 @@
 -- Requests on keys each of whose events is so, where each event but a read request and a call of the trust file is so.
 use Rattle.std.{proofs.Common.{◌≡◌, ◌∙◌, ℕ, Bool, true, false, List, [], ◌++◌, Option, Some, None, Result, Ok, Err}, specs.Prelude.⊤}
-use Rattle.agent_ask.specs.{Further.{Keys, Dice, NoMemory, Prompt, Trust}, SessionEvents.{Received, Sent, Cut, Inquiry, CacheTurn, Further, cache_turn}, ConsentParts.{AgreesTo, PromptsConsent}, PartExchanges.{AnyReply, AnyExchange}}
+use Rattle.agent_ask.specs.{PortCalls.{Keys, Dice, NoMemory, Prompt, Trust}, SessionEvents.{Received, Sent, Cut, Inquiry, CacheTurn, Port, cache_turn}, ConsentParts.{AgreesTo, PromptsConsent}, PartExchanges.{AnyReply, AnyExchange}}
 use Rattle.agent_ask.specs.{Parts.◌>>=◌, PinParts.PromptsPin, declared.{ask.Asked.Asked, consent.Agreed.Agreed, spec.{AskPlan.AskPlan, PromptSpec.PromptSpec}}}
 use Rattle.{agent_ask.proofs.Within.{Within, OfNothing, Does, does_join, weaker, bind, or_otherwise}, assuan_server.specs.Clients.session_lines, cache_policy.specs.{Turns.Turn, declared.mark.MarkStep.MarkStep}}
-use Rattle.{session_client.specs.declared.{refusal.Refusal.{Refusal, TheVariants.Agent}, unheard.Gone.Gone}, agent_ports.specs.declared.grip.Grip.Grip, secret_file.specs.Opens.LockedKey}
+use Rattle.{session_client.specs.declared.{refusal.Refusal.{Refusal, TheVariants.Agent}, client_error.Gone.Gone}, agent_ports.specs.declared.grip.Grip.Grip, secret_file.specs.Opens.LockedKey}
 use Rattle.{session_options.specs.{OptionValues.{OptionValues, EnvWords, words_of}, declared.{options.PinMode.PinMode, rules.Rules.Rules}}, sexp_keys.specs.Key.Key}
 use Rattle.key_commands.specs.{Parts.Part, Events.Event}
 use Rattle.key_commands.specs.Exchanges.{KeyExchange, HaveKeyReplies, KeyInfoReplies, ListKeysReplies, KeyWrapReplies, ImportKeyReplies, ExportKeyReplies, PasswdReplies, VerifyReplies, DeleteKeyReplies, KeyReplies, wrap_key, FoundOrNew}
@@ -22,7 +22,7 @@ use Rattle.key_commands.specs.declared.request.KeyRequest.TheVariants as on
 -- what may be done for a request that has nothing to do with the trust file
 abbrev pub IsBesideTrust : Event → Type 0
 IsBesideTrust (Received took) = ⊥
-IsBesideTrust (Further (Trust call)) = ⊥
+IsBesideTrust (Port (Trust call)) = ⊥
 IsBesideTrust _ = ⊤
 
 -- the same up to its reply: what is written then answers nothing
@@ -34,11 +34,11 @@ still_works : (event : Event) → IsStill event → IsKeyWork event
 still_works (Sent text) noted = noted
 still_works (Cut text) still = tt
 still_works (Inquiry word params limit inquired) still = tt
-still_works (Further (Keys call)) still = tt
-still_works (Further (Dice draw)) still = tt
-still_works (Further NoMemory) still = tt
-still_works (Further (Prompt event)) still = absurd still
-still_works (Further (Trust call)) still = absurd still
+still_works (Port (Keys call)) still = tt
+still_works (Port (Dice draw)) still = tt
+still_works (Port NoMemory) still = tt
+still_works (Port (Prompt event)) still = absurd still
+still_works (Port (Trust call)) still = absurd still
 still_works (CacheTurn taken) still = absurd still
 still_works (Received took) still = absurd still
 
@@ -47,11 +47,11 @@ works_beside (Sent text) work = tt
 works_beside (Cut text) work = work
 works_beside (Inquiry word params limit inquired) work = work
 works_beside (CacheTurn taken) work = work
-works_beside (Further (Keys call)) work = work
-works_beside (Further (Dice draw)) work = work
-works_beside (Further NoMemory) work = work
-works_beside (Further (Prompt event)) work = work
-works_beside (Further (Trust call)) work = work
+works_beside (Port (Keys call)) work = work
+works_beside (Port (Dice draw)) work = work
+works_beside (Port NoMemory) work = work
+works_beside (Port (Prompt event)) work = work
+works_beside (Port (Trust call)) work = work
 works_beside (Received took) work = work
 
 pub still_beside : (event : Event) → IsStill event → IsBesideTrust event

@@ -1,6 +1,6 @@
 -- Parts that have nothing to do with some ends of a session, with these beside.
 use Rattle.std.proofs.Common.{ℕ, Option, Result}
-use Rattle.{agent_ask.{specs.{Doing.{DoesCall, called, out_of_memory}, Events.{Call, PromptEvent}, Further.{FurtherEvent, Prompt}, PartStates.NoTurn}, proofs.{PartsDone.part_in, Replying.carries_in}}, agent_ports.specs.KeyFiles.KeyFiles}
+use Rattle.{agent_ask.{specs.{Doing.{DoesCall, called, out_of_memory}, Events.{Call, PromptEvent}, PortCalls.{PortCall, Prompt}, PartStates.NoTurn}, proofs.{PartsDone.part_in, Replying.carries_in}}, agent_ports.specs.KeyFiles.KeyFiles}
 use Rattle.{agent_ports.specs.Sides.Side, assuan_server.specs.{Clients.connection_views, Connections.Connection}, cache_policy.specs.{declared.mark.MarkStep.MarkStep, Turns.Turn}, session_client.specs.declared.refusal.Refusal.Refusal}
 use Rattle.key_commands.specs.{Exchanges.KeyReply, KeyEnds.{KeyEnds, DoesAtKeys, prompt, keys, dice, no_memory}, Parts.Part}
 use Rattle.key_commands.specs.{Partial.{DoesKeyPart, NoCall, DoesBesideKeys, prompt as prompt_beside, no_memory as no_memory_beside, LeavesKeys, DoesAtPrompter, DoesAtDesk, DoesAtClient}, Replies.CarriesOut, States.{KeyState, key_state}}
@@ -11,17 +11,17 @@ module _ {P : Type 0} {prompted : P → Call → P → Type 0} where
   pub each_prompted : (before after : P) (event : PromptEvent) → DoesCall prompted before event after → DoesBesideKeys prompted before (Prompt event) after
   each_prompted before after event does = prompt_beside does
 
-  none_beside : (prompter : P) (before after : Unit {0}) (what : FurtherEvent) → DoesBesideKeys NoCall before what after → DoesBesideKeys prompted prompter what prompter
+  none_beside : (prompter : P) (before after : Unit {0}) (what : PortCall) → DoesBesideKeys NoCall before what after → DoesBesideKeys prompted prompter what prompter
   none_beside prompter before after what (prompt_beside (called never)) = absurd never
   none_beside prompter before after what (prompt_beside out_of_memory) = prompt_beside out_of_memory
   none_beside prompter before after what no_memory_beside = no_memory_beside
 
-  keys_beside : (files : KeyFiles) (side : Side) (before after : P) (what : FurtherEvent) → DoesBesideKeys prompted before what after
+  keys_beside : (files : KeyFiles) (side : Side) (before after : P) (what : PortCall) → DoesBesideKeys prompted before what after
       → DoesAtKeys prompted (record { prompter = before; keys = files; dice = side }) what (record { prompter = after; keys = files; dice = side })
   keys_beside files side before after what (prompt_beside does) = prompt does
   keys_beside files side before after what no_memory_beside = no_memory
 
-  none_at_keys : (prompter : P) (before after : KeyEnds (Unit {0})) (what : FurtherEvent) → DoesAtKeys NoCall before what after
+  none_at_keys : (prompter : P) (before after : KeyEnds (Unit {0})) (what : PortCall) → DoesAtKeys NoCall before what after
       → DoesAtKeys prompted (record { prompter = prompter; keys = before.keys; dice = before.dice }) what (record { prompter = prompter; keys = after.keys; dice = after.dice })
   none_at_keys prompter before after what (prompt (called never)) = absurd never
   none_at_keys prompter before after what (prompt out_of_memory) = prompt out_of_memory

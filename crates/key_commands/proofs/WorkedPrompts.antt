@@ -1,6 +1,6 @@
 -- A row of each request on keys that prompts the user: what is done and written for it, in order.
 use Rattle.std.{specs.Prelude.{◌≡◌, ◌≤◌, ◌++◌, ℕ, true, false, List, [], ◌∷◌, length, take, drop, codes, Some, None, Ok, refl}, proofs.Common.arith}
-use Rattle.agent_ask.specs.{ClientParts.{written, given as sent}, Events.{Call, Start, GetPin, Confirm, Shut}, Further.{Replaced, Removed}, PartExchanges.{answered, refused}, Parts.{goes_on, stops, returns}, Plans.{IsSpec, text}}
+use Rattle.agent_ask.specs.{ClientParts.{written, given as sent}, Events.{Call, Start, GetPin, Confirm, Shut}, PortCalls.{Replaced, Removed}, PartExchanges.{answered, refused}, Parts.{goes_on, stops, returns}, Plans.{IsSpec, text}}
 use Rattle.agent_ask.specs.{Prompts.{MeetsCheck, typed, Tries, IsTry, Repeats}, SessionEvents.{Sent, Inquiry, cache_turn}, Tests.test_of, TurnParts.{Asks, Seats, done, unheld, closed}, declared.prompter.Outcome.TheVariants.Pin}
 use Rattle.{agent_ask.{specs.declared.{spec.PromptSpec.PromptSpec, test.Tested.TheVariants.{Yes, No}}, proofs.WorkedPrompts.{shown_by, prompts, asks_consent, first_try, second_try, third_try}}, agent_ports.specs.declared.grip.Grip.Grip}
 use Rattle.{agent_ports.specs.declared.keys.{KeyDone.TheVariants.Done as IsDone, KeyRead.{KeyRead, TheVariants.{Found, Absent}}}, assuan_escape.specs.Escapes.hex_text, assuan_server.specs.{Clients.session_lines, Inquiries.Data}}
@@ -77,9 +77,9 @@ module _ (any_rules : Rules) (any_options : OptionValues) (wraps : WrapKeys) (gr
 
   -- ---- a protected key
 
-  module _ (algorithm : Algorithm) (public private further : List Tree) (file : List ℕ) (clear : Key) (locked : LockedKey) (answer : KeyRead) (is : file_in answer ≡ Some file)
-      (says : FileSays file (Ok (record { algorithm = algorithm; is_clear = false; public = public; private = private; further = further })))
-      (key_is : locked.key ≡ record { algorithm = algorithm; is_clear = false; public = public; private = private; further = further }) (locked_is : IsLocked locked)
+  module _ (algorithm : Algorithm) (public private ported : List Tree) (file : List ℕ) (clear : Key) (locked : LockedKey) (answer : KeyRead) (is : file_in answer ≡ Some file)
+      (says : FileSays file (Ok (record { algorithm = algorithm; is_clear = false; public = public; private = private; ported = ported })))
+      (key_is : locked.key ≡ record { algorithm = algorithm; is_clear = false; public = public; private = private; ported = ported }) (locked_is : IsLocked locked)
       (is_old : IsSpec rules options (text (described options.description (old_description grip))) (text field_text) false spec) where
     -- EXPORT_KEY: the third passphrase opens the key, and is kept
     third_opens : {first second third text : List ℕ} → ¬ OpensBy locked first → ¬ OpensBy locked second → OpensTo locked third clear → IsDataAnswer (wrapped_key wrap clear) text

@@ -1,7 +1,7 @@
 -- The parts of requests on keys that are no passphrase's: what is done with key files and with wrapped keys, and how consent is asked for (GnuPG
 -- manual, "Agent's Assuan protocol"). The codes, the texts and the order of what is done are this project's own.
 use Rattle.std.specs.Prelude.{◌≡◌, ◌≢◌, ◌≤◌, ◌<◌, length, ℕ, Bool, true, false, List, [], ◌∷◌, codes, not, Option, Some, None, Result, Ok, Err}
-use Rattle.agent_ask.specs.{ClientParts.{Writes, Inquires}, Further.{Listed, Replaced, Removed}, SessionEvents.{Inquiry, cache_turn}, ConsentParts.AgreesTo, Parts.{◌>>=◌, Returns, Refuses, wanted, unless}}
+use Rattle.agent_ask.specs.{ClientParts.{Writes, Inquires}, PortCalls.{Listed, Replaced, Removed}, SessionEvents.{Inquiry, cache_turn}, ConsentParts.AgreesTo, Parts.{◌>>=◌, Returns, Refuses, wanted, unless}}
 use Rattle.{agent_ask.specs.TurnParts.{Seats, Changes, Peeks, Closes}, agent_ports.specs.declared.{grip.Grip.Grip, keys.{KeyDone.KeyDone, KeyRead.KeyRead, KeyNames.KeyNames}}, assuan_server.specs.Clients.session_lines}
 use Rattle.{assuan_server.specs.{Inquiries.{Outcome, IsAtEnd}, Written.{IsDataAnswer, limit_line}}, session_client.specs.{declared.{code.Code.Code, refusal.Refusal.{Refusal, TheVariants.Agent}}, Asking.Asked}}
 use Rattle.{cache_policy.specs.{declared.{grant.Grant.Grant, mark.MarkStep.TheVariants.Seat, mode.Mode.TheVariants.Normal}, Turns.{Given, Empty, Stopping, Refused, FitsStep}}, secret_file.specs.Protects.{ocb_protection, protected_file}}

@@ -1,6 +1,6 @@
 -- Private: parts of a request on keys that were done, and those that have nothing to do with some ends of its session.
 use Rattle.std.specs.Prelude.{ℕ, Option, Result}
-use Rattle.{agent_ask.specs.{Doing.DoesCall, Events.{Call, PromptEvent}, Further.{FurtherEvent, Prompt, NoMemory}, PartStates.{DoesPart, part_state, NoTurn}}, assuan_server.specs.{Clients.connection_views, Connections.Connection}}
+use Rattle.{agent_ask.specs.{Doing.DoesCall, Events.{Call, PromptEvent}, PortCalls.{PortCall, Prompt, NoMemory}, PartStates.{DoesPart, part_state, NoTurn}}, assuan_server.specs.{Clients.connection_views, Connections.Connection}}
 use Rattle.{cache_policy.specs.{declared.mark.MarkStep.MarkStep, Turns.Turn}, session_client.specs.declared.refusal.Refusal.Refusal}
 use Rattle.key_commands.specs.{KeyEnds.DoesAtKeys, Parts.Part, States.KeyState}
 
@@ -14,7 +14,7 @@ abbrev pub NoCall : Unit {0} → Call → Unit {0} → Type 0
 NoCall before call after = ⊥
 
 -- what is done to a prompter where neither the keys are called nor dice are thrown
-pub data DoesBesideKeys {P : Type 0} (prompted : P → Call → P → Type 0) : P → FurtherEvent → P → Type 0 where
+pub data DoesBesideKeys {P : Type 0} (prompted : P → Call → P → Type 0) : P → PortCall → P → Type 0 where
   prompt : {before after : P} {event : PromptEvent} → DoesCall prompted before event after → DoesBesideKeys prompted before (Prompt event) after
   no_memory : {now : P} → DoesBesideKeys prompted now NoMemory now
 

@@ -1,13 +1,13 @@
 -- Private: what the steps of a request know.
 use Rattle.std.specs.{Prelude.{◌≡◌, ℕ, ◌==◌, ◌&&◌, nat_lt, Bool, List, [], ◌∷◌, length, Option, Some, None, Result, Ok, Err}, List.list_all}
-use Rattle.{agent_ask.specs.{Further.{KeyCall, Draw, Dice, DoesKeys, DoesDraw}, PartStates.{gone_in, DoesTurn, DoesTurns}, SessionEvents.Further}, agent_ports.specs.{KeyFiles.KeyFiles, Sides.Side, declared.keys.KeyDone.KeyDone}}
+use Rattle.{agent_ask.specs.{PortCalls.{KeyCall, Draw, Dice, DoesKeys, DoesDraw}, PartStates.{gone_in, DoesTurn, DoesTurns}, SessionEvents.Port}, agent_ports.specs.{KeyFiles.KeyFiles, Sides.Side, declared.keys.KeyDone.KeyDone}}
 use Rattle.{agent_ports.specs.declared.keys.KeyDone.TheVariants.Done, session_client.specs.declared.{code.Code.Code, refusal.Refusal.{Refusal, TheVariants.{Agent, Client}}}, assuan_server.specs.declared.inquiry.Inquired.Inquired}
 use Rattle.{cache_policy.specs.{declared.mark.MarkStep.MarkStep, Turns.Turn}, sexp_keys.specs.{Key.Key, declared.fault.KeyFault.KeyFault}}
 use Rattle.key_commands.specs.{Events.{Event, called, out_of_memory}, KeyParts.change_fault, Parts.Part}
 use Rattle.session_client.specs.declared.code.Code.TheVariants as code
 use Rattle.assuan_server.specs.declared.inquiry.Inquired.TheVariants as inquired
-use Rattle.session_client.specs.declared.unheard.Gone.TheVariants as gone
-use Rattle.session_client.specs.declared.unheard.Unheard.TheVariants as unheard
+use Rattle.session_client.specs.declared.client_error.Gone.TheVariants as gone
+use Rattle.session_client.specs.declared.client_error.ClientError.TheVariants as client_error
 use Rattle.sexp_keys.specs.declared.fault.KeyFault.TheVariants as fault
 
 -- these are zero bytes, and fewer than a block of the wrapping
@@ -43,7 +43,7 @@ pub record DoesKeyCalls {A : Type 0} (part : Part A) (before : KeyFiles) (result
 pub record DoesDrawing {A : Type 0} (part : Part A) (before : Side) (result : Result A Refusal) (after : Side) : Type 0 where
   pub draw : Draw
   pub draws : DoesDraw before draw after
-  pub does : (held : Option ℕ) → part held (Further (Dice draw) ∷ []) result held
+  pub does : (held : Option ℕ) → part held (Port (Dice draw) ∷ []) result held
   pub on : gone_in result ≡ None
 
 -- one draw at most
@@ -65,11 +65,11 @@ unlisted _ = Ok None
 abbrev pub key_data_of : Inquired → Result (List ℕ) Refusal
 key_data_of (inquired.Data bytes) = Ok bytes.items
 key_data_of inquired.NoMemory = Err (Agent code.NoMemory)
-key_data_of inquired.Cancelled = Err (Client unheard.Cancelled)
-key_data_of inquired.TooMuch = Err (Client unheard.TooMuch)
-key_data_of inquired.Unexpected = Err (Client unheard.Unexpected)
-key_data_of inquired.Ended = Err (Client (unheard.Gone gone.Ended))
-key_data_of inquired.TooLong = Err (Client (unheard.Gone gone.TooLong))
-key_data_of inquired.Spent = Err (Client (unheard.Gone gone.Spent))
-key_data_of inquired.ReadFault = Err (Client (unheard.Gone gone.ReadFault))
-key_data_of inquired.WriteFault = Err (Client (unheard.Gone gone.WriteFault))
+key_data_of inquired.Cancelled = Err (Client client_error.Cancelled)
+key_data_of inquired.TooMuch = Err (Client client_error.TooMuch)
+key_data_of inquired.Unexpected = Err (Client client_error.Unexpected)
+key_data_of inquired.Ended = Err (Client (client_error.Gone gone.Ended))
+key_data_of inquired.TooLong = Err (Client (client_error.Gone gone.TooLong))
+key_data_of inquired.Spent = Err (Client (client_error.Gone gone.Spent))
+key_data_of inquired.ReadFault = Err (Client (client_error.Gone gone.ReadFault))
+key_data_of inquired.WriteFault = Err (Client (client_error.Gone gone.WriteFault))

@@ -17,7 +17,7 @@ use agent_ask::{Held, without_memory};
 use agent_ports::{Grip, Keys, Link};
 use assuan_server::{Code, Conn, Inquired};
 use cache_policy::{CacheId, Desk, Mode, Refused, Reply, Secret, Step, Way};
-use session_client::{Gone, Refusal, Unheard};
+use session_client::{ClientError, Gone, Refusal};
 use sexp_canonical::Bytes;
 use sexp_keys::KeyList;
 use std::alloc::Global;
@@ -56,14 +56,14 @@ fn key_data(inquired: Inquired) -> Result<Bytes, Refusal>
     Err(Refusal::Client(match inquired {
         Inquired::Data(bytes) => return Ok(Bytes::from(bytes)),
         Inquired::NoMemory => return Err(Refusal::Agent(Code::NoMemory)),
-        Inquired::Cancelled => Unheard::Cancelled,
-        Inquired::TooMuch => Unheard::TooMuch,
-        Inquired::Unexpected => Unheard::Unexpected,
-        Inquired::Ended => Unheard::Gone(Gone::Ended),
-        Inquired::TooLong => Unheard::Gone(Gone::TooLong),
-        Inquired::Spent => Unheard::Gone(Gone::Spent),
-        Inquired::ReadFault => Unheard::Gone(Gone::ReadFault),
-        Inquired::WriteFault => Unheard::Gone(Gone::WriteFault),
+        Inquired::Cancelled => ClientError::Cancelled,
+        Inquired::TooMuch => ClientError::TooMuch,
+        Inquired::Unexpected => ClientError::Unexpected,
+        Inquired::Ended => ClientError::Gone(Gone::Ended),
+        Inquired::TooLong => ClientError::Gone(Gone::TooLong),
+        Inquired::Spent => ClientError::Gone(Gone::Spent),
+        Inquired::ReadFault => ClientError::Gone(Gone::ReadFault),
+        Inquired::WriteFault => ClientError::Gone(Gone::WriteFault),
     }))
 }
 

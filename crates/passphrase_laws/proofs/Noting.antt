@@ -3,11 +3,11 @@ use Rattle.std.specs.List.{AllByRecursion}
 use Rattle.std.specs.Prelude.{⊤}
 use Rattle.std.proofs.Common.{◌≢◌, ℕ, zero, suc, Bool, true, false, List, [], ◌∷◌, ◌++◌, Option, Some, None, Result, Ok, Err, refl, sym, subst, append_assoc}
 use Rattle.agent_ask.specs.Events.{PromptEvent, Called, Notified, OutOfMemory, Shut}
-use Rattle.agent_ask.specs.Further.{Prompt}
+use Rattle.agent_ask.specs.PortCalls.{Prompt}
 use Rattle.agent_ask.specs.Parts.{◌>>=◌, Follows, goes_on, stops, Returns, returns, Refuses, refuses, needed, or_else}
 use Rattle.agent_ask.specs.PinParts.{PromptsPin}
 use Rattle.agent_ask.specs.Prompts.{AsksBefore, Opens, Tries, IsTry, Repeats, repeated}
-use Rattle.agent_ask.specs.SessionEvents.{Further}
+use Rattle.agent_ask.specs.SessionEvents.{Port}
 use Rattle.agent_ask.specs.SessionPrompts.{AnyInSession, note}
 use Rattle.agent_ask.specs.SessionPrompts as session
 use Rattle.agent_ask.specs.Tests.{PinTest}
@@ -135,9 +135,9 @@ calls_silent each (session.out_of_memory more) = (tt, calls_silent each.1 more)
 shown_notes : {prompt : List PromptEvent} {shown : List CacheEvent} → CallsOnce prompt → AnyInSession session_lines prompt shown → HasNotes shown
 shown_notes (alone each) shows = silent_notes (calls_silent each shows)
 shown_notes (with_note call is each) (session.called {call = which} (session.noted {pid} {inquired} says more)) =
-    record { launched = true; notes = once (Further (Prompt (Called which)) ∷ []) _ pid inquired (tt, tt) (calls_silent each more) }
+    record { launched = true; notes = once (Port (Prompt (Called which)) ∷ []) _ pid inquired (tt, tt) (calls_silent each more) }
 shown_notes (with_note call is each) (session.out_of_memory (session.noted {pid} {inquired} says more)) =
-    record { launched = true; notes = once (Further (Prompt OutOfMemory) ∷ []) _ pid inquired (tt, tt) (calls_silent each more) }
+    record { launched = true; notes = once (Port (Prompt OutOfMemory) ∷ []) _ pid inquired (tt, tt) (calls_silent each more) }
 shown_notes (with_note call is each) (session.noted says more) = absurd is
 
 pin_notes : {spec : PromptSpec} {plan : AskPlan} {Rule : List ℕ → Type 0} {shown : List CacheEvent} {end : Asked} → PromptsPin session_lines spec plan Rule shown end → HasNotes shown

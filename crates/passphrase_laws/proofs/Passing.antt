@@ -15,7 +15,7 @@ use Rattle.agent_commands.specs.declared.request.Request.{Request}
 use Rattle.agent_commands.specs.declared.request.Request.TheVariants.{Cache}
 use Rattle.agent_commands.specs.declared.went.Went.{Went}
 use Rattle.agent_origin.specs.SessionExchanges.{RequestExchange, cache, keys}
-use Rattle.agent_origin.specs.declared.kept.Kept.{Kept}
+use Rattle.agent_origin.specs.declared.session_state.SessionState.{SessionState}
 use Rattle.assuan_server.specs.Written.{refusal_line}
 use Rattle.assuan_server.specs.declared.errors.Origin.TheVariants.{Agent}
 use Rattle.assuan_text.specs.Blanks.{without_blanks}
@@ -48,7 +48,7 @@ passes_by option.NotSupported before set same (refused events held why refuses t
     record { reply = _; is_reply = served.refused code.NotSupported Agent; events_are = refl; goes_on = refl; mode = refl }
 
 -- what a session does for a request on the cache is its exchange
-pub on_cache : {rules : Rules} {before after : Kept} {request : Request} {command : CacheCommand} {events : List CacheEvent} {went : Went} → request ≡ Cache command
+pub on_cache : {rules : Rules} {before after : SessionState} {request : Request} {command : CacheCommand} {events : List CacheEvent} {went : Went} → request ≡ Cache command
     → RequestExchange rules before request events after went → CacheExchange rules before.options request events after.options went
 on_cache is (cache exchange) = exchange
 on_cache is (keys exchange) = absurd (cc is)

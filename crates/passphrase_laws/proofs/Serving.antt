@@ -18,9 +18,9 @@ use Rattle.agent_commands.specs.declared.request.Request.TheVariants.{Cache}
 use Rattle.agent_commands.specs.declared.went.SessionEnd.{SessionEnd}
 use Rattle.agent_commands.specs.declared.went.Went.{Went}
 use Rattle.agent_commands.specs.declared.went.Went.TheVariants.{End, On}
-use Rattle.agent_origin.specs.FurtherStates.{FurtherWorld}
+use Rattle.agent_origin.specs.PortStates.{PortWorld}
 use Rattle.agent_origin.specs.SessionExchanges.{SessionExchange, kept_at_start}
-use Rattle.agent_origin.specs.declared.kept.Kept.{Kept}
+use Rattle.agent_origin.specs.declared.session_state.SessionState.{SessionState}
 use Rattle.agent_ports.specs.Leads.{Leads}
 use Rattle.agent_ports.specs.Leads as leads
 use Rattle.agent_ports.specs.Sides.{with_bytes}
@@ -83,7 +83,7 @@ module _ (rules : Rules) (line : List ℕ) (more_lines : List (List ℕ)) (comma
     writes = it.writes;
   }
 
-  at_request : {kept after : Kept} {said : List ℕ} {events : List CacheEvent} {went : Went} → SessionExchange rules kept said events after went → said ≡ line → Whole events → (more : List CacheEvent)
+  at_request : {kept after : SessionState} {said : List ℕ} {events : List CacheEvent} {went : Went} → SessionExchange rules kept said events after went → said ≡ line → Whole events → (more : List CacheEvent)
       → Reached [] kept.options.mode (events ++ more)
   at_request {kept} {after} {events = events} {went} exchange same each more = record {
     replies = [];
@@ -121,7 +121,7 @@ module _ (rules : Rules) (line : List ℕ) (more_lines : List (List ℕ)) (comma
       by_reply served.taken = road.taken option rest.are_replies
       by_reply (served.refused why origin) = road.refused option why origin rest.are_replies
 
-  reach : (options : List (List ℕ)) → AllByRecursion (IsPassed rules) options → {kept : Kept} {events : List CacheEvent} {end : SessionEnd} → Talk (SessionExchange rules) kept events end
+  reach : (options : List (List ℕ)) → AllByRecursion (IsPassed rules) options → {kept : SessionState} {events : List CacheEvent} {end : SessionEnd} → Talk (SessionExchange rules) kept events end
       → lines_read events ≡ options ++ line ∷ more_lines → Whole events → Reached options kept.options.mode events
   reach [] pass (talks.goes_on {events} {more} said (whole exchange) talk) reads each = behind_line said (at_request exchange (cc reads) (whole_front events more each.1) more)
   reach [] pass {kept} (talks.over {events} said (whole exchange)) reads each =
@@ -175,7 +175,7 @@ with_both None first more = refl
 with_both (Some bytes) first more = ap (λ (b : List ℕ). Some b) (append_assoc bytes first more)
 
 module _ {D P : Type 0} (turned : D → MarkStep → Turn → D → Type 0) (prompted : P → Call → P → Type 0) (supply : Supply) where
-  event_written : {before after : Outside (FurtherWorld turned prompted)} {event : CacheEvent} → Does (FurtherWorld turned prompted) supply before event after
+  event_written : {before after : Outside (PortWorld turned prompted)} {event : CacheEvent} → Does (PortWorld turned prompted) supply before event after
       → after.output ≡ with_bytes before.output (text_of event)
   event_written {before} (does.received reads needs) = sym (with_nothing before.output)
   event_written does.sent = refl
@@ -183,10 +183,10 @@ module _ {D P : Type 0} (turned : D → MarkStep → Turn → D → Type 0) (pro
   event_written (does.asked reads needs) = refl
   event_written (does.not_asked unsent split) = refl
   event_written {before} (does.turned turns) = sym (with_nothing before.output)
-  event_written {before} (does.further changes) = sym (with_nothing before.output)
+  event_written {before} (does.ported changes) = sym (with_nothing before.output)
 
   -- what was written behind a session's events is theirs
-  pub written : {before after : Outside (FurtherWorld turned prompted)} {events : List CacheEvent} → Leads (Does (FurtherWorld turned prompted) supply) before events after
+  pub written : {before after : Outside (PortWorld turned prompted)} {events : List CacheEvent} → Leads (Does (PortWorld turned prompted) supply) before events after
       → after.output ≡ with_bytes before.output (texts_of events)
   written {before} leads.none = sym (with_nothing before.output)
   written {before} (leads.one {event = first} {more} does_first later) =

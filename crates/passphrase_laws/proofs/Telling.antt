@@ -20,8 +20,8 @@ use Rattle.session_client.specs.declared.code.Code.{Code}
 use Rattle.session_client.specs.declared.code.Code.TheVariants as code
 use Rattle.session_client.specs.declared.refusal.Refusal.{Refusal}
 use Rattle.session_client.specs.declared.refusal.Refusal.TheVariants as refusal
-use Rattle.session_client.specs.declared.unheard.Gone.TheVariants as gone_as
-use Rattle.session_client.specs.declared.unheard.Unheard.TheVariants as unheard
+use Rattle.session_client.specs.declared.client_error.Gone.TheVariants as gone_as
+use Rattle.session_client.specs.declared.client_error.ClientError.TheVariants as client_error
 use Rattle.session_options.specs.OptionValues.{OptionValues}
 use Rattle.session_options.specs.declared.rules.Rules.{Rules}
 use Rattle.passphrase_laws.specs.Exchanges.{TellsLast, passphrase, gone, IsTold}
@@ -36,14 +36,14 @@ pub data Refused (why : Refusal) : Type 0 where
 pub refused_by : (why : Refusal) → Refused why
 refused_by (refusal.Agent code) = line code origin.Agent refl
 refused_by (refusal.Pinentry code) = line code origin.Pinentry refl
-refused_by (refusal.Client unheard.Cancelled) = line code.Cancelled origin.Agent refl
-refused_by (refusal.Client unheard.TooMuch) = line code.TooMuch origin.Agent refl
-refused_by (refusal.Client unheard.Unexpected) = line code.Unexpected origin.Agent refl
-refused_by (refusal.Client (unheard.Gone gone_as.TooLong)) = line code.LineTooLong origin.Agent refl
-refused_by (refusal.Client (unheard.Gone gone_as.Ended)) = none refl
-refused_by (refusal.Client (unheard.Gone gone_as.Spent)) = none refl
-refused_by (refusal.Client (unheard.Gone gone_as.ReadFault)) = none refl
-refused_by (refusal.Client (unheard.Gone gone_as.WriteFault)) = none refl
+refused_by (refusal.Client client_error.Cancelled) = line code.Cancelled origin.Agent refl
+refused_by (refusal.Client client_error.TooMuch) = line code.TooMuch origin.Agent refl
+refused_by (refusal.Client client_error.Unexpected) = line code.Unexpected origin.Agent refl
+refused_by (refusal.Client (client_error.Gone gone_as.TooLong)) = line code.LineTooLong origin.Agent refl
+refused_by (refusal.Client (client_error.Gone gone_as.Ended)) = none refl
+refused_by (refusal.Client (client_error.Gone gone_as.Spent)) = none refl
+refused_by (refusal.Client (client_error.Gone gone_as.ReadFault)) = none refl
+refused_by (refusal.Client (client_error.Gone gone_as.WriteFault)) = none refl
 
 never_refuses : {A : Type 0} {value : A} {before after : Option ℕ} {events : List CacheEvent} {why : Refusal} → Returns value before events (Err why) after → ⊥
 never_refuses does = elim does [ ]

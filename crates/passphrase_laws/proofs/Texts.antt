@@ -2,7 +2,7 @@
 use Rattle.std.specs.List.{AllByRecursion}
 use Rattle.std.proofs.Common.{◌≡◌, ℕ, List, [], ◌∷◌, ◌++◌, decimal, refl, ap, sym, subst, ◌∙◌, append-nil}
 use Rattle.std.proofs.lemmas.List.Concat.{flat_map-append}
-use Rattle.agent_ask.specs.SessionEvents.{Received, Sent, Cut, Inquiry, CacheTurn, Further}
+use Rattle.agent_ask.specs.SessionEvents.{Received, Sent, Cut, Inquiry, CacheTurn, Port}
 use Rattle.agent_ask.specs.SessionPrompts.{note}
 use Rattle.agent_commands.specs.Events.{Inquired}
 use Rattle.agent_commands.specs.Parts.{CacheEvent}
@@ -16,7 +16,7 @@ use Rattle.passphrase_laws.proofs.NoteLines.{launched, IsParams, are_params}
 pub silent_texts : (events : List CacheEvent) → AllByRecursion IsSilent events → texts_of events ≡ []
 silent_texts [] silent = refl
 silent_texts (CacheTurn taken ∷ events) silent = silent_texts events silent.1
-silent_texts (Further what ∷ events) silent = silent_texts events silent.1
+silent_texts (Port what ∷ events) silent = silent_texts events silent.1
 silent_texts (Received took ∷ events) silent = absurd silent.0
 silent_texts (Sent text ∷ events) silent = absurd silent.0
 silent_texts (Cut text ∷ events) silent = absurd silent.0

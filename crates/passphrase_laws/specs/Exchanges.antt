@@ -1,7 +1,7 @@
 -- The exchange of a request for a passphrase (GnuPG manual, "Agent GET_PASSPHRASE"), as its client reads it.
 use Rattle.std.specs.List.{AllByRecursion, flat_map}
 use Rattle.std.specs.Prelude.{◌≡◌, ℕ, Bool, true, false, List, [], ◌∷◌, ◌++◌, Option, Some, None, Result, Ok, Err, ⊤}
-use Rattle.agent_ask.specs.SessionEvents.{Sent, Cut, Inquiry, CacheTurn, Further, said_last}
+use Rattle.agent_ask.specs.SessionEvents.{Sent, Cut, Inquiry, CacheTurn, Port, said_last}
 use Rattle.agent_ask.specs.SessionPrompts.{note}
 use Rattle.agent_ask.specs.TurnParts.{Closes}
 use Rattle.agent_commands.specs.Events.{Inquired}
@@ -45,7 +45,7 @@ pub record IsTold (rules : Rules) (values : OptionValues) (fields : GetFields) (
 -- nothing is written to the client
 abbrev pub IsSilent : CacheEvent → Type 0
 IsSilent (CacheTurn taken) = ⊤
-IsSilent (Further what) = ⊤
+IsSilent (Port what) = ⊤
 IsSilent _ = ⊥
 
 -- whether the client was told that a pinentry was launched: once, if at all, and nothing else was written

@@ -12,7 +12,7 @@ use Rattle.agent_commands.specs.declared.request.Request.TheVariants.{Cache}
 use Rattle.agent_commands.specs.declared.went.Went.{Went}
 use Rattle.agent_commands.specs.declared.went.Went.TheVariants.{On}
 use Rattle.agent_origin.specs.SessionExchanges.{SessionExchange}
-use Rattle.agent_origin.specs.declared.kept.Kept.{Kept}
+use Rattle.agent_origin.specs.declared.session_state.SessionState.{SessionState}
 use Rattle.assuan_line.specs.declared.reader.Took.TheVariants.{Line}
 use Rattle.assuan_server.specs.Errors.{error_text}
 use Rattle.assuan_server.specs.Written.{ok}
@@ -45,7 +45,7 @@ pub record Passes (before : OptionValues) (events : List CacheEvent) (after : Op
 -- so is done for this option, whatever the session keeps
 abbrev pub IsPassed : Rules → List ℕ → Type 0
 IsPassed rules option =
-    (before after : Kept) (events : List CacheEvent) (went : Went) → SessionExchange rules before option events after went → Passes before.options events after.options went
+    (before after : SessionState) (events : List CacheEvent) (went : Went) → SessionExchange rules before option events after went → Passes before.options events after.options went
 
 -- The line is read as an option that, where this value can be kept, changes the option values so, and else is refused.
 pub record Sets (value : List ℕ) (change : OptionValues → OptionValues) (line : List ℕ) : Type 0 where

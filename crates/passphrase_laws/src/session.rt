@@ -6,7 +6,7 @@ ghost use Rattle.agent_commands.specs.Requests.{request_of};
 ghost use Rattle.agent_commands.specs.declared.request.CacheCommand.{CacheCommand};
 ghost use Rattle.agent_commands.specs.declared.request.Request.TheVariants.{Cache};
 ghost use Rattle.agent_commands.specs.declared.went.SessionEnd.{SessionEnd as Ends};
-ghost use Rattle.agent_origin.specs.FurtherStates.{FurtherWorld};
+ghost use Rattle.agent_origin.specs.PortStates.{PortWorld};
 ghost use Rattle.agent_origin.specs.SessionExchanges.{SessionExchange, kept_at_start};
 ghost use Rattle.agent_origin.specs.Sessions.{ServesSession, Surroundings};
 ghost use Rattle.agent_ports.specs.Sides.{with_bytes};
@@ -35,14 +35,14 @@ use cache_policy::Desk;
 /// option, and what the exchange of the request writes, in the mode of the session's start.
 pub fn a_session_serves_its_lines<D: Desk, P: Prompter>()
     ensures written { (rules : Rules)
-        (before after : Surroundings (FurtherWorld D.turned P.prompted)) (end : Ends)
-        → (served : ServesSession {w = FurtherWorld D.turned P.prompted} (SessionExchange rules)
+        (before after : Surroundings (PortWorld D.turned P.prompted)) (end : Ends)
+        → (served : ServesSession {w = PortWorld D.turned P.prompted} (SessionExchange rules)
         (kept_at_start rules) before end after)
         → after.output.bytes ≡ with_bytes before.output.bytes (texts_of served.events) }
     ensures lines { (rules : Rules)
-        (before after : Surroundings (FurtherWorld D.turned P.prompted)) (end : Ends)
+        (before after : Surroundings (PortWorld D.turned P.prompted)) (end : Ends)
         (options later : List (List ℕ)) (line : List ℕ) (command : CacheCommand)
-        → (served : ServesSession {w = FurtherWorld D.turned P.prompted} (SessionExchange rules)
+        → (served : ServesSession {w = PortWorld D.turned P.prompted} (SessionExchange rules)
         (kept_at_start rules) before end after)
         → AllByRecursion (IsPassed rules) options → request_of line ≡ Cache command
         → lines_read served.events ≡ options ++ line ∷ later
@@ -56,10 +56,10 @@ pub fn a_session_serves_its_lines<D: Desk, P: Prompter>()
 pub fn a_run_is_told_what_its_session_answered<D: Desk, P: Prompter>()
     ensures looks { (words : List (List ℕ)) (task : TaskValue) (prompt : Option (List ℕ))
         (description : List ℕ) (rules : Rules)
-        (before after : Surroundings (FurtherWorld D.turned P.prompted)) (end : Ends)
+        (before after : Surroundings (PortWorld D.turned P.prompted)) (end : Ends)
         (waits : Waits) (terminal : EnvWords) (later : List (List ℕ)) (turns : List Turn)
         (left written : Option (List ℕ)) → Means words task prompt description
-        → (served : ServesSession {w = FurtherWorld D.turned P.prompted} (SessionExchange rules)
+        → (served : ServesSession {w = PortWorld D.turned P.prompted} (SessionExchange rules)
         (kept_at_start rules) before end after)
         → lines_read served.events
         ≡ options_of waits terminal ++ line_of_request task Looks ∷ later
@@ -71,10 +71,10 @@ pub fn a_run_is_told_what_its_session_answered<D: Desk, P: Prompter>()
         (fields_of task prompt description true 0) served.events (told_of turns) }
     ensures asks { (words : List (List ℕ)) (task : TaskValue) (prompt : Option (List ℕ))
         (description : List ℕ) (rules : Rules)
-        (before after : Surroundings (FurtherWorld D.turned P.prompted)) (end : Ends)
+        (before after : Surroundings (PortWorld D.turned P.prompted)) (end : Ends)
         (waits : Waits) (terminal : EnvWords) (later : List (List ℕ)) (turns : List Turn)
         (left written : Option (List ℕ)) → Means words task prompt description
-        → (served : ServesSession {w = FurtherWorld D.turned P.prompted} (SessionExchange rules)
+        → (served : ServesSession {w = PortWorld D.turned P.prompted} (SessionExchange rules)
         (kept_at_start rules) before end after)
         → lines_read served.events
         ≡ options_of waits terminal ++ line_of_request task Asks ∷ later

@@ -1,9 +1,9 @@
 -- What is done with a connection: a read, a write, an inquiry; and how it is left. This is the project's own.
 use Rattle.std.specs.Prelude.{◌≡◌, ◌≤◌, ℕ, Bool, true, false, List, [], codes, decimal, Option, Some, None, Result, Ok, Err, ⊤}
 use Rattle.agent_ports.specs.{Counts.Rose, Sides.{with_bytes, WhereKnown}, Writing.{Writes, StopsWriting}, declared.link.WriteFault.WriteFault as Fault}
-use Rattle.session_client.specs.{Lines.{Lines, Views, TakesNeeded, IsOpen, unread_at}, declared.{client.TheConstants.MAX_NOTE_LEN, unheard.{Gone.Gone, Unheard.Unheard}}}
-use Rattle.session_client.specs.declared.unheard.Gone.TheVariants as gone
-use Rattle.session_client.specs.declared.unheard.Unheard.TheVariants as unheard
+use Rattle.session_client.specs.{Lines.{Lines, Views, TakesNeeded, IsOpen, unread_at}, declared.{client.TheConstants.MAX_NOTE_LEN, client_error.{Gone.Gone, ClientError.ClientError}}}
+use Rattle.session_client.specs.declared.client_error.Gone.TheVariants as gone
+use Rattle.session_client.specs.declared.client_error.ClientError.TheVariants as client_error
 
 -- what an inquiry came to: its line was written, and the client's lines came to this, or the write failed after these bytes of it
 pub data AnyInquired (O : Type 0) : Type 0 where
@@ -11,23 +11,23 @@ pub data AnyInquired (O : Type 0) : Type 0 where
   NotAsked : List ℕ → AnyInquired O
 
 -- what the client has said by it: the bytes that it gave, or what came in their place
-abbrev pub said_by : (lines : Lines) → AnyInquired lines.Outcome → Result (List ℕ) Unheard
+abbrev pub said_by : (lines : Lines) → AnyInquired lines.Outcome → Result (List ℕ) ClientError
 said_by lines (Asked outcome) = lines.says outcome
-said_by lines (NotAsked text) = Err (unheard.Gone gone.WriteFault)
+said_by lines (NotAsked text) = Err (client_error.Gone gone.WriteFault)
 
 -- it said nothing, since a read of its link failed
-abbrev pub is_unread : {A : Type 0} → Result A Unheard → Bool
-is_unread (Err (unheard.Gone gone.ReadFault)) = true
+abbrev pub is_unread : {A : Type 0} → Result A ClientError → Bool
+is_unread (Err (client_error.Gone gone.ReadFault)) = true
 is_unread _ = false
 
 -- the same, where its bytes are dropped
-abbrev pub without_data : Result (List ℕ) Unheard → Result (Unit {0}) Unheard
+abbrev pub without_data : Result (List ℕ) ClientError → Result (Unit {0}) ClientError
 without_data (Ok bytes) = Ok tt
 without_data (Err why) = Err why
 
 -- how the client's connection was lost, where it was
-abbrev pub gone_of : Unheard → Option Gone
-gone_of (unheard.Gone how) = Some how
+abbrev pub gone_of : ClientError → Option Gone
+gone_of (client_error.Gone how) = Some how
 gone_of _ = None
 
 -- how the reader of a client that is gone so has ended: after a write that failed it may stand in any way
@@ -87,24 +87,24 @@ module _ {lines : Lines} {C : Type 0} (views : Views lines C) where
     pub write_fault : how ≡ gone.WriteFault → Rose (views.output start).faults (views.output now).faults
 
   -- how it is left by what its client was asked: open, but where the client is gone
-  abbrev pub LeftBy : {A : Type 0} → Result A Unheard → C → C → Type 0
-  LeftBy (Err (unheard.Gone how)) start now = IsLost how start now
+  abbrev pub LeftBy : {A : Type 0} → Result A ClientError → C → C → Type 0
+  LeftBy (Err (client_error.Gone how)) start now = IsLost how start now
   LeftBy _ start now = IsOpen views now
 
   -- an inquiry, and how it leaves the connection, by what the client has said
-  pub record Inquires {A : Type 0} (word params : List ℕ) (limit : ℕ) (inquired : AnyInquired lines.Outcome) (result : Result A Unheard) (start now : C) : Type 0 where
+  pub record Inquires {A : Type 0} (word params : List ℕ) (limit : ℕ) (inquired : AnyInquired lines.Outcome) (result : Result A ClientError) (start now : C) : Type 0 where
     pub done : HasInquired word params limit inquired start now
     pub fewer : IsOpen views now → views.held now ≤ views.held start
     pub left : LeftBy result start now
 
   -- the client was told of a prompt in the process of this number; what it sent back is dropped
-  pub record TellsClient (pid : ℕ) (result : Result (Unit {0}) Unheard) (start now : C) : Type 0 where
+  pub record TellsClient (pid : ℕ) (result : Result (Unit {0}) ClientError) (start now : C) : Type 0 where
     pub inquired : AnyInquired lines.Outcome
     pub result_is : result ≡ without_data (said_by lines inquired)
     pub inquires : Inquires (codes "PINENTRY_LAUNCHED") (decimal pid) MAX_NOTE_LEN inquired result start now
 
   -- it was asked by this word for so many bytes at most
-  pub record AsksClient (word : List ℕ) (limit : ℕ) (result : Result (List ℕ) Unheard) (start now : C) : Type 0 where
+  pub record AsksClient (word : List ℕ) (limit : ℕ) (result : Result (List ℕ) ClientError) (start now : C) : Type 0 where
     pub inquired : AnyInquired lines.Outcome
     pub result_is : result ≡ said_by lines inquired
     pub inquires : Inquires word [] limit inquired result start now

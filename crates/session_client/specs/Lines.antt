@@ -1,7 +1,7 @@
 -- How requests and inquiries stand in the bytes of a link, and what is seen of a connection over it. This is the project's own.
 use Rattle.std.specs.{Prelude.{◌≡◌, ◌⊎◌, ℕ, Bool, List, ◌++◌, Option, Some, None, Result}, Borrow.GName, Option.option_map}
 use Rattle.agent_ports.specs.Sides.{Side, WhereKnown}
-use Rattle.session_client.specs.declared.unheard.{Gone.Gone, Unheard.Unheard}
+use Rattle.session_client.specs.declared.client_error.{Gone.Gone, ClientError.ClientError}
 
 -- How requests and inquiries stand in the bytes of a link. A read needed the bytes that it took where they were undecided before its last
 -- piece: of the bytes ahead, those that the source held before it, and those that it holds after it.
@@ -20,7 +20,7 @@ pub record Lines : Type 1 where
   pub Outcome : Type 0
   pub reads_answer : Supply → ℕ → List ℕ → Outcome → List ℕ → Type 0
   pub needs_answer : List ℕ → List ℕ → List ℕ → Type 0
-  pub says : Outcome → Result (List ℕ) Unheard
+  pub says : Outcome → Result (List ℕ) ClientError
   -- the answer that ended a reader whose client is gone so, but where a write failed
   pub ended_by : Gone → Option Took
 

@@ -4,7 +4,7 @@
 ghost use Rattle.std.specs.Prelude.{◌≡◌, ◌≤◌, ◌<◌, ◌^◌, length};
 ghost use Rattle.session_client.specs.{Codes.{code_of, error_description}, Refusals.refusal_code};
 
-use crate::{Gone, Unheard};
+use crate::{ClientError, Gone};
 use std::error::Error;
 use std::fmt;
 
@@ -132,15 +132,15 @@ impl Code {
 
     /// The code by which a request is refused whose client has said this. One that is gone is told
     /// no more, but that its line was too long.
-    pub fn refusing(unheard: Unheard) -> Option<Code>
+    pub fn refusing(unheard: ClientError) -> Option<Code>
         ensures { result ≡ refusal_code unheard }
     {
         match unheard {
-            Unheard::Cancelled => Some(Code::Cancelled),
-            Unheard::TooMuch => Some(Code::TooMuch),
-            Unheard::Unexpected => Some(Code::Unexpected),
-            Unheard::Gone(Gone::TooLong) => Some(Code::LineTooLong),
-            Unheard::Gone(_) => None,
+            ClientError::Cancelled => Some(Code::Cancelled),
+            ClientError::TooMuch => Some(Code::TooMuch),
+            ClientError::Unexpected => Some(Code::Unexpected),
+            ClientError::Gone(Gone::TooLong) => Some(Code::LineTooLong),
+            ClientError::Gone(_) => None,
         }
     }
 }

@@ -5,7 +5,7 @@
 ghost use Rattle.std.specs.Prelude.{◌≡◌};
 ghost use Rattle.session_client.specs.Refusals.{gone_by};
 
-use crate::{Code, Gone, Unheard};
+use crate::{ClientError, Code, Gone};
 use agent_ports::WriteFault;
 
 /// Why a request isn't carried out further, once it was read.
@@ -16,16 +16,16 @@ pub enum Refusal {
     /// By one that the pinentry gave.
     Pinentry(Code),
     /// The client gave nothing of what was wanted, or is gone.
-    Client(Unheard),
+    Client(ClientError),
 }
 
-impl From<Unheard> for Refusal {
+impl From<ClientError> for Refusal {
     ghost use Rattle.std.specs.Prelude.{◌≡◌};
     ghost use Rattle.session_client.specs.declared.refusal.Refusal.TheVariants.{Client};
 
     ghost from_gives = { λ error why. why ≡ Client error };
 
-    fn from(error: Unheard) -> Refusal {
+    fn from(error: ClientError) -> Refusal {
         Refusal::Client(error)
     }
 }
@@ -33,13 +33,13 @@ impl From<Unheard> for Refusal {
 impl From<WriteFault> for Refusal {
     ghost use Rattle.std.specs.Prelude.{◌≡◌};
     ghost use Rattle.session_client.specs.declared.refusal.Refusal.TheVariants.{Client};
-    ghost use Rattle.session_client.specs.declared.unheard.Gone.TheVariants as gone;
-    ghost use Rattle.session_client.specs.declared.unheard.Unheard.TheVariants.{Gone};
+    ghost use Rattle.session_client.specs.declared.client_error.Gone.TheVariants as gone;
+    ghost use Rattle.session_client.specs.declared.client_error.ClientError.TheVariants.{Gone};
 
     ghost from_gives = { λ _ why. why ≡ Client (Gone gone.WriteFault) };
 
     fn from(_fault: WriteFault) -> Refusal {
-        Refusal::Client(Unheard::Gone(Gone::WriteFault))
+        Refusal::Client(ClientError::Gone(Gone::WriteFault))
     }
 }
 
@@ -49,7 +49,7 @@ impl Refusal {
         ensures { result ≡ gone_by self }
     {
         match self {
-            Refusal::Client(Unheard::Gone(how)) => Some(how),
+            Refusal::Client(ClientError::Gone(how)) => Some(how),
             Refusal::Agent(_) | Refusal::Pinentry(_) | Refusal::Client(_) => None,
         }
     }

@@ -11,5 +11,5 @@ returns-in-Ready-clause-asked g c =
 pub returns-in-NoPinentry-clause-asked : goal.returns-in-NoPinentry-clause-asked
 returns-in-NoPinentry-clause-asked g c = made_as _ (λ events opens. unopened opens) c.in-NoPinentry.ensures.opened
 
-pub returns-in-Unheard-clause-asked : goal.returns-in-Unheard-clause-asked
-returns-in-Unheard-clause-asked g c = made_as _ (λ events opens. unheard opens) c.in-Unheard.ensures.opened
+pub returns-in-ClientError-clause-asked : goal.returns-in-ClientError-clause-asked
+returns-in-ClientError-clause-asked g c = made_as _ (λ events opens. unheard opens) c.in-ClientError.ensures.opened

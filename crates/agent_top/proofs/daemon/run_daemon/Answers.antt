@@ -14,7 +14,7 @@ returns-in_default-listeners-clause-runs g c = rw c.number-in_default-listeners.
 pub returns-clause-runs : goal.returns-clause-runs
 returns-clause-runs g c =
     let r = c.serve_rounds-passes.result in
-    let rounds = by_extra _ c.args.rules.now c.in-Some.listener _ c.in-Some.extra c.in-Ok.passes.items c.with_ears-ears.result.items r.0.items r.1.items c.as_ref-further.ensures.value
+    let rounds = by_extra _ c.args.rules.now c.in-Some.listener _ c.in-Some.extra c.in-Ok.passes.items c.with_ears-ears.result.items r.0.items r.1.items c.as_ref-ported.ensures.value
     (rw c.in-Some.ensures.homedir at c.serve_rounds-passes.ensures.rounds) in
     summed (record {
       counted = c.in-Ok.counted;
@@ -35,7 +35,7 @@ returns-clause-runs g c =
       rounds = rounds;
       over = c.serve_rounds-passes.ensures.end;
       own_ears = ears_stay_own _ c.args.rules.now c.in-Some.listener c.in-Some.extra c.in-Ok.passes.items c.with_ears-ears.result.items r.0.items r.1.items rounds
-          (subst (λ e. AreEarsOf g.H.Listener.Listener.hears c.in-Some.listener e c.with_ears-ears.result.items) c.as_ref-further.ensures.value c.with_ears-ears.ensures.own);
+          (subst (λ e. AreEarsOf g.H.Listener.Listener.hears c.in-Some.listener e c.with_ears-ears.result.items) c.as_ref-ported.ensures.value c.with_ears-ears.ensures.own);
       heard = omega (arith, c.in-Some.ensures.listens, c.give_ears_back.ensures.heard);
       tally = c.close-tally.result;
       closed = c.close-tally.ensures;

@@ -1,6 +1,6 @@
 //! Client errors: what came of a question to the client in place of an answer, down to a lost
-//! connection. Plain data. Begin with `Unheard`; `refusal_code` of `specs/Refusals` says by which
-//! error each is answered.
+//! connection. Plain data. Begin with `ClientError`; `refusal_code` of `specs/Refusals` says by
+//! which error each is answered.
 
 /// How the client's connection was lost.
 #[derive(Clone, Copy, PartialEq, Eq)]
@@ -19,7 +19,7 @@ pub enum Gone {
 
 /// What came of a question to the client in place of what was wanted.
 #[derive(Clone, Copy, PartialEq, Eq)]
-pub enum Unheard {
+pub enum ClientError {
     /// It cancelled.
     Cancelled,
     /// It sent more bytes than the limit.
