@@ -1,13 +1,11 @@
-//! A session from bytes to bytes, over any link and any desk.
+//! Laws of sessions: why a request is answered by an error, what stands behind one, and whose a
+//! passphrase is; and a session on standard input and output, of which they hold.
 //!
-//! Begin with [`serve_session`], whose loop is in `agent_origin` (`serve`): what a session reads,
-//! writes and does is one list of events, the greeting and then each request with its exchange, and
-//! it leaves no ticket out and no prompt open. The laws say when a request is answered: each error
-//! has its cause ([`each_error_has_its_cause`]), mostly exactly where that stands
-//! ([`each_cause_has_its_error`]), and without one there is an answer
-//! ([`a_session_without_faults_is_answered`]). A line that is too long ends its session
-//! ([`a_line_that_is_too_long_ends_its_session`]). A law that holds at a door too says so by a
-//! second clause. Definitions begin in `specs/Sessions`, the causes in `specs/Causes`.
+//! Begin with the laws on answers: each error has its cause ([`each_error_has_its_cause`]), mostly
+//! exactly where that stands ([`each_cause_has_its_error`]), and without one there is an answer
+//! ([`a_session_without_faults_is_answered`]). A law that holds at a door too says so by a second
+//! clause. All but [`serve_session`], whose loop is in `agent_origin` (`serve`), has no code that
+//! runs. Definitions begin in `specs/Causes`, those of a session in `specs/Sessions`.
 #![tactic(auto)]
 
 mod completeness;
