@@ -7,7 +7,7 @@ use Rattle.agent_commands.specs.{Outside.{world, prompt_world, DoesPrompts, prom
 use Rattle.{agent_commands.proofs.Replying.gone_as_it_went, key_commands.specs.{Exchanges.KeyExchange, KeyEnds.{KeyEnds, DoesAtKeys, prompt}, Requests.key_request_of, States.{KeyWorld, KeyState, key_state, AnswersKey}, Parts.key_gone}}
 use Rattle.key_commands.specs.declared.{went.KeyWent.KeyWent, wrap_keys.WrapKeys.WrapKeys}
 use Rattle.agent_origin.specs.{PortStates.{port_ends, PortWorld}, SessionExchanges.{RequestExchange, cache, keys, went_after_key, described_after}, declared.session_state.SessionState.SessionState}
-use Rattle.agent_ask.specs.Port as ported
+use Rattle.agent_ask.specs.PortCalls as ported
 use Rattle.key_commands.specs.KeyEnds as at_keys
 use Rattle.key_commands.specs.declared.went.KeyWent.TheVariants as key
 

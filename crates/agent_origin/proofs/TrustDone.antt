@@ -8,7 +8,7 @@ use Rattle.{session_client.specs.declared.refusal.Refusal.Refusal, session_optio
 use Rattle.agent_commands.proofs.Carrying.{replies_ok}
 use Rattle.agent_origin.specs.{PortStates.{port_ends, PortState}, TrustExchanges.{unless_said, Carried, TrustReplies}, TrustParts.ReadsFile, TrustStates.{DoesTrustFile, called, no_memory, DoesAtFile, LeavesKeys}}
 use Rattle.agent_origin.specs.declared.trust.request.TrustRequest.{TrustRequest}
-use Rattle.agent_ask.specs.Port as ported
+use Rattle.agent_ask.specs.PortCalls as ported
 
 -- ---- the trust file
 

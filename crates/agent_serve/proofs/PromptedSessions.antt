@@ -5,7 +5,7 @@ use Rattle.{agent_commands.specs.{Endings.went_after, Talks.{Session, Talk}, dec
 use Rattle.{agent_ports.specs.Leads.{Leads, none, one}, assuan_server.specs.Reading.Supply, cache_policy.specs.{Turns.Turn, declared.mark.MarkStep.MarkStep}, key_commands.specs.Events.Event, pinentry_client.proofs.Children.their_children}
 use Rattle.pinentry_client.specs.{Children.ArePrompts, Dialogues.PinentryDoes, States.{AtPinentry, at_prompter, idle}}
 use Rattle.agent_serve.{specs.Prompts.{calls_in, Prompted, HavePrompts}, proofs.PromptedEvents.{calls_append, prompted_append, uncalled}}
-use Rattle.agent_ask.specs.Port as ported
+use Rattle.agent_ask.specs.PortCalls as ported
 use Rattle.agent_ask.specs.Worlds as worlds
 use Rattle.agent_commands.specs.Talks as talks
 

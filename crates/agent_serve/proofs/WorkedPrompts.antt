@@ -9,7 +9,7 @@ use Rattle.session_options.specs.declared.rules.Rules.{Rules}
 use Rattle.agent_serve.{specs.Prompts.HavePrompts, proofs.{PromptedLines.request_prompted, PromptedSessions.have_prompts}}
 use Rattle.agent_ask.specs.ConsentParts as consent
 use Rattle.agent_ask.specs.Consents as consents
-use Rattle.agent_ask.specs.Port as ported
+use Rattle.agent_ask.specs.PortCalls as ported
 use Rattle.agent_ask.specs.PartExchanges as whole
 use Rattle.agent_ask.specs.Prompts as prompts
 use Rattle.agent_ask.specs.TurnParts as taken

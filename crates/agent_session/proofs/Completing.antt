@@ -6,7 +6,7 @@ use Rattle.{agent_ask.specs.{Prompters.{AtPrompter, IsCall, is_failed}, SessionE
 use Rattle.{agent_ports.specs.{Sides.Side, TrustFiles.TrustState}, assuan_server.specs.Reading.Supply, cache_policy.specs.{declared.mark.MarkStep.MarkStep, Turns.Turn}, agent_commands.specs.Events.EventWith}
 use Rattle.agent_origin.specs.PortStates.{PortWorld}
 use Rattle.agent_session.{specs.{Causes.{Has, here, later, FailsAtKeys, FailsAtTrust, FailsAtKeysOrDice, HasOne, HasCall, HasTrustCall}, Completeness.FailuresRise}, proofs.{KeyExplained.NeverAbsent, Standing.each_has}}
-use Rattle.agent_ask.specs.Port as ported
+use Rattle.agent_ask.specs.PortCalls as ported
 use Rattle.agent_ask.specs.TrustCalls as trust_call
 use Rattle.agent_ask.specs.Worlds as worlds
 use Rattle.agent_ports.specs.declared.keys.KeyDone.TheVariants as key_done

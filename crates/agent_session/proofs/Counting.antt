@@ -4,7 +4,7 @@ use Rattle.agent_ask.specs.{Doing.{DoesCall, called, out_of_memory}, Events.{Cal
 use Rattle.{agent_ask.specs.{SessionEvents.Port, TrustCalls.TrustCall, Worlds.{Outside, Does}}, agent_ports.specs.{Counts.{RoseBy, Rose}, Leads.{Leads, none, one}, Sides.Side}, assuan_server.specs.Reading.Supply}
 use Rattle.{cache_policy.specs.{declared.mark.MarkStep.MarkStep, Turns.Turn}, key_commands.specs.Events.Event, agent_origin.specs.PortStates.PortWorld}
 use Rattle.agent_session.{specs.{Causes.{FailsAtKeys, FailsAtTrust}, Counting.{fails_at_prompter, fails_at_keys, fails_at_dice, fails_at_trust, CountsFailures}}, proofs.Completing.{keys_rise, trust_rises, event_moves}}
-use Rattle.agent_ask.specs.Port as ported
+use Rattle.agent_ask.specs.PortCalls as ported
 use Rattle.agent_ask.specs.TrustCalls as trust_call
 use Rattle.agent_ask.specs.Worlds as worlds
 use Rattle.agent_ports.specs.declared.keys.KeyDone.TheVariants as key_done

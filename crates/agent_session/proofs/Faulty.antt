@@ -29,7 +29,7 @@ name_said (leaf name ∷ more) = either _ nothing unsupported
 algorithm_said : (trees : List Tree) → IsSaid (algorithm_fault trees)
 algorithm_said [] = bad
 algorithm_said (first ∷ []) = bad
-algorithm_said (first ∷ second ∷ ported) = name_said (items second)
+algorithm_said (first ∷ second ∷ further) = name_said (items second)
 
 first_said : (one other : Option KeyFault) → IsSaid one → IsSaid other → IsSaid (first_fault one other)
 first_said (Some fault) other one later = one

@@ -142,11 +142,11 @@ module _ (Fits : Event → Type 0) where
   WorksSo part = Within part WorkLaw
 
   -- one that leaves the ticket, too
-  abbrev pub SessionState : {A : Type 0} → Option ℕ → List Event → Result A Refusal → Option ℕ → Type 0
-  SessionState before events result after = WorksTo events result × (after ≡ before)
+  abbrev pub LeavesTicket : {A : Type 0} → Option ℕ → List Event → Result A Refusal → Option ℕ → Type 0
+  LeavesTicket before events result after = WorksTo events result × (after ≡ before)
 
   abbrev pub Keeps : {A : Type 0} → Part A → Type 0
-  Keeps {A} part = (before : Option ℕ) (events : List Event) (result : Result A Refusal) (after : Option ℕ) → part before events result after → SessionState before events result after
+  Keeps {A} part = (before : Option ℕ) (events : List Event) (result : Result A Refusal) (after : Option ℕ) → part before events result after → LeavesTicket before events result after
 
   pub keeps_works : {A : Type 0} {part : Part A} → Keeps part → WorksSo part
   keeps_works keeps = record { of = λ before events result after does. (keeps before events result after does).0 }

@@ -31,8 +31,8 @@ module _ (rules : Rules) (options : OptionValues) (wraps : WrapKeys) (grip : Gri
   no_export_key = refused [] None (Agent Parameter) (stops refuses) unheld
 
   -- what is known of a clear key
-  clear_info : {algorithm : Algorithm} {public private ported : List Tree} {file : List ℕ} (answer : KeyRead) → file_in answer ≡ Some file
-      → FileSays file (Ok (record { algorithm = algorithm; is_clear = true; public = public; private = private; ported = ported }))
+  clear_info : {algorithm : Algorithm} {public private further : List Tree} {file : List ℕ} (answer : KeyRead) → file_in answer ≡ Some file
+      → FileSays file (Ok (record { algorithm = algorithm; is_clear = true; public = public; private = private; further = further }))
       → KeyExchange rules options wraps (KeyInfo grip) (read grip answer ∷ cache_turn (Peek (grip_text grip) Normal) (Held false) ∷ Sent (info_line grip false true ++ ok) ∷ []) wraps On
   unfolding KeyInfoReplies
   clear_info answer file says =
@@ -51,8 +51,8 @@ module _ (rules : Rules) (options : OptionValues) (wraps : WrapKeys) (grip : Gri
   none_is_there = refused (read grip Absent ∷ []) None (Agent NoSecKey) (stops (goes_on absent refuses)) unheld
 
   -- the keys that there are, of which one went meanwhile
-  listed_keys : (other : Grip) {algorithm : Algorithm} {public private ported : List Tree} {file : List ℕ} (names : KeyNames) (answer : KeyRead) → grips_in names ≡ Some (other ∷ grip ∷ [])
-      → file_in answer ≡ Some file → FileSays file (Ok (record { algorithm = algorithm; is_clear = true; public = public; private = private; ported = ported }))
+  listed_keys : (other : Grip) {algorithm : Algorithm} {public private further : List Tree} {file : List ℕ} (names : KeyNames) (answer : KeyRead) → grips_in names ≡ Some (other ∷ grip ∷ [])
+      → file_in answer ≡ Some file → FileSays file (Ok (record { algorithm = algorithm; is_clear = true; public = public; private = private; further = further }))
       → KeyExchange rules options wraps ListKeys
       (called (Listed names) ∷ read other Absent ∷ read grip answer ∷ cache_turn (Peek (grip_text grip) Normal) (Held true) ∷ Sent (info_line grip true true) ∷ Sent ok ∷ []) wraps On
   unfolding ListKeysReplies
@@ -89,9 +89,9 @@ module _ (rules : Rules) (options : OptionValues) (wraps : WrapKeys) (grip : Gri
 
   -- A protected key's passphrase, in a canonical file, is changed by two nonces of which the one gives the old and the other the new one. Nobody is asked, and the new one is
   -- kept.
-  changed_by_nonces : {algorithm : Algorithm} {public private ported : List Tree} {old new drawn_bytes : List ℕ} {clear : Key} {locked : LockedKey} {file : List ℕ} {first second : Grant}
+  changed_by_nonces : {algorithm : Algorithm} {public private further : List Tree} {old new drawn_bytes : List ℕ} {clear : Key} {locked : LockedKey} {file : List ℕ} {first second : Grant}
       (answer : KeyRead)
-      → let key : Key = record { algorithm = algorithm; is_clear = false; public = public; private = private; ported = ported } in
+      → let key : Key = record { algorithm = algorithm; is_clear = false; public = public; private = private; further = further } in
       let made_file : List ℕ = protected_file clear (ocb_protection clear second.entry.secret (take 8 drawn_bytes) (drop 8 drawn_bytes) options.s2k_count None) None in
       file_in answer ≡ Some file → FileSays file (Ok key) → is_canonical file ≡ true → locked.key ≡ key → IsLocked locked → OpensTo locked first.entry.secret clear
       → length (key_list_of clear) ≤ MAX_LIST_LEN → length drawn_bytes ≡ 20
@@ -128,12 +128,12 @@ module _ (rules : Rules) (options : OptionValues) (wraps : WrapKeys) (grip : Gri
   abbrev by_client : OptionValues
   by_client = record options { mode = mode.Loopback }
 
-  module _ (algorithm : Algorithm) (public private ported : List Tree) (file : List ℕ) (answer : KeyRead) (is : file_in answer ≡ Some file) where
+  module _ (algorithm : Algorithm) (public private further : List Tree) (file : List ℕ) (answer : KeyRead) (is : file_in answer ≡ Some file) where
     abbrev clear : Key
-    clear = record { algorithm = algorithm; is_clear = true; public = public; private = private; ported = ported }
+    clear = record { algorithm = algorithm; is_clear = true; public = public; private = private; further = further }
 
     abbrev protected : Key
-    protected = record { algorithm = algorithm; is_clear = false; public = public; private = private; ported = ported }
+    protected = record { algorithm = algorithm; is_clear = false; public = public; private = private; further = further }
 
     -- a clear key goes out as it is, and no passphrase is wanted
     clear_goes_out : {text : List ℕ} → FileSays file (Ok clear) → IsDataAnswer (wrapped_key wrap clear) text

@@ -34,11 +34,11 @@ worked_lines = record { before = codes "Created: x" ++ lf; tree = worked_key; af
 -- It has these lines, as the examples of key_lines show.
 module _ (worked-has : IsKeyFile worked worked_lines) where
   -- so it says what the canonical file of its key says: a clear key
-  worked_says : FileSays worked (Ok (record { algorithm = Ecc; is_clear = true; public = q ∷ []; private = d ∷ []; ported = [] }))
+  worked_says : FileSays worked (Ok (record { algorithm = Ecc; is_clear = true; public = q ∷ []; private = d ∷ []; further = [] }))
   worked_says = canonical (inr (record { extended = refl; key = worked_lines; has = worked-has; spelled = sym worked_spelling })) (record {
     tree = worked_key;
     read = record { spelled = sym worked_spelling; shallow = lit≤ tt; short = lit≤ tt };
-    is = record { parts = refl; formed = record { public = refl; private = refl; ported = refl } };
+    is = record { parts = refl; formed = record { public = refl; private = refl; further = refl } };
   })
 
 -- without its second and third line it is no expression

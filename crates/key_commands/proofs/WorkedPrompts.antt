@@ -77,9 +77,9 @@ module _ (any_rules : Rules) (any_options : OptionValues) (wraps : WrapKeys) (gr
 
   -- ---- a protected key
 
-  module _ (algorithm : Algorithm) (public private ported : List Tree) (file : List ℕ) (clear : Key) (locked : LockedKey) (answer : KeyRead) (is : file_in answer ≡ Some file)
-      (says : FileSays file (Ok (record { algorithm = algorithm; is_clear = false; public = public; private = private; ported = ported })))
-      (key_is : locked.key ≡ record { algorithm = algorithm; is_clear = false; public = public; private = private; ported = ported }) (locked_is : IsLocked locked)
+  module _ (algorithm : Algorithm) (public private further : List Tree) (file : List ℕ) (clear : Key) (locked : LockedKey) (answer : KeyRead) (is : file_in answer ≡ Some file)
+      (says : FileSays file (Ok (record { algorithm = algorithm; is_clear = false; public = public; private = private; further = further })))
+      (key_is : locked.key ≡ record { algorithm = algorithm; is_clear = false; public = public; private = private; further = further }) (locked_is : IsLocked locked)
       (is_old : IsSpec rules options (text (described options.description (old_description grip))) (text field_text) false spec) where
     -- EXPORT_KEY: the third passphrase opens the key, and is kept
     third_opens : {first second third text : List ℕ} → ¬ OpensBy locked first → ¬ OpensBy locked second → OpensTo locked third clear → IsDataAnswer (wrapped_key wrap clear) text
