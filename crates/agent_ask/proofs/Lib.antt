@@ -4,7 +4,6 @@ pub mod Trying
 pub mod WorkedPrompts
 pub mod OnlyAnswer
 pub mod Counting
-pub mod ClientError
 pub mod Doing
 pub mod Beside
 pub mod Clients

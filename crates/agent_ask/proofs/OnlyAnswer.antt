@@ -2,11 +2,9 @@
 use Rattle.std.{proofs.Common.{◌≡◌, ◌≢◌, ◌<◌, ◌+◌, ℕ, zero, suc, Bool, Option, None, Some, List, [], ◌∷◌, ◌++◌, Result, Ok, Err, refl, ap, sym, ◌∙◌, subst, append_assoc, arith}, specs.Prelude.⊤}
 use Rattle.agent_ask.specs.{Events.{GetPin, Confirm, Shut, PromptEvent, Called, Notified, OutOfMemory}, Tests.PinTest}
 use Rattle.agent_ask.specs.{Prompts.{MeetsCheck, try_text, pin_or_stop, typed, repeat_text, repeated, Repeats, IsTry, Tries, Opens, AsksBefore, AsksPin}, declared.{ask.Asked.Asked, caller.Heard.Heard, consent.Agreed.Agreed}}
-use Rattle.agent_ask.specs.declared.{opening.Opening.Opening, prompter.{Consent.Consent, Outcome.Outcome}, spec.{AskPlan.AskPlan, PromptSpec.PromptSpec}, tries.{Failure.{Failure, TheVariants.Differ}, Stop.Stop}}
-use Rattle.agent_ask.specs.Consents.{ConsentBefore, AsksConsent, agreed_of}
+use Rattle.agent_ask.specs.{declared.{prompter.{Consent.Consent, Outcome.Outcome}, spec.{AskPlan.AskPlan, PromptSpec.PromptSpec}, tries.{Failure.{Failure, TheVariants.Differ}, Stop.Stop}}, Consents.{ConsentBefore, AsksConsent, agreed_of}}
 use Rattle.agent_ask.specs.declared.ask.Asked.TheVariants as asked
 use Rattle.agent_ask.specs.declared.consent.Agreed.TheVariants as agreed
-use Rattle.agent_ask.specs.declared.opening.Opening.TheVariants as opening
 use Rattle.agent_ask.specs.declared.prompter.Outcome.TheVariants as outcome
 use Rattle.agent_ask.specs.declared.tries.Stop.TheVariants as stop
 
@@ -179,52 +177,43 @@ module _ (plan : AskPlan) (Rule : List ℕ → Type 0) where
   only_tries number before more rest called begins (Tries.bad past) (Tries.bad past') same = refl
 
 module _ {spec : PromptSpec} {notify : Bool} where
-  only_opens : {events later : List PromptEvent} {opening final : Opening} {more rest : List PromptEvent} → Opens spec notify events opening → Opens spec notify later final
+  only_opens : {events later : List PromptEvent} {opening final : Option Heard} {more rest : List PromptEvent} → Opens spec notify events opening → Opens spec notify later final
       → events ++ more ≡ later ++ rest → (more ≡ rest) × (opening ≡ final)
   only_opens Opens.failed Opens.failed same = (cc same, refl)
   only_opens Opens.failed Opens.broken same = (cc same, refl)
   only_opens Opens.failed (Opens.quiet noisy') same = (cc same, cc same)
   only_opens Opens.failed (Opens.told noisy') same = (cc same, cc same)
-  only_opens Opens.failed (Opens.unheard noisy' deaf') same = (cc same, cc same)
   only_opens Opens.broken Opens.failed same = (cc same, refl)
   only_opens Opens.broken Opens.broken same = (cc same, refl)
   only_opens Opens.broken (Opens.quiet noisy') same = (cc same, cc same)
   only_opens Opens.broken (Opens.told noisy') same = (cc same, cc same)
-  only_opens Opens.broken (Opens.unheard noisy' deaf') same = (cc same, cc same)
   only_opens (Opens.quiet noisy) Opens.failed same = (cc same, cc same)
   only_opens (Opens.quiet noisy) Opens.broken same = (cc same, cc same)
   only_opens (Opens.quiet noisy) (Opens.quiet noisy') same = (cc same, refl)
   only_opens (Opens.quiet noisy) (Opens.told noisy') same = let both = sym noisy ∙ noisy' in absurd (cc both)
-  only_opens (Opens.quiet noisy) (Opens.unheard noisy' deaf') same = let both = sym noisy ∙ noisy' in absurd (cc both)
   only_opens (Opens.told noisy) Opens.failed same = (cc same, cc same)
   only_opens (Opens.told noisy) Opens.broken same = (cc same, cc same)
   only_opens (Opens.told noisy) (Opens.quiet noisy') same = let both = sym noisy ∙ noisy' in absurd (cc both)
-  only_opens (Opens.told noisy) (Opens.told noisy') same = (cc same, refl)
-  only_opens (Opens.told noisy) (Opens.unheard noisy' deaf') same = absurd (deaf' (cc same))
-  only_opens (Opens.unheard noisy deaf) Opens.failed same = (cc same, cc same)
-  only_opens (Opens.unheard noisy deaf) Opens.broken same = (cc same, cc same)
-  only_opens (Opens.unheard noisy deaf) (Opens.quiet noisy') same = let both = sym noisy ∙ noisy' in absurd (cc both)
-  only_opens (Opens.unheard noisy deaf) (Opens.told noisy') same = absurd (deaf (cc same))
-  only_opens (Opens.unheard noisy deaf) (Opens.unheard noisy' deaf') same = (cc same, cc same)
+  only_opens (Opens.told noisy) (Opens.told noisy') same = (cc same, cc same)
 
-unheard_is : {heard other : Heard} → opening.ClientError heard ≡ opening.ClientError other → heard ≡ other
-unheard_is same = cc same
+some_is : {heard other : Heard} → Some heard ≡ Some other → heard ≡ other
+some_is same = cc same
 
 module _ (spec : PromptSpec) (plan : AskPlan) (Rule : List ℕ → Type 0) where
   only_before : {events later : List PromptEvent} {made done : List PinTest} {end final : Asked} (more rest : List PromptEvent) → BeginsCalled more → BeginsCalled rest
       → AsksBefore spec plan Rule events made end → AsksBefore spec plan Rule later done final → events ++ more ≡ later ++ rest → end ≡ final
   only_before more rest called begins (AsksBefore.unopened opens) (AsksBefore.unopened opens') same = refl
-  only_before more rest called begins (AsksBefore.unopened opens) (AsksBefore.unheard opens') same = let differ = (only_opens opens opens' same).1 in absurd (cc differ)
+  only_before more rest called begins (AsksBefore.unopened opens) (AsksBefore.client_error lost' opens') same = let differ = (only_opens opens opens' same).1 in absurd (cc differ)
   only_before more rest called begins (AsksBefore.unopened opens) (AsksBefore.tried {events = events'} {more = tries_are'} opens' tries') same =
       let differ = (only_opens opens opens' (same ∙ append_assoc events' tries_are' rest)).1 in absurd (cc differ)
-  only_before more rest called begins (AsksBefore.unheard opens) (AsksBefore.unopened opens') same = let differ = (only_opens opens opens' same).1 in absurd (cc differ)
-  only_before more rest called begins (AsksBefore.unheard opens) (AsksBefore.unheard opens') same = ap (λ (h : Heard). asked.Heard h) (unheard_is (only_opens opens opens' same).1)
-  only_before more rest called begins (AsksBefore.unheard opens) (AsksBefore.tried {events = events'} {more = tries_are'} opens' tries') same =
-      let differ = (only_opens opens opens' (same ∙ append_assoc events' tries_are' rest)).1 in absurd (cc differ)
+  only_before more rest called begins (AsksBefore.client_error lost opens) (AsksBefore.unopened opens') same = let differ = (only_opens opens opens' same).1 in absurd (cc differ)
+  only_before more rest called begins (AsksBefore.client_error lost opens) (AsksBefore.client_error lost' opens') same = ap (λ (h : Heard). asked.Heard h) (some_is (only_opens opens opens' same).1)
+  only_before more rest called begins (AsksBefore.client_error lost opens) (AsksBefore.tried {events = events'} {more = tries_are'} opens' tries') same =
+      let differ = (only_opens opens opens' (same ∙ append_assoc events' tries_are' rest)).1 in absurd (lost (cc differ))
   only_before more rest called begins (AsksBefore.tried {events} {more = tries_are} opens tries) (AsksBefore.unopened opens') same =
       let differ = (only_opens opens opens' (sym (append_assoc events tries_are more) ∙ same)).1 in absurd (cc differ)
-  only_before more rest called begins (AsksBefore.tried {events} {more = tries_are} opens tries) (AsksBefore.unheard opens') same =
-      let differ = (only_opens opens opens' (sym (append_assoc events tries_are more) ∙ same)).1 in absurd (cc differ)
+  only_before more rest called begins (AsksBefore.tried {events} {more = tries_are} opens tries) (AsksBefore.client_error lost' opens') same =
+      let differ = (only_opens opens opens' (sym (append_assoc events tries_are more) ∙ same)).1 in absurd (lost' (cc differ))
   only_before more rest called begins (AsksBefore.tried {events} {more = tries_are} opens tries) (AsksBefore.tried {events = events'} {more = tries_are'} opens' tries') same =
       only_tries plan Rule 1 None more rest called begins tries tries'
       (only_opens opens opens' (sym (append_assoc events tries_are more) ∙ same ∙ append_assoc events' tries_are' rest)).0
@@ -239,17 +228,17 @@ module _ (spec : PromptSpec) (notify : Bool) where
   only_consent : {events later : List PromptEvent} {end final : Agreed} (more : List PromptEvent)
       → ConsentBefore spec notify events end → ConsentBefore spec notify later final → events ++ more ≡ later ++ more → end ≡ final
   only_consent more (ConsentBefore.unopened opens) (ConsentBefore.unopened opens') same = refl
-  only_consent more (ConsentBefore.unopened opens) (ConsentBefore.unheard opens') same = let differ = (only_opens opens opens' (same)).1 in absurd (cc differ)
+  only_consent more (ConsentBefore.unopened opens) (ConsentBefore.client_error lost' opens') same = let differ = (only_opens opens opens' (same)).1 in absurd (cc differ)
   only_consent more (ConsentBefore.unopened opens) (ConsentBefore.asked {events = events'} consent' opens') same =
       let differ = (only_opens opens opens' (same ∙ append_assoc events' (Called (Confirm consent') ∷ []) more)).1 in absurd (cc differ)
-  only_consent more (ConsentBefore.unheard opens) (ConsentBefore.unopened opens') same = let differ = (only_opens opens opens' (same)).1 in absurd (cc differ)
-  only_consent more (ConsentBefore.unheard opens) (ConsentBefore.unheard opens') same = ap (λ (h : Heard). agreed.Heard h) (unheard_is (only_opens opens opens' same).1)
-  only_consent more (ConsentBefore.unheard opens) (ConsentBefore.asked {events = events'} consent' opens') same =
-      let differ = (only_opens opens opens' (same ∙ append_assoc events' (Called (Confirm consent') ∷ []) more)).1 in absurd (cc differ)
+  only_consent more (ConsentBefore.client_error lost opens) (ConsentBefore.unopened opens') same = let differ = (only_opens opens opens' (same)).1 in absurd (cc differ)
+  only_consent more (ConsentBefore.client_error lost opens) (ConsentBefore.client_error lost' opens') same = ap (λ (h : Heard). agreed.Heard h) (some_is (only_opens opens opens' same).1)
+  only_consent more (ConsentBefore.client_error lost opens) (ConsentBefore.asked {events = events'} consent' opens') same =
+      let differ = (only_opens opens opens' (same ∙ append_assoc events' (Called (Confirm consent') ∷ []) more)).1 in absurd (lost (cc differ))
   only_consent more (ConsentBefore.asked {events} consent opens) (ConsentBefore.unopened opens') same =
       let differ = (only_opens opens opens' (sym (append_assoc events (Called (Confirm consent) ∷ []) more) ∙ same)).1 in absurd (cc differ)
-  only_consent more (ConsentBefore.asked {events} consent opens) (ConsentBefore.unheard opens') same =
-      let differ = (only_opens opens opens' (sym (append_assoc events (Called (Confirm consent) ∷ []) more) ∙ same)).1 in absurd (cc differ)
+  only_consent more (ConsentBefore.asked {events} consent opens) (ConsentBefore.client_error lost' opens') same =
+      let differ = (only_opens opens opens' (sym (append_assoc events (Called (Confirm consent) ∷ []) more) ∙ same)).1 in absurd (lost' (cc differ))
   only_consent more (ConsentBefore.asked {events} consent opens) (ConsentBefore.asked {events = events'} consent' opens') same =
       let rest = (only_opens opens opens' (sym (append_assoc events (Called (Confirm consent) ∷ []) more) ∙ same ∙ append_assoc events' (Called (Confirm consent') ∷ []) more)).0 in
       ap agreed_of (consent_is rest)

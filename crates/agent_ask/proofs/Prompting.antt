@@ -40,7 +40,7 @@ module _ {lines : Lines} {C D P E : Type 0} (views : Views lines C) (turned : D 
         open_before = rest.open_before;
         fewer = rest.fewer;
       }
-  shown (one (notified {prompter} {caller} {after} {pid} {answer} (told result going tells says)) later) =
+  shown (one (notified {prompter} {caller} {after} {pid} {answer} (told result going tells says is)) later) =
       let rest = shown later in
       record {
         events = note pid tells.inquired ∷ rest.events;

@@ -1,8 +1,8 @@
 -- Tests one after another, the last of them, and tries by rules that are the same.
-use Rattle.std.proofs.Common.{◌≡◌, ℕ, List, [], ◌∷◌, ◌++◌, Option, Result, Ok, Err, refl, ap, sym, ◌∙◌, append_assoc}
+use Rattle.std.proofs.Common.{◌≡◌, ◌≢◌, ℕ, List, [], ◌∷◌, ◌++◌, Option, Result, Ok, Err, refl, ap, sym, ◌∙◌, subst, append_assoc}
 use Rattle.agent_ports.{specs.Leads.{none, one}, proofs.Leading.leads_then}
-use Rattle.agent_ask.specs.{Doing.HasEvents, Events.PromptEvent, Prompts.{IsTry, ended, weak, bad, untested, accepted, Repeats, same, Tries, good, over, again, AsksBefore, tried}}
-use Rattle.agent_ask.specs.{Tests.{SameRule, IsTest, PinTest, test_of, Tests, WithTests, EndsBy}, declared.{spec.{AskPlan.AskPlan, PromptSpec.PromptSpec}, test.Tested.{Tested, TheVariants.{Yes, NoMemory}}, tries.Failure.Failure}}
+use Rattle.agent_ask.specs.{Doing.HasEvents, Events.PromptEvent, Prompts.{IsTry, ended, weak, bad, untested, accepted, Repeats, same, Tries, good, over, again, AsksBefore, tried, AsksPinBy}}
+use Rattle.agent_ask.specs.{Tests.{SameRule, IsTest, PinTest, test_of, Tests, WithTests, EndsBy, EndsAccepted, EndsOutOfMemory}, declared.{ask.Asked.Asked, caller.Heard.Heard, spec.{AskPlan.AskPlan, PromptSpec.PromptSpec}, test.Tested.{Tested, TheVariants.{Yes, NoMemory}}, tries.Failure.Failure}}
 use Rattle.agent_ask.{specs.declared.tries.Stop.Stop, proofs.{Making.made_then, Stopping.{never_stops, never_repeats}}}
 use Rattle.agent_ask.specs.declared.ask.Asked.TheVariants as asked
 use Rattle.agent_ask.specs.declared.tries.Stop.TheVariants as stop
@@ -69,12 +69,34 @@ module _ {plan : AskPlan} {Rule : List ℕ → Type 0} where
   out_last (over few once) = let last = out_one once in (last.0, [], last.1)
   out_last (again {tests} few once more) = let rest = out_last more in (rest.0, tests ++ rest.1, ap (λ (t : List PinTest). tests ++ t) rest.2 ∙ sym (append_assoc tests rest.1 _))
 
+  -- no client said what tries come to
+  never_once : {error : List ℕ} {events : List PromptEvent} {tests : List PinTest} (heard : Heard) → IsTry plan Rule error events tests (Err (stop.Over (asked.Heard heard))) → ⊥
+  never_once heard (ended what is) = never_stops (asked.Heard heard) tt what is
+  never_once heard (accepted meets right repeats) = never_repeats (asked.Heard heard) tt repeats
+
+  pub never_heard : {number : ℕ} {before : Option Failure} {events : List PromptEvent} {tests : List PinTest} (heard : Heard) → Tries plan Rule number before events tests (asked.Heard heard) → ⊥
+  never_heard heard (over few once) = never_once heard once
+  never_heard heard (again few once more) = never_heard heard more
+
   module _ {spec : PromptSpec} where
-    pub pin_last : {events : List PromptEvent} {tests : List PinTest} {pin : List ℕ} → AsksBefore spec plan Rule events tests (asked.Pin pin) → (earlier : List PinTest) × (tests ≡ earlier ++ test_of pin Yes ∷ [])
+    pin_last : {events : List PromptEvent} {tests : List PinTest} {pin : List ℕ} → AsksBefore spec plan Rule events tests (asked.Pin pin) → (earlier : List PinTest) × (tests ≡ earlier ++ test_of pin Yes ∷ [])
     pin_last (tried opens tries) = accepted_last tries
 
-    pub memory_last : {events : List PromptEvent} {tests : List PinTest} → AsksBefore spec plan Rule events tests asked.NoMemory → (pin : List ℕ) × (earlier : List PinTest) × (tests ≡ earlier ++ test_of pin NoMemory ∷ [])
+    memory_last : {events : List PromptEvent} {tests : List PinTest} → AsksBefore spec plan Rule events tests asked.NoMemory → (pin : List ℕ) × (earlier : List PinTest) × (tests ≡ earlier ++ test_of pin NoMemory ∷ [])
     memory_last (tried opens tries) = out_last tries
+
+    -- the last test of a prompt that came to a passphrase, and of one that found no memory
+    module _ {T : Type 0} {tested : T → List ℕ → Tested → T → Type 0} {before after : T} {events : List PromptEvent} where
+      pub accepted_by : {pin : List ℕ} → AsksPinBy tested before after spec plan Rule events (asked.Pin pin) → EndsAccepted tested pin before after
+      accepted_by asks = let last = pin_last asks.asks.asks in ends_by last.0 (subst (λ tests. Tests tested before tests after) last.1 asks.tested_so)
+
+      pub memory_by : AsksPinBy tested before after spec plan Rule events asked.NoMemory → EndsOutOfMemory tested before after
+      memory_by asks = let last = memory_last asks.asks.asks in (last.0, ends_by last.1 (subst (λ tests. Tests tested before tests after) last.2 asks.tested_so))
+
+-- a test that every passphrase passes wants none
+pub wants_no_memory : {T : Type 0} {before after : T} {spec : PromptSpec} {plan : AskPlan} {Rule : List ℕ → Type 0} {events : List PromptEvent} {answer : Asked}
+    → AsksPinBy (λ now pin tested later. tested ≡ Yes) before after spec plan Rule events answer → answer ≢ asked.NoMemory
+wants_no_memory asks is = let out = memory_by (rw is at asks) in cc out.1.last
 
 -- a try by one rule is one by the other
 pub try_as : {plan : AskPlan} {Rule Other : List ℕ → Type 0} {error : List ℕ} {events : List PromptEvent} {tests : List PinTest} {end : Result (List ℕ) Stop} → SameRule Rule Other

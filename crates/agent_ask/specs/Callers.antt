@@ -18,11 +18,20 @@ unheard_of TooMuch = Some client_error.TooMuch
 unheard_of Unexpected = Some client_error.Unexpected
 unheard_of (Gone how) = Some (client_error.Gone how)
 
--- it gave nothing
-abbrev pub IsUnheardBy : Heard → Type 0
-IsUnheardBy Fine = ⊥
-IsUnheardBy (Secret secret) = ⊥
-IsUnheardBy _ = ⊤
+-- a client error as an answer, and what came of telling the client of a prompt or of asking it for a passphrase
+abbrev pub heard_of : ClientError → Heard
+heard_of client_error.Cancelled = Cancelled
+heard_of client_error.TooMuch = TooMuch
+heard_of client_error.Unexpected = Unexpected
+heard_of (client_error.Gone how) = Gone how
+
+abbrev pub heard_by : Result (Unit {0}) ClientError → Heard
+heard_by (Ok noted) = Fine
+heard_by (Err why) = heard_of why
+
+abbrev pub wish_by : Result (List ℕ) ClientError → Heard
+wish_by (Ok secret) = Secret secret
+wish_by (Err why) = heard_of why
 
 -- what a client was heard to say that was told of a prompt, and one that was asked for a passphrase
 abbrev pub SaysNote : Result (Unit {0}) ClientError → Heard → Type 0
@@ -34,8 +43,12 @@ SaysWish (Ok secret) heard = heard ≡ Secret secret
 SaysWish (Err why) heard = unheard_of heard ≡ Some why
 
 -- a client that is told of a prompt gives no passphrase, and one that is asked for a passphrase gives it
+abbrev pub IsNote : Heard → Type 0
+IsNote (Secret secret) = ⊥
+IsNote _ = ⊤
+
 abbrev pub FitsQuestion : Question → Heard → Type 0
-FitsQuestion (Launched pid) (Secret secret) = ⊥
+FitsQuestion (Launched pid) answer = IsNote answer
 FitsQuestion (Wanted word) Fine = ⊥
 FitsQuestion question answer = ⊤
 

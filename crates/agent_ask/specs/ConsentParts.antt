@@ -1,7 +1,7 @@
 -- The user's consent as a part of a request. The codes are this project's own.
-use Rattle.std.specs.{Prelude.{◌≡◌, ℕ, Bool, false, List, [], Option, Some, None, Result, Ok, Err, ⊤}, Option.option_map}
+use Rattle.std.specs.{Prelude.{◌≡◌, ℕ, Bool, false, List, [], Option, Some, None, Result, Ok, Err}, Option.option_map}
 use Rattle.{session_client.specs.{Lines.Lines, declared.refusal.Refusal.{Refusal, TheVariants.{Agent, Pinentry, Client}}}, session_options.specs.{OptionValues.OptionValues, declared.rules.Rules.Rules}}
-use Rattle.agent_ask.specs.{Callers.{IsUnheardBy, unheard_of}, Consents.AsksConsent, Events.PromptEvent, PortCalls.EventOf, Plans.{IsSpec, text}, SessionPrompts.AnyInSession, declared.{consent.Agreed.Agreed, spec.PromptSpec.PromptSpec}}
+use Rattle.agent_ask.specs.{Callers.unheard_of, Consents.AsksConsent, Events.PromptEvent, PortCalls.EventOf, Plans.{IsSpec, text}, SessionPrompts.AnyInSession, declared.{consent.Agreed.Agreed, spec.PromptSpec.PromptSpec}}
 use Rattle.session_client.specs.declared.code.Code.TheVariants as code
 use Rattle.agent_ask.specs.declared.consent.Agreed.TheVariants as agreed
 
@@ -13,11 +13,6 @@ consent_refusal agreed.Cancelled = Some (Pinentry code.Cancelled)
 consent_refusal agreed.TimedOut = Some (Pinentry code.Timeout)
 consent_refusal agreed.NoPinentry = Some (Agent code.NoPinentry)
 consent_refusal (agreed.Heard heard) = option_map Client (unheard_of heard)
-
--- what a prompt for consent comes to: where it isn't yes or no, the client gave nothing
-abbrev pub IsAgreed : Agreed → Type 0
-IsAgreed (agreed.Heard heard) = IsUnheardBy heard
-IsAgreed _ = ⊤
 
 -- the request goes on, or is refused so
 abbrev pub IsConsented : Agreed → Result (Unit {0}) Refusal → Type 0

@@ -1,6 +1,6 @@
 -- One prompt for consent, from its start to its end (GnuPG manual, "Agent GET_CONFIRMATION"; pinentry manual, "protocol").
-use Rattle.std.specs.Prelude.{◌≡◌, Bool, List, [], ◌∷◌, ◌++◌}
-use Rattle.agent_ask.specs.{Events.{Confirm, Shut, PromptEvent, Called}, Prompts.Opens, declared.{caller.Heard.Heard, consent.Agreed.Agreed, opening.Opening.TheVariants.{Ready, NoPinentry, ClientError}, prompter.Consent.Consent}}
+use Rattle.std.specs.Prelude.{◌≡◌, ◌≢◌, Bool, List, [], ◌∷◌, ◌++◌, Some, None}
+use Rattle.agent_ask.specs.{Events.{Confirm, Shut, PromptEvent, Called}, Prompts.Opens, declared.{caller.Heard.{Heard, TheVariants.Fine}, consent.Agreed.Agreed, prompter.Consent.Consent}}
 use Rattle.agent_ask.specs.declared.{prompter.Consent.TheVariants.{Yes, No, Cancelled, TimedOut, Failed, Broken}, spec.PromptSpec.PromptSpec}
 use Rattle.agent_ask.specs.declared.consent.Agreed.TheVariants as agreed
 
@@ -15,9 +15,9 @@ agreed_of (Broken breach) = agreed.NoPinentry
 
 -- what is done before the prompter is shut
 pub data ConsentBefore (spec : PromptSpec) (notify : Bool) : List PromptEvent → Agreed → Type 0 where
-  unopened : {events : List PromptEvent} → Opens spec notify events NoPinentry → ConsentBefore spec notify events agreed.NoPinentry
-  unheard : {events : List PromptEvent} {heard : Heard} → Opens spec notify events (ClientError heard) → ConsentBefore spec notify events (agreed.Heard heard)
-  asked : {events : List PromptEvent} (consent : Consent) → Opens spec notify events Ready
+  unopened : {events : List PromptEvent} → Opens spec notify events None → ConsentBefore spec notify events agreed.NoPinentry
+  client_error : {events : List PromptEvent} {heard : Heard} → heard ≢ Fine → Opens spec notify events (Some heard) → ConsentBefore spec notify events (agreed.Heard heard)
+  asked : {events : List PromptEvent} (consent : Consent) → Opens spec notify events (Some Fine)
       → ConsentBefore spec notify (events ++ Called (Confirm consent) ∷ []) (agreed_of consent)
 
 -- one prompt for consent: its events, and the answer

@@ -1,9 +1,8 @@
 -- The caller after a prompt: it listens, unless it is gone. This is the project's own.
 use Rattle.std.specs.Prelude.{◌≡◌, false}
-use Rattle.agent_ask.specs.{Callers.is_gone, declared.{ask.Asked.Asked, consent.Agreed.Agreed, opening.Opening.Opening}}
+use Rattle.agent_ask.specs.{Callers.is_gone, declared.{ask.Asked.Asked, consent.Agreed.Agreed}}
 use Rattle.agent_ask.specs.declared.ask.Asked.TheVariants as asked
 use Rattle.agent_ask.specs.declared.consent.Agreed.TheVariants as agreed
-use Rattle.agent_ask.specs.declared.opening.Opening.TheVariants as opening
 
 abbrev pub ListensAfterPin : Asked → Type 0 → Type 0
 ListensAfterPin (asked.Heard heard) Listens = is_gone heard ≡ false → Listens
@@ -12,7 +11,3 @@ ListensAfterPin _ Listens = Listens
 abbrev pub ListensAfterConsent : Agreed → Type 0 → Type 0
 ListensAfterConsent (agreed.Heard heard) Listens = is_gone heard ≡ false → Listens
 ListensAfterConsent _ Listens = Listens
-
-abbrev pub ListensAfterOpening : Opening → Type 0 → Type 0
-ListensAfterOpening (opening.ClientError heard) Listens = is_gone heard ≡ false → Listens
-ListensAfterOpening _ Listens = Listens

@@ -1,7 +1,7 @@
 -- Prompts for a passphrase as parts of a request. The codes are this project's own.
-use Rattle.std.specs.{Prelude.{List, ℕ, Option, Some, None}, Option.option_map}
+use Rattle.std.specs.{Prelude.{◌≡◌, List, ℕ, Option, Some, None, Result, Ok, Err}, Option.option_map}
 use Rattle.session_client.specs.{Lines.Lines, declared.refusal.Refusal.{Refusal, TheVariants.{Agent, Pinentry, Client}}}
-use Rattle.agent_ask.specs.{Callers.unheard_of, Events.PromptEvent, PortCalls.EventOf, Prompts.AsksPin, SessionPrompts.AnyInSession, declared.{ask.Asked.Asked, spec.{AskPlan.AskPlan, PromptSpec.PromptSpec}}}
+use Rattle.agent_ask.specs.{Callers.unheard_of, Events.PromptEvent, PortCalls.EventOf, Prompts.{AsksPin, AsksPinBy}, SessionPrompts.AnyInSession, declared.{ask.Asked.Asked, spec.{AskPlan.AskPlan, PromptSpec.PromptSpec}, test.Tested.Tested}}
 use Rattle.session_client.specs.declared.code.Code.TheVariants as code
 use Rattle.agent_ask.specs.declared.ask.Asked.TheVariants as asked
 
@@ -20,3 +20,15 @@ pin_refusal asked.NoPinentry = Some (Agent code.NoPinentry)
 pin_refusal asked.Bad = Some (Agent code.BadPass)
 pin_refusal (asked.Heard heard) = option_map Client (unheard_of heard)
 pin_refusal asked.NoMemory = Some (Agent code.NoMemory)
+
+-- the request goes on with a passphrase, or is refused so
+abbrev pub IsGiven : Asked → Result (List ℕ) Refusal → Type 0
+IsGiven answer (Ok pin) = answer ≡ asked.Pin pin
+IsGiven answer (Err why) = pin_refusal answer ≡ Some why
+
+-- one prompt for a passphrase: its events, and how a request goes on by its answer
+pub record AsksFor {T : Type 0} (tested : T → List ℕ → Tested → T → Type 0) (before after : T) (spec : PromptSpec) (plan : AskPlan) (Rule : List ℕ → Type 0)
+    (events : List PromptEvent) (result : Result (List ℕ) Refusal) : Type 0 where
+  pub answer : Asked
+  pub asks : AsksPinBy tested before after spec plan Rule events answer
+  pub gives : IsGiven answer result

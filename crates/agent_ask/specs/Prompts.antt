@@ -1,7 +1,7 @@
 -- One prompt for a passphrase, from its start to its end (GnuPG manual, "Agent GET_PASSPHRASE"; pinentry manual, "protocol"). How many
 -- tries there are, their order and their texts are this project's own.
 use Rattle.std.specs.{Prelude.{◌≡◌, ◌≢◌, ◌≤◌, ◌<◌, ◌+◌, ℕ, Bool, true, false, not, List, [], ◌∷◌, ◌++◌, length, count_by, replicate, codes, Option, Some, None, Result, Ok, Err, ⊤}, Char.is_ascii_alphabetic}
-use Rattle.agent_ask.specs.{Events.{Start, GetPin, Shut, PromptEvent, Called, Notified, OutOfMemory}, declared.{ask.Asked.Asked, caller.Heard.{Heard, TheVariants.Fine}, opening.Opening.{Opening, TheVariants.{Ready, NoPinentry, ClientError}}}}
+use Rattle.agent_ask.specs.{Events.{Start, GetPin, Shut, PromptEvent, Called, Notified, OutOfMemory}, declared.{ask.Asked.Asked, caller.Heard.{Heard, TheVariants.Fine}}}
 use Rattle.agent_ask.specs.declared.{prompter.Outcome.{Outcome, TheVariants.{Pin, Cancelled, TimedOut, Failed, Broken}}, spec.{AskPlan.AskPlan, PromptSpec.PromptSpec}, tries.Failure.{Failure, TheVariants.{BadPassphrase, TooWeak, Differ}}}
 use Rattle.agent_ask.specs.{declared.{tries.Stop.Stop, test.Tested.{Tested, TheVariants.{Yes, No, NoMemory}}}, Tests.{PinTest, Tests, test_of}}
 use Rattle.agent_ask.specs.declared.ask.Asked.TheVariants as asked
@@ -84,21 +84,18 @@ pub data Tries (plan : AskPlan) (Rule : List ℕ → Type 0) : ℕ → Option Fa
       → Tries plan Rule (number + 1) (Some failure) more later end → Tries plan Rule number before (events ++ more) (tests ++ later) end
   bad : {number : ℕ} {before : Option Failure} → most_tries < number → Tries plan Rule number before [] [] asked.Bad
 
--- a prompt is opened, and the client is told of it where it wants to be
-pub data Opens (spec : PromptSpec) (notify : Bool) : List PromptEvent → Opening → Type 0 where
-  failed : Opens spec notify (Called (Start spec opened.Failed) ∷ []) NoPinentry
-  broken : {breach : _} → Opens spec notify (Called (Start spec (opened.Broken breach)) ∷ []) NoPinentry
-  quiet : {pid : ℕ} → notify ≡ false → Opens spec notify (Called (Start spec (opened.Pid pid)) ∷ []) Ready
-  told : {pid : ℕ} → notify ≡ true → Opens spec notify (Called (Start spec (opened.Pid pid)) ∷ Notified pid Fine ∷ []) Ready
-  unheard : {pid : ℕ} {heard : Heard} → notify ≡ true → heard ≢ Fine
-      → Opens spec notify (Called (Start spec (opened.Pid pid)) ∷ Notified pid heard ∷ []) (ClientError heard)
+-- A prompt is opened, and the client is told of it where it wants to be: there is no pinentry, or what the client said. One that isn't told is fine.
+pub data Opens (spec : PromptSpec) (notify : Bool) : List PromptEvent → Option Heard → Type 0 where
+  failed : Opens spec notify (Called (Start spec opened.Failed) ∷ []) None
+  broken : {breach : _} → Opens spec notify (Called (Start spec (opened.Broken breach)) ∷ []) None
+  quiet : {pid : ℕ} → notify ≡ false → Opens spec notify (Called (Start spec (opened.Pid pid)) ∷ []) (Some Fine)
+  told : {pid : ℕ} {heard : Heard} → notify ≡ true → Opens spec notify (Called (Start spec (opened.Pid pid)) ∷ Notified pid heard ∷ []) (Some heard)
 
 -- what is done before the prompter is shut, and the tests in it
 pub data AsksBefore (spec : PromptSpec) (plan : AskPlan) (Rule : List ℕ → Type 0) : List PromptEvent → List PinTest → Asked → Type 0 where
-  unopened : {events : List PromptEvent} → Opens spec plan.notify events NoPinentry → AsksBefore spec plan Rule events [] asked.NoPinentry
-  unheard : {events : List PromptEvent} {heard : Heard} → Opens spec plan.notify events (ClientError heard)
-      → AsksBefore spec plan Rule events [] (asked.Heard heard)
-  tried : {events more : List PromptEvent} {tests : List PinTest} {end : Asked} → Opens spec plan.notify events Ready
+  unopened : {events : List PromptEvent} → Opens spec plan.notify events None → AsksBefore spec plan Rule events [] asked.NoPinentry
+  client_error : {events : List PromptEvent} {heard : Heard} → heard ≢ Fine → Opens spec plan.notify events (Some heard) → AsksBefore spec plan Rule events [] (asked.Heard heard)
+  tried : {events more : List PromptEvent} {tests : List PinTest} {end : Asked} → Opens spec plan.notify events (Some Fine)
       → Tries plan Rule 1 None more tests end → AsksBefore spec plan Rule (events ++ more) tests end
 
 -- one prompt for a passphrase that is right by this rule: its events, and the answer

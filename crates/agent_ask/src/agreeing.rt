@@ -5,10 +5,11 @@
 ghost use Rattle.std.specs.Prelude.{◌≡◌};
 ghost use Rattle.session_client.specs.Lines.{IsOpen};
 ghost use Rattle.agent_ask.specs.Clients.{Hears, LeftByPart};
-ghost use Rattle.agent_ask.specs.ConsentParts.{AsksQuestion, IsAgreed, IsConsented};
-ghost use Rattle.agent_ask.specs.{Doing.{HasEvents, DoesPrompt, ends}, Prompters.IsShut};
+ghost use Rattle.agent_ask.specs.{ConsentParts.{AsksQuestion, IsConsented}, Consents.agreed_of};
+ghost use Rattle.agent_ask.specs.{Doing.{HasEvents, DoesPrompt, ends}, Prompters.IsShut, Trying.IsOwn};
 
-use crate::{Agreed, Prompter, ask_leave, prompt_spec};
+use crate::consent::prompt_consent;
+use crate::{Consent, Prompter, prompt_spec};
 use assuan_text::Text;
 use cache_policy::Secret;
 use prompt_seat::Ticket;
@@ -33,20 +34,19 @@ pub fn agree<C: Client<Secret>, P: Prompter>(
     ensures left { LeftByPart C.views result client.old client.new }
 {
     let spec = prompt_spec(question, &Text::new(), false, rules, options);
-    consented(ask_leave(ticket, &spec, options.notify(), client, prompter))
+    consented(prompt_consent(ticket, &spec, options.notify(), prompter, client)?)
 }
 
 /// How a request goes on whose prompt came to this.
-fn consented(agreed: Agreed) -> Result<(), Refusal>
-    requires { IsAgreed agreed }
-    ensures { IsConsented agreed result }
+fn consented(consent: Consent) -> Result<(), Refusal>
+    ensures consented { IsConsented (agreed_of consent) result }
+    ensures own { IsOwn result }
 {
-    Err(match agreed {
-        Agreed::Yes => return Ok(()),
-        Agreed::No => Refusal::Pinentry(Code::NotConfirmed),
-        Agreed::Cancelled => Refusal::Pinentry(Code::Cancelled),
-        Agreed::TimedOut => Refusal::Pinentry(Code::Timeout),
-        Agreed::NoPinentry => Refusal::Agent(Code::NoPinentry),
-        Agreed::Heard(heard) => Refusal::Client(heard.unheard()),
+    Err(match consent {
+        Consent::Yes => return Ok(()),
+        Consent::No => Refusal::Pinentry(Code::NotConfirmed),
+        Consent::Cancelled => Refusal::Pinentry(Code::Cancelled),
+        Consent::TimedOut => Refusal::Pinentry(Code::Timeout),
+        Consent::Failed | Consent::Broken(_) => Refusal::Agent(Code::NoPinentry),
     })
 }

@@ -3,16 +3,18 @@
 //! of the seat (lock: the right to prompt). Begin with `ask_pin`; its events are `AsksPinBy`
 //! (`specs/Prompts`).
 
-ghost use Rattle.std.specs.Prelude.{◌≡◌, ℕ, List};
+ghost use Rattle.std.specs.Prelude.{◌≡◌, ℕ, List, IfOk};
 ghost use Rattle.agent_ask.specs.{Listening.ListensAfterPin, Doing.{HasEvents, DoesPrompt, ends}};
+ghost use Rattle.agent_ask.specs.Trying.{IsLeft, IsTried, asked_by};
 ghost use Rattle.agent_ask.specs.{Prompters.IsShut, Prompts.{AsksPinBy, AsksBefore}};
 ghost use Rattle.agent_ask.specs.Tests.{WithTests, EndsAccepted, EndsOutOfMemory};
 
-use crate::opening::{Opening, open_prompt};
+use crate::opening::open_prompt;
 use crate::tries::ask_tries;
 use crate::{AskPlan, Caller, Heard, PromptSpec, Prompter, Test};
 use cache_policy::Secret;
 use prompt_seat::Ticket;
+use session_client::ClientError;
 
 /// What asking for a passphrase came to. It may hold one, so it isn't printed.
 #[derive(Drop)]
@@ -57,6 +59,31 @@ pub fn ask_pin<P: Prompter, C: Caller, T: Test>(
         → EndsAccepted T.tested pin test.old test.new }
     ensures no_memory { result ≡ Asked.NoMemory → EndsOutOfMemory T.tested test.old test.new }
 {
+    match prompt_pin(ticket, spec, plan, test, prompter, caller) {
+        Ok(asked) => asked,
+        Err(why) => Asked::Heard(why.into()),
+    }
+}
+
+/// The same, but for a client that didn't take note.
+pub(crate) fn prompt_pin<P: Prompter, C: Caller, T: Test>(
+    ticket: &Ticket,
+    spec: &PromptSpec,
+    plan: &AskPlan,
+    test: &mut T,
+    prompter: &mut P,
+    caller: &mut C,
+) -> Result<Asked, ClientError>
+    requires shut { IsShut (P.at prompter.old) }
+    requires listens { C.listens caller.old }
+    ensures asked { HasEvents (DoesPrompt P.prompted C.heard)
+        (λ events. AsksPinBy T.tested test.old test.new
+        spec.now plan.now (T.rule test.old) events (asked_by result))
+        (ends prompter.old caller.old) (ends prompter.new caller.new) }
+    ensures shut { IsShut (P.at prompter.new) }
+    ensures left { IsLeft C.heard C.listens result caller.old caller.new }
+    ensures tried { IfOk result IsTried }
+{
     let asked = ask_before_shut(ticket, spec, plan, test, prompter, caller);
     prompter.shut(ticket);
     asked
@@ -70,18 +97,18 @@ fn ask_before_shut<P: Prompter, C: Caller, T: Test>(
     test: &mut T,
     prompter: &mut P,
     caller: &mut C,
-) -> Asked
+) -> Result<Asked, ClientError>
     requires shut { IsShut (P.at prompter.old) }
     requires listens { C.listens caller.old }
     ensures asked { HasEvents (DoesPrompt P.prompted C.heard)
         (λ events. WithTests T.tested test.old test.new
-        (λ tests. AsksBefore spec.now plan.now (T.rule test.old) events tests result))
+        (λ tests. AsksBefore spec.now plan.now (T.rule test.old) events tests (asked_by result)))
         (ends prompter.old caller.old) (ends prompter.new caller.new) }
-    ensures listens { ListensAfterPin result (C.listens caller.new) }
+    ensures left { IsLeft C.heard C.listens result caller.old caller.new }
+    ensures tried { IfOk result IsTried }
 {
-    match open_prompt(ticket, spec, plan.notify, prompter, caller) {
-        Opening::Ready => ask_tries(ticket, plan, test, prompter),
-        Opening::NoPinentry => Asked::NoPinentry,
-        Opening::ClientError(heard) => Asked::Heard(heard),
+    if !open_prompt(ticket, spec, plan.notify, prompter, caller)? {
+        return Ok(Asked::NoPinentry);
     }
+    Ok(ask_tries(ticket, plan, test, prompter))
 }

@@ -1,11 +1,11 @@
 //! The port to the client for whom a prompt is open: it is told of it, as by the inquiry
 //! PINENTRY_LAUNCHED (GnuPG manual, `OPTION allow-pinentry-notify`), or asked for a passphrase. A
 //! trait and its answers. Begin with `Caller`; `specs/Callers` says what each answer means, and
-//! which are unheard (a client error).
+//! which are client errors.
 
-ghost use Rattle.std.specs.Prelude.{◌≡◌, Some};
+ghost use Rattle.std.specs.Prelude.{◌≡◌};
 ghost use Rattle.agent_ask.specs.Events.{Question, Launched, Wanted};
-ghost use Rattle.agent_ask.specs.Callers.{IsHearing, IsUnheardBy, unheard_of};
+ghost use Rattle.agent_ask.specs.Callers.{IsHearing, IsNote, heard_by};
 
 use cache_policy::Secret;
 use session_client::{ClientError, Gone};
@@ -28,10 +28,10 @@ pub enum Heard {
 }
 
 impl From<ClientError> for Heard {
-    ghost use Rattle.std.specs.Prelude.{◌≡◌, Some};
-    ghost use Rattle.agent_ask.specs.Callers.{unheard_of};
+    ghost use Rattle.std.specs.Prelude.{◌≡◌};
+    ghost use Rattle.agent_ask.specs.Callers.{heard_of};
 
-    ghost from_gives = { λ why heard. unheard_of heard ≡ Some why };
+    ghost from_gives = { λ why heard. heard ≡ heard_of why };
 
     fn from(why: ClientError) -> Heard {
         match why {
@@ -44,17 +44,18 @@ impl From<ClientError> for Heard {
 }
 
 impl Heard {
-    /// What the client said in place of what was wanted. It gave nothing.
-    pub fn unheard(self) -> ClientError
-        requires { IsUnheardBy self }
-        ensures { unheard_of self ≡ Some result }
+    /// Whether a client took note that was told of a prompt.
+    pub fn noted(self) -> Result<(), ClientError>
+        requires { IsNote self }
+        ensures { self ≡ heard_by result }
     {
         match self {
-            Heard::Cancelled => ClientError::Cancelled,
-            Heard::TooMuch => ClientError::TooMuch,
-            Heard::Unexpected => ClientError::Unexpected,
-            Heard::Gone(gone) => ClientError::Gone(gone),
-            Heard::Fine | Heard::Secret(_) => unreachable!(),
+            Heard::Fine => Ok(()),
+            Heard::Cancelled => Err(ClientError::Cancelled),
+            Heard::TooMuch => Err(ClientError::TooMuch),
+            Heard::Unexpected => Err(ClientError::Unexpected),
+            Heard::Gone(gone) => Err(ClientError::Gone(gone)),
+            Heard::Secret(_) => unreachable!(),
         }
     }
 }
@@ -74,6 +75,14 @@ pub trait Caller {
     fn launched(&mut self, pid: u32) -> Heard
         requires { listens self.old }
         ensures { heard self.old (Launched pid) result self.new };
+
+    /// The same, as a client error where it didn't take note.
+    fn note(&mut self, pid: u32) -> Result<(), ClientError>
+        requires { listens self.old }
+        ensures { heard self.old (Launched pid) (heard_by result) self.new }
+    {
+        self.launched(pid).noted()
+    }
 
     /// Asks it for a passphrase by this word.
     fn secret(&mut self, word: &[u8]) -> Heard

@@ -6,10 +6,12 @@ ghost use Rattle.std.specs.Prelude.{◌≡◌};
 ghost use Rattle.agent_ask.specs.Listening.{ListensAfterConsent};
 ghost use Rattle.agent_ask.specs.Consents.{AsksConsent, ConsentBefore, agreed_of};
 ghost use Rattle.agent_ask.specs.{Doing.{HasEvents, DoesPrompt, ends}, Prompters.IsShut};
+ghost use Rattle.agent_ask.specs.Trying.{IsLeft, agreed_by};
 
-use crate::opening::{Opening, open_prompt};
+use crate::opening::open_prompt;
 use crate::{Caller, Consent, Heard, PromptSpec, Prompter};
 use prompt_seat::Ticket;
+use session_client::ClientError;
 
 /// What asking for consent came to.
 #[derive(Drop)]
@@ -45,9 +47,31 @@ pub fn ask_consent<P: Prompter, C: Caller>(
     ensures shut { IsShut (P.at prompter.new) }
     ensures listens { ListensAfterConsent result (C.listens caller.new) }
 {
-    let agreed = ask_before_shut(ticket, spec, notify, prompter, caller);
+    match prompt_consent(ticket, spec, notify, prompter, caller) {
+        Ok(consent) => agreed_of(consent),
+        Err(why) => Agreed::Heard(why.into()),
+    }
+}
+
+/// The same, but for a client that didn't take note. Where there is no pinentry it failed.
+pub(crate) fn prompt_consent<P: Prompter, C: Caller>(
+    ticket: &Ticket,
+    spec: &PromptSpec,
+    notify: bool,
+    prompter: &mut P,
+    caller: &mut C,
+) -> Result<Consent, ClientError>
+    requires shut { IsShut (P.at prompter.old) }
+    requires listens { C.listens caller.old }
+    ensures asked { HasEvents (DoesPrompt P.prompted C.heard)
+        (λ events. AsksConsent spec.now notify events (agreed_by result))
+        (ends prompter.old caller.old) (ends prompter.new caller.new) }
+    ensures shut { IsShut (P.at prompter.new) }
+    ensures left { IsLeft C.heard C.listens result caller.old caller.new }
+{
+    let consent = ask_before_shut(ticket, spec, notify, prompter, caller);
     prompter.shut(ticket);
-    agreed
+    consent
 }
 
 /// All of the prompt but its end.
@@ -57,19 +81,18 @@ fn ask_before_shut<P: Prompter, C: Caller>(
     notify: bool,
     prompter: &mut P,
     caller: &mut C,
-) -> Agreed
+) -> Result<Consent, ClientError>
     requires shut { IsShut (P.at prompter.old) }
     requires listens { C.listens caller.old }
-    ensures asked { HasEvents
-        (DoesPrompt P.prompted C.heard) (λ events. ConsentBefore spec.now notify events result)
+    ensures asked { HasEvents (DoesPrompt P.prompted C.heard)
+        (λ events. ConsentBefore spec.now notify events (agreed_by result))
         (ends prompter.old caller.old) (ends prompter.new caller.new) }
-    ensures listens { ListensAfterConsent result (C.listens caller.new) }
+    ensures left { IsLeft C.heard C.listens result caller.old caller.new }
 {
-    match open_prompt(ticket, spec, notify, prompter, caller) {
-        Opening::Ready => agreed_of(prompter.confirm(ticket)),
-        Opening::NoPinentry => Agreed::NoPinentry,
-        Opening::ClientError(heard) => Agreed::Heard(heard),
+    if !open_prompt(ticket, spec, notify, prompter, caller)? {
+        return Ok(Consent::Failed);
     }
+    Ok(prompter.confirm(ticket))
 }
 
 /// The answer by what the question came to.

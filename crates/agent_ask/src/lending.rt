@@ -1,20 +1,18 @@
-//! Prompts for a session's client, who is lent to them. They call the prompter, the test and the
-//! client. Begin with `ask_user` and `ask_leave`, which are `ask_pin` and `ask_consent` over a
-//! `Client`; `specs/Clients` says what becomes of that (`LeftByPin`, `LeftByConsent`).
+//! The prompt for a passphrase, as a part (action) of a request that holds a ticket (permit): all
+//! but a passphrase refuses the request. It calls the prompter, the test and the session's client.
+//! Begin with `ask_user`; `specs/PinParts` says which answer is which error (`IsGiven`).
 
-ghost use Rattle.std.specs.Prelude.{◌≡◌, ℕ, List, ⊤};
+ghost use Rattle.std.specs.Prelude.{◌≡◌, ⊤};
 ghost use Rattle.session_client.specs.Lines.{IsOpen};
-ghost use Rattle.agent_ask.specs.{Callers.IsUnheardBy, Clients.{Hears, LeftByPin, LeftByConsent}};
-ghost use Rattle.agent_ask.specs.{Consents.AsksConsent, Doing.{HasEvents, DoesPrompt, ends}};
-ghost use Rattle.agent_ask.specs.{Prompters.IsShut, Prompts.AsksPinBy};
-ghost use Rattle.agent_ask.specs.Tests.{EndsAccepted, EndsOutOfMemory};
-ghost use Rattle.agent_ask.specs.declared.caller.Heard.{Heard as Says};
+ghost use Rattle.agent_ask.specs.Clients.{Hears, LeftByPart};
+ghost use Rattle.agent_ask.specs.{Doing.{HasEvents, DoesPrompt, ends}, Prompters.IsShut};
+ghost use Rattle.agent_ask.specs.{PinParts.{AsksFor, IsGiven}, Trying.{IsTried, IsOwn}};
 
-use crate::client::LentClient;
-use crate::{Agreed, AskPlan, Asked, PromptSpec, Prompter, Test, Tested, ask_consent, ask_pin};
+use crate::ask::prompt_pin;
+use crate::{AskPlan, Asked, PromptSpec, Prompter, Test, Tested};
 use cache_policy::Secret;
 use prompt_seat::Ticket;
-use session_client::Client;
+use session_client::{Client, Code, Refusal};
 
 /// A test that every passphrase passes.
 #[derive(Drop)]
@@ -38,7 +36,7 @@ impl Test for AnyPin {
 }
 
 /// Asks the user for a passphrase by one prompt, as `ask_pin` does, and tells the client of the
-/// prompt where it wants to know.
+/// prompt where it wants to know. A request that is given none is refused.
 pub fn ask_user<C: Client<Secret>, P: Prompter, T: Test>(
     ticket: &Ticket,
     spec: &PromptSpec,
@@ -46,91 +44,31 @@ pub fn ask_user<C: Client<Secret>, P: Prompter, T: Test>(
     test: &mut T,
     client: &mut C,
     prompter: &mut P,
-) -> Asked
+) -> Result<Secret, Refusal>
     requires open { IsOpen C.views client.old }
     requires shut { IsShut (P.at prompter.old) }
     ensures asked { HasEvents (DoesPrompt P.prompted (Hears C.views C.wished)) (λ events.
-        AsksPinBy T.tested test.old test.new spec.now plan.now (T.rule test.old) events result)
+        AsksFor T.tested test.old test.new spec.now plan.now (T.rule test.old) events result)
         (ends prompter.old client.old) (ends prompter.new client.new) }
     ensures shut { IsShut (P.at prompter.new) }
-    ensures left { LeftByPin C.views result client.old client.new }
-    ensures unheard { (heard : Says) → result ≡ Asked.Heard heard → IsUnheardBy heard }
-    ensures accepted { (pin : List ℕ) → result ≡ Asked.Pin pin
-        → EndsAccepted T.tested pin test.old test.new }
-    ensures no_memory { result ≡ Asked.NoMemory → EndsOutOfMemory T.tested test.old test.new }
+    ensures left { LeftByPart C.views result client.old client.new }
 {
-    let mut lent = LentClient::new(client);
-    let asked = ask_pin_of(ticket, spec, plan, test, &mut lent, prompter);
-    // So what was done with it is known of the client.
-    lent.into_client();
-    asked
+    given(prompt_pin(ticket, spec, plan, test, prompter, client)?)
 }
 
-fn ask_pin_of<C: Client<Secret>, P: Prompter, T: Test>(
-    ticket: &Ticket,
-    spec: &PromptSpec,
-    plan: &AskPlan,
-    test: &mut T,
-    lent: &mut LentClient<'_, C>,
-    prompter: &mut P,
-) -> Asked
-    requires open { IsOpen C.views lent.old.client }
-    requires shut { IsShut (P.at prompter.old) }
-    ensures asked { HasEvents (DoesPrompt P.prompted (Hears C.views C.wished)) (λ events.
-        AsksPinBy T.tested test.old test.new spec.now plan.now (T.rule test.old) events result)
-        (ends prompter.old lent.old.client) (ends prompter.new lent.new.client) }
-    ensures shut { IsShut (P.at prompter.new) }
-    ensures left { LeftByPin C.views result lent.old.client lent.new.client }
-    ensures unheard { (heard : Says) → result ≡ Asked.Heard heard → IsUnheardBy heard }
-    ensures accepted { (pin : List ℕ) → result ≡ Asked.Pin pin
-        → EndsAccepted T.tested pin test.old test.new }
-    ensures no_memory { result ≡ Asked.NoMemory → EndsOutOfMemory T.tested test.old test.new }
-    ensures name { lent.new.name ≡ lent.old.name }
+/// How a request goes on whose prompt came to this.
+fn given(asked: Asked) -> Result<Secret, Refusal>
+    requires { IsTried asked }
+    ensures gives { IsGiven asked result }
+    ensures own { IsOwn result }
 {
-    ask_pin(ticket, spec, plan, test, prompter, lent)
-}
-
-/// Asks the user for consent by one prompt, as `ask_consent` does, and tells the client of the
-/// prompt where it wants to know.
-pub fn ask_leave<C: Client<Secret>, P: Prompter>(
-    ticket: &Ticket,
-    spec: &PromptSpec,
-    notify: bool,
-    client: &mut C,
-    prompter: &mut P,
-) -> Agreed
-    requires open { IsOpen C.views client.old }
-    requires shut { IsShut (P.at prompter.old) }
-    ensures asked { HasEvents (DoesPrompt P.prompted (Hears C.views C.wished))
-        (λ events. AsksConsent spec.now notify events result)
-        (ends prompter.old client.old) (ends prompter.new client.new) }
-    ensures shut { IsShut (P.at prompter.new) }
-    ensures left { LeftByConsent C.views result client.old client.new }
-    ensures unheard { (heard : Says) → result ≡ Agreed.Heard heard → IsUnheardBy heard }
-{
-    let mut lent = LentClient::new(client);
-    let agreed = ask_consent_of(ticket, spec, notify, &mut lent, prompter);
-    // So what was done with it is known of the client.
-    lent.into_client();
-    agreed
-}
-
-fn ask_consent_of<C: Client<Secret>, P: Prompter>(
-    ticket: &Ticket,
-    spec: &PromptSpec,
-    notify: bool,
-    lent: &mut LentClient<'_, C>,
-    prompter: &mut P,
-) -> Agreed
-    requires open { IsOpen C.views lent.old.client }
-    requires shut { IsShut (P.at prompter.old) }
-    ensures asked { HasEvents (DoesPrompt P.prompted (Hears C.views C.wished))
-        (λ events. AsksConsent spec.now notify events result)
-        (ends prompter.old lent.old.client) (ends prompter.new lent.new.client) }
-    ensures shut { IsShut (P.at prompter.new) }
-    ensures left { LeftByConsent C.views result lent.old.client lent.new.client }
-    ensures unheard { (heard : Says) → result ≡ Agreed.Heard heard → IsUnheardBy heard }
-    ensures name { lent.new.name ≡ lent.old.name }
-{
-    ask_consent(ticket, spec, notify, prompter, lent)
+    Err(match asked {
+        Asked::Pin(pin) => return Ok(pin),
+        Asked::Cancelled => Refusal::Pinentry(Code::Cancelled),
+        Asked::TimedOut => Refusal::Pinentry(Code::Timeout),
+        Asked::NoPinentry => Refusal::Agent(Code::NoPinentry),
+        Asked::Bad => Refusal::Agent(Code::BadPass),
+        Asked::NoMemory => Refusal::Agent(Code::NoMemory),
+        Asked::Heard(_) => unreachable!(),
+    })
 }

@@ -1,8 +1,8 @@
 //! One prompt under a ticket: what is asked of a pinentry, of the client and of the test of a
 //! passphrase, and what comes of it.
 //!
-//! Begin with [`ask_pin`] and [`ask_consent`], or with [`ask_user`] and [`ask_leave`], which lend
-//! them a session's client. The answer is the one that the prompt's events come to, in at most
+//! Begin with [`ask_pin`] and [`ask_consent`], or with [`ask_user`] and [`agree`], which are the same
+//! for a request. The answer is the one that the prompt's events come to, in at most
 //! [`MAX_TRIES`] tries, and the prompter is shut whatever came. [`Prompter`] is what asks the user,
 //! [`Test`] what a passphrase is tried on. Definitions begin in `specs/Prompts` and
 //! `specs/Consents`.
@@ -18,7 +18,6 @@ mod held;
 mod laws;
 mod lending;
 mod opening;
-mod pins;
 mod plan;
 mod prompter;
 mod seat;
@@ -34,8 +33,7 @@ pub use caller::{Caller, Heard};
 pub use consent::{Agreed, ask_consent};
 pub use held::Held;
 pub use laws::{a_consent_has_one_answer, a_prompt_has_one_answer, failures_are_counted};
-pub use lending::{AnyPin, ask_leave, ask_user};
-pub use pins::pin_refusal;
+pub use lending::{AnyPin, ask_user};
 pub use plan::{ask_plan, prompt_spec};
 pub use prompter::{Consent, Opened, Outcome, Prompter};
 pub use seat::{close, give_back, hold_seat, take_seat, without_memory};

@@ -216,7 +216,7 @@ module _ (rules : Rules) (options : OptionValues) (description : ArrayVec ℕ) (
           asks = record {
             before = Called (Start spec (opening.Pid 7)) ∷ Notified 7 heard.Cancelled ∷ [];
             whole = refl;
-            asks = consents.ConsentBefore.unheard (Opens.unheard refl (λ is. cc is));
+            asks = consents.ConsentBefore.client_error (λ is. cc is) (Opens.told refl);
           };
           in_session = AnyInSession.called (AnyInSession.noted refl (AnyInSession.called AnyInSession.none));
         }) refl))) (closed Done tt)

@@ -17,8 +17,8 @@ use crate::found::Found;
 use crate::inquiry::ask_client;
 use crate::{CacheCommand, Texts};
 use agent_ask::{
-    AnyPin, Asked, Held, Prompter, ask_cache, ask_plan, ask_user, change, close, hold_seat,
-    pin_refusal, prompt_spec, without_memory,
+    AnyPin, Held, Prompter, ask_cache, ask_plan, ask_user, change, close, hold_seat, prompt_spec,
+    without_memory,
 };
 use agent_ports::Link;
 use assuan_server::{Code, Conn};
@@ -273,8 +273,5 @@ fn prompt<L: Link, P: Prompter>(
         options,
     );
     let plan = ask_plan(&texts.error, asking.check, asking.repeat, rules, options);
-    match ask_user(held.ticket(), &spec, &plan, &mut AnyPin, conn, prompter) {
-        Asked::Pin(pin) => Ok(pin),
-        asked => Err(pin_refusal(asked)),
-    }
+    ask_user(held.ticket(), &spec, &plan, &mut AnyPin, conn, prompter)
 }

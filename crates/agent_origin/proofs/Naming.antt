@@ -35,19 +35,18 @@ module _ (env : EnvWords) where
     opens_names prompts.broken = (named, tt)
     opens_names (prompts.quiet is) = (named, tt)
     opens_names (prompts.told is) = (named, (tt, tt))
-    opens_names (prompts.unheard is other) = (named, (tt, tt))
 
     asked_names : {notify : Bool} {events : List PromptEvent} {opening : _} → Opens spec notify events opening → (more : List PromptEvent) → Between more → EachNames (events ++ more)
     asked_names {events} opens more each = each_append (Names env) events more (opens_names opens) (between_names more each)
 
     before_names : {plan : AskPlan} {Rule : _} {events : List PromptEvent} {tests : List PinTest} {end : Asked} → AsksBefore spec plan Rule events tests end → EachNames events
     before_names (prompts.unopened opens) = opens_names opens
-    before_names (prompts.unheard opens) = opens_names opens
+    before_names (prompts.client_error other opens) = opens_names opens
     before_names (prompts.tried {more} opens tries) = asked_names opens more (tries_between tries)
 
     consent_names : {notify : Bool} {events : List PromptEvent} {end : Agreed} → ConsentBefore spec notify events end → EachNames events
     consent_names (consents.unopened opens) = opens_names opens
-    consent_names (consents.unheard opens) = opens_names opens
+    consent_names (consents.client_error other opens) = opens_names opens
     consent_names (consents.asked consent opens) = asked_names opens (Called (Confirm consent) ∷ []) (tt, tt)
 
   -- ---- among the events of the session

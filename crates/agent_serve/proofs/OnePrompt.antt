@@ -32,7 +32,6 @@ opened_and_shut prompts.failed = IsOnePrompt.start AreQuestions.shut
 opened_and_shut prompts.broken = IsOnePrompt.start AreQuestions.shut
 opened_and_shut (prompts.quiet is) = IsOnePrompt.start AreQuestions.shut
 opened_and_shut (prompts.told is) = IsOnePrompt.start AreQuestions.shut
-opened_and_shut (prompts.unheard is other) = IsOnePrompt.start AreQuestions.shut
 
 opened_and_asked : {spec : PromptSpec} {notify : Bool} {events : List PromptEvent} {opening : _} → Opens spec notify events opening → (more : List PromptEvent) → AllByRecursion IsBetween more
     → IsOnePrompt (with_end (events ++ more))
@@ -40,14 +39,13 @@ opened_and_asked prompts.failed more each = IsOnePrompt.start (questions more ea
 opened_and_asked prompts.broken more each = IsOnePrompt.start (questions more each)
 opened_and_asked (prompts.quiet is) more each = IsOnePrompt.start (questions more each)
 opened_and_asked (prompts.told is) more each = IsOnePrompt.start (questions more each)
-opened_and_asked (prompts.unheard is other) more each = IsOnePrompt.start (questions more each)
 
 -- ---- prompts
 
 before_is_one : {spec : PromptSpec} {plan : AskPlan} {Rule : List ℕ → Type 0} {events : List PromptEvent} {tests : List PinTest} {end : Asked} → AsksBefore spec plan Rule events tests end
     → IsOnePrompt (with_end events)
 before_is_one (prompts.unopened opens) = opened_and_shut opens
-before_is_one (prompts.unheard opens) = opened_and_shut opens
+before_is_one (prompts.client_error other opens) = opened_and_shut opens
 before_is_one (prompts.tried {events} {more} opens tries) = opened_and_asked opens more (tries_between tries)
 
 pub pin_is_one : {spec : PromptSpec} {plan : AskPlan} {Rule : List ℕ → Type 0} {events : List PromptEvent} {end : Asked} → AsksPin spec plan Rule events end → IsOnePrompt (calls_of events)
@@ -55,7 +53,7 @@ pin_is_one asks = subst (λ (e : List PromptEvent). IsOnePrompt (calls_of e)) (s
 
 consent_before_is_one : {spec : PromptSpec} {notify : Bool} {events : List PromptEvent} {end : Agreed} → ConsentBefore spec notify events end → IsOnePrompt (with_end events)
 consent_before_is_one (consents.unopened opens) = opened_and_shut opens
-consent_before_is_one (consents.unheard opens) = opened_and_shut opens
+consent_before_is_one (consents.client_error other opens) = opened_and_shut opens
 consent_before_is_one (consents.asked {events} consent opens) = opened_and_asked opens (Called (Confirm consent) ∷ []) (tt, tt)
 
 pub consent_is_one : {spec : PromptSpec} {notify : Bool} {events : List PromptEvent} {end : Agreed} → AsksConsent spec notify events end → IsOnePrompt (calls_of events)

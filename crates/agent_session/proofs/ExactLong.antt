@@ -108,7 +108,8 @@ module _ (Rule : List ℕ → Type 0) (plan : AskPlan) (no_check : plan.check �
       → AllByRecursion Recalls events → AllByRecursion (VainPrompt Refused) events
   before_vain (prompts.unopened prompts.failed) none recalls = (tt, tt)
   before_vain (prompts.unopened prompts.broken) none recalls = (tt, tt)
-  before_vain (prompts.unheard (prompts.unheard is other)) none recalls = (tt, (tt, tt))
+  before_vain (prompts.client_error other (prompts.quiet is)) none recalls = absurd (other refl)
+  before_vain (prompts.client_error other (prompts.told is)) none recalls = (tt, (tt, tt))
   before_vain (prompts.tried (prompts.quiet is) tries) none recalls = (tt, tries_vain tries none recalls.1)
   before_vain (prompts.tried (prompts.told is) tries) none recalls = (tt, (tt, tries_vain tries none recalls.1.1))
 

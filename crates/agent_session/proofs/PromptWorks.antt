@@ -107,7 +107,8 @@ before_goes : {spec : PromptSpec} {plan : AskPlan} {Rule : List ℕ → Type 0} 
     → GoesOrStops events (pin_stop end)
 before_goes (prompts.unopened prompts.failed) = stops [] _ tt refl
 before_goes (prompts.unopened prompts.broken) = stops [] _ tt refl
-before_goes (prompts.unheard (prompts.unheard {heard} is other)) = unheard_goes heard other
+before_goes (prompts.client_error other (prompts.quiet is)) = absurd (other refl)
+before_goes (prompts.client_error other (prompts.told {heard} is)) = unheard_goes heard other
 before_goes (prompts.tried (prompts.quiet is) tries) = after_these (_ ∷ []) (refl, tt) (tries_go tries)
 before_goes (prompts.tried (prompts.told is) tries) = after_these (_ ∷ _ ∷ []) (refl, (refl, tt)) (tries_go tries)
 
@@ -122,7 +123,8 @@ confirmation_goes_or_stops (consent.Broken breach) = stops [] _ tt refl
 consent_goes : {spec : PromptSpec} {notify : _} {events : List PromptEvent} {end : Agreed} → ConsentBefore spec notify events end → GoesOrStops events (consent_stop end)
 consent_goes (consents.unopened prompts.failed) = stops [] _ tt refl
 consent_goes (consents.unopened prompts.broken) = stops [] _ tt refl
-consent_goes (consents.unheard (prompts.unheard {heard} is other)) = unheard_goes heard other
+consent_goes (consents.client_error other (prompts.quiet is)) = absurd (other refl)
+consent_goes (consents.client_error other (prompts.told {heard} is)) = unheard_goes heard other
 consent_goes (consents.asked consent (prompts.quiet is)) = after_these (_ ∷ []) (refl, tt) (confirmation_goes_or_stops consent)
 consent_goes (consents.asked consent (prompts.told is)) = after_these (_ ∷ _ ∷ []) (refl, (refl, tt)) (confirmation_goes_or_stops consent)
 

@@ -111,7 +111,8 @@ before_shows : {spec : PromptSpec} {plan : AskPlan} {Rule : List ℕ → Type 0}
     → AsksBefore spec plan Rule events tests end → PinShows end events
 before_shows (prompts.unopened prompts.failed) = inl (called _ refl here)
 before_shows (prompts.unopened prompts.broken) = inr (called _ refl here)
-before_shows (prompts.unheard (prompts.unheard {pid} notify other)) = noted pid (later here)
+before_shows (prompts.client_error other (prompts.quiet is)) = absurd (other refl)
+before_shows (prompts.client_error other (prompts.told {pid} notify)) = noted pid (later here)
 before_shows {end} (prompts.tried {events} opens tries) = pin_more (λ event has. has_right events has) end (tries_show tries)
 
 pub pin_shows : {spec : PromptSpec} {plan : AskPlan} {Rule : List ℕ → Type 0} {events : List PromptEvent} {end : Asked} → AsksPin spec plan Rule events end → PinShows end events
@@ -128,7 +129,8 @@ consent_of_shows (consent.Broken breach) has = inr (called (Confirm (consent.Bro
 consent_before_shows : {spec : PromptSpec} {notify : Bool} {events : List PromptEvent} {end : Agreed} → ConsentBefore spec notify events end → ConsentShows end events
 consent_before_shows (consents.unopened prompts.failed) = inl (called _ refl here)
 consent_before_shows (consents.unopened prompts.broken) = inr (called _ refl here)
-consent_before_shows (consents.unheard (prompts.unheard {pid} notify other)) = noted pid (later here)
+consent_before_shows (consents.client_error other (prompts.quiet is)) = absurd (other refl)
+consent_before_shows (consents.client_error other (prompts.told {pid} notify)) = noted pid (later here)
 consent_before_shows (consents.asked {events} consent opens) = consent_of_shows consent (has_right events here)
 
 pub consent_shows : {spec : PromptSpec} {notify : Bool} {events : List PromptEvent} {end : Agreed} → AsksConsent spec notify events end → ConsentShows end events

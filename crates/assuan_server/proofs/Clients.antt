@@ -120,10 +120,7 @@ left_by start now outcome.ReadFault ended rose = record { ended = ended; read_fa
 
 left_dropped : (start now : Connection) (result : Result (List ℕ) ClientError) → LeftBy connection_views result start now → LeftBy connection_views (without_data result) start now
 left_dropped start now (Ok bytes) left = left
-left_dropped start now (Err client_error.Cancelled) left = left
-left_dropped start now (Err client_error.TooMuch) left = left
-left_dropped start now (Err client_error.Unexpected) left = left
-left_dropped start now (Err (client_error.Gone how)) left = left
+left_dropped start now (Err why) left = left
 
 -- an inquiry by this word and these parameters
 module _ (word params : List ℕ) (limit : ℕ) (start now : Connection) where

@@ -10,7 +10,7 @@ ghost use Rattle.key_commands.specs.{Passphrases.{PromptsOld, PromptsNew}, Trial
 use crate::asking::Asking;
 use crate::opened::{OpenedKey, OpensKey};
 use crate::texts::{described, new_description, old_description};
-use agent_ask::{AnyPin, Asked, Held, Prompter, ask_plan, ask_user, pin_refusal, prompt_spec};
+use agent_ask::{AnyPin, Held, Prompter, ask_plan, ask_user, prompt_spec};
 use agent_ports::Link;
 use assuan_server::Conn;
 use assuan_text::Text;
@@ -49,12 +49,10 @@ pub(crate) fn prompt_old<L: Link, P: Prompter>(
         locked,
         opened: None,
     };
-    match ask_user(held.ticket(), &spec, &plan, &mut test, conn, prompter) {
-        Asked::Pin(pin) => match test.into_opened() {
-            Some(key) => Ok(OpenedKey { key, by: Some(pin) }),
-            None => unreachable!(),
-        },
-        asked => Err(pin_refusal(asked)),
+    let pin = ask_user(held.ticket(), &spec, &plan, &mut test, conn, prompter)?;
+    match test.into_opened() {
+        Some(key) => Ok(OpenedKey { key, by: Some(pin) }),
+        None => unreachable!(),
     }
 }
 
@@ -82,10 +80,7 @@ pub(crate) fn prompt_new<L: Link, P: Prompter>(
         asking.options,
     );
     let plan = ask_plan(&Text::new(), true, 1, asking.rules, asking.options);
-    match ask_user(held.ticket(), &spec, &plan, &mut AnyPin, conn, prompter) {
-        Asked::Pin(pin) => Ok(pin),
-        asked => Err(pin_refusal(asked)),
-    }
+    ask_user(held.ticket(), &spec, &plan, &mut AnyPin, conn, prompter)
 }
 
 /// What stands before the field of a passphrase.

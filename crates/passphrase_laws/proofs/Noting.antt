@@ -119,11 +119,10 @@ opens_once Opens.failed = alone (tt, tt)
 opens_once Opens.broken = alone (tt, tt)
 opens_once (Opens.quiet not) = alone (tt, tt)
 opens_once (Opens.told is) = with_note _ tt tt
-opens_once (Opens.unheard is deaf) = with_note _ tt tt
 
 asks_once : {spec : PromptSpec} {plan : AskPlan} {Rule : List ℕ → Type 0} {events : List PromptEvent} {tests : List PinTest} {end : Asked} → AsksBefore spec plan Rule events tests end → CallsOnce events
 asks_once (AsksBefore.unopened opens) = opens_once opens
-asks_once (AsksBefore.unheard opens) = opens_once opens
+asks_once (AsksBefore.client_error deaf opens) = opens_once opens
 asks_once {plan = plan} {Rule = Rule} (AsksBefore.tried {more} opens tries) = once_behind more (tries_calls plan Rule tries) (opens_once opens)
 
 calls_silent : {prompt : List PromptEvent} {shown : List CacheEvent} → Calls prompt → AnyInSession session_lines prompt shown → Silent shown

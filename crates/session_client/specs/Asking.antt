@@ -87,9 +87,13 @@ module _ {lines : Lines} {C : Type 0} (views : Views lines C) where
     pub write_fault : how ≡ gone.WriteFault → Rose (views.output start).faults (views.output now).faults
 
   -- how it is left by what its client was asked: open, but where the client is gone
+  abbrev pub LeftByError : ClientError → C → C → Type 0
+  LeftByError (client_error.Gone how) start now = IsLost how start now
+  LeftByError _ start now = IsOpen views now
+
   abbrev pub LeftBy : {A : Type 0} → Result A ClientError → C → C → Type 0
-  LeftBy (Err (client_error.Gone how)) start now = IsLost how start now
-  LeftBy _ start now = IsOpen views now
+  LeftBy (Ok value) start now = IsOpen views now
+  LeftBy (Err why) start now = LeftByError why start now
 
   -- an inquiry, and how it leaves the connection, by what the client has said
   pub record Inquires {A : Type 0} (word params : List ℕ) (limit : ℕ) (inquired : AnyInquired lines.Outcome) (result : Result A ClientError) (start now : C) : Type 0 where

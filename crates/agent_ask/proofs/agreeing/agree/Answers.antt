@@ -1,31 +1,41 @@
-use Rattle.std.proofs.Common.{ap, ◌∙◌}
-use Rattle.agent_ask.{specs.ConsentParts.IsQuestion, proofs.ConsentParts.{is_agreed, left_by_consent}}
+use Rattle.std.{proofs.{Common.ap, lemmas.Result.err_from_is_err_and}, specs.Option.option_map}
+use Rattle.session_client.specs.declared.refusal.Refusal.TheVariants.{Client}
+use Rattle.agent_ask.{specs.{Callers.heard_of, Consents.agreed_of, declared.consent.Agreed.TheVariants.Heard}, proofs.{Clients.{unheard_is, left_noted}, ConsentParts.asked_question}}
 use Rattle.agent_ask.proofs.agreeing.agree.Goals as goal
 
-pub consented-requires : goal.consented-requires
-consented-requires g c = is_agreed c.ask_leave.result c.ask_leave.ensures.unheard
+pub returns-in_err-prompt_consent-clause-asked : goal.returns-in_err-prompt_consent-clause-asked
+returns-in_err-prompt_consent-clause-asked g c =
+    let p = err_from_is_err_and c.from_residual.result c.from_residual.ensures.1 in
+    let asked = c.in_err-prompt_consent.ensures.asked in
+    rw (p.1, p.2)
+    (record {
+      events = asked.events;
+      are = record {
+        spec = c.prompt_spec-spec.result;
+        answer = Heard (heard_of c.in_err-prompt_consent.field-0.0);
+        is = asked_question c.prompt_spec-spec.ensures c.new.ensures;
+        asks = rw c.notify.ensures at asked.are;
+        consented = ap (option_map Client) (unheard_is c.in_err-prompt_consent.field-0.0);
+      };
+      lead = asked.lead;
+    })
+
+pub returns-in_err-prompt_consent-clause-left : goal.returns-in_err-prompt_consent-clause-left
+returns-in_err-prompt_consent-clause-left g c =
+    let p = err_from_is_err_and c.from_residual.result c.from_residual.ensures.1 in
+    rw (p.1, p.2) (left_noted g.C.Client.views g.C.Client.wished c.in_err-prompt_consent.field-0.0 c.in_err-prompt_consent.ensures.left.1)
 
 pub returns-clause-asked : goal.returns-clause-asked
 returns-clause-asked g c =
-    let asked = c.ask_leave.ensures.asked in
-    let shows = c.prompt_spec-spec.ensures in
-    let spec_is : IsQuestion c.args.rules.now c.args.options.now c.args.question.now.items c.prompt_spec-spec.result =
-    record {
-      title = shows.title;
-      description_is = shows.description_is;
-      prompt_is = shows.prompt_is ∙ ap (λ i. record { items = i }) c.new.ensures;
-      ok = shows.ok;
-      cancel = shows.cancel;
-      quality_is = shows.quality_is;
-      env = shows.env;
-      timeout = shows.timeout;
-    } in
+    let asked = c.in_ok-prompt_consent.ensures.asked in
     record {
       events = asked.events;
-      are = record { spec = c.prompt_spec-spec.result; answer = c.ask_leave.result; is = spec_is; asks = rw c.notify.ensures at asked.are; consented = c.consented.ensures };
+      are = record {
+        spec = c.prompt_spec-spec.result;
+        answer = agreed_of c.in_ok-prompt_consent.field-0;
+        is = asked_question c.prompt_spec-spec.ensures c.new.ensures;
+        asks = rw c.notify.ensures at asked.are;
+        consented = c.consented.ensures.consented;
+      };
       lead = asked.lead;
     }
-
-pub returns-clause-left : goal.returns-clause-left
-returns-clause-left g c =
-    left_by_consent g.C.Client.views c.args.client.now c.ask_leave.new.client c.ask_leave.result c.consented.result c.consented.ensures c.ask_leave.ensures.left

@@ -1,19 +1,19 @@
-use Rattle.{agent_ask.proofs.PartsAtClient.{prompt_gave, prompt_refused, pin_refuses, planned}, assuan_server.specs.Clients.connection_views}
-use Rattle.agent_commands.{specs.{Outside.DoesPrompts, Passphrases.{given, refused}}, proofs.Carrying.each_prompted}
+use Rattle.std.{proofs.Common.{◌≢◌, ℕ, Bool, List, Some, Result, Ok, Err}, specs.Prelude.⊤}
+use Rattle.agent_ask.{specs.{PinParts.{IsGiven, PromptsPin}, Plans.{IsSpec, plan_of}, declared.{ask.Asked.{Asked, TheVariants.NoMemory}, spec.PromptSpec.PromptSpec}}, proofs.{PartsAtClient.{prompt_answered, planned}, Trying.wants_no_memory}}
+use Rattle.{assuan_server.specs.Clients.{session_lines, connection_views}, session_client.specs.declared.refusal.Refusal.Refusal, session_options.specs.{OptionValues.OptionValues, declared.rules.Rules.Rules}}
+use Rattle.agent_commands.{specs.{Outside.DoesPrompts, Parts.CacheEvent, Passphrases.{PromptsAny, given, refused}, declared.request.Texts.Texts}, proofs.Carrying.each_prompted}
 use Rattle.agent_commands.proofs.passphrase.prompt.Goals as goal
 
-pub pin_refusal-requires : goal.pin_refusal-requires
-pin_refusal-requires g c = pin_refuses c.ask_user.result c.ask_user.ensures.unheard c.in_default.not-Pin
+prompts_any : {rules : Rules} {options : OptionValues} {texts : Texts} {check quality : Bool} {repeat ticket : ℕ} {shown : List CacheEvent} {answer : Asked} (spec : PromptSpec) (result : Result (List ℕ) Refusal)
+    → IsGiven answer result → answer ≢ NoMemory → IsSpec rules options texts.description texts.prompt quality spec
+    → PromptsPin session_lines spec (plan_of rules options texts.error check repeat) (λ pin. ⊤) shown answer → PromptsAny rules options texts check quality repeat (Some ticket) shown result (Some ticket)
+prompts_any spec (Ok pin) is fine says prompts = given spec says (rw is at prompts)
+prompts_any spec (Err why) is fine says prompts = refused spec says prompts fine is
 
-pub returns-in-Pin-clause-prompts : goal.returns-in-Pin-clause-prompts
-returns-in-Pin-clause-prompts g c =
+pub returns-clause-prompts : goal.returns-clause-prompts
+returns-clause-prompts g c =
+    let asked = c.ask_user.ensures.asked in
     rw (← c.ticket.ensures)
-    (prompt_gave connection_views (DoesPrompts g.P.Prompter.prompted) (λ same. same) each_prompted c.in-Pin.ensures.asked c.in-Pin.ensures.left
-    (λ events prompts. given c.prompt_spec-spec.result c.prompt_spec-spec.ensures (planned c.ask_plan-plan.ensures prompts)))
-
-pub returns-in_default-clause-prompts : goal.returns-in_default-clause-prompts
-returns-in_default-clause-prompts g c =
-    rw (← c.ticket.ensures)
-    (prompt_refused connection_views (DoesPrompts g.P.Prompter.prompted) (λ same. same) each_prompted c.ask_user.ensures.asked c.pin_refusal.ensures c.ask_user.ensures.left
-    (λ events prompts. refused c.prompt_spec-spec.result c.prompt_spec-spec.ensures (planned c.ask_plan-plan.ensures prompts)
-    (λ is. let out = c.ask_user.ensures.no_memory is in cc out.1.last) c.pin_refusal.ensures))
+    (prompt_answered connection_views (DoesPrompts g.P.Prompter.prompted) (λ same. same) each_prompted asked
+    (λ events prompts. prompts_any c.prompt_spec-spec.result c.ask_user.result asked.are.gives (wants_no_memory asked.are.asks) c.prompt_spec-spec.ensures (planned c.ask_plan-plan.ensures prompts))
+    c.ask_user.ensures.left)

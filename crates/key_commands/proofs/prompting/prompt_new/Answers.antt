@@ -1,22 +1,20 @@
-use Rattle.std.proofs.Common.{true}
-use Rattle.{assuan_server.specs.Clients.connection_views, agent_ask.proofs.PartsAtClient.{pin_refuses, prompt_gave, prompt_refused, planned}}
-use Rattle.key_commands.{proofs.{Partial.each_prompted, AtPrompt.{spec_says, plan_says}}, specs.{Partial.DoesBesideKeys, Passphrases.{given, refused}}}
+use Rattle.std.{proofs.Common.{◌≢◌, ℕ, true, [], List, Some, Result, Ok, Err}, specs.Prelude.⊤}
+use Rattle.agent_ask.{specs.{PinParts.{IsGiven, PromptsPin}, Plans.{IsSpec, plan_of, text}, declared.{ask.Asked.{Asked, TheVariants.NoMemory}, spec.PromptSpec.PromptSpec}}, proofs.{PartsAtClient.{prompt_answered, planned}, Trying.wants_no_memory}}
+use Rattle.{agent_ports.specs.declared.grip.Grip.Grip, assuan_server.specs.Clients.{session_lines, connection_views}, session_client.specs.declared.refusal.Refusal.Refusal, session_options.specs.{OptionValues.OptionValues, declared.rules.Rules.Rules}}
+use Rattle.key_commands.{proofs.{Partial.each_prompted, AtPrompt.{spec_says, plan_says}}, specs.{Events.Event, Lines.{new_description, field_text}, Partial.DoesBesideKeys, Passphrases.{PromptsNew, given, refused}}}
 use Rattle.key_commands.proofs.prompting.prompt_new.Goals as goal
 
-pub pin_refusal-requires : goal.pin_refusal-requires
-pin_refusal-requires g c = pin_refuses c.ask_user.result c.ask_user.ensures.unheard c.in_default.not-Pin
+prompts_new : {rules : Rules} {options : OptionValues} {grip : Grip} {ticket : ℕ} {shown : List Event} {answer : Asked} (spec : PromptSpec) (result : Result (List ℕ) Refusal)
+    → IsGiven answer result → answer ≢ NoMemory → IsSpec rules options (text (new_description grip)) (text field_text) true spec
+    → PromptsPin session_lines spec (plan_of rules options (text []) true 1) (λ pin. ⊤) shown answer → PromptsNew rules options grip (Some ticket) shown result (Some ticket)
+prompts_new spec (Ok pin) is fine says prompts = given spec says (rw is at prompts)
+prompts_new spec (Err why) is fine says prompts = refused spec says prompts fine is
 
-pub returns-in-Pin-clause-prompts : goal.returns-in-Pin-clause-prompts
-returns-in-Pin-clause-prompts g c =
+pub returns-clause-prompts : goal.returns-clause-prompts
+returns-clause-prompts g c =
+    let asked = c.ask_user.ensures.asked in
     let spec = spec_says c.new_description.ensures c.field_text.ensures c.prompt_spec-spec.ensures in
     let plan = plan_says c.args.asking.now.rules.now c.args.asking.now.options.now true 1 c.ask_plan-plan.ensures c.new.ensures in
     rw (← c.ticket.ensures)
-    (prompt_gave connection_views (DoesBesideKeys g.P.Prompter.prompted) (λ same. same) each_prompted c.in-Pin.ensures.asked c.in-Pin.ensures.left (λ events prompts. given c.prompt_spec-spec.result spec (planned plan prompts)))
-
-pub returns-in_default-clause-prompts : goal.returns-in_default-clause-prompts
-returns-in_default-clause-prompts g c =
-    let spec = spec_says c.new_description.ensures c.field_text.ensures c.prompt_spec-spec.ensures in
-    let plan = plan_says c.args.asking.now.rules.now c.args.asking.now.options.now true 1 c.ask_plan-plan.ensures c.new.ensures in
-    rw (← c.ticket.ensures)
-    (prompt_refused connection_views (DoesBesideKeys g.P.Prompter.prompted) (λ same. same) each_prompted c.ask_user.ensures.asked c.pin_refusal.ensures c.ask_user.ensures.left
-    (λ events prompts. refused c.prompt_spec-spec.result spec (planned plan prompts) (λ is. let out = c.ask_user.ensures.no_memory is in cc out.1.last) c.pin_refusal.ensures))
+    (prompt_answered connection_views (DoesBesideKeys g.P.Prompter.prompted) (λ same. same) each_prompted asked
+    (λ events prompts. prompts_new c.prompt_spec-spec.result c.ask_user.result asked.are.gives (wants_no_memory asked.are.asks) spec (planned plan prompts)) c.ask_user.ensures.left)

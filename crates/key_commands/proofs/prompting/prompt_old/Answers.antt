@@ -1,33 +1,36 @@
-use Rattle.std.proofs.Common.{false, refl}
-use Rattle.{assuan_server.specs.Clients.connection_views, agent_ask.proofs.PartsAtClient.{pin_refuses, prompt_gave, prompt_refused, planned}}
+use Rattle.std.proofs.{Common.{false, refl}, lemmas.Result.err_from_is_err_and}
+use Rattle.{assuan_server.specs.Clients.connection_views, agent_ask.proofs.{PartsAtClient.{prompt_answered, planned}, Trying.accepted_by}}
 use Rattle.key_commands.{proofs.{Partial.each_prompted, AtPrompt.{opened_last, opens_last, spec_says, plan_says}}, specs.{Partial.DoesBesideKeys, Passphrases.{opens_by, refused}}}
 use Rattle.key_commands.proofs.prompting.prompt_old.Goals as goal
 
-pub pin_refusal-requires : goal.pin_refusal-requires
-pin_refusal-requires g c = pin_refuses c.ask_user.result c.ask_user.ensures.unheard c.in_default.not-Pin
-
 pub unreachable-requires : goal.unreachable-requires
 unreachable-requires g c =
-    let last = opened_last (λ test. test.locked.now) (λ test. test.opened) (c.in-Pin.ensures.accepted c.in-Pin.pin refl) in
+    let are = c.in_ok-pin.ensures.asked.are in
+    let last = opened_last (λ test. test.locked.now) (λ test. test.opened) (accepted_by (rw are.gives at are.asks)) in
     cc (last.is, c.into_opened.ensures, c.in-None.is)
 
-pub returns-in-Some-clause-prompts : goal.returns-in-Some-clause-prompts
-returns-in-Some-clause-prompts g c =
-    let last = opened_last (λ test. test.locked.now) (λ test. test.opened) (c.in-Pin.ensures.accepted c.in-Pin.pin refl) in
+pub returns-in_err-pin-clause-prompts : goal.returns-in_err-pin-clause-prompts
+returns-in_err-pin-clause-prompts g c =
+    let p = err_from_is_err_and c.from_residual.result c.from_residual.ensures.1 in
+    let asked = c.in_err-pin.ensures.asked in
+    let spec = spec_says (rw c.old_description.ensures at c.described.ensures) c.field_text.ensures c.prompt_spec-spec.ensures in
+    let plan = plan_says c.args.asking.now.rules.now c.args.asking.now.options.now false 0 c.ask_plan-plan.ensures c.new.ensures in
+    rw (← c.ticket.ensures, p.1, p.2)
+    (prompt_answered connection_views (DoesBesideKeys g.P.Prompter.prompted) (λ same. same) each_prompted asked
+    (λ events prompts. refused c.prompt_spec-spec.result spec (planned plan prompts) asked.are.gives) c.in_err-pin.ensures.left)
+
+pub returns-clause-prompts : goal.returns-clause-prompts
+returns-clause-prompts g c =
+    let asked = c.in_ok-pin.ensures.asked in
+    let last = opened_last (λ test. test.locked.now) (λ test. test.opened) (accepted_by (rw asked.are.gives at asked.are.asks)) in
     let spec = spec_says (rw c.old_description.ensures at c.described.ensures) c.field_text.ensures c.prompt_spec-spec.ensures in
     let plan = plan_says c.args.asking.now.rules.now c.args.asking.now.options.now false 0 c.ask_plan-plan.ensures c.new.ensures in
     rw (← c.ticket.ensures)
-    (prompt_gave connection_views (DoesBesideKeys g.P.Prompter.prompted) (λ same. same) each_prompted c.in-Pin.ensures.asked c.in-Pin.ensures.left (λ events prompts. opens_by c.prompt_spec-spec.result spec (planned plan prompts) (opens_last last c.in-Some.ensures).0))
+    (prompt_answered connection_views (DoesBesideKeys g.P.Prompter.prompted) (λ same. same) each_prompted asked
+    (λ events prompts. opens_by c.prompt_spec-spec.result spec (planned plan (rw asked.are.gives at prompts)) (opens_last last c.in-Some.ensures).0) c.in_ok-pin.ensures.left)
 
-pub returns-in-Some-clause-usable : goal.returns-in-Some-clause-usable
-returns-in-Some-clause-usable g c =
-    let last = opened_last (λ test. test.locked.now) (λ test. test.opened) (c.in-Pin.ensures.accepted c.in-Pin.pin refl) in
+pub returns-clause-usable : goal.returns-clause-usable
+returns-clause-usable g c =
+    let are = c.in_ok-pin.ensures.asked.are in
+    let last = opened_last (λ test. test.locked.now) (λ test. test.opened) (accepted_by (rw are.gives at are.asks)) in
     (opens_last last c.in-Some.ensures).1
-
-pub returns-in_default-clause-prompts : goal.returns-in_default-clause-prompts
-returns-in_default-clause-prompts g c =
-    let spec = spec_says (rw c.old_description.ensures at c.described.ensures) c.field_text.ensures c.prompt_spec-spec.ensures in
-    let plan = plan_says c.args.asking.now.rules.now c.args.asking.now.options.now false 0 c.ask_plan-plan.ensures c.new.ensures in
-    rw (← c.ticket.ensures)
-    (prompt_refused connection_views (DoesBesideKeys g.P.Prompter.prompted) (λ same. same) each_prompted c.ask_user.ensures.asked c.pin_refusal.ensures c.ask_user.ensures.left
-    (λ events prompts. refused c.prompt_spec-spec.result spec (planned plan prompts) c.pin_refusal.ensures))
