@@ -1,5 +1,5 @@
 -- The definitions on worked examples, each by computation.
-use Rattle.std.{proofs.Common.{◌≡◌, ℕ, true, false, List, [], ◌∷◌, ◌++◌, length, replicate, Some, None, refl, ap, arith, length-append}, specs.Prelude.codes}
+use Rattle.std.{proofs.Common.{◌≡◌, ℕ, true, false, List, [], ◌∷◌, ◌++◌, length, replicate, Some, None, refl, ap, arith, length-append}, specs.Prelude.{codes, map, Option, Bool}}
 use Rattle.hex.{specs.Hex.{encode_with, upper_digits}, proofs.HexLemmas.length-encode_with}
 use Rattle.trust_list.specs.Trust.{entry, missing_end, trust, with_entry}
 
@@ -7,101 +7,47 @@ use Rattle.trust_list.specs.Trust.{entry, missing_end, trust, with_entry}
 abbrev certificate : List ℕ
 certificate = replicate 20 170
 
-silent_file : trust [] certificate ≡ None
-unfolding encode_with
-silent_file = refl
+-- files, and what they say of the certificate
+abbrev files : List (List ℕ × Option Bool)
+files =
+    ([], None)  -- silent file
+    ∷ (codes "AAAAAAAAAAAAAAAAAAAAAAAAAAAAAAAAAAAAAAAA S", Some true)  -- entry without a line feed
+    ∷ (codes "aaaaaaaaaaaaaaaaaaaaaaaaaaaaaaaaaaaaaaaa P", Some true)  -- lowercase digits
+    ∷ (codes "AA:AA:AA:AA:AA:AA:AA:AA:AA:AA:AA:AA:AA:AA:AA:AA:AA:AA:AA:AA *", Some true)  -- colons between all pairs
+    ∷ (codes "AAAA:AAAAAAAAAAAAAAAAAAAAAAAAAAAAAAAAAAAA S", Some true)  -- one colon alone
+    ∷ (codes "AAA:AAAAAAAAAAAAAAAAAAAAAAAAAAAAAAAAAAAAA S", None)  -- colon inside a pair
+    ∷ (codes "AAAA::AAAAAAAAAAAAAAAAAAAAAAAAAAAAAAAAAAAA S", None)  -- two colons
+    ∷ (codes ":AAAAAAAAAAAAAAAAAAAAAAAAAAAAAAAAAAAAAAAA S", None)  -- colon in front
+    ∷ (codes "AAAAAAAAAAAAAAAAAAAAAAAAAAAAAAAAAAAAAAAA: S", None)  -- colon behind
+    ∷ (codes "AAAAAAAAAAAAAAAAAAAAAAAAAAAAAAAAAAAAAAA S", None)  -- one digit missing
+    ∷ (codes "AAAAAAAAAAAAAAAAAAAAAAAAAAAAAAAAAAAAAAAAAA S", None)  -- two digits more
+    ∷ (codes "!AAAAAAAAAAAAAAAAAAAAAAAAAAAAAAAAAAAAAAAA S", Some false)  -- not trusted
+    ∷ (codes "! AAAAAAAAAAAAAAAAAAAAAAAAAAAAAAAAAAAAAAAA S", None)  -- blank behind the mark
+    ∷ (codes "#AAAAAAAAAAAAAAAAAAAAAAAAAAAAAAAAAAAAAAAA S", None)  -- comment
+    ∷ (32 ∷ 9 ∷ codes "AAAAAAAAAAAAAAAAAAAAAAAAAAAAAAAAAAAAAAAA" ++ 9 ∷ 32 ∷ codes "S relax # x", Some true)  -- blanks and further words
+    ∷ (codes "AAAAAAAAAAAAAAAAAAAAAAAAAAAAAAAAAAAAAAAA ", None)  -- no flag
+    ∷ (codes "AAAAAAAAAAAAAAAAAAAAAAAAAAAAAAAAAAAAAAAA s", None)  -- lowercase flag
+    ∷ (codes "AAAAAAAAAAAAAAAAAAAAAAAAAAAAAAAAAAAAAAAA SP", None)  -- flags in one word
+    ∷ (codes "AAAAAAAAAAAAAAAAAAAAAAAAAAAAAAAAAAAAAAAA S" ++ 13 ∷ 10 ∷ [], None)  -- return behind the flag
+    ∷ (codes "!AAAAAAAAAAAAAAAAAAAAAAAAAAAAAAAAAAAAAAAA S" ++ 10 ∷ codes "AAAAAAAAAAAAAAAAAAAAAAAAAAAAAAAAAAAAAAAA S", Some false)  -- first entry decides
+    ∷ (codes "BBAAAAAAAAAAAAAAAAAAAAAAAAAAAAAAAAAAAAAA S" ++ 10 ∷ codes "!AAAAAAAAAAAAAAAAAAAAAAAAAAAAAAAAAAAAAAAA P" ++ 10 ∷ [], Some false)  -- another entry first
+    ∷ []
 
-entry_without_a_line_feed : trust (codes "AAAAAAAAAAAAAAAAAAAAAAAAAAAAAAAAAAAAAAAA S") certificate ≡ Some true
+each_file_says : map (λ row. trust row.0 certificate) files ≡ map (λ row. row.1) files
 unfolding encode_with
-entry_without_a_line_feed = refl
+each_file_says = refl
 
-lowercase_digits : trust (codes "aaaaaaaaaaaaaaaaaaaaaaaaaaaaaaaaaaaaaaaa P") certificate ≡ Some true
-unfolding encode_with
-lowercase_digits = refl
+-- files, a flag, and what they are with an entry of this flag
+abbrev additions : List (List ℕ × ℕ × List ℕ)
+additions =
+    ([], 83, codes "AAAAAAAAAAAAAAAAAAAAAAAAAAAAAAAAAAAAAAAA S" ++ 10 ∷ [])  -- new file
+    ∷ (codes "#" ++ 10 ∷ [], 80, codes "#" ++ 10 ∷ codes "AAAAAAAAAAAAAAAAAAAAAAAAAAAAAAAAAAAAAAAA P" ++ 10 ∷ [])  -- behind a line feed
+    ∷ (codes "#", 83, codes "#" ++ 10 ∷ codes "AAAAAAAAAAAAAAAAAAAAAAAAAAAAAAAAAAAAAAAA S" ++ 10 ∷ [])  -- missing line feed
+    ∷ []
 
-colons_between_all_pairs : trust (codes "AA:AA:AA:AA:AA:AA:AA:AA:AA:AA:AA:AA:AA:AA:AA:AA:AA:AA:AA:AA *") certificate ≡ Some true
+each_addition : map (λ row. with_entry row.0 certificate row.1) additions ≡ map (λ row. row.2) additions
 unfolding encode_with
-colons_between_all_pairs = refl
-
-one_colon_alone : trust (codes "AAAA:AAAAAAAAAAAAAAAAAAAAAAAAAAAAAAAAAAAA S") certificate ≡ Some true
-unfolding encode_with
-one_colon_alone = refl
-
-colon_inside_a_pair : trust (codes "AAA:AAAAAAAAAAAAAAAAAAAAAAAAAAAAAAAAAAAAA S") certificate ≡ None
-unfolding encode_with
-colon_inside_a_pair = refl
-
-two_colons : trust (codes "AAAA::AAAAAAAAAAAAAAAAAAAAAAAAAAAAAAAAAAAA S") certificate ≡ None
-unfolding encode_with
-two_colons = refl
-
-colon_in_front : trust (codes ":AAAAAAAAAAAAAAAAAAAAAAAAAAAAAAAAAAAAAAAA S") certificate ≡ None
-unfolding encode_with
-colon_in_front = refl
-
-colon_behind : trust (codes "AAAAAAAAAAAAAAAAAAAAAAAAAAAAAAAAAAAAAAAA: S") certificate ≡ None
-unfolding encode_with
-colon_behind = refl
-
-one_digit_missing : trust (codes "AAAAAAAAAAAAAAAAAAAAAAAAAAAAAAAAAAAAAAA S") certificate ≡ None
-unfolding encode_with
-one_digit_missing = refl
-
-two_digits_more : trust (codes "AAAAAAAAAAAAAAAAAAAAAAAAAAAAAAAAAAAAAAAAAA S") certificate ≡ None
-unfolding encode_with
-two_digits_more = refl
-
-not_trusted : trust (codes "!AAAAAAAAAAAAAAAAAAAAAAAAAAAAAAAAAAAAAAAA S") certificate ≡ Some false
-unfolding encode_with
-not_trusted = refl
-
-blank_behind_the_mark : trust (codes "! AAAAAAAAAAAAAAAAAAAAAAAAAAAAAAAAAAAAAAAA S") certificate ≡ None
-unfolding encode_with
-blank_behind_the_mark = refl
-
-comment : trust (codes "#AAAAAAAAAAAAAAAAAAAAAAAAAAAAAAAAAAAAAAAA S") certificate ≡ None
-unfolding encode_with
-comment = refl
-
-blanks_and_further_words : trust (32 ∷ 9 ∷ codes "AAAAAAAAAAAAAAAAAAAAAAAAAAAAAAAAAAAAAAAA" ++ 9 ∷ 32 ∷ codes "S relax # x") certificate ≡ Some true
-unfolding encode_with
-blanks_and_further_words = refl
-
-no_flag : trust (codes "AAAAAAAAAAAAAAAAAAAAAAAAAAAAAAAAAAAAAAAA ") certificate ≡ None
-unfolding encode_with
-no_flag = refl
-
-lowercase_flag : trust (codes "AAAAAAAAAAAAAAAAAAAAAAAAAAAAAAAAAAAAAAAA s") certificate ≡ None
-unfolding encode_with
-lowercase_flag = refl
-
-flags_in_one_word : trust (codes "AAAAAAAAAAAAAAAAAAAAAAAAAAAAAAAAAAAAAAAA SP") certificate ≡ None
-unfolding encode_with
-flags_in_one_word = refl
-
-return_behind_the_flag : trust (codes "AAAAAAAAAAAAAAAAAAAAAAAAAAAAAAAAAAAAAAAA S" ++ 13 ∷ 10 ∷ []) certificate ≡ None
-unfolding encode_with
-return_behind_the_flag = refl
-
-first_entry_decides : trust (codes "!AAAAAAAAAAAAAAAAAAAAAAAAAAAAAAAAAAAAAAAA S" ++ 10 ∷ codes "AAAAAAAAAAAAAAAAAAAAAAAAAAAAAAAAAAAAAAAA S") certificate ≡ Some false
-unfolding encode_with
-first_entry_decides = refl
-
-another_entry_first : trust (codes "BBAAAAAAAAAAAAAAAAAAAAAAAAAAAAAAAAAAAAAA S" ++ 10 ∷ codes "!AAAAAAAAAAAAAAAAAAAAAAAAAAAAAAAAAAAAAAAA P" ++ 10 ∷ []) certificate ≡ Some false
-unfolding encode_with
-another_entry_first = refl
-
-new_file : with_entry [] certificate 83 ≡ codes "AAAAAAAAAAAAAAAAAAAAAAAAAAAAAAAAAAAAAAAA S" ++ 10 ∷ []
-unfolding encode_with
-new_file = refl
-
-behind_a_line_feed : with_entry (codes "#" ++ 10 ∷ []) certificate 80 ≡ codes "#" ++ 10 ∷ codes "AAAAAAAAAAAAAAAAAAAAAAAAAAAAAAAAAAAAAAAA P" ++ 10 ∷ []
-unfolding encode_with
-behind_a_line_feed = refl
-
-missing_line_feed : with_entry (codes "#") certificate 83 ≡ codes "#" ++ 10 ∷ codes "AAAAAAAAAAAAAAAAAAAAAAAAAAAAAAAAAAAAAAAA S" ++ 10 ∷ []
-unfolding encode_with
-missing_line_feed = refl
+each_addition = refl
 
 -- An entry is 43 bytes long: so the longest file comes of one of 65,493 bytes, whose last line has its end.
 longest_file : (file f : List ℕ) → length f ≡ 20 → length file ≡ 65493 → missing_end file ≡ [] → length (with_entry file f 83) ≡ 65536
