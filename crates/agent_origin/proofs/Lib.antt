@@ -17,6 +17,5 @@ pub mod EachLine
 pub mod EachTrust
 pub mod Beside
 mod Meeting
-mod Served
 mod Serving
 pub mod Turning

@@ -5,7 +5,7 @@ use Rattle.agent_ask.specs.{SessionEvents.{Received, Sent, Cut, Inquiry, CacheTu
 use Rattle.{agent_commands.specs.declared.{request.Request.Request, went.Went.Went}, assuan_server.specs.Clients.session_lines, key_commands.{specs.Events.Event, proofs.EachEvent.{IsStill, each_append, each_returned}}}
 use Rattle.{key_commands.proofs.EachRequest.{Carries, so, then, whole}, session_options.specs.{OptionValues.{OptionValues, EnvWords, words_of}, declared.rules.Rules.Rules}}
 use Rattle.agent_origin.specs.{DoorSessions.{AllowedExchange, DoorExchange}, OuterPrompts.{Names, PromptNames, PromptsName}, SessionExchanges.RequestExchange, TrustExchanges.TrustExchange, declared.{door.Door.Door, session_state.SessionState.SessionState}}
-use Rattle.agent_origin.{specs.declared.trust.request.TrustRequest.TrustRequest, proofs.{Between.{IsBetween, Between, tries_between}, EachLine.request_whole, EachTrust.{carried_so, carried_laws}}}
+use Rattle.agent_origin.{specs.declared.trust.request.TrustRequest.TrustRequest, proofs.{Between.{Between, tries_between}, EachLine.request_whole, EachTrust.{carried_so, carried_laws}}}
 use Rattle.agent_ask.specs.Consents as consents
 use Rattle.agent_ask.specs.Prompts as prompts
 use Rattle.agent_ask.specs.SessionPrompts as session

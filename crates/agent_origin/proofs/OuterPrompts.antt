@@ -1,5 +1,5 @@
 -- At the outer door no terminal and no language is set, so no prompt names one.
-use Rattle.std.{specs.{List.AllByRecursion, Prelude.{codes, drop}}, proofs.Common.{◌≡◌, ◌∙◌, ℕ, Bool, true, false, cond, List, [], ◌∷◌, ◌++◌, Option, Some, None, Result, Ok, bytes_eq, refl, sym, ap, subst}}
+use Rattle.std.{specs.{List.AllByRecursion, Prelude.{codes, drop}}, proofs.Common.{◌≡◌, ◌∙◌, ℕ, Bool, true, false, cond, List, [], ◌∷◌, ◌++◌, Option, Some, None, Ok, bytes_eq, refl, sym, ap, subst}}
 use Rattle.std.proofs.lemmas.Slice.Eq.{bytes_eq-Decides}
 use Rattle.agent_ask.{specs.{Answering.{WholeOrCut, whole, cut}, PartExchanges.{answered, refused}, SessionEvents.{Cut, Sent, CutAtLast}}, proofs.Within.{Within, Yields, returned_so, refused_so, yields_then}}
 use Rattle.agent_commands.specs.{Endings.went_after, Exchanges.{CacheExchange, CacheReply, option_replies, CacheReplies}, Requests.request_of}

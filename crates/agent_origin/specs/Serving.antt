@@ -1,9 +1,9 @@
 -- Private: how far a session has come at some state of its code.
-use Rattle.std.specs.Prelude.{◌≡◌, ℕ, Bool, true, false, List, Option, Some, Result}
+use Rattle.std.specs.Prelude.{ℕ, Bool, true, false, List, Option, Some, Result}
 use Rattle.{agent_ask.specs.Answering.{unless_cut, FaultsCounted}, agent_commands.specs.{Endings.gone_of, Events.EventWith, Outside.World, States.{ServedState, EventsLead}, Talks.Talk, declared.went.SessionEnd.SessionEnd}}
 use Rattle.{agent_commands.specs.declared.went.{SessionEnd.TheVariants.WriteFault, Went.{Went, TheVariants.{On, End}}}, agent_ports.specs.declared.link.WriteFault.WriteFault as Fault, assuan_server.specs.Clients.connection_views}
 use Rattle.{assuan_server.specs.{Connections.Connection, Reading.unread, Written.WritesText}, command_table.specs.declared.commands.Command.Command}
-use Rattle.agent_origin.specs.Sessions.{Surroundings, Leaves, LineRelation, ServesSession}
+use Rattle.agent_origin.specs.Sessions.{Surroundings, Leaves, LineRelation}
 use Rattle.command_table.specs.declared.commands.Command.TheVariants as at_table
 
 -- the requests of a session were answered up to its end
@@ -17,11 +17,6 @@ pub record ServesRequests {w : World} {S : Type 0} (exchange : LineRelation w S)
 -- what a session in the code has to do with
 abbrev pub around : {w : World} → ServedState w → Surroundings w
 around state = record { input = state.conn.input; output = state.conn.output; desk = state.desk; ends = state.ends }
-
--- a session was served on a connection, from its greeting on
-pub record ServesConn {w : World} {S : Type 0} (exchange : LineRelation w S) (before : S) (start : ServedState w) (end : SessionEnd) (now : ServedState w) : Type 0 where
-  pub served : ServesSession exchange before (around start) end (around now)
-  pub link : now.conn.link ≡ start.conn.link
 
 -- a text was written, whole or in part, and the session goes on where it was whole
 pub data SaysText (text : List ℕ) (before : Connection) : Went → Connection → Type 0 where

@@ -1,23 +1,22 @@
 //! A request of any session, answered: on the cache, on the session or on keys. It works on all
 //! that a session has but the trust file, and overwrites the stack behind a request that may have
-//! had a passphrase. Begin with `answer`; what it does is `SessionExchange`
+//! had a passphrase. Begin with `EveryLine`; what it does is `SessionExchange`
 //! (`specs/SessionExchanges`).
 
 ghost use Rattle.std.specs.Prelude.{◌≡◌, None};
-ghost use Rattle.{agent_ask.specs.Prompters.IsShut, agent_ports.specs.TrustFiles.TrustState};
+ghost use Rattle.{agent_ask.specs.Prompters.IsShut};
 ghost use Rattle.assuan_server.specs.{Connections.IsOpen, Written.failed};
 ghost use Rattle.agent_commands.specs.{Requests.request_of, States.AnswersRequest};
 ghost use Rattle.key_commands.specs.States.{KeyWorld, key_state};
 ghost use Rattle.command_table.specs.Commands.{command_in};
-ghost use Rattle.agent_origin.specs.PortStates.{PortWorld, port_state};
 ghost use Rattle.agent_origin.specs.SessionExchanges.{went_after_key, described_after};
-ghost use Rattle.agent_origin.specs.SessionExchanges.{RequestExchange, SessionExchange};
+ghost use Rattle.agent_origin.specs.SessionExchanges.{RequestExchange};
 ghost use Rattle.agent_origin.specs.Serving.{SaysText, is_on_keys};
 
-use crate::SessionState;
+use crate::{RequestHandler, SessionState};
 use agent_ask::{Prompter, unless_cut};
 use agent_commands::{LineRequest, SessionEnd, Went, run_cache, run_quiet};
-use agent_ports::{Dice, Keys, Link};
+use agent_ports::{Dice, Keys, Link, TrustFile};
 use assuan_server::{Code, Conn, Origin};
 use cache_policy::Desk;
 use command_table::{Command, CutLine};
@@ -26,44 +25,44 @@ use session_options::{Options, Rules};
 use std::alloc::Global;
 use wiping::wipe_stack;
 
-/// Answers one request on the cache, on the session or on keys, whatever trust file there is
-/// beside: none is called. Its line is read once; for one that asks the cache alone the texts,
-/// which are long, are not made.
-///
-/// Behind any other one the stack that it used is overwritten: it may have had a passphrase in
-/// hand. Behind one that asks the cache alone that would take longer than the request.
-pub fn answer<L: Link, D: Desk, P: Prompter, K: Keys, R: Dice>(
-    alloc: Global,
-    line: &CutLine<'_>,
-    rules: &Rules,
-    kept: &mut SessionState,
-    conn: &mut Conn<'_, L>,
-    desk: &mut D,
-    prompter: &mut P,
-    keys: &mut K,
-    dice: &mut R,
-) -> Went
-    requires open { IsOpen conn.old }
-    requires free { (D.at desk.old).out ≡ None }
-    requires shut { IsShut (P.at prompter.old) }
-    ensures answers { (trust : TrustState) → AnswersRequest {w = PortWorld D.turned P.prompted}
-        (λ before. SessionExchange rules.now before line.now) kept.old
-        (port_state D.turned P.prompted conn.old desk.old prompter.old
-        (K.keys keys.old) (R.draws dice.old) trust) result kept.new
-        (port_state D.turned P.prompted conn.new desk.new prompter.new (K.keys keys.new)
-        (R.draws dice.new) trust) }
-    ensures free { (D.at desk.new).out ≡ None }
-    ensures shut { IsShut (P.at prompter.new) }
-{
-    let request = LineRequest::of_cut(line);
-    match request.quiet() {
-        Some(quiet) => run_quiet(&quiet, conn, desk),
-        None => {
-            let went = answer_whole(
-                alloc, line, &request, rules, kept, conn, desk, prompter, keys, dice,
-            );
-            wipe_stack();
-            went
+/// Answers requests on the cache, on the session and on keys, whatever trust file there is beside:
+/// none is called.
+#[derive(Drop)]
+pub struct EveryLine;
+
+impl RequestHandler for EveryLine {
+    ghost use Rattle.agent_origin.specs.SessionExchanges.{SessionExchange};
+
+    ghost exchange = { λ handler. SessionExchange };
+
+    /// Reads the line once; for a request that asks the cache alone the texts, which are long, are
+    /// not made.
+    ///
+    /// Behind any other one the stack that it used is overwritten: it may have had a passphrase in
+    /// hand. Behind one that asks the cache alone that would take longer than the request.
+    fn answer<L: Link, D: Desk, P: Prompter, K: Keys, R: Dice, T: TrustFile>(
+        &self,
+        alloc: Global,
+        line: &CutLine<'_>,
+        rules: &Rules,
+        kept: &mut SessionState,
+        conn: &mut Conn<'_, L>,
+        desk: &mut D,
+        prompter: &mut P,
+        keys: &mut K,
+        dice: &mut R,
+        _trust: &mut T,
+    ) -> Went {
+        let request = LineRequest::of_cut(line);
+        match request.quiet() {
+            Some(quiet) => run_quiet(&quiet, conn, desk),
+            None => {
+                let went = answer_whole(
+                    alloc, line, &request, rules, kept, conn, desk, prompter, keys, dice,
+                );
+                wipe_stack();
+                went
+            }
         }
     }
 }

@@ -10,10 +10,10 @@ ghost use Rattle.agent_origin.specs.DoorSessions.{door_command, door_help, Serve
 ghost use Rattle.agent_origin.specs.{TrustExchanges.AnswersTrust, PortStates.surroundings};
 ghost use Rattle.agent_origin.specs.{TrustRequests.trust_request_of, Serving.SaysText};
 
-use crate::answering::{answer, refuse};
+use crate::answering::{EveryLine, refuse};
 use crate::door::{Door, allows, sets_terminal};
 use crate::trust::read_trust_cut;
-use crate::{Answers, SessionState, run_trust, serve};
+use crate::{RequestHandler, SessionState, run_trust, serve};
 use agent_ask::{Prompter, unless_cut};
 use agent_commands::{LineRequest, SessionEnd, Went, write_help};
 use agent_ports::{Dice, Keys, Link, TrustFile};
@@ -52,7 +52,7 @@ fn door_command(door: Door, line: &CutLine<'_>) -> Option<DoorCommand>
     }
 }
 
-impl Answers for Door {
+impl RequestHandler for Door {
     ghost use Rattle.agent_origin.specs.DoorSessions.{DoorExchange};
 
     ghost exchange = { DoorExchange };
@@ -86,7 +86,9 @@ impl Answers for Door {
                 prompter,
                 trust,
             ),
-            None => answer(alloc, line, rules, kept, conn, desk, prompter, keys, dice),
+            None => EveryLine.answer(
+                alloc, line, rules, kept, conn, desk, prompter, keys, dice, trust,
+            ),
         }
     }
 }

@@ -17,9 +17,8 @@ ghost use Rattle.session_options.specs.{OptionValues.OptionValues, declared.rule
 ghost use Rattle.agent_origin.specs.DoorSessions.{DoorExchange, ServesDoor};
 ghost use Rattle.agent_origin.specs.{Doors.{sets_terminal, allowed}, TrustExchanges.TrustExchange};
 ghost use Rattle.agent_origin.specs.NewTrustFiles.{replaced, HasConsents, HasConsentsIn};
-ghost use Rattle.agent_origin.specs.PortStates.{PortWorld};
-ghost use Rattle.agent_origin.specs.{OuterPrompts.{no_words, PromptsName}, OuterRuns.LeavesDesk};
-ghost use Rattle.agent_origin.specs.OuterTurns.{LeavesCache, GiveNothing};
+ghost use Rattle.agent_origin.specs.{PortStates.PortWorld, OuterPrompts.{no_words, PromptsName}};
+ghost use Rattle.agent_origin.specs.{OuterRuns.LeavesDesk, OuterTurns.{LeavesCache, GiveNothing}};
 ghost use Rattle.agent_origin.specs.{TrustRequests.trust_request_of, Sessions.Surroundings};
 ghost use Rattle.agent_origin.specs.declared.door.Door.{Door as By, TheVariants.{Home, Outer}};
 ghost use Rattle.agent_origin.specs.declared.session_state.SessionState.{SessionState};

@@ -1,13 +1,13 @@
 //! The frame of every session: its greeting, its requests one after another, and its end. It works
 //! on all that a session has, and overwrites its wrapping keys and its stack at the end. Begin with
-//! `serve` and the trait `Answers`, what its requests are answered by; definitions begin in
+//! `serve` and the trait `RequestHandler`, what its requests are answered by; definitions begin in
 //! `specs/Services` and `specs/Sessions`.
 
-ghost use Rattle.std.specs.Prelude.{◌≡◌, [], None};
+ghost use Rattle.std.specs.Prelude.{◌≡◌, None};
 ghost use Rattle.{agent_ask.specs.Prompters.IsShut, assuan_server.specs.Connections.IsOpen};
-ghost use Rattle.{assuan_server.specs.Reading.budget, agent_commands.specs.States.AnswersRequest};
+ghost use Rattle.{agent_commands.specs.States.AnswersRequest};
 ghost use Rattle.agent_origin.specs.PortStates.{PortWorld, port_state, surroundings};
-ghost use Rattle.agent_origin.specs.{Services.Service, Serving.{ServesConn, ServesRequests}};
+ghost use Rattle.agent_origin.specs.{Services.Service, Serving.{ServesRequests}};
 ghost use Rattle.agent_origin.specs.{SessionExchanges.kept_at_start, Sessions.ServesSession};
 
 use crate::SessionState;
@@ -23,7 +23,7 @@ use std::alloc::Global;
 use wiping::wipe_stack;
 
 /// How the requests of a session are answered.
-pub trait Answers {
+pub trait RequestHandler {
     ghost exchange: { Service Self };
 
     /// Answers the request of a line, and says how the session goes on. No ticket is out and no
@@ -57,8 +57,8 @@ pub trait Answers {
 /// Serves a session on a link: greets, and answers request after request so until the session ends.
 /// No ticket of the session is out and no prompt is open when it returns. Its wrapping keys are
 /// overwritten in the end.
-pub fn serve<A: Answers, L: Link, D: Desk, P: Prompter, K: Keys, R: Dice, T: TrustFile>(
-    so: &A,
+pub fn serve<H: RequestHandler, L: Link, D: Desk, P: Prompter, K: Keys, R: Dice, T: TrustFile>(
+    handler: &H,
     alloc: Global,
     rules: &Rules,
     link: &mut L,
@@ -71,7 +71,7 @@ pub fn serve<A: Answers, L: Link, D: Desk, P: Prompter, K: Keys, R: Dice, T: Tru
     requires free { (D.at desk.old).out ≡ None }
     requires shut { IsShut (P.at prompter.old) }
     ensures serves { ServesSession {w = PortWorld D.turned P.prompted}
-        (A.exchange so.now rules.now) (kept_at_start rules.now)
+        (H.exchange handler.now rules.now) (kept_at_start rules.now)
         (surroundings D.turned P.prompted (L.input link.old) (L.output link.old)
         desk.old prompter.old (K.keys keys.old) (R.draws dice.old) (T.trust trust.old)) result
         (surroundings D.turned P.prompted (L.input link.new) (L.output link.new) desk.new
@@ -80,54 +80,28 @@ pub fn serve<A: Answers, L: Link, D: Desk, P: Prompter, K: Keys, R: Dice, T: Tru
     ensures shut { IsShut (P.at prompter.new) }
 {
     let mut conn = Conn::new(alloc, link, BUDGET);
-    let end = serve_conn(
-        so, alloc, rules, &mut conn, desk, prompter, keys, dice, trust,
-    );
-    wipe_stack();
-    // So what the connection did is known of the link.
-    conn.into_link();
-    end
-}
-
-/// Greets the client, and answers its requests. The wrapping keys are overwritten where they lie.
-fn serve_conn<A: Answers, L: Link, D: Desk, P: Prompter, K: Keys, R: Dice, T: TrustFile>(
-    so: &A,
-    alloc: Global,
-    rules: &Rules,
-    conn: &mut Conn<'_, L>,
-    desk: &mut D,
-    prompter: &mut P,
-    keys: &mut K,
-    dice: &mut R,
-    trust: &mut T,
-) -> SessionEnd
-    requires fresh { conn.old.reader ≡ record { ahead = []; left = budget; ended = None } }
-    requires free { (D.at desk.old).out ≡ None }
-    requires shut { IsShut (P.at prompter.old) }
-    ensures serves { ServesConn {w = PortWorld D.turned P.prompted} (A.exchange so.now rules.now)
-        (kept_at_start rules.now) (port_state D.turned P.prompted conn.old desk.old prompter.old
-        (K.keys keys.old) (R.draws dice.old) (T.trust trust.old)) result
-        (port_state D.turned P.prompted conn.new desk.new prompter.new (K.keys keys.new)
-        (R.draws dice.new) (T.trust trust.new)) }
-    ensures free { (D.at desk.new).out ≡ None }
-    ensures shut { IsShut (P.at prompter.new) }
-{
     match conn.greet().whole() {
         Ok(()) => {
             let mut kept = SessionState::new(rules);
             let end = serve_requests(
-                so, alloc, rules, &mut kept, conn, desk, prompter, keys, dice, trust,
+                handler, alloc, rules, &mut kept, &mut conn, desk, prompter, keys, dice, trust,
             );
             kept.wraps.clear();
+            wipe_stack();
+            // So what the connection did is known of the link.
+            conn.into_link();
             end
         }
-        Err(WriteFault) => SessionEnd::WriteFault,
+        Err(WriteFault) => {
+            conn.into_link();
+            SessionEnd::WriteFault
+        }
     }
 }
 
 /// Answers requests up to the end of the session.
-fn serve_requests<A: Answers, L: Link, D: Desk, P: Prompter, K: Keys, R: Dice, T: TrustFile>(
-    so: &A,
+fn serve_requests<H: RequestHandler, L: Link, D: Desk, P: Prompter, K: Keys, R: Dice, T: TrustFile>(
+    handler: &H,
     alloc: Global,
     rules: &Rules,
     kept: &mut SessionState,
@@ -142,7 +116,7 @@ fn serve_requests<A: Answers, L: Link, D: Desk, P: Prompter, K: Keys, R: Dice, T
     requires free { (D.at desk.old).out ≡ None }
     requires shut { IsShut (P.at prompter.old) }
     ensures serves { ServesRequests
-        {w = PortWorld D.turned P.prompted} (A.exchange so.now rules.now) kept.old
+        {w = PortWorld D.turned P.prompted} (H.exchange handler.now rules.now) kept.old
         (port_state D.turned P.prompted conn.old desk.old prompter.old
         (K.keys keys.old) (R.draws dice.old) (T.trust trust.old)) result
         (port_state D.turned P.prompted conn.new desk.new prompter.new (K.keys keys.new)
@@ -154,7 +128,7 @@ fn serve_requests<A: Answers, L: Link, D: Desk, P: Prompter, K: Keys, R: Dice, T
         let mut took = conn.next_request();
         match &mut took {
             Took::Line(line) => {
-                let went = so.answer(
+                let went = handler.answer(
                     alloc,
                     &CutLine::of(line),
                     rules,

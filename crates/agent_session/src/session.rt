@@ -7,40 +7,12 @@ ghost use Rattle.agent_ask.specs.Prompters.{IsShut};
 ghost use Rattle.agent_session.specs.Sessions.{no_trust, without_trust, ServesRules};
 
 use agent_ask::Prompter;
-use agent_commands::{SessionEnd, Went};
-use agent_origin::{Answers, SessionState, answer, serve};
+use agent_commands::SessionEnd;
+use agent_origin::{EveryLine, serve};
 use agent_ports::{Dice, Keys, Link, TrustDone, TrustFile, TrustRead};
-use assuan_server::Conn;
 use cache_policy::Desk;
-use command_table::CutLine;
 use session_options::Rules;
 use std::alloc::Global;
-
-/// Every request is one on the cache, on the session or on keys.
-#[derive(Drop)]
-struct EveryLine;
-
-impl Answers for EveryLine {
-    ghost use Rattle.agent_origin.specs.SessionExchanges.{SessionExchange};
-
-    ghost exchange = { λ so. SessionExchange };
-
-    fn answer<L: Link, D: Desk, P: Prompter, K: Keys, R: Dice, T: TrustFile>(
-        &self,
-        alloc: Global,
-        line: &CutLine<'_>,
-        rules: &Rules,
-        kept: &mut SessionState,
-        conn: &mut Conn<'_, L>,
-        desk: &mut D,
-        prompter: &mut P,
-        keys: &mut K,
-        dice: &mut R,
-        _trust: &mut T,
-    ) -> Went {
-        answer(alloc, line, rules, kept, conn, desk, prompter, keys, dice)
-    }
-}
 
 /// There is no trust file: none of these requests is on one.
 #[derive(Drop)]

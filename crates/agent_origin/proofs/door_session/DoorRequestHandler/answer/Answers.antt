@@ -1,6 +1,6 @@
 use Rattle.std.proofs.Common.{◌∙◌, sym, ap, Some}
 use Rattle.agent_origin.{specs.declared.door_session.DoorCommand.DoorCommand, proofs.AtDoor.{forbidden_is_answered, help_is_answered, terminal_is_unset, trust_is_answered, session_line_is_answered}}
-use Rattle.agent_origin.proofs.door_session.DoorAnswers.answer.Goals as goal
+use Rattle.agent_origin.proofs.door_session.DoorRequestHandler.answer.Goals as goal
 
 pub returns-then-not-allows-clause-answers : goal.returns-then-not-allows-clause-answers
 returns-then-not-allows-clause-answers g c =
@@ -31,4 +31,4 @@ pub returns-in-None-clause-answers : goal.returns-in-None-clause-answers
 returns-in-None-clause-answers g c =
     session_line_is_answered g.D.Desk.turned g.P.Prompter.prompted c.args.self.now c.args.rules.now c.args.line.now (sym c.allows.ensures ∙ c.if-not-allows.false)
     (sym c.door_command.ensures ∙ c.in-None.is)
-    (c.answer.ensures.answers (g.T.TrustFile.trust c.args.trust.now))
+    c.answer.ensures.answers
