@@ -2,11 +2,10 @@
 //! `OPTIONS` and `form_of`; `specs/Options` defines the forms.
 
 ghost use Rattle.std.specs.{Prelude.{◌≡◌, Some}, Option.option_map};
-ghost use Rattle.assuan_text.specs.Rows.{found, rows_of};
 ghost use Rattle.passphrase_words.specs.Options.{form_of, takes_value, is_of_form, seconds_of};
 ghost use Rattle.passphrase_words.specs.Spelling.{takes};
 
-use assuan_text::number_of;
+use assuan_text::{found, number_of};
 
 /// What an option takes.
 #[derive(Clone, Copy)]
@@ -19,17 +18,17 @@ pub(crate) enum Form {
     Seconds,
 }
 
-const OPTIONS: [(&str, Form); 10] = [
-    ("--new", Form::Flag),
-    ("--no-ask", Form::Flag),
-    ("--null", Form::Flag),
-    ("--forget", Form::Flag),
-    ("--store", Form::Flag),
-    ("--cached", Form::Flag),
-    ("--prompt", Form::Text),
-    ("--homedir", Form::Text),
-    ("--timeout", Form::Seconds),
-    ("--ttl", Form::Seconds),
+const OPTIONS: [(&[u8], Form); 10] = [
+    (b"--new", Form::Flag),
+    (b"--no-ask", Form::Flag),
+    (b"--null", Form::Flag),
+    (b"--forget", Form::Flag),
+    (b"--store", Form::Flag),
+    (b"--cached", Form::Flag),
+    (b"--prompt", Form::Text),
+    (b"--homedir", Form::Text),
+    (b"--timeout", Form::Seconds),
+    (b"--ttl", Form::Seconds),
 ];
 
 /// What the option of this name takes.
@@ -37,19 +36,7 @@ const OPTIONS: [(&str, Form); 10] = [
 pub(crate) fn form_of(name: &str) -> Option<Form>
     ensures { result ≡ form_of name.now }
 {
-    named(name, &OPTIONS)
-}
-
-/// What the first row of this name has.
-fn named(name: &str, rows: &[(&str, Form)]) -> Option<Form>
-    ensures { result ≡ found name.now (rows_of rows.now) }
-{
-    for (known, form) in rows {
-        if *known == name {
-            return Some(*form);
-        }
-    }
-    None
+    found(name.as_bytes(), &OPTIONS)
 }
 
 /// Whether the option of this name takes a value, where there is one.
