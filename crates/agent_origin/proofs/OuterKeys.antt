@@ -5,9 +5,8 @@ use Rattle.{agent_commands.specs.{Requests.{request_of, request_by, cache_reques
 use Rattle.{arrayvec.specs.ArrayVec.ArrayVec, session_client.specs.{declared.{code.Code.Code, refusal.Refusal.{Refusal, TheVariants.Agent}}, Fields.{◌>>=◌, in_form}}, assuan_text.specs.Options.{arguments_of, has_option, options_of}}
 use Rattle.{assuan_text.specs.Words.{rest_of, words}, command_table.specs.{Commands.{command_in, outer_rule}, declared.commands.{Command.Command, KeyCommandName.KeyCommandName}}, key_commands.specs.Events.Event}
 use Rattle.key_commands.specs.{Exchanges.{KeyExchange, KeyReply, KeyReplies, HaveKeyReplies, KeyInfoReplies}, KeyParts.{HasOne, is_key, faulty, no_memory as no_key_memory, unread}, Parts.{Finds, found, absent, faulted, no_memory}}
-use Rattle.key_commands.specs.{Requests.{key_or_bad, some_grips, first_grip, key_request_by, key_request_of}, declared.request.KeyRequest.KeyRequest}
-use Rattle.key_commands.specs.declared.{request.KeyRequest.TheVariants.{HaveKey, KeyInfo, ListKeys, KeyWrap, ImportKey, ExportKey, Passwd, DeleteKey, Bad}, went.KeyWent.KeyWent, wrap_keys.WrapKeys.WrapKeys}
-use Rattle.session_options.specs.{OptionValues.OptionValues, declared.rules.Rules.Rules}
+use Rattle.key_commands.specs.{Requests.{key_or_bad, some_grips, first_grip, key_request_by, key_request_of}, declared.{request.KeyRequest.{KeyRequest, TheVariants.{HaveKey, KeyInfo, ListKeys, Bad}}, went.KeyWent.KeyWent}}
+use Rattle.{key_commands.specs.declared.wrap_keys.WrapKeys.WrapKeys, session_options.specs.{OptionValues.OptionValues, declared.rules.Rules.Rules}}
 use Rattle.agent_origin.specs.{Doors.{passes, passes_by, allowed}, OuterTurns.{peeks, LeavesCache}, Serving.is_on_keys, declared.door.Door.TheVariants.Outer}
 use Rattle.agent_origin.proofs.Outer.{LeaveLaw, Leaves, LeavesUnseated, unseated_too, leaves_nothing, bind, gives, refused_by, parts_leave}
 use Rattle.session_client.specs.declared.code.Code.TheVariants as code
@@ -53,12 +52,7 @@ module _ (agent : Rules) (options : OptionValues) (wraps : WrapKeys) where
   key_replies_leave (HaveKey grips) outer = unseated_too (have_leaves grips)
   key_replies_leave (KeyInfo grip) outer = record { of = info_of grip }
   key_replies_leave (Bad code) outer = unseated_too (refused_by (Agent code))
-  key_replies_leave ListKeys outer = absurd outer
-  key_replies_leave (KeyWrap way) outer = absurd outer
-  key_replies_leave (ImportKey force id) outer = absurd outer
-  key_replies_leave (ExportKey grip id) outer = absurd outer
-  key_replies_leave (Passwd grip old new verify) outer = absurd outer
-  key_replies_leave (DeleteKey grip force) outer = absurd outer
+  key_replies_leave _ outer = absurd outer
 
 -- ---- lines
 
@@ -70,8 +64,7 @@ not_handed_on (Err code) handed is = cc is
 handed_by : (found : Option Command) (line : List ℕ) (handed : ArrayVec ℕ) → request_by found line ≡ Key handed → handed.items ≡ line
 handed_by (Some (at_table.Key name)) line handed is = let same : text line ≡ handed = cc is in sym (ap (λ (h : ArrayVec ℕ). h.items) same)
 handed_by (Some (at_table.Cache name)) line handed is = absurd (not_handed_on (asked_by name (rest_of line)) handed is)
-handed_by (Some (at_table.Trust name)) line handed is = absurd (cc is)
-handed_by None line handed is = absurd (cc is)
+handed_by _ line handed is = absurd (cc is)
 
 pub handed_line : (line : List ℕ) (handed : ArrayVec ℕ) → request_of line ≡ Key handed → handed.items ≡ line
 unfolding request_of
@@ -80,9 +73,7 @@ handed_line line handed key = handed_by (command_in line) line handed key
 -- one with a command on keys is handed on, and any other one is read by the commands on the cache
 key_by : (found : Option Command) (line : List ℕ) → is_on_keys found ≡ true → request_by found line ≡ Key (text line)
 key_by (Some (at_table.Key name)) line is = refl
-key_by (Some (at_table.Cache name)) line is = absurd (cc is)
-key_by (Some (at_table.Trust name)) line is = absurd (cc is)
-key_by None line is = absurd (cc is)
+key_by _ line is = absurd (cc is)
 
 pub key_is_handed : (line : List ℕ) → is_on_keys (command_in line) ≡ true → request_of line ≡ Key (text line)
 unfolding request_of
@@ -90,9 +81,7 @@ key_is_handed line is = key_by (command_in line) line is
 
 other_by : (found : Option Command) (line : List ℕ) → is_on_keys found ≡ false → request_by found line ≡ of_cache (cache_request_by found line)
 other_by (Some (at_table.Key name)) line is = absurd (cc is)
-other_by (Some (at_table.Cache name)) line is = refl
-other_by (Some (at_table.Trust name)) line is = refl
-other_by None line is = refl
+other_by _ line is = refl
 
 pub other_is_read : (line : List ℕ) → is_on_keys (command_in line) ≡ false → request_of line ≡ of_cache (cache_request_by (command_in line) line)
 unfolding request_of
@@ -113,17 +102,11 @@ module _ (agent : Rules) (options : OptionValues) (wraps : WrapKeys) (line : Lis
   passes_outer name.HaveKey is = have_outer agent options wraps (some_grips (arguments_of (words (rest_of line))))
   passes_outer name.KeyInfo is =
       info_outer agent options wraps (in_form (first_grip (arguments_of (words (rest_of line))))) (has_option (codes "--list") (options_of (words (rest_of line)))) is
-  passes_outer name.KeyWrap is = cc is
-  passes_outer name.ImportKey is = cc is
-  passes_outer name.ExportKey is = cc is
-  passes_outer name.Passwd is = cc is
-  passes_outer name.DeleteKey is = cc is
+  passes_outer _ is = cc is
 
   named_outer : (found : Option Command) → passes_by found line ≡ true → IsOuterKey agent options wraps (key_request_by found (rest_of line))
-  named_outer None allows = tt
-  named_outer (Some (at_table.Cache name)) allows = tt
-  named_outer (Some (at_table.Trust name)) allows = tt
   named_outer (Some (at_table.Key name)) allows = passes_outer name allows
+  named_outer _ allows = tt
 
   pub key_leaves : {events : List (EventWith PortCall)} {after : WrapKeys} {went : KeyWent} → allowed Outer line ≡ true → KeyExchange agent options wraps (key_request_of line) events after went → LeavesCache events
   unfolding key_request_of

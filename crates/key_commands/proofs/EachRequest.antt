@@ -1,17 +1,17 @@
 -- Requests on keys each of whose events is so, where each event but a read request and a call of the trust file is so.
-use Rattle.std.{proofs.Common.{◌≡◌, ◌∙◌, ℕ, Bool, true, false, List, [], ◌++◌, Option, Some, None, Result, Ok, Err}, specs.Prelude.⊤}
+use Rattle.std.{proofs.Common.{◌≡◌, ◌∙◌, ℕ, Bool, true, false, List, ◌++◌, Option, Some, None, Result, Ok, Err, []}, specs.Prelude.⊤}
 use Rattle.agent_ask.specs.{PortCalls.{Keys, Dice, NoMemory, Prompt, Trust}, SessionEvents.{Received, Sent, Cut, Inquiry, CacheTurn, Port, cache_turn}, ConsentParts.{AgreesTo, PromptsConsent}, PartExchanges.{AnyReply, AnyExchange}}
 use Rattle.agent_ask.specs.{Parts.◌>>=◌, PinParts.PromptsPin, declared.{ask.Asked.Asked, consent.Agreed.Agreed, spec.{AskPlan.AskPlan, PromptSpec.PromptSpec}}}
-use Rattle.{agent_ask.proofs.Within.{Within, OfNothing, Does, does_join, weaker, bind, or_otherwise}, assuan_server.specs.Clients.session_lines, cache_policy.specs.{Turns.Turn, declared.mark.MarkStep.MarkStep}}
-use Rattle.{session_client.specs.declared.{refusal.Refusal.{Refusal, TheVariants.Agent}, client_error.Gone.Gone}, agent_ports.specs.declared.grip.Grip.Grip, secret_file.specs.Opens.LockedKey}
-use Rattle.{session_options.specs.{OptionValues.{OptionValues, EnvWords, words_of}, declared.{options.PinMode.PinMode, rules.Rules.Rules}}, sexp_keys.specs.Key.Key}
+use Rattle.{agent_ask.proofs.Within.{Within, OfNothing, Does, does_join, weaker, bind, or_otherwise}, assuan_server.specs.Clients.session_lines, cache_policy.specs.{Turns.Turn, declared.mark.MarkStep.{MarkStep, TheVariants.Peek}}}
+use Rattle.{cache_policy.specs.declared.mode.Mode.TheVariants.Normal, session_client.specs.declared.{refusal.Refusal.{Refusal, TheVariants.Agent}, client_error.Gone.Gone}, agent_ports.specs.declared.grip.Grip.Grip}
+use Rattle.{secret_file.specs.Opens.LockedKey, session_options.specs.{OptionValues.{OptionValues, EnvWords, words_of}, declared.{options.PinMode.PinMode, rules.Rules.Rules}}, sexp_keys.specs.Key.Key}
 use Rattle.key_commands.specs.{Parts.Part, Events.Event}
 use Rattle.key_commands.specs.Exchanges.{KeyExchange, HaveKeyReplies, KeyInfoReplies, ListKeysReplies, KeyWrapReplies, ImportKeyReplies, ExportKeyReplies, PasswdReplies, VerifyReplies, DeleteKeyReplies, KeyReplies, wrap_key, FoundOrNew}
-use Rattle.key_commands.specs.{Exchanges.{RenewsPassphrase, ChangesOpened}, Lines.IsNotice, KeyParts.Consents, Passphrases.{PromptsOld, PromptsNew, UncachedOld, OpensLocked, old_by, verified_by, new_by}}
-use Rattle.key_commands.specs.declared.{request.{Direction.Direction, KeyRequest.KeyRequest}, went.KeyWent.KeyWent, wrap_keys.WrapKeys.WrapKeys}
-use Rattle.key_commands.proofs.EachEvent.{IsStill, All, each_append, each_shown, each_answer, EachSo, each_returned, each_refused, each_needed, each_otherwise, each_wanted, each_looks, each_seats, each_changes, looks_nonce, looks_over}
-use Rattle.key_commands.proofs.EachEvent.{takes_seat, each_closes, finds, draws, reads_file, lists, told, is_short, names_key, wraps_key, receives_key, is_free, has_one, locks, tries_found, removes, tells_info, writes_infos, client_old}
-use Rattle.key_commands.proofs.EachEvent.{rewrites_file, stores_key, client_new}
+use Rattle.key_commands.specs.{Exchanges.{RenewsPassphrase, ChangesOpened}, Lines.{IsNotice, grip_text}, KeyParts.Consents, Passphrases.{PromptsOld, PromptsNew, UncachedOld, OpensLocked, old_by, verified_by, new_by}}
+use Rattle.key_commands.specs.declared.{request.KeyRequest.KeyRequest, went.KeyWent.KeyWent, wrap_keys.WrapKeys.WrapKeys}
+use Rattle.key_commands.proofs.EachEvent.{IsStill, All, each_append, each_shown, each_answer, EachSo, each_bind, each_returned, each_refused, each_needed, each_otherwise, each_wanted, each_looks, each_seats, each_changes, looks_nonce}
+use Rattle.key_commands.proofs.EachEvent.{looks_over, takes_seat, each_closes, finds, draws, reads_file, lists, told, is_short, names_key, wraps_key, receives_key, is_free, has_one, locks, tries_found, removes, tells_info, writes_infos}
+use Rattle.key_commands.proofs.EachEvent.{client_old, rewrites_file, stores_key, client_new}
 use Rattle.agent_ask.specs.ConsentParts as consent
 use Rattle.agent_ask.specs.PartExchanges as exchange
 use Rattle.session_client.specs.declared.code.Code.TheVariants as code
@@ -56,6 +56,25 @@ works_beside (Received took) work = work
 
 pub still_beside : (event : Event) → IsStill event → IsBesideTrust event
 still_beside event still = works_beside event (still_works event still)
+
+-- a request by which nobody is asked, and that takes no turn but to look whether a passphrase is cached
+abbrev pub IsPlain : KeyRequest → Type 0
+IsPlain (on.ImportKey force id) = ⊥
+IsPlain (on.ExportKey grip id) = ⊥
+IsPlain (on.Passwd grip old new verify) = ⊥
+IsPlain (on.DeleteKey grip force) = ⊥
+IsPlain _ = ⊤
+
+pub plain_replies : (Is : Event → Type 0) → ((event : Event) → IsStill event → Is event) → ((grip : Grip) (turn : Turn) → Is (cache_turn (Peek (grip_text grip) Normal) turn))
+    → (rules : Rules) (options : OptionValues) (wraps : WrapKeys) (asked : KeyRequest) → IsPlain asked → EachSo Is (KeyReplies rules options wraps asked)
+unfolding HaveKeyReplies KeyInfoReplies ListKeysReplies KeyWrapReplies
+plain_replies Is still peeked rules options wraps (on.HaveKey grips) plain = each_bind Is (has_one Is still grips) (λ one. each_returned Is _)
+plain_replies Is still peeked rules options wraps (on.KeyInfo grip) plain = each_bind Is (reads_file Is still grip) (λ file. each_bind Is (tells_info Is still peeked grip file.key) (λ line. each_returned Is _))
+plain_replies Is still peeked rules options wraps on.ListKeys plain = each_bind Is (lists Is still) (λ grips. each_bind Is (writes_infos Is still peeked grips) (λ written. each_returned Is _))
+plain_replies Is still peeked rules options wraps (on.KeyWrap way) plain =
+    each_bind Is (each_otherwise Is (wrap_key way wraps) (draws Is still 16)) (λ key. each_bind Is (told Is still key) (λ text. each_returned Is _))
+plain_replies Is still peeked rules options wraps (on.Bad why) plain = each_refused Is (Agent why)
+plain_replies Is still peeked rules options wraps _ plain = absurd plain
 
 -- What is so of a request's events, where it is so of one list behind another, of events each of which is so, and of those of a prompt that names this
 -- terminal and locale.
@@ -161,67 +180,28 @@ module _ {env : EnvWords} {Is : Event → Type 0} {So : List Event → Type 0} (
         (λ pass. so (rewrites_file Is law.still (λ key_grip secret. law.turns _) (λ ticket keep. law.turns _) rules options grip file key pass)))
 
   module _ (rules : Rules) (options : OptionValues) (same : options.env ≡ env) (wraps : WrapKeys) where
-    have_key : (grips : List Grip) → Here (HaveKeyReplies rules options wraps grips)
-    unfolding HaveKeyReplies
-    have_key grips = then (so (has_one Is law.still grips)) (λ one. so (each_returned Is _))
-
-    key_info : (grip : Grip) → Here (KeyInfoReplies rules options wraps grip)
-    unfolding KeyInfoReplies
-    key_info grip = then (so (reads_file Is law.still grip)) (λ file. then (so (tells_info Is law.still (λ key. law.turns _) grip file.key)) (λ line. so (each_returned Is _)))
-
-    list_keys : Here (ListKeysReplies rules options wraps)
-    unfolding ListKeysReplies
-    list_keys = then (so (lists Is law.still)) (λ grips. then (so (writes_infos Is law.still (λ key. law.turns _) grips)) (λ written. so (each_returned Is _)))
-
-    key_wrap : (way : Direction) → Here (KeyWrapReplies rules options wraps way)
-    unfolding KeyWrapReplies
-    key_wrap way = then (so (each_otherwise Is (wrap_key way wraps) (draws Is law.still 16))) (λ key. then (so (told Is law.still key)) (λ text. so (each_returned Is _)))
-
-    import_key : (force : Bool) (id : Option (List ℕ)) → Here (ImportKeyReplies rules options wraps force id)
-    unfolding ImportKeyReplies
-    import_key force id =
+    -- all that is done for a request up to its reply
+    pub key_replies : (asked : KeyRequest) → Here (KeyReplies rules options wraps asked)
+    unfolding ImportKeyReplies ExportKeyReplies VerifyReplies PasswdReplies DeleteKeyReplies
+    key_replies (on.ImportKey force id) =
         then (so (each_needed Is code.Parameter wraps.import)) (λ wrap. then (so (receives_key Is law.still wrap)) (λ key. then (so (names_key Is law.still key))
         (λ grip. then (so (is_free Is law.still force grip)) (λ free. then (found_so rules options same grip id)
         (λ pass. then (so (stores_key Is law.still (λ key_grip secret. law.turns _) (λ ticket keep. law.turns _) (λ named secret. law.turns _) options.s2k_count key grip pass))
         (λ cache_nonce. so (each_returned Is _)))))))
-
-    export_key : (grip : Grip) (id : Option (List ℕ)) → Here (ExportKeyReplies rules options wraps grip id)
-    unfolding ExportKeyReplies
-    export_key grip id =
+    key_replies (on.ExportKey grip id) =
         then (so (each_needed Is code.Parameter wraps.export)) (λ wrap. then (so (reads_file Is law.still grip)) (λ file. then (old_so rules options same grip id file.key file.key.is_clear)
         (λ opened. then (so (each_closes Is opened.by (λ number. law.turns _))) (λ closed. then (so (wraps_key Is law.still wrap opened.key))
         (λ wrapped. then (so (told Is law.still wrapped)) (λ text. so (each_returned Is _)))))))
-
-    passwd : (grip : Grip) (id new_id : Option (List ℕ)) → Here (PasswdReplies rules options wraps grip id new_id)
-    unfolding PasswdReplies
-    passwd grip id new_id =
-        then (so (reads_file Is law.still grip)) (λ file. then (old_so rules options same grip id file.key file.key.is_clear)
-        (λ opened. then (opened_so rules options same grip new_id file.bytes opened.key) (λ changed. so (each_returned Is _))))
-
-    verify : (grip : Grip) → Here (VerifyReplies rules options wraps grip)
-    unfolding VerifyReplies
-    verify grip =
+    key_replies (on.Passwd grip old new true) =
         then (so (reads_file Is law.still grip)) (λ file. then (verified_so rules options same grip file.key file.key.is_clear)
         (λ opened. then (so (each_closes Is opened.by (λ number. law.turns _))) (λ closed. so (each_returned Is _))))
-
-    delete_key : (force : Bool) (grip : Grip) → Here (DeleteKeyReplies rules options wraps force grip)
-    unfolding DeleteKeyReplies
-    delete_key force grip =
+    key_replies (on.Passwd grip old new false) =
+        then (so (reads_file Is law.still grip)) (λ file. then (old_so rules options same grip old file.key file.key.is_clear)
+        (λ opened. then (opened_so rules options same grip new file.bytes opened.key) (λ changed. so (each_returned Is _))))
+    key_replies (on.DeleteKey grip force) =
         then (so (finds Is law.still grip)) (λ there. then (so (each_wanted Is code.NoSecKey there)) (λ some. then (consented_so rules options same grip force)
         (λ agreed. then (so (removes Is law.still grip)) (λ removed. then (so (each_changes Is (law.turns _))) (λ cleared. so (each_returned Is _))))))
-
-    -- all that is done for a request up to its reply
-    pub key_replies : (asked : KeyRequest) → Here (KeyReplies rules options wraps asked)
-    key_replies (on.HaveKey grips) = have_key grips
-    key_replies (on.KeyInfo grip) = key_info grip
-    key_replies on.ListKeys = list_keys
-    key_replies (on.KeyWrap way) = key_wrap way
-    key_replies (on.ImportKey force id) = import_key force id
-    key_replies (on.ExportKey grip id) = export_key grip id
-    key_replies (on.Passwd grip old new true) = verify grip
-    key_replies (on.Passwd grip old new false) = passwd grip old new
-    key_replies (on.DeleteKey grip force) = delete_key force grip
-    key_replies (on.Bad why) = so (each_refused Is (Agent why))
+    key_replies asked = so (plain_replies Is law.still (λ grip. law.turns _) rules options wraps asked tt)
 
   -- all that is done for one, where its answer is so
   module _ (said : (text : List ℕ) → Is (Sent text)) where
