@@ -1,10 +1,9 @@
 -- Sessions whose exchanges are all caused, and whose requests are all answered.
 use Rattle.std.{specs.List.AllByRecursion, proofs.Common.{◌≡◌, ◌⊎◌, ℕ, List, [], ◌∷◌, ◌++◌, refl, sym, subst, inl, inr}}
-use Rattle.agent_ask.specs.{Events.Call, PortCalls.{Drew, NotDrawn, Prompt, Keys, Dice, Trust, NoMemory}, Prompters.{AtPrompter, IsCall, is_failed}, SessionEvents.{Received, Sent, Cut, Inquiry, CacheTurn, Port, CutAtLast}}
-use Rattle.{session_client.specs.declared.code.Code.Code, assuan_server.specs.declared.errors.Origin.{Origin, TheVariants.Agent}, cache_policy.specs.{declared.mark.MarkStep.MarkStep, Turns.Turn}}
-use Rattle.{session_options.specs.declared.rules.Rules.Rules, agent_commands.specs.{Requests.request_of, Talks.Session, declared.went.SessionEnd.{SessionEnd, TheVariants.{Bye, Killed, Ended, TooLong, Spent, ReadFault, WriteFault}}}}
-use Rattle.{agent_commands.specs.declared.went.Went.{Went, TheVariants.On}, agent_origin.specs.{PortStates.PortWorld, SessionExchanges.{SessionExchange, kept_at_start}, Sessions.{Surroundings, ServesSession}, declared.session_state.SessionState.SessionState}}
-use Rattle.key_commands.{specs.Events.Event, proofs.EachEvent.each_append}
+use Rattle.{agent_ask.specs.{Events.Call, PortCalls.{NotDrawn, Keys, Dice, NoMemory}, Prompters.{AtPrompter, IsCall, is_failed}, SessionEvents.{Sent, Cut, Port, CutAtLast}}, session_client.specs.declared.code.Code.Code}
+use Rattle.{assuan_server.specs.declared.errors.Origin.{Origin, TheVariants.Agent}, cache_policy.specs.{declared.mark.MarkStep.MarkStep, Turns.Turn}, session_options.specs.declared.rules.Rules.Rules}
+use Rattle.{agent_commands.specs.{Requests.request_of, Talks.Session, declared.went.{SessionEnd.{SessionEnd, TheVariants.{ReadFault, WriteFault}}, Went.{Went, TheVariants.On}}}, agent_origin.specs.PortStates.PortWorld}
+use Rattle.{agent_origin.specs.{SessionExchanges.{SessionExchange, kept_at_start}, Sessions.{Surroundings, ServesSession}, declared.session_state.SessionState.SessionState}, key_commands.{specs.Events.Event, proofs.EachEvent.each_append}}
 use Rattle.agent_session.specs.Causes.{HasOne, one, HasCall, called, HasTrustCall, called_trust, WantsMemory, FailsAtKeysOrDice, FailsAtTrust, IsUnprompted, is_broken}
 use Rattle.agent_session.specs.Completeness.{HasError, Exchanges, Causes, Remembers, FaultlessExchange, IsFaultless, NoCountRose, AnswersAll, SessionCauses, CausedInSession}
 use Rattle.agent_session.proofs.{Completing.{IsPossible, IsSteady, never_absent, StandStill, all_steady, all_possible}, KeyExplained.{exchange_caused, exchange_goes_on}, Standing.{each_left, each_right, each_has}}
@@ -15,15 +14,7 @@ use Rattle.session_client.specs.declared.code.Code.TheVariants as code
 steady_fails : (event : Event) → IsSteady event → FailsAtKeysOrDice event → ⊥
 steady_fails (Port (Keys call)) steady fails = steady fails
 steady_fails (Port (Dice (NotDrawn count))) steady fails = steady
-steady_fails (Port (Dice (Drew bytes))) steady fails = fails
-steady_fails (Port (Prompt event)) steady fails = fails
-steady_fails (Port (Trust call)) steady fails = fails
-steady_fails (Port NoMemory) steady fails = fails
-steady_fails (Received took) steady fails = fails
-steady_fails (Sent text) steady fails = fails
-steady_fails (Cut text) steady fails = fails
-steady_fails (Inquiry word params limit inquired) steady fails = fails
-steady_fails (CacheTurn taken) steady fails = fails
+steady_fails _ steady fails = fails
 
 pub none_failed : (events : List Event) → HasOne events FailsAtKeysOrDice → AllByRecursion IsSteady events → ⊥
 none_failed events (one event fails has) steady = steady_fails event (each_has IsSteady events steady has) fails
@@ -107,11 +98,7 @@ module _ {exchange caused : Exchanges} {cause : Causes} {unprompted : SessionSta
     ends_faultless : (how : SessionEnd) → how ≡ end → NoCountRose turned prompted at before after → IsFaultless how
     ends_faultless ReadFault is still = still.input (served.read_fault (sym is))
     ends_faultless WriteFault is still = still.output (served.write_fault (sym is))
-    ends_faultless Bye is still = tt
-    ends_faultless Killed is still = tt
-    ends_faultless Ended is still = tt
-    ends_faultless TooLong is still = tt
-    ends_faultless Spent is still = tt
+    ends_faultless _ is still = tt
 
     pub all_answered : NoCountRose turned prompted at before after → AllByRecursion Remembers served.events → AnswersAll (FaultlessExchange caused unprompted) rules served.events end
     all_answered still remembers =

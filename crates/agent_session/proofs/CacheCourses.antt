@@ -7,7 +7,7 @@ use Rattle.agent_commands.specs.{Exchanges.{CacheExchange, CacheReply, CacheRepl
 use Rattle.agent_commands.specs.declared.request.CacheCommand.{CacheCommand, TheVariants.{Nop, Reset, Bye, Help, SetOption, GetInfo, GetPassphrase, PresetPassphrase, ClearPassphrase, GetConfirmation, ReloadAgent, KillAgent, SetKeyDesc}}
 use Rattle.agent_commands.specs.declared.{request.{Info.{Info, TheVariants.{Version, Pid, S2kCount, Listed}}, Request.{Request, TheVariants.{Cache, Key, Bad}}, Texts.Texts}, went.Went.{Went, TheVariants.End}}
 use Rattle.key_commands.specs.{Events.Event, Lines.of_passphrase}
-use Rattle.agent_session.specs.{Causes.IsSaid, Completeness.EndsInOk, Refusals.{IsAllowed, MayStore, preset, given, CourseBy}}
+use Rattle.agent_session.specs.{Causes.IsSaid, Completeness.EndsInOk, Refusals.{IsAllowed, CourseBy}, OwnPassphrases.{MayStore, directly, under_get, under_preset}}
 use Rattle.agent_session.proofs.CacheWorks.{FitsCache, wants_prompt, changes, by_cache, without_prompt, prompts_any, confirmed, presets, tells_info}
 use Rattle.agent_session.proofs.Courses.{AnyNonce, Ends, ends_with, EndsSo, working_ends, ends_working, bind_ends, made, closed, RepliesOk, ok_returns, ok_refuses, ok_then, reply_ends_in_ok, ok_course, err_course, ends_said, gone_only}
 use Rattle.agent_session.proofs.{Courses.{said_before, answer_heard}, Replying.{IsReply, reply_ok, reply_closing, reply_help, reply_cache, reply_passphrase}, Works.{works, WorksSo, bind, returned, refuses_by}}
@@ -85,8 +85,8 @@ module _ (request : Request) where
     replies (GetInfo what) is = ends_working request (bind Fits (tells_info fits rules options what) (λ text. returned Fits _))
     replies (GetPassphrase plain check no_ask repeat quality id texts) is =
         let fields : GetFields = record { plain = plain; check = check; no_ask = no_ask; repeat = repeat; quality = quality; id = id; texts = texts } in
-        made request (passphrase_so fields (λ named same. given fields is same) no_ask texts) (λ secret. record { of = tells_of })
-    replies (PresetPassphrase id life secret) is = ends_working request (bind Fits (presets fits rules options id life secret (λ given_so turn. preset is)) (λ stored. returned Fits _))
+        made request (passphrase_so fields (λ named same. directly (under_get fields is same)) no_ask texts) (λ secret. record { of = tells_of })
+    replies (PresetPassphrase id life secret) is = ends_working request (bind Fits (presets fits rules options id life secret (λ given_so turn. directly (under_preset is))) (λ stored. returned Fits _))
     replies (ClearPassphrase id way) is = ends_working request (bind Fits (changes fits _ refl (λ turn. is)) (λ changed. returned Fits _))
     replies (GetConfirmation description) is = ends_working request (bind Fits (confirmed fits rules options options.mode description) (λ agreed. returned Fits _))
     replies ReloadAgent is = ends_working request (bind Fits (changes fits _ refl (λ turn. is)) (λ changed. returned Fits _))

@@ -8,7 +8,7 @@ use Rattle.agent_commands.specs.{Exchanges.{CacheExchange, CacheReply, CacheRepl
 use Rattle.agent_commands.specs.declared.request.CacheCommand.{CacheCommand, TheVariants.{Nop, Reset, Bye, Help, SetOption, GetInfo, GetPassphrase, PresetPassphrase, ClearPassphrase, GetConfirmation, ReloadAgent, KillAgent, SetKeyDesc}}
 use Rattle.{agent_commands.specs.declared.{request.{Request.{Request, TheVariants.{Cache, Key, Bad}}, Texts.Texts}, went.Went.Went}, key_commands.specs.Events.IsUncalled}
 use Rattle.key_commands.proofs.EachEvent.{still_uncalled, agrees_to, each_shown, each_bind, each_returned, each_refused, each_otherwise, each_seats, each_changes, each_closes}
-use Rattle.agent_session.{specs.Refusals.{IsUnopening, OpensFirst}, proofs.Opens.{Unopening, UnopeningSo, answer_unopening, OpensSo, still_unopening, then_unopening, calls_nobody, behind_opens, key_opens}}
+use Rattle.agent_session.{specs.Refusals.{IsUnopening, OpensFirst}, proofs.{Opens.{Unopening, UnopeningSo, answer_unopening, OpensSo, still_unopening, then_unopening, calls_nobody, behind_opens}, KeyCourses.key_opens}}
 use Rattle.agent_ask.specs.PartExchanges as exchange
 use Rattle.session_client.specs.declared.code.Code.TheVariants as code
 use Rattle.session_options.specs.declared.options.PinMode.TheVariants as mode

@@ -1,10 +1,9 @@
 -- Whole sessions: each of their exchanges is caused, and where no count of faults rose each request is answered.
 use Rattle.std.{specs.{List.AllByRecursion, Prelude.⊤}, proofs.Common.{◌≡◌, ◌≤◌, true, List, refl, arith, ◌⊎◌, ℕ, inl, inr}}
 use Rattle.agent_ask.specs.{Doing.{DoesCall, called, out_of_memory}, Events.{Call, PromptEvent, Called}}
-use Rattle.agent_ask.specs.PortCalls.{PortCall, PortEnds, KeyCall, Read, Listed, Replaced, Removed, Draw, Drew, NotDrawn, Prompt, Keys, Dice, Trust, NoMemory, DoesPort, DoesKeys, DoesDraw}
-use Rattle.{agent_ask.specs.{Prompters.{AtPrompter, IsCall, is_failed}, SessionEvents.Port, TrustCalls.{TrustCall, DoesTrust}, Worlds.{Outside, Does}}, agent_ports.specs.{Counts.Rose, KeyFiles.KeyFiles, Leads.{Leads, none, one}}}
-use Rattle.{agent_ports.specs.{Sides.Side, TrustFiles.TrustState}, assuan_server.specs.Reading.Supply, cache_policy.specs.{declared.mark.MarkStep.MarkStep, Turns.Turn}, agent_commands.specs.Events.EventWith}
-use Rattle.agent_origin.specs.PortStates.{PortWorld}
+use Rattle.agent_ask.specs.{PortCalls.{PortCall, PortEnds, KeyCall, Read, Listed, Replaced, Removed, Draw, Drew, NotDrawn, Prompt, Keys, Dice, Trust, DoesPort, DoesKeys, DoesDraw}, Prompters.{AtPrompter, IsCall, is_failed}}
+use Rattle.{agent_ask.specs.{SessionEvents.Port, TrustCalls.{TrustCall, DoesTrust}, Worlds.{Outside, Does}}, agent_ports.specs.{Counts.Rose, KeyFiles.KeyFiles, Leads.{Leads, none, one}, Sides.Side, TrustFiles.TrustState}}
+use Rattle.{assuan_server.specs.Reading.Supply, cache_policy.specs.{declared.mark.MarkStep.MarkStep, Turns.Turn}, agent_commands.specs.Events.EventWith, agent_origin.specs.PortStates.PortWorld}
 use Rattle.agent_session.{specs.{Causes.{Has, here, later, FailsAtKeys, FailsAtTrust, FailsAtKeysOrDice, HasOne, HasCall, HasTrustCall}, Completeness.FailuresRise}, proofs.{KeyExplained.NeverAbsent, Standing.each_has}}
 use Rattle.agent_ask.specs.PortCalls as ported
 use Rattle.agent_ask.specs.TrustCalls as trust_call
@@ -59,29 +58,14 @@ keys_move before after (Removed grip answer) does = does.changes.never_falls
 
 pub keys_rise : (before after : KeyFiles) (call : KeyCall) → DoesKeys before call after → FailsAtKeys call → Rose before.faults after.faults
 keys_rise before after (Read grip key_read.Failed) does fails = does.failed refl
-keys_rise before after (Read grip (key_read.Found bytes)) does fails = absurd fails
-keys_rise before after (Read grip key_read.Absent) does fails = absurd fails
-keys_rise before after (Read grip key_read.NoMemory) does fails = absurd fails
 keys_rise before after (Listed key_names.Failed) does fails = does.failed refl
-keys_rise before after (Listed (key_names.Names grips)) does fails = absurd fails
-keys_rise before after (Listed key_names.NoMemory) does fails = absurd fails
 keys_rise before after (Replaced grip file key_done.Failed) does fails = does.changes.failed refl
-keys_rise before after (Replaced grip file key_done.Done) does fails = absurd fails
-keys_rise before after (Replaced grip file key_done.Absent) does fails = absurd fails
-keys_rise before after (Replaced grip file key_done.NoMemory) does fails = absurd fails
 keys_rise before after (Removed grip key_done.Failed) does fails = does.changes.failed refl
-keys_rise before after (Removed grip key_done.Done) does fails = absurd fails
-keys_rise before after (Removed grip key_done.Absent) does fails = absurd fails
-keys_rise before after (Removed grip key_done.NoMemory) does fails = absurd fails
+keys_rise before after _ does fails = absurd fails
 
 keys_possible : (before after : KeyFiles) (call : KeyCall) → DoesKeys before call after → IsPossible (Port (Keys call))
-keys_possible before after (Read grip answer) does = tt
-keys_possible before after (Listed answer) does = tt
-keys_possible before after (Replaced grip file key_done.Done) does = tt
 keys_possible before after (Replaced grip file key_done.Absent) does = does.not_absent refl
-keys_possible before after (Replaced grip file key_done.Failed) does = tt
-keys_possible before after (Replaced grip file key_done.NoMemory) does = tt
-keys_possible before after (Removed grip answer) does = tt
+keys_possible before after _ does = tt
 
 draw_moves : (before after : Side) (draw : Draw) → DoesDraw before draw after → before.faults ≤ after.faults
 draw_moves before after (Drew bytes) does = does.never_falls
@@ -94,12 +78,8 @@ trust_moves before after (trust_call.Replaced file answer) does = does.never_fal
 
 pub trust_rises : (before after : TrustState) (call : TrustCall) → DoesTrust before call after → FailsAtTrust call → Rose before.faults after.faults
 trust_rises before after (trust_call.Read trust_read.Failed) does fails = does.failed refl
-trust_rises before after (trust_call.Read (trust_read.Found file)) does fails = absurd fails
-trust_rises before after (trust_call.Read trust_read.Absent) does fails = absurd fails
-trust_rises before after (trust_call.Read trust_read.NoMemory) does fails = absurd fails
 trust_rises before after (trust_call.Replaced file trust_done.Failed) does fails = does.failed refl
-trust_rises before after (trust_call.Replaced file trust_done.Done) does fails = absurd fails
-trust_rises before after (trust_call.Replaced file trust_done.NoMemory) does fails = absurd fails
+trust_rises before after _ does fails = absurd fails
 
 module _ {D P : Type 0} (turned : D → MarkStep → Turn → D → Type 0) (prompted : P → Call → P → Type 0) (at : P → AtPrompter)
     (promise : (before : P) (call : Call) (after : P) → prompted before call after → IsCall (at before) call (at after)) where
@@ -162,31 +142,16 @@ module _ {D P : Type 0} (turned : D → MarkStep → Turn → D → Type 0) (pro
 
   module _ {supply : Supply} where
     pub event_moves : {before after : Outside (PortWorld turned prompted)} {event : EventWith PortCall} → DoesHere supply before event after → Moves before.ends after.ends
-    event_moves (worlds.received known needed) = moves_none _
-    event_moves worlds.sent = moves_none _
-    event_moves worlds.cut = moves_none _
-    event_moves (worlds.asked known needed) = moves_none _
-    event_moves (worlds.not_asked unsent split) = moves_none _
-    event_moves (worlds.turned does) = moves_none _
     event_moves (worlds.ported does) = port_moves does
+    event_moves _ = moves_none _
 
     event_steady : {before after : Outside (PortWorld turned prompted)} {event : EventWith PortCall} → DoesHere supply before event after → StandStill before.ends after.ends → IsSteady event
-    event_steady (worlds.received known needed) still = tt
-    event_steady worlds.sent still = tt
-    event_steady worlds.cut still = tt
-    event_steady (worlds.asked known needed) still = tt
-    event_steady (worlds.not_asked unsent split) still = tt
-    event_steady (worlds.turned does) still = tt
     event_steady (worlds.ported does) still = port_steady does still
+    event_steady _ still = tt
 
     event_possible : {before after : Outside (PortWorld turned prompted)} {event : EventWith PortCall} → DoesHere supply before event after → IsPossible event
-    event_possible (worlds.received known needed) = tt
-    event_possible worlds.sent = tt
-    event_possible worlds.cut = tt
-    event_possible (worlds.asked known needed) = tt
-    event_possible (worlds.not_asked unsent split) = tt
-    event_possible (worlds.turned does) = tt
     event_possible (worlds.ported does) = port_possible does
+    event_possible _ = tt
 
     all_move : {before after : Outside (PortWorld turned prompted)} {events : List (EventWith PortCall)} → Leads (DoesHere supply) before events after → Moves before.ends after.ends
     all_move none = moves_none _
@@ -236,17 +201,8 @@ module _ {D P : Type 0} (turned : D → MarkStep → Turn → D → Type 0) (pro
 
     prompter_rises : {before after : Outside (PortWorld turned prompted)} {event : EventWith PortCall} → DoesHere supply before event after → FailsAtPrompter event
         → Rose (at before.ends.prompter).faults (at after.ends.prompter).faults
-    prompter_rises (worlds.received known needed) fails = absurd fails
-    prompter_rises worlds.sent fails = absurd fails
-    prompter_rises worlds.cut fails = absurd fails
-    prompter_rises (worlds.asked known needed) fails = absurd fails
-    prompter_rises (worlds.not_asked unsent split) fails = absurd fails
-    prompter_rises (worlds.turned does) fails = absurd fails
     prompter_rises (worlds.ported (ported.prompt does)) fails = call_rises does fails
-    prompter_rises (worlds.ported (ported.keys does)) fails = absurd fails
-    prompter_rises (worlds.ported (ported.dice does)) fails = absurd fails
-    prompter_rises (worlds.ported (ported.trust does)) fails = absurd fails
-    prompter_rises (worlds.ported ported.no_memory) fails = absurd fails
+    prompter_rises _ fails = absurd fails
 
     trust_event_rises : {before after : Outside (PortWorld turned prompted)} {event : EventWith PortCall} → DoesHere supply before event after → FailsAtTrustFile event
         → Rose before.ends.trust.faults after.ends.trust.faults

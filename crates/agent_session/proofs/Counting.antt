@@ -1,8 +1,8 @@
 -- At most as many events fail on an end as its count rises by.
 use Rattle.std.{proofs.{Common.{◌≡◌, ◌≤◌, ℕ, Bool, cond, true, false, List, ◌∷◌, length, refl, sym, arith}, lemmas.List.Sums.length-filter}, specs.List.{count_by, filter}}
-use Rattle.agent_ask.specs.{Doing.{DoesCall, called, out_of_memory}, Events.{Call, PromptEvent}, PortCalls.{KeyCall, Read, Listed, Replaced, Removed, Draw, Drew, NotDrawn, Prompt, Keys, Dice, Trust, DoesDraw}, Prompters.{AtPrompter, IsCall}}
-use Rattle.{agent_ask.specs.{SessionEvents.Port, TrustCalls.TrustCall, Worlds.{Outside, Does}}, agent_ports.specs.{Counts.{RoseBy, Rose}, Leads.{Leads, none, one}, Sides.Side}, assuan_server.specs.Reading.Supply}
-use Rattle.{cache_policy.specs.{declared.mark.MarkStep.MarkStep, Turns.Turn}, key_commands.specs.Events.Event, agent_origin.specs.PortStates.PortWorld}
+use Rattle.agent_ask.specs.{Doing.{DoesCall, called, out_of_memory}, Events.{Call, PromptEvent}, PortCalls.{KeyCall, Read, Listed, Replaced, Removed, Draw, Drew, NotDrawn, Prompt, Keys, Dice, Trust, DoesDraw}}
+use Rattle.{agent_ask.specs.{Prompters.{AtPrompter, IsCall}, SessionEvents.Port, TrustCalls.TrustCall, Worlds.{Outside, Does}}, agent_ports.specs.{Counts.{RoseBy, Rose}, Leads.{Leads, none, one}, Sides.Side}}
+use Rattle.{assuan_server.specs.Reading.Supply, cache_policy.specs.{declared.mark.MarkStep.MarkStep, Turns.Turn}, key_commands.specs.Events.Event, agent_origin.specs.PortStates.PortWorld}
 use Rattle.agent_session.{specs.{Causes.{FailsAtKeys, FailsAtTrust}, Counting.{fails_at_prompter, fails_at_keys, fails_at_dice, fails_at_trust, CountsFailures}}, proofs.Completing.{keys_rise, trust_rises, event_moves}}
 use Rattle.agent_ask.specs.PortCalls as ported
 use Rattle.agent_ask.specs.TrustCalls as trust_call
@@ -32,29 +32,15 @@ module _ {S E : Type 0} (does : S → E → S → Type 0) (failed : E → Bool) 
 
 keys_failed : (call : KeyCall) → fails_at_keys (Port (Keys call)) ≡ true → FailsAtKeys call
 keys_failed (Read grip key_read.Failed) is = tt
-keys_failed (Read grip key_read.NoMemory) is = absurd (cc is)
-keys_failed (Read grip key_read.Absent) is = absurd (cc is)
-keys_failed (Read grip (key_read.Found file)) is = absurd (cc is)
 keys_failed (Listed key_names.Failed) is = tt
-keys_failed (Listed key_names.NoMemory) is = absurd (cc is)
-keys_failed (Listed (key_names.Names grips)) is = absurd (cc is)
 keys_failed (Replaced grip file key_done.Failed) is = tt
-keys_failed (Replaced grip file key_done.Done) is = absurd (cc is)
-keys_failed (Replaced grip file key_done.Absent) is = absurd (cc is)
-keys_failed (Replaced grip file key_done.NoMemory) is = absurd (cc is)
 keys_failed (Removed grip key_done.Failed) is = tt
-keys_failed (Removed grip key_done.Done) is = absurd (cc is)
-keys_failed (Removed grip key_done.Absent) is = absurd (cc is)
-keys_failed (Removed grip key_done.NoMemory) is = absurd (cc is)
+keys_failed _ is = absurd (cc is)
 
 trust_failed : (call : TrustCall) → fails_at_trust (Port (Trust call)) ≡ true → FailsAtTrust call
 trust_failed (trust_call.Read trust_read.Failed) is = tt
-trust_failed (trust_call.Read trust_read.NoMemory) is = absurd (cc is)
-trust_failed (trust_call.Read trust_read.Absent) is = absurd (cc is)
-trust_failed (trust_call.Read (trust_read.Found file)) is = absurd (cc is)
 trust_failed (trust_call.Replaced file trust_done.Failed) is = tt
-trust_failed (trust_call.Replaced file trust_done.Done) is = absurd (cc is)
-trust_failed (trust_call.Replaced file trust_done.NoMemory) is = absurd (cc is)
+trust_failed _ is = absurd (cc is)
 
 draw_failed : (before after : Side) (draw : Draw) → DoesDraw before draw after → fails_at_dice (Port (Dice draw)) ≡ true → Rose before.faults after.faults
 draw_failed before after (Drew bytes) does is = absurd (cc is)

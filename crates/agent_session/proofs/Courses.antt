@@ -1,6 +1,6 @@
 -- How a request ends, once its work is done: what its last part does, and the course that this makes of its exchange. So a client that is gone ends it.
 use Rattle.std.{specs.{List.AllByRecursion, Option.option_map, Prelude.⊤}, proofs.Common.{◌≡◌, ℕ, List, [], ◌∷◌, ◌++◌, Option, Some, None, Result, Ok, Err, refl, sym, ap, ◌∙◌, subst, append_assoc, append-nil, inl, inr, ◌⊎◌}}
-use Rattle.agent_ask.specs.{PortCalls.{Prompt, Keys, Dice, Trust, NoMemory, Replaced, Removed}, Interrupts.Interrupts, Parts.{◌>>=◌, Returns, Refuses}, SessionEvents.{Received, Sent, Cut, Inquiry, CacheTurn, Port, cache_turn, said_last}}
+use Rattle.agent_ask.specs.{PortCalls.{Prompt, Keys, NoMemory, Replaced, Removed}, Interrupts.Interrupts, Parts.{◌>>=◌, Returns, Refuses}, SessionEvents.{Received, Sent, Cut, Inquiry, CacheTurn, Port, cache_turn, said_last}}
 use Rattle.{agent_ask.{specs.TurnParts.Closes, proofs.Within.{Within, Joins, weaker, bind, returned_so, refused_so, Yields, yields_then}}, agent_ports.specs.declared.grip.Grip.Grip, assuan_server.specs.Written.{failed, refusal_line}}
 use Rattle.{cache_policy.specs.{Turns.{Turn, Done}, declared.{mark.MarkStep.TheVariants.{Close, Clear}, mode.Mode.TheVariants.Normal}}, session_client.specs.{Refusals.refusal_code, declared.{code.Code.Code, refusal.Refusal.Refusal}}}
 use Rattle.{session_client.specs.declared.{refusal.Refusal.TheVariants.{Agent, Pinentry, Client}, client_error.{Gone.Gone, ClientError.ClientError}}, agent_commands.specs.declared.request.Request.Request, key_commands.specs.Events.Event}
@@ -53,15 +53,7 @@ answer_heard = each_answer IsHeard (λ number turn. refl) (λ text. refl)
 -- it is by the last event of a part's work, and by none before it
 shut_heard : (event : Event) → AllByRecursion IsHeard (shuts event)
 shut_heard (Port (Prompt event)) = (refl, tt)
-shut_heard (Port (Keys call)) = tt
-shut_heard (Port (Dice draw)) = tt
-shut_heard (Port (Trust call)) = tt
-shut_heard (Port NoMemory) = tt
-shut_heard (Received took) = tt
-shut_heard (Sent text) = tt
-shut_heard (Cut text) = tt
-shut_heard (CacheTurn taken) = tt
-shut_heard (Inquiry word params limit inquired) = tt
+shut_heard _ = tt
 
 refused_heard : (event : Event) {why : Code} → refuses event ≡ Some why → IsHeard event
 refused_heard (Cut text) is = absurd (cc is)
@@ -262,12 +254,7 @@ module _ (request : Request) where
   end_said : {A : Type 0} {last : List Event} {result : Result A Refusal} {held : Option ℕ} {why : ClientError} → RequestEnd last result held → IsSaid last why → ComesTo why result
   end_said (working end) says = work_said (IsAllowed request AnyNonce) end says
   end_said (closed turn) says = absurd (heard_so _ (refl, tt) says)
-  end_said (unwrapped turn) says = absurd (heard_so _ (refl, (refl, tt)) says)
-  end_said (kept turn) says = absurd (heard_so _ (refl, (refl, tt)) says)
-  end_said put says = absurd (heard_so _ (refl, (refl, tt)) says)
-  end_said (unput why) says = absurd (heard_so _ (refl, (refl, tt)) says)
-  end_said cleared says = absurd (heard_so _ (refl, (refl, tt)) says)
-  end_said (uncleared why) says = absurd (heard_so _ (refl, (refl, tt)) says)
+  end_said _ says = absurd (heard_so _ (refl, (refl, tt)) says)
 
   pub ends_said : {A : Type 0} {events : List Event} {result : Result A Refusal} {held : Option ℕ} {why : ClientError} → Ends events result held → IsSaid events why
       → ComesTo why result

@@ -1,5 +1,5 @@
 -- Reads of a key's file, and keys that a client sent, by which a request is refused.
-use Rattle.std.{specs.{List.AllByRecursion, Prelude.not}, proofs.Common.{◌≡◌, ◌∙◌, ◌⊎◌, ℕ, Bool, true, false, List, [], codes, Option, Some, None, Result, Ok, Err, sym, ap, subst, inl, inr}}
+use Rattle.std.{specs.{List.AllByRecursion, Prelude.not}, proofs.Common.{◌≡◌, ◌∙◌, ◌⊎◌, ℕ, Bool, true, false, List, codes, Option, Some, None, Result, Ok, Err, sym, ap, subst, inl, inr, []}}
 use Rattle.{agent_ports.specs.declared.{grip.Grip.Grip, keys.{KeyDone.KeyDone, KeyRead.KeyRead}}, assuan_server.specs.Written.{failed, refusal_line}, session_client.specs.declared.{code.Code.Code, refusal.Refusal.Refusal}}
 use Rattle.{session_client.specs.declared.refusal.Refusal.TheVariants.Agent, key_lines.specs.Canon.Canon, secret_file.specs.Answers.IsLockedFault, sexp_keys.specs.{Key.Key, declared.fault.KeyFault.KeyFault}}
 use Rattle.key_commands.specs.{Lines.max_key_data, Events.Event, Faults.fault_code, Files.FileSays, KeyParts.{ReadsFile, Removes, IsFree, AsksKeyData, Unwraps, ReceivesKey, file_in, change_fault}, Parts.{Finds, read_fault}}
@@ -47,6 +47,13 @@ read_refuses Owes (key_read.Found found) bytes {why} is refuses_so = let same : 
 read_refuses Owes key_read.Absent bytes is refuses_so = absurd (cc is)
 read_refuses Owes key_read.Failed bytes is refuses_so = absurd (cc is)
 read_refuses Owes key_read.NoMemory bytes is refuses_so = absurd (cc is)
+
+-- nothing but what the client said, and the bytes of a key that it sent
+abbrev pub by_said : Option (List ℕ) → Deciding
+by_said wrap = record { sent = SentRefuses wrap; reads = λ grip answer why. ⊥; removed = λ answer why. ⊥; trust = λ call why. ⊥ }
+
+abbrev pub NoFault : Key → Code → Type 0
+NoFault key why = ⊥
 
 abbrev pub by_file : Option (List ℕ) → (Key → Code → Type 0) → Deciding
 by_file wrap Owes = record { sent = SentRefuses wrap; reads = λ grip answer why. ReadRefuses Owes answer why; removed = λ answer why. ⊥; trust = λ call why. ⊥ }

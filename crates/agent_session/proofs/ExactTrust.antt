@@ -1,13 +1,13 @@
 -- Requests on the trust list: what decides one is what it is refused by.
-use Rattle.std.{specs.List.AllByRecursion, proofs.Common.{◌≡◌, ◌⊎◌, ◌∙◌, ◌<◌, ℕ, Bool, true, false, List, [], ◌∷◌, length, Option, Some, None, Result, Ok, arith, refl, sym, ap, subst, inl, inr}}
-use Rattle.{agent_ask.specs.{Parts.{◌>>=◌, Refuses}, TrustCalls.{TrustCall, Read, Replaced}, ConsentParts.AgreesTo}, assuan_server.specs.{Written.{ok, failed, refusal_line}, declared.errors.Origin.TheVariants.Agent as OfAgent}}
+use Rattle.std.{specs.List.AllByRecursion, proofs.Common.{◌≡◌, ◌⊎◌, ◌∙◌, ◌<◌, ℕ, Bool, true, false, List, ◌∷◌, length, Option, Some, None, Result, Ok, arith, refl, sym, ap, subst, inl, inr, []}}
+use Rattle.{agent_ask.specs.{Parts.Refuses, TrustCalls.{TrustCall, Read, Replaced}, ConsentParts.AgreesTo}, assuan_server.specs.{Written.{ok, failed, refusal_line}, declared.errors.Origin.TheVariants.Agent as OfAgent}}
 use Rattle.{assuan_server.specs.Clients.session_lines, agent_commands.specs.declared.went.Went.Went, agent_ports.specs.declared.{grip.Grip.Grip, trust.{TrustDone.TrustDone, TrustRead.TrustRead}}}
 use Rattle.{session_client.specs.declared.{code.Code.Code, refusal.Refusal.Refusal}, session_options.specs.{OptionValues.OptionValues, declared.{options.PinMode.PinMode, rules.Rules.Rules}}, trust_list.specs.Trust.{trust, with_entry}}
 use Rattle.trust_list.specs.declared.TheConstants.{MAX_TRUST_FILE_LEN}
 use Rattle.agent_origin.specs.TrustExchanges.{flag_of, trust_question, fingerprint_question, unless_said, TrustedNow, Stores, StoresUnsaid, Consented, asked_in, Marked, Carried, TrustExchange}
 use Rattle.agent_origin.specs.{TrustParts.{ReadsFile, AddsEntry, Replaces, file_in, trust_called}, declared.trust.request.{TrustPurpose.TrustPurpose, TrustRequest.{TrustRequest, TheVariants.{IsTrusted, MarkTrusted, Bad}}}}
 use Rattle.key_commands.specs.{Events.Event, Parts.Part}
-use Rattle.agent_session.{specs.Completeness.{Remembers, HasError}, proofs.ExactKeys.by_said}
+use Rattle.agent_session.{specs.Completeness.{Remembers, HasError}, proofs.ExactReads.by_said}
 use Rattle.agent_session.proofs.{ExactParts.{Deciding, IsDecided, never_decided, decided_only, NoneDue, NoneOwed, SaysTo, Heeds, bind, refuses_due, IsSaidAlone, free, said_alone, fits_keys, never_ok, error_said}, PromptWorks.agrees_to}
 use Rattle.agent_session.proofs.{Works.{WorksTo, works, one_works, refused_by, WorksSo, Keeps, keeps_works, returned, refuses_by, turns_of}, TrustTold.{Told, told}}
 use Rattle.agent_ask.specs.Parts as chain

@@ -40,12 +40,7 @@ is_last (End WriteFault) why goes = absurd goes
 pub went_on : (went : Went) (why : Code) → GoesOnAfter went why → (why ≡ code.LineTooLong → ⊥) → went ≡ On
 went_on On why goes other = refl
 went_on (End TooLong) why goes other = absurd (other goes)
-went_on (End Bye) why goes other = absurd goes
-went_on (End Killed) why goes other = absurd goes
-went_on (End Ended) why goes other = absurd goes
-went_on (End Spent) why goes other = absurd goes
-went_on (End ReadFault) why goes other = absurd goes
-went_on (End WriteFault) why goes other = absurd goes
+went_on _ why goes other = absurd goes
 
 abbrev pub IsLost : List (EventWith PortCall) → Went → Type 0
 IsLost events (End Ended) = IsSaid events (client_error.Gone gone.Ended)

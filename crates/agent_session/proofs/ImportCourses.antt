@@ -8,8 +8,8 @@ use Rattle.{agent_commands.specs.declared.went.Went.Went, key_commands.specs.{Ev
 use Rattle.key_commands.specs.{Passphrases.put_key, declared.{request.KeyRequest.KeyRequest, went.KeyWent.KeyWent, wrap_keys.WrapKeys.WrapKeys}}
 use Rattle.key_commands.proofs.EachEvent.{each_answer, each_returned, each_append, EachSo, each_bind, each_refused, each_needed, each_otherwise, receives_key, names_key, is_free, looks_over, takes_seat, prompts_new, client_new}
 use Rattle.{assuan_server.specs.Written.refusal_line, agent_origin.specs.{SessionExchanges.{RequestExchange, cache, keys}, declared.session_state.SessionState.SessionState}}
-use Rattle.agent_session.specs.{Causes.{Has, here, later, on_keys}, Imports.{HandsNothing, HandNothing, put_nonce, KeepsPass, put, given_back, ImportCourse, not_drawn, not_put, not_replaced, replaced}, OwnPassphrases.puts}
-use Rattle.agent_session.{specs.Refusals.{IsNonceOf, nonce_of}, proofs.{Explained.has_split, OwnKeys.still_quiet, OwnParts.kept_none, Standing.{each_has, has_right}}}
+use Rattle.agent_session.specs.{Causes.{Has, here, later, on_keys}, Imports.{HandsNothing, HandNothing, put_nonce, KeepsPass, put, given_back, ImportCourse, not_drawn, not_put, not_replaced, replaced}}
+use Rattle.agent_session.{specs.OwnPassphrases.{puts, IsNonceOf, nonce_of}, proofs.{Explained.has_split, OwnKeys.still_quiet, OwnParts.kept_none, Standing.{each_has, has_right}}}
 use Rattle.agent_ports.specs.declared.keys.KeyDone.TheVariants as key_done
 use Rattle.session_client.specs.declared.code.Code.TheVariants as code
 use Rattle.session_options.specs.declared.options.PinMode.TheVariants as mode
@@ -142,20 +142,12 @@ module _ (rules : Rules) (options : OptionValues) (wraps : WrapKeys) where
   answer_nothing : {held : Option ℕ} {back : List (EventWith PortCall)} (line : Option (List ℕ)) → Closes None held back (Ok tt) None → HandNothing (back ++ said_last line)
   answer_nothing = each_answer HandsNothing (λ number turn. kept_none number) (λ text. tt)
 
-  pub import_exchange : (asked : KeyRequest) {force : Bool} {nonce : Option (List ℕ)} → asked ≡ on.ImportKey force nonce → {events : List (EventWith PortCall)} {after : WrapKeys} {went : KeyWent}
-      → KeyExchange rules options wraps asked events after went → ImportCourse events
-  import_exchange (on.ImportKey force nonce) is (part_exchanges.answered events held reply {back} does closes) =
+  pub import_exchange : (force : Bool) (nonce : Option (List ℕ)) {events : List (EventWith PortCall)} {after : WrapKeys} {went : KeyWent} → KeyExchange rules options wraps (on.ImportKey force nonce) events after went
+      → ImportCourse events
+  import_exchange force nonce (part_exchanges.answered events held reply {back} does closes) =
       course_before (back ++ Sent reply.text ∷ []) (answer_nothing (Some reply.text) closes) ((import_so force nonce).of None events (Ok reply) held does)
-  import_exchange (on.ImportKey force nonce) is (part_exchanges.refused events held why {back} does closes) =
+  import_exchange force nonce (part_exchanges.refused events held why {back} does closes) =
       course_before (back ++ refusal_events why) (answer_nothing (refusal_line why) closes) ((import_so force nonce).of None events (Err why) held does)
-  import_exchange (on.HaveKey grips) is exchanged = absurd (cc is)
-  import_exchange (on.KeyInfo grip) is exchanged = absurd (cc is)
-  import_exchange on.ListKeys is exchanged = absurd (cc is)
-  import_exchange (on.KeyWrap way) is exchanged = absurd (cc is)
-  import_exchange (on.ExportKey grip id) is exchanged = absurd (cc is)
-  import_exchange (on.Passwd grip old new verify) is exchanged = absurd (cc is)
-  import_exchange (on.DeleteKey grip force) is exchanged = absurd (cc is)
-  import_exchange (on.Bad why) is exchanged = absurd (cc is)
 
 pub some_key : {one other : KeyRequest} → Some one ≡ Some other → one ≡ other
 some_key is = cc is
@@ -164,5 +156,6 @@ pub import_course : (request : Request) {force : Bool} {nonce : Option (List ℕ
     → RequestExchange rules kept request events now went → ImportCourse events
 import_course (Cache command) is exchanged = absurd (cc is)
 import_course (Bad why) is exchanged = absurd (cc is)
-import_course (OnKeys line) is {rules} {kept} (keys exchanged) = import_exchange rules kept.options kept.wraps _ (some_key is) exchanged
+import_course (OnKeys line) is {rules} {kept} {events} (keys {wraps} {went} exchanged) =
+    import_exchange rules kept.options kept.wraps _ _ (subst (λ a. KeyExchange rules kept.options kept.wraps a events wraps went) (some_key is) exchanged)
 import_course (OnKeys line) is (cache exchanged) = elim exchanged [ ]

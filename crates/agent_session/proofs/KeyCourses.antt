@@ -1,18 +1,21 @@
 -- Requests on keys: their work, and what is done once a ticket was given back or a key's file changed.
-use Rattle.std.{proofs.Common.{◌≡◌, ℕ, Bool, true, false, List, [], ◌∷◌, ◌++◌, Option, Some, None, Result, Ok, Err, refl, ap}, specs.Prelude.{not, drop}}
-use Rattle.{agent_ask.{specs.{PortCalls.{Keys, Replaced, Removed}, Parts.{◌>>=◌, goes_on, stops, Returns, returns}, SessionEvents.Port, TurnParts.{Changes, Closes}}, proofs.Within.{Within, Yields, yields_then, returned_so, refused_so, values_so}}, agent_ports.specs.declared.grip.Grip.Grip}
-use Rattle.{agent_ports.specs.declared.keys.KeyDone.KeyDone, assuan_server.specs.Written.{refusal_line, ok}, session_client.specs.declared.{code.Code.Code, refusal.Refusal.{Refusal, TheVariants.{Agent, Client}}, client_error.Gone.Gone}}
-use Rattle.{session_client.specs.Refusals.gone_by, cache_policy.specs.{Turns.closes, declared.{mark.MarkStep.{MarkStep, TheVariants.Clear}, mode.Mode.TheVariants.{Normal, Nonce}}}, session_options.specs.OptionValues.OptionValues}
-use Rattle.{session_options.specs.declared.rules.Rules.Rules, sexp_keys.specs.Key.Key, agent_commands.specs.declared.request.Request.Request, key_commands.specs.Events.Event}
+use Rattle.std.{proofs.Common.{◌≡◌, ℕ, Bool, true, false, List, ◌∷◌, ◌++◌, Option, Some, None, Result, Ok, Err, refl, ap, []}, specs.Prelude.{not, drop}}
+use Rattle.agent_ask.specs.{PortCalls.{Keys, Replaced, Removed, Listed, Draw, Dice}, Parts.{◌>>=◌, goes_on, stops, Returns, returns}, SessionEvents.Port, TurnParts.{Changes, Closes}}
+use Rattle.{agent_ask.proofs.Within.{Within, Yields, yields_then, returned_so, refused_so, values_so}, agent_ports.specs.declared.{grip.Grip.Grip, keys.{KeyDone.KeyDone, KeyRead.KeyRead, KeyNames.KeyNames}}}
+use Rattle.{assuan_server.specs.Written.{refusal_line, ok}, session_client.specs.{declared.{code.Code.Code, refusal.Refusal.{Refusal, TheVariants.{Agent, Client}}, client_error.Gone.Gone}, Refusals.gone_by}, cache_policy.specs.Turns.closes}
+use Rattle.{cache_policy.specs.declared.{mark.MarkStep.{MarkStep, TheVariants.Clear}, mode.Mode.TheVariants.{Normal, Nonce}}, session_options.specs.{OptionValues.OptionValues, declared.rules.Rules.Rules}, sexp_keys.specs.Key.Key}
+use Rattle.{agent_commands.specs.declared.request.Request.Request, key_commands.specs.Events.{Event, IsUncalled, read, called}}
 use Rattle.key_commands.specs.Exchanges.{KeyReply, KeyExchange, HaveKeyReplies, KeyInfoReplies, ListKeysReplies, KeyWrapReplies, ImportKeyReplies, ExportKeyReplies, PasswdReplies, VerifyReplies, DeleteKeyReplies, KeyReplies, wrap_key}
 use Rattle.key_commands.specs.{Exchanges.{StoresKey, RewritesFile, ChangesOpened}, KeyParts.{Tells, tells, Replaces, Removes, KeepsNew, TellsKeyInfo, ReceivesKey, IsFree, WrapsKey}}
-use Rattle.key_commands.specs.{Lines.{grip_text, info_line, of_passphrase, of_key_data, of_key}, Parts.{Part, key_went_after}, declared.{request.{Direction.Direction, KeyRequest.KeyRequest}, went.KeyWent.KeyWent}}
-use Rattle.{key_commands.specs.declared.wrap_keys.WrapKeys.WrapKeys, assuan_escape.specs.Escapes.hex_text}
-use Rattle.agent_session.{specs.{Causes.{on_keys, IsSaid}, Completeness.EndsInOk, Refusals.{IsAllowed, IsWorkStep, MayStore, exported, changed, imported, CourseBy}}, proofs.Asides.{info_status, nonce_status, status_aside}}
-use Rattle.agent_session.proofs.Courses.{AnyNonce, Ends, ends_with, EndsSo, working_ends, ends_working, bind_ends, made, makes, closed, unwrapped, kept, put, unput, cleared, uncleared}
-use Rattle.agent_session.proofs.Courses.{reply_ends_in_ok, ok_course, err_course, ends_said, gone_only, said_before, answer_heard}
-use Rattle.agent_session.proofs.{KeyWorks.{FitsKeys, looks_nonce, old_here, verified_here, new_here, consents, tells_info, writes_infos, has_one}, Replying.{ends_in_ok, reply_keys}}
+use Rattle.key_commands.specs.{Lines.{grip_text, info_line, of_passphrase, of_key_data, of_key}, Parts.{Part, key_went_after}, declared.{request.KeyRequest.KeyRequest, went.KeyWent.KeyWent, wrap_keys.WrapKeys.WrapKeys}}
+use Rattle.{key_commands.proofs.{EachEvent.{each_bind, each_returned, each_needed, each_wanted, each_closes, each_changes, still_uncalled}, EachRequest.{IsPlain, plain_replies}}, assuan_escape.specs.Escapes.hex_text}
+use Rattle.agent_session.specs.{Causes.{on_keys, IsSaid}, Completeness.EndsInOk, Refusals.{IsAllowed, IsWorkStep, CourseBy, IsUnopening, OpensFirst}, OwnPassphrases.{MayStore, directly, imported, under_export, under_change}}
+use Rattle.agent_session.proofs.Asides.{info_status, nonce_status, status_aside}
+use Rattle.agent_session.proofs.Courses.{AnyNonce, Ends, ends_with, EndsSo, working_ends, ends_working, bind_ends, made, makes, closed, unwrapped, kept, put, unput, cleared, uncleared, reply_ends_in_ok, ok_course, err_course, ends_said}
+use Rattle.agent_session.proofs.{Courses.{gone_only, said_before, answer_heard}, KeyWorks.{FitsKeys, looks_nonce, old_here, verified_here, new_here, consents, tells_info, writes_infos, has_one}, Replying.{ends_in_ok, reply_keys}}
 use Rattle.agent_session.proofs.Works.{WorksTo, works, WorksSo, Keeps, keeps_works, bind, returned, refuses_by, is_needed, or_otherwise, is_wanted, turns_of}
+use Rattle.agent_session.proofs.Opens.{OpensSo, calls_nobody, before_opens, before_prompts, behind_opens, prompts_opens, otherwise_prompts, agrees_opens, old_by_prompts, verified_prompts, new_by_prompts, both_of, still_unopening}
+use Rattle.agent_session.proofs.Opens.{then_unopening, answer_unopening}
 use Rattle.agent_ask.specs.TurnParts as taken
 use Rattle.session_client.specs.declared.code.Code.TheVariants as code
 use Rattle.session_client.specs.declared.client_error.ClientError.TheVariants as client_error
@@ -23,6 +26,20 @@ use Rattle.key_commands.specs.declared.request.KeyRequest.TheVariants as on
 use Rattle.key_commands.specs.declared.went.KeyWent.TheVariants as key_went
 use Rattle.agent_session.specs.Completeness as completeness
 use Rattle.agent_session.proofs.Works as work
+use Rattle.key_commands.proofs.EachEvent as each
+
+-- a request by which nobody is asked
+module _ {Fits : Event → Type 0} (fits : FitsKeys Fits) (reads : (grip : Grip) (answer : KeyRead) → Fits (read grip answer)) (lists : (answer : KeyNames) → Fits (called (Listed answer)))
+    (draws : (draw : Draw) → Fits (Port (Dice draw))) (rules : Rules) (options : OptionValues) (wraps : WrapKeys) where
+  pub plain_works : (asked : KeyRequest) → IsPlain asked → WorksSo Fits (KeyReplies rules options wraps asked)
+  unfolding HaveKeyReplies KeyInfoReplies ListKeysReplies KeyWrapReplies
+  plain_works (on.HaveKey grips) plain = bind Fits (has_one fits reads grips) (λ one. returned Fits _)
+  plain_works (on.KeyInfo grip) plain = bind Fits (keeps_works Fits (work.reads_file Fits fits.memory (reads grip))) (λ file. bind Fits (tells_info fits grip file.key) (λ line. returned Fits _))
+  plain_works on.ListKeys plain = bind Fits (keeps_works Fits (work.lists Fits fits.memory lists)) (λ grips. bind Fits (writes_infos fits reads grips) (λ written. returned Fits _))
+  plain_works (on.KeyWrap way) plain =
+      bind Fits (or_otherwise Fits (wrap_key way wraps) (keeps_works Fits (work.draws Fits fits.memory draws))) (λ key. bind Fits (keeps_works Fits (work.told Fits fits.memory)) (λ text. returned Fits _))
+  plain_works (on.Bad why) plain = refuses_by Fits (Agent why)
+  plain_works _ plain = absurd plain
 
 module _ (request : Request) where
   abbrev Fits : Event → Type 0
@@ -126,38 +143,6 @@ module _ (request : Request) where
     abbrev EndsHere : {A : Type 0} → Part A → Type 0
     EndsHere = EndsSo request
 
-    have_key : (grips : List Grip) → EndsHere (HaveKeyReplies rules options wraps grips)
-    unfolding HaveKeyReplies
-    have_key grips = ends_working request (bind Fits (has_one fits (λ grip answer. tt) grips) (λ one. returned Fits _))
-
-    key_info : (grip : Grip) → EndsHere (KeyInfoReplies rules options wraps grip)
-    unfolding KeyInfoReplies
-    key_info grip = ends_working request (bind Fits (reads_file grip) (λ file. bind Fits (tells_info fits grip file.key) (λ line. returned Fits _)))
-
-    list_keys : EndsHere (ListKeysReplies rules options wraps)
-    unfolding ListKeysReplies
-    list_keys = ends_working request (bind Fits (so (work.lists Fits tt (λ answer. tt))) (λ grips. bind Fits (writes_infos fits (λ grip answer. tt) grips) (λ written. returned Fits _)))
-
-    key_wrap : (way : Direction) → EndsHere (KeyWrapReplies rules options wraps way)
-    unfolding KeyWrapReplies
-    key_wrap way = ends_working request (bind Fits (or_otherwise Fits (wrap_key way wraps) (so (work.draws Fits tt (λ draw. tt)))) (λ key. bind Fits (so (work.told Fits tt)) (λ text. returned Fits _)))
-
-    export_key : (grip : Grip) → MayStore request AnyNonce (grip_text grip) Normal → (id : Option (List ℕ)) → EndsHere (ExportKeyReplies rules options wraps grip id)
-    unfolding ExportKeyReplies
-    export_key grip stores id =
-        bind_ends request (is_needed Fits code.Parameter wraps.export) (λ wrap. bind_ends request (reads_file grip) (λ file. bind_ends request (old_here fits rules options grip (λ pass turn. stores) id file.key file.key.is_clear)
-        (λ opened. record { of = wraps_last_of })))
-
-    verify : (grip : Grip) → MayStore request AnyNonce (grip_text grip) Normal → EndsHere (VerifyReplies rules options wraps grip)
-    unfolding VerifyReplies
-    verify grip stores = bind_ends request (reads_file grip) (λ file. bind_ends request (verified_here fits rules options grip (λ pass turn. stores) file.key file.key.is_clear) (λ opened. record { of = gives_back_of }))
-
-    delete_key : (force : Bool) (grip : Grip) → EndsHere (DeleteKeyReplies rules options wraps force grip)
-    unfolding DeleteKeyReplies
-    delete_key force grip =
-        bind_ends request (so (work.finds Fits tt (λ answer. tt))) (λ there. bind_ends request (is_wanted Fits code.NoSecKey there) (λ some. bind_ends request (consents fits rules options grip options.mode force)
-        (λ agreed. record { of = removes_so_of })))
-
     rewrites_file : (grip : Grip) (file : List ℕ) (key : Key) (pass : List ℕ) → EndsHere (RewritesFile rules options grip file key pass)
     unfolding RewritesFile
     rewrites_file grip file key pass =
@@ -168,35 +153,29 @@ module _ (request : Request) where
         bind_ends request (so (work.is_short Fits tt)) (λ short. bind_ends request (bind Fits (looks_nonce fits id) (λ found. or_otherwise Fits found (new_here fits rules options grip options.mode)))
         (λ pass. rewrites_file grip file key pass))
 
-    passwd : (grip : Grip) → MayStore request AnyNonce (grip_text grip) Normal → (id new_id : Option (List ℕ)) → EndsHere (PasswdReplies rules options wraps grip id new_id)
-    unfolding PasswdReplies
-    passwd grip stores id new_id =
-        bind_ends request (reads_file grip) (λ file. bind_ends request (old_here fits rules options grip (λ pass turn. stores) id file.key file.key.is_clear)
-        (λ opened. made request (changes_opened grip new_id file.bytes opened.key) (λ changed. makes request _)))
-
     stores_key : ((drawn : List ℕ) → MayStore request AnyNonce (hex_text drawn) Nonce) → (count : ℕ) (key : Key) (grip : Grip) (pass : List ℕ) → EndsHere (StoresKey count key grip pass)
     stores_key stores count key grip pass =
         bind_ends request (so (work.draws Fits tt (λ draw. tt))) (λ drawn. bind_ends request (so (work.protects Fits tt))
         (λ file. bind_ends request (so (work.changes Fits (own _ refl (stores (drop 20 drawn))))) (λ cached. ends_storing grip file pass (drop 20 drawn))))
 
-    import_key : ((drawn : List ℕ) → MayStore request AnyNonce (hex_text drawn) Nonce) → (force : Bool) (id : Option (List ℕ)) → EndsHere (ImportKeyReplies rules options wraps force id)
-    unfolding ImportKeyReplies
-    import_key stores force id =
+    replies : (asked : KeyRequest) → on_keys request ≡ Some asked → EndsHere (KeyReplies rules options wraps asked)
+    unfolding ImportKeyReplies ExportKeyReplies VerifyReplies PasswdReplies DeleteKeyReplies
+    replies (on.ImportKey force id) is =
         bind_ends request (is_needed Fits code.Parameter wraps.import) (λ wrap. bind_ends request (receives_key wrap) (λ key. bind_ends request (so (work.names_key Fits tt)) (λ grip. bind_ends request (is_free force grip)
         (λ free. bind_ends request (bind Fits (so (work.looks_over Fits (λ named. own _ refl tt))) (λ found. or_otherwise Fits found (new_here fits rules options grip options.mode)))
-        (λ pass. made request (stores_key stores options.s2k_count key grip pass) (λ nonce. makes request _))))))
-
-    replies : (asked : KeyRequest) → on_keys request ≡ Some asked → EndsHere (KeyReplies rules options wraps asked)
-    replies (on.HaveKey grips) is = have_key grips
-    replies (on.KeyInfo grip) is = key_info grip
-    replies on.ListKeys is = list_keys
-    replies (on.KeyWrap way) is = key_wrap way
-    replies (on.ImportKey force id) is = import_key (λ drawn. imported is tt) force id
-    replies (on.ExportKey grip id) is = export_key grip (exported is) id
-    replies (on.Passwd grip old new true) is = verify grip (changed is)
-    replies (on.Passwd grip old new false) is = passwd grip (changed is) old new
-    replies (on.DeleteKey grip force) is = delete_key force grip
-    replies (on.Bad why) is = ends_working request (refuses_by Fits (Agent why))
+        (λ pass. made request (stores_key (λ drawn. imported is tt) options.s2k_count key grip pass) (λ nonce. makes request _))))))
+    replies (on.ExportKey grip id) is =
+        bind_ends request (is_needed Fits code.Parameter wraps.export) (λ wrap. bind_ends request (reads_file grip)
+        (λ file. bind_ends request (old_here fits rules options grip (λ pass turn. directly (under_export is)) id file.key file.key.is_clear) (λ opened. record { of = wraps_last_of })))
+    replies (on.Passwd grip old new true) is =
+        bind_ends request (reads_file grip) (λ file. bind_ends request (verified_here fits rules options grip (λ pass turn. directly (under_change is)) file.key file.key.is_clear) (λ opened. record { of = gives_back_of }))
+    replies (on.Passwd grip old new false) is =
+        bind_ends request (reads_file grip) (λ file. bind_ends request (old_here fits rules options grip (λ pass turn. directly (under_change is)) old file.key file.key.is_clear)
+        (λ opened. made request (changes_opened grip new file.bytes opened.key) (λ changed. makes request _)))
+    replies (on.DeleteKey grip force) is =
+        bind_ends request (so (work.finds Fits tt (λ answer. tt))) (λ there. bind_ends request (is_wanted Fits code.NoSecKey there) (λ some. bind_ends request (consents fits rules options grip options.mode force)
+        (λ agreed. record { of = removes_so_of })))
+    replies asked is = ends_working request (plain_works fits (λ grip answer. tt) (λ answer. tt) (λ draw. tt) rules options wraps asked tt)
 
 -- every reply ends in an OK line, and the session goes on behind it
 abbrev pub IsGoodReply : KeyReply → Type 0
@@ -211,6 +190,9 @@ ok_then = yields_then IsGoodReply
 ok_returns : {wraps : WrapKeys} {text : List ℕ} → EndsInOk text → ReplyOk (Returns (exchange.key_reply wraps text))
 ok_returns {wraps} {text} ends = returned_so (exchange.key_reply wraps text) (λ held. (ends, refl))
 
+ok_alone : {wraps : WrapKeys} → ReplyOk (Returns (exchange.key_reply wraps ok))
+ok_alone = ok_returns (ends_in_ok completeness.none)
+
 -- what is known of a key, and an OK line
 info_ok_of : (grip : Grip) (key : Key) (wraps : WrapKeys) (before : Option ℕ) (events : List Event) (reply : KeyReply) (after : Option ℕ)
     → (TellsKeyInfo grip key >>= λ line. Returns (exchange.key_reply wraps (line ++ ok))) before events (Ok reply) after → IsGoodReply reply
@@ -223,54 +205,19 @@ tells_ok_of : (bytes : List ℕ) (make : List ℕ → WrapKeys) (before : Option
     → (Tells bytes >>= λ text. Returns (exchange.key_reply (make text) text)) before events (Ok reply) after → IsGoodReply reply
 tells_ok_of bytes make _ _ _ _ (goes_on (tells answers) returns) = (reply_ends_in_ok (reply_keys answers), refl)
 
-module _ (rules : Rules) (options : OptionValues) (wraps : WrapKeys) where
-  have_key_ok : (grips : List Grip) → ReplyOk (HaveKeyReplies rules options wraps grips)
-  unfolding HaveKeyReplies
-  have_key_ok grips = ok_then (λ one. ok_returns (ends_in_ok completeness.none))
-
-  key_info_ok : (grip : Grip) → ReplyOk (KeyInfoReplies rules options wraps grip)
-  unfolding KeyInfoReplies
-  key_info_ok grip = ok_then (λ file. values_so (info_ok_of grip file.key wraps))
-
-  list_keys_ok : ReplyOk (ListKeysReplies rules options wraps)
-  unfolding ListKeysReplies
-  list_keys_ok = ok_then (λ grips. ok_then (λ written. ok_returns (ends_in_ok completeness.none)))
-
-  key_wrap_ok : (way : Direction) → ReplyOk (KeyWrapReplies rules options wraps way)
-  unfolding KeyWrapReplies
-  key_wrap_ok way = ok_then (λ key. values_so (tells_ok_of key _))
-
-  import_key_ok : (force : Bool) (id : Option (List ℕ)) → ReplyOk (ImportKeyReplies rules options wraps force id)
-  unfolding ImportKeyReplies
-  import_key_ok force id = ok_then (λ wrap. ok_then (λ key. ok_then (λ grip. ok_then (λ free. ok_then (λ pass. ok_then (λ cache_nonce. ok_returns (ends_in_ok (status_aside (nonce_status cache_nonce)))))))))
-
-  export_key_ok : (grip : Grip) (id : Option (List ℕ)) → ReplyOk (ExportKeyReplies rules options wraps grip id)
-  unfolding ExportKeyReplies
-  export_key_ok grip id = ok_then (λ wrap. ok_then (λ file. ok_then (λ opened. ok_then (λ closed. ok_then (λ wrapped. values_so (tells_ok_of wrapped _))))))
-
-  passwd_ok : (grip : Grip) (id new_id : Option (List ℕ)) → ReplyOk (PasswdReplies rules options wraps grip id new_id)
-  unfolding PasswdReplies
-  passwd_ok grip id new_id = ok_then (λ file. ok_then (λ opened. ok_then (λ changed. ok_returns (ends_in_ok completeness.none))))
-
-  verify_ok : (grip : Grip) → ReplyOk (VerifyReplies rules options wraps grip)
-  unfolding VerifyReplies
-  verify_ok grip = ok_then (λ file. ok_then (λ opened. ok_then (λ closed. ok_returns (ends_in_ok completeness.none))))
-
-  delete_key_ok : (force : Bool) (grip : Grip) → ReplyOk (DeleteKeyReplies rules options wraps force grip)
-  unfolding DeleteKeyReplies
-  delete_key_ok force grip = ok_then (λ there. ok_then (λ some. ok_then (λ agreed. ok_then (λ removed. ok_then (λ cleared. ok_returns (ends_in_ok completeness.none))))))
-
-  pub replies_ok : (asked : KeyRequest) → ReplyOk (KeyReplies rules options wraps asked)
-  replies_ok (on.HaveKey grips) = have_key_ok grips
-  replies_ok (on.KeyInfo grip) = key_info_ok grip
-  replies_ok on.ListKeys = list_keys_ok
-  replies_ok (on.KeyWrap way) = key_wrap_ok way
-  replies_ok (on.ImportKey force id) = import_key_ok force id
-  replies_ok (on.ExportKey grip id) = export_key_ok grip id
-  replies_ok (on.Passwd grip old new true) = verify_ok grip
-  replies_ok (on.Passwd grip old new false) = passwd_ok grip old new
-  replies_ok (on.DeleteKey grip force) = delete_key_ok force grip
-  replies_ok (on.Bad why) = refused_so (Agent why) (λ held. tt)
+pub replies_ok : (rules : Rules) (options : OptionValues) (wraps : WrapKeys) (asked : KeyRequest) → ReplyOk (KeyReplies rules options wraps asked)
+unfolding HaveKeyReplies KeyInfoReplies ListKeysReplies KeyWrapReplies ImportKeyReplies ExportKeyReplies PasswdReplies VerifyReplies DeleteKeyReplies
+replies_ok rules options wraps (on.HaveKey grips) = ok_then (λ one. ok_alone)
+replies_ok rules options wraps (on.KeyInfo grip) = ok_then (λ file. values_so (info_ok_of grip file.key wraps))
+replies_ok rules options wraps on.ListKeys = ok_then (λ grips. ok_then (λ written. ok_alone))
+replies_ok rules options wraps (on.KeyWrap way) = ok_then (λ key. values_so (tells_ok_of key _))
+replies_ok rules options wraps (on.ImportKey force id) =
+    ok_then (λ wrap. ok_then (λ key. ok_then (λ grip. ok_then (λ free. ok_then (λ pass. ok_then (λ cache_nonce. ok_returns (ends_in_ok (status_aside (nonce_status cache_nonce)))))))))
+replies_ok rules options wraps (on.ExportKey grip id) = ok_then (λ wrap. ok_then (λ file. ok_then (λ opened. ok_then (λ closed. ok_then (λ wrapped. values_so (tells_ok_of wrapped _))))))
+replies_ok rules options wraps (on.Passwd grip old new true) = ok_then (λ file. ok_then (λ opened. ok_then (λ closed. ok_alone)))
+replies_ok rules options wraps (on.Passwd grip old new false) = ok_then (λ file. ok_then (λ opened. ok_then (λ changed. ok_alone)))
+replies_ok rules options wraps (on.DeleteKey grip force) = ok_then (λ there. ok_then (λ some. ok_then (λ agreed. ok_then (λ removed. ok_then (λ cleared. ok_alone)))))
+replies_ok rules options wraps (on.Bad why) = refused_so (Agent why) (λ held. tt)
 
 module _ (request : Request) (rules : Rules) (options : OptionValues) (wraps : WrapKeys) where
   module _ {asked : KeyRequest} (is : on_keys request ≡ Some asked) where
@@ -289,3 +236,32 @@ module _ (request : Request) (rules : Rules) (options : OptionValues) (wraps : W
         let same : Err why ≡ Err (Client (client_error.Gone how)) = gone_only (ends_said request ends (said_before some _ (answer_heard (refusal_line why) closes_so) says_so)) in
         let refusal : why ≡ Client (client_error.Gone how) = cc same in
         ap (λ w. key_went_after (gone_by w)) refusal
+
+-- ---- a prompt is opened first
+
+module _ (rules : Rules) (options : OptionValues) (wraps : WrapKeys) where
+  opens : (asked : KeyRequest) → OpensSo (KeyReplies rules options wraps asked)
+  unfolding ImportKeyReplies ExportKeyReplies VerifyReplies PasswdReplies DeleteKeyReplies
+  opens (on.ImportKey force id) =
+      before_opens (each_needed IsUncalled code.Parameter wraps.import) (λ wrap. before_opens (each.receives_key IsUncalled still_uncalled wrap) (λ key. before_opens (each.names_key IsUncalled still_uncalled key)
+      (λ grip. before_opens (each.is_free IsUncalled still_uncalled force grip) (λ free. behind_opens
+      (prompts_opens (before_prompts (each.looks_over IsUncalled id (λ named turn. tt)) (λ found. otherwise_prompts found (new_by_prompts rules options grip options.mode))))
+      (λ pass. each_bind IsUnopening (each.stores_key IsUnopening still_unopening (λ key_grip secret turn. refl) (λ ticket keep turn. refl) (λ named secret turn. refl) options.s2k_count key grip pass)
+      (λ cache_nonce. each_returned IsUnopening _))))))
+  opens (on.ExportKey grip id) =
+      before_opens (each_needed IsUncalled code.Parameter wraps.export) (λ wrap. before_opens (each.reads_file IsUncalled still_uncalled grip) (λ file.
+      behind_opens (prompts_opens (old_by_prompts rules options grip id file.key file.key.is_clear)) (λ opened. each_bind IsUnopening (each_closes IsUnopening opened.by (λ number turn. refl))
+      (λ closed. each_bind IsUnopening (each.wraps_key IsUnopening still_unopening wrap opened.key)
+      (λ wrapped. each_bind IsUnopening (each.told IsUnopening still_unopening wrapped) (λ text. each_returned IsUnopening _))))))
+  opens (on.Passwd grip old new true) =
+      before_opens (each.reads_file IsUncalled still_uncalled grip) (λ file. behind_opens (prompts_opens (verified_prompts rules options grip file.key file.key.is_clear))
+      (λ opened. each_bind IsUnopening (each_closes IsUnopening opened.by (λ number turn. refl)) (λ closed. each_returned IsUnopening _)))
+  opens (on.Passwd grip old new false) = before_opens (each.reads_file IsUncalled still_uncalled grip) (λ file. record { of = both_of rules options grip wraps old new file.bytes file.key })
+  opens (on.DeleteKey grip force) =
+      before_opens (each.finds IsUncalled still_uncalled grip) (λ there. before_opens (each_wanted IsUncalled code.NoSecKey there) (λ some. behind_opens (agrees_opens rules options grip options.mode force)
+      (λ agreed. each_bind IsUnopening (each.removes IsUnopening still_unopening grip) (λ removed. each_bind IsUnopening (each_changes IsUnopening (λ turn. refl)) (λ cleared. each_returned IsUnopening _)))))
+  opens asked = calls_nobody (plain_replies IsUncalled still_uncalled (λ grip turn. tt) rules options wraps asked tt)
+
+  pub key_opens : (asked : KeyRequest) {events : List Event} {after : WrapKeys} {went : KeyWent} → KeyExchange rules options wraps asked events after went → OpensFirst events
+  key_opens asked (part_exchanges.answered events held reply does closes) = then_unopening events _ ((opens asked).of None events (Ok reply) held does) (answer_unopening (Some reply.text) closes)
+  key_opens asked (part_exchanges.refused events held why does closes) = then_unopening events _ ((opens asked).of None events (Err why) held does) (answer_unopening (refusal_line why) closes)

@@ -9,8 +9,8 @@ use Rattle.key_commands.specs.Lines.{max_key_data}
 use Rattle.key_commands.specs.Exchanges.{KeyReply, HaveKeyReplies, KeyInfoReplies, ListKeysReplies, KeyWrapReplies, ImportKeyReplies, ExportKeyReplies, PasswdReplies, VerifyReplies, DeleteKeyReplies, KeyReplies, wrap_key, StoresKey}
 use Rattle.key_commands.specs.{Exchanges.{FoundOrNew, RenewsPassphrase, RewritesFile, ChangesOpened}, Files.Rewrites}
 use Rattle.key_commands.specs.KeyParts.{Tells, tells, Protects, IsShort, HasOne as HasOneKey, TellsKeyInfo, ListsGrips, ReadsListed, WritesInfo, TellsListed, WritesInfos, AsksKeyData, Unwraps, ReceivesKey, NamesKey, IsFree, LooksOver}
-use Rattle.key_commands.specs.{KeyParts.{WrapsKey, Consents}, Parts.{Part, read_fault}, Passphrases.{ClientOld, UncachedOld, OpensLocked, OldPassphrase, VerifiesPassphrase, ClientNew, NewPassphrase, ask_key, way_of}}
-use Rattle.{key_commands.specs.{Wrapping.WrappedSays, declared.request.{Direction.Direction, KeyRequest.KeyRequest}}, agent_origin.specs.declared.session_state.SessionState.SessionState}
+use Rattle.key_commands.specs.{KeyParts.{WrapsKey, Consents}, Parts.{Part, read_fault}, Passphrases.{ClientOld, UncachedOld, OpensLocked, OldPassphrase, VerifiesPassphrase, ClientNew, NewPassphrase, ask_key, way_of}, Wrapping.WrappedSays}
+use Rattle.{key_commands.specs.declared.request.KeyRequest.KeyRequest, agent_origin.specs.declared.session_state.SessionState.SessionState}
 use Rattle.agent_session.specs.Causes.{Has, here, StandIn, IsCaused, IsSent, AreUnread, LacksKeys, on_keys, IsRefusedBy, one, IsRead, IsReadOf, IsDrawn, IsListOf, protected, IsReadLocked, OpensRead, Unlocks, exports, NamesOld, of_export}
 use Rattle.agent_session.specs.Causes.{of_change, ComesBy, AsksAny, of_new, of_import, new_plan, is_clear, key_data, KeyDataSays, data_says, faulty, long, long_file, by_mode, deletion, stays, empty, no_import, no_export, there, GivesNone}
 use Rattle.agent_session.specs.{Causes.{none_given, GivesNoneFor, ByNonce, HasNoEntry, exported, changed, verified, imported, renewed, IsUnprompted}, Completeness.IsStatus}
@@ -259,66 +259,15 @@ module _ (rules : Rules) (kept : SessionState) (request : Request) (whole : List
 -- ---- requests
 
 module _ (rules : Rules) (kept : SessionState) (request : Request) (whole : List (EventWith PortCall)) where
-  abbrev OpensAs : Grip → Key → Type 0
-  OpensAs = OpensHere rules kept request whole
-
   abbrev pub Replied : KeyReply → Type 0
   Replied reply = IsReply reply.text
 
   replied : (reply : KeyReply) → Replied reply → Explains whole (IsCaused whole rules kept request) (Returns reply) Replied
   replied reply text = returned Replied reply text
 
-  have_key : (grips : List Grip) → on_keys request ≡ Some (on.HaveKey grips) → Explains whole (IsCaused whole rules kept request) (HaveKeyReplies rules kept.options kept.wraps grips) Replied
-  unfolding HaveKeyReplies
-  have_key grips asked =
-      bind (has_one rules kept request whole grips (λ each. subst (LacksKeys whole) (sym asked) each)) (λ one any. replied _ reply_ok)
-
-  key_info : (grip : Grip) → on_keys request ≡ Some (on.KeyInfo grip) → Explains whole (IsCaused whole rules kept request) (KeyInfoReplies rules kept.options kept.wraps grip) Replied
-  unfolding KeyInfoReplies
-  key_info grip asked =
-      bind (reads_file rules kept request whole grip (causes.tells asked) (λ absent. subst (LacksKeys whole) (sym asked) absent))
-      (λ file is_read. bind (tells_info rules kept request whole grip file.key) (λ line status. replied _ (reply_status _ status)))
-
-  list_keys : Explains whole (IsCaused whole rules kept request) (ListKeysReplies rules kept.options kept.wraps) Replied
-  unfolding ListKeysReplies
-  list_keys =
-      bind (lists rules kept request whole) (λ grips any. bind (writes_infos rules kept request whole grips) (λ written any. replied _ reply_ok))
-
-  key_wrap : (way : Direction) → Explains whole (IsCaused whole rules kept request) (KeyWrapReplies rules kept.options kept.wraps way) Replied
-  unfolding KeyWrapReplies
-  key_wrap way =
-      bind (or_otherwise Anything (wrap_key way kept.wraps) _ (λ some is. tt) (λ none. whatever (IsDrawn whole 16) (draws rules kept request whole 16)))
-      (λ key any. bind (told rules kept request whole key) (λ text is_reply. replied _ is_reply))
-
-  export_key : (grip : Grip) (nonce : Option (List ℕ)) → on_keys request ≡ Some (on.ExportKey grip nonce)
-      → Explains whole (IsCaused whole rules kept request) (ExportKeyReplies rules kept.options kept.wraps grip nonce) Replied
-  unfolding ExportKeyReplies
-  export_key grip id asked =
-      bind (is_needed Anything code.Parameter kept.wraps.export (λ none. no_export asked none) (λ some is. tt))
-      (λ wrap any. bind (reads_file rules kept request whole grip (causes.unlocks (exports asked)) (λ absent. subst (LacksKeys whole) (sym asked) absent))
-      (λ file is_read. bind (old_passphrase rules kept request whole grip (exports asked) file.key.is_clear file.key id (λ nonce same. of_export (subst (λ n. on_keys request ≡ Some (on.ExportKey grip n)) same asked)) is_read.1 (λ locked is_locked by_nonce by_key. exported _ asked is_locked by_nonce by_key))
-      (λ opened opens. bind (closes_explained opened.by) (λ closed any. bind (wraps_key rules kept request whole wrap opened.key)
-      (λ wrapped any. bind (told rules kept request whole wrapped) (λ text is_reply. replied _ is_reply))))))
-
-  verify : (grip : Grip) {old new : Option (List ℕ)} → on_keys request ≡ Some (on.Passwd grip old new true)
-      → Explains whole (IsCaused whole rules kept request) (VerifyReplies rules kept.options kept.wraps grip) Replied
-  unfolding VerifyReplies
-  verify grip asked =
-      bind (reads_file rules kept request whole grip (causes.unlocks (causes.changes asked)) (λ absent. subst (LacksKeys whole) (sym asked) absent))
-      (λ file is_read. bind (verifies_passphrase rules kept request whole grip (causes.changes asked) file.key.is_clear file.key is_read.1 (λ locked is_locked. verified asked is_locked))
-      (λ opened opens. bind (closes_explained opened.by) (λ closed any. replied _ reply_ok)))
-
-  delete_key : (grip : Grip) (force : Bool) → on_keys request ≡ Some (on.DeleteKey grip force) → Explains whole (IsCaused whole rules kept request) (DeleteKeyReplies rules kept.options kept.wraps force grip) Replied
-  unfolding DeleteKeyReplies
-  delete_key grip force asked =
-      bind (finds rules kept request whole grip) (λ found so. bind (is_wanted code.NoSecKey found (λ none. lacks found none so))
-      (λ some any. bind (consents rules kept request whole grip kept.options.mode force asked)
-      (λ agreed any. bind (removes rules kept request whole grip (λ absent. subst (LacksKeys whole) (sym asked) (inr absent)))
-      (λ removed any. bind (changes rules kept request whole _ refl) (λ cleared any. replied _ reply_ok)))))
-    where
-      lacks : (found : Bool) → found ≡ false → IsFound rules kept request whole grip found → LacksKeys whole (on_keys request)
-      lacks true none so = absurd (cc none)
-      lacks false none so = subst (LacksKeys whole) (sym asked) (inl so)
+  unless_found : {grip : Grip} {force : Bool} → on_keys request ≡ Some (on.DeleteKey grip force) → (found : Bool) → found ≡ false → IsFound rules kept request whole grip found → LacksKeys whole (on_keys request)
+  unless_found asked true none so = absurd (cc none)
+  unless_found asked false none so = subst (LacksKeys whole) (sym asked) (inl so)
 
   found_or_new : (grip : Grip) (force : Bool) (nonce : Option (List ℕ)) → on_keys request ≡ Some (on.ImportKey force nonce)
       → Explains whole (IsCaused whole rules kept request) (FoundOrNew rules kept.options nonce grip) Anything
@@ -356,15 +305,6 @@ module _ (rules : Rules) (kept : SessionState) (request : Request) (whole : List
         (λ file is_protected. bind (changes rules kept request whole _ refl) (λ cached any. bind (replaces rules kept request whole never_absent grip file)
         (λ replaced any. bind (keeps_new rules kept request whole grip pass) (λ kept_so any. returned Anything (drop 20 drawn) tt)))))
 
-    import_key : (force : Bool) (nonce : Option (List ℕ)) → on_keys request ≡ Some (on.ImportKey force nonce)
-        → Explains whole (IsCaused whole rules kept request) (ImportKeyReplies rules kept.options kept.wraps force nonce) Replied
-    unfolding ImportKeyReplies
-    import_key force id asked =
-        bind (is_needed (λ wrap. kept.wraps.import ≡ Some wrap) code.Parameter kept.wraps.import (λ none. no_import asked none) (λ some is. is))
-        (λ wrap drawn. bind (receives_key rules kept request whole wrap drawn) (λ key says. bind (names_key rules kept request whole key)
-        (λ grip named. bind (is_free rules kept request whole force grip asked says named) (λ free any. bind (found_or_new grip force id asked)
-        (λ pass any. bind (stores_key kept.options.s2k_count key grip pass) (λ cache_nonce any. replied _ (reply_nonce _)))))))
-
     module _ (grip : Grip) {old new : Option (List ℕ)} (asked : on_keys request ≡ Some (on.Passwd grip old new false)) (file : List ℕ) (is_read : IsReadOf whole grip file) (key : Key)
         (opens : OpensRead whole rules kept.options request grip key) where
       rewrites_file : (pass : List ℕ) → Explains whole (IsCaused whole rules kept request) (RewritesFile rules kept.options grip file key pass) Anything
@@ -378,24 +318,44 @@ module _ (rules : Rules) (kept : SessionState) (request : Request) (whole : List
       changes_opened =
           bind (is_short grip asked key opens) (λ short any. bind (renews grip asked) (λ pass any. rewrites_file pass))
 
-    passwd : (grip : Grip) (nonce new_nonce : Option (List ℕ)) → on_keys request ≡ Some (on.Passwd grip nonce new_nonce false)
-        → Explains whole (IsCaused whole rules kept request) (PasswdReplies rules kept.options kept.wraps grip nonce new_nonce) Replied
-    unfolding PasswdReplies
-    passwd grip id new_id asked =
-        bind (reads_file rules kept request whole grip (causes.unlocks (causes.changes asked)) (λ absent. subst (LacksKeys whole) (sym asked) absent))
-        (λ file is_read. bind (old_passphrase rules kept request whole grip (causes.changes asked) file.key.is_clear file.key id (λ nonce same. of_change (subst (λ n. on_keys request ≡ Some (on.Passwd grip n new_id false)) same asked)) is_read.1 (λ locked is_locked by_nonce by_key. changed _ asked is_locked by_nonce by_key))
-        (λ opened opens. bind (changes_opened grip asked file.bytes is_read.0 opened.key opens) (λ changed_so any. replied _ reply_ok)))
-
     -- a request on keys, whose line may be refused
     module _ (line_caused : (why : Code) → IsRefusedBy request why → IsCaused whole rules kept request why OfAgent) where
       pub replies : (asked : KeyRequest) → on_keys request ≡ Some asked → Explains whole (IsCaused whole rules kept request) (KeyReplies rules kept.options kept.wraps asked) Replied
-      replies (on.HaveKey grips) is = have_key grips is
-      replies (on.KeyInfo grip) is = key_info grip is
-      replies on.ListKeys is = list_keys
-      replies (on.KeyWrap way) is = key_wrap way
-      replies (on.ImportKey force id) is = import_key force id is
-      replies (on.ExportKey grip id) is = export_key grip id is
-      replies (on.Passwd grip old new true) is = verify grip is
-      replies (on.Passwd grip old new false) is = passwd grip old new is
-      replies (on.DeleteKey grip force) is = delete_key grip force is
-      replies (on.Bad why) is = refused Replied (Agent why) (line_caused why (inr is))
+      unfolding HaveKeyReplies KeyInfoReplies ListKeysReplies KeyWrapReplies ImportKeyReplies ExportKeyReplies PasswdReplies VerifyReplies DeleteKeyReplies
+      replies (on.HaveKey grips) asked =
+          bind (has_one rules kept request whole grips (λ each. subst (LacksKeys whole) (sym asked) each)) (λ one any. replied _ reply_ok)
+      replies (on.KeyInfo grip) asked =
+          bind (reads_file rules kept request whole grip (causes.tells asked) (λ absent. subst (LacksKeys whole) (sym asked) absent))
+          (λ file is_read. bind (tells_info rules kept request whole grip file.key) (λ line status. replied _ (reply_status _ status)))
+      replies on.ListKeys asked =
+          bind (lists rules kept request whole) (λ grips any. bind (writes_infos rules kept request whole grips) (λ written any. replied _ reply_ok))
+      replies (on.KeyWrap way) asked =
+          bind (or_otherwise Anything (wrap_key way kept.wraps) _ (λ some is. tt) (λ none. whatever (IsDrawn whole 16) (draws rules kept request whole 16)))
+          (λ key any. bind (told rules kept request whole key) (λ text is_reply. replied _ is_reply))
+      replies (on.ImportKey force id) asked =
+          bind (is_needed (λ wrap. kept.wraps.import ≡ Some wrap) code.Parameter kept.wraps.import (λ none. no_import asked none) (λ some is. is))
+          (λ wrap drawn. bind (receives_key rules kept request whole wrap drawn) (λ key says. bind (names_key rules kept request whole key)
+          (λ grip named. bind (is_free rules kept request whole force grip asked says named) (λ free any. bind (found_or_new grip force id asked)
+          (λ pass any. bind (stores_key kept.options.s2k_count key grip pass) (λ cache_nonce any. replied _ (reply_nonce _)))))))
+      replies (on.ExportKey grip id) asked =
+          bind (is_needed Anything code.Parameter kept.wraps.export (λ none. no_export asked none) (λ some is. tt))
+          (λ wrap any. bind (reads_file rules kept request whole grip (causes.unlocks (exports asked)) (λ absent. subst (LacksKeys whole) (sym asked) absent))
+          (λ file is_read. bind (old_passphrase rules kept request whole grip (exports asked) file.key.is_clear file.key id (λ nonce same. of_export (subst (λ n. on_keys request ≡ Some (on.ExportKey grip n)) same asked)) is_read.1
+          (λ locked is_locked by_nonce by_key. exported _ asked is_locked by_nonce by_key))
+          (λ opened opens. bind (closes_explained opened.by) (λ closed any. bind (wraps_key rules kept request whole wrap opened.key)
+          (λ wrapped any. bind (told rules kept request whole wrapped) (λ text is_reply. replied _ is_reply))))))
+      replies (on.Passwd grip old new true) asked =
+          bind (reads_file rules kept request whole grip (causes.unlocks (causes.changes asked)) (λ absent. subst (LacksKeys whole) (sym asked) absent))
+          (λ file is_read. bind (verifies_passphrase rules kept request whole grip (causes.changes asked) file.key.is_clear file.key is_read.1 (λ locked is_locked. verified asked is_locked))
+          (λ opened opens. bind (closes_explained opened.by) (λ closed any. replied _ reply_ok)))
+      replies (on.Passwd grip old new false) asked =
+          bind (reads_file rules kept request whole grip (causes.unlocks (causes.changes asked)) (λ absent. subst (LacksKeys whole) (sym asked) absent))
+          (λ file is_read. bind (old_passphrase rules kept request whole grip (causes.changes asked) file.key.is_clear file.key old (λ nonce same. of_change (subst (λ n. on_keys request ≡ Some (on.Passwd grip n new false)) same asked)) is_read.1
+          (λ locked is_locked by_nonce by_key. changed _ asked is_locked by_nonce by_key))
+          (λ opened opens. bind (changes_opened grip asked file.bytes is_read.0 opened.key opens) (λ changed_so any. replied _ reply_ok)))
+      replies (on.DeleteKey grip force) asked =
+          bind (finds rules kept request whole grip) (λ found so. bind (is_wanted code.NoSecKey found (λ none. unless_found asked found none so))
+          (λ some any. bind (consents rules kept request whole grip kept.options.mode force asked)
+          (λ agreed any. bind (removes rules kept request whole grip (λ absent. subst (LacksKeys whole) (sym asked) (inr absent)))
+          (λ removed any. bind (changes rules kept request whole _ refl) (λ cleared any. replied _ reply_ok)))))
+      replies (on.Bad why) asked = refused Replied (Agent why) (line_caused why (inr asked))

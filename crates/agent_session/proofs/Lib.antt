@@ -14,7 +14,6 @@ mod Exact
 mod ExactCache
 mod ExactEnds
 mod ExactFiles
-mod ExactKeys
 mod ExactLong
 mod ExactParts
 mod ExactReads
@@ -35,7 +34,6 @@ mod Opens
 mod OwnCache
 mod OwnFacts
 mod OwnKeys
-mod OwnKeyLines
 mod OwnLines
 mod OwnParts
 pub mod OwnSessions

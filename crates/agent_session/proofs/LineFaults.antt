@@ -1,5 +1,5 @@
 -- By which codes lines are refused.
-use Rattle.std.{proofs.Common.{◌≡◌, ℕ, Bool, true, false, List, [], ◌∷◌, codes, Option, Some, None, Result, Ok, Err, subst, inl, inr}, specs.Prelude.{if◌then◌else◌, ⊤}}
+use Rattle.std.{proofs.Common.{rules, ◌≡◌, ℕ, Bool, true, false, List, [], ◌∷◌, codes, Option, Some, None, Result, Ok, Err, subst, inl, inr}, specs.Prelude.{if◌then◌else◌, ⊤}}
 use Rattle.{agent_ask.specs.PortCalls.PortCall, session_client.specs.declared.code.Code.Code, assuan_server.specs.declared.errors.Origin.TheVariants.Agent}
 use Rattle.{assuan_text.specs.{Options.{options_of, arguments_of, has_option, last_option, last_value}, Words.{rest_of, words}}, session_options.specs.declared.rules.Rules.Rules, agent_commands.specs.Events.EventWith}
 use Rattle.agent_commands.specs.{Fields.{cache_id, repeats, texts, life, cleared_mode, given_passphrase}, Requests.request_of, declared.request.{CacheCommand.CacheCommand, Request.{Request, TheVariants.{Cache, Key, Bad}}}}
@@ -84,19 +84,13 @@ description_fits [] = fault form
 description_fits (word ∷ more) = fine tt
 
 asked_fits : (command : CommandName) (rest : List ℕ) → Fits (requests.asked_by command rest)
-asked_fits name.Nop rest = fine tt
-asked_fits name.Reset rest = fine tt
-asked_fits name.Bye rest = fine tt
-asked_fits name.Help rest = fine tt
-asked_fits name.SetOption rest = fine tt
 asked_fits name.GetInfo rest = then_fits (requests.info_of (arguments_of (words rest))) _ (info_fits (arguments_of (words rest))) (λ info. (fine tt))
 asked_fits name.GetPassphrase rest = get_fits (options_of (words rest)) (arguments_of (words rest))
 asked_fits name.PresetPassphrase rest = preset_fits (options_of (words rest)) (arguments_of (words rest))
 asked_fits name.ClearPassphrase rest = clear_fits (options_of (words rest)) (arguments_of (words rest))
 asked_fits name.GetConfirmation rest = confirmation_fits (arguments_of (words rest))
-asked_fits name.ReloadAgent rest = fine tt
-asked_fits name.KillAgent rest = fine tt
 asked_fits name.SetKeyDesc rest = description_fits (words rest)
+asked_fits _ rest = fine tt
 
 -- a request that isn't refused, or is by one of them
 pub data FitsRequest : Request → Type 0 where
@@ -124,21 +118,10 @@ grips_fit : (words : List (List ℕ)) → Fits (key_requests.all_grips words)
 grips_fit [] = fine tt
 grips_fit (word ∷ more) = field_fits (key_requests.grip word) _ (λ first. then_fits (key_requests.all_grips more) _ (grips_fit more) (λ others. (fine tt)))
 
-wrap_fits : (options : List (List ℕ)) → FitsSo IsAsked (key_requests.wrap_of options)
-wrap_fits options = field_fits (key_requests.direction (has_option (codes "--import") options) (has_option (codes "--export") options)) _ (λ way. (fine tt))
-
+-- each is made of fields and choices, of which the lemmas above are
 key_asked_fits : (command : KeyCommandName) (rest : List ℕ) → FitsSo IsAsked (key_requests.key_asked_by command rest)
 key_asked_fits key_name.HaveKey rest = let arguments = arguments_of (words rest) in then_fits (key_requests.some_grips arguments) _ (if_fits _ (grips_fit arguments) (fault form)) (λ grips. (fine tt))
-key_asked_fits key_name.KeyInfo rest = if_fits _ (fine tt) (field_fits (key_requests.first_grip (arguments_of (words rest))) _ (λ grip. (fine tt)))
-key_asked_fits key_name.KeyWrap rest = wrap_fits (options_of (words rest))
-key_asked_fits key_name.ImportKey rest = field_fits (key_requests.nonce (key_requests.first_word (arguments_of (words rest)))) _ (λ nonce. (fine tt))
-key_asked_fits key_name.ExportKey rest =
-    field_fits (key_requests.first_grip (arguments_of (words rest))) _ (λ grip. field_fits (key_requests.nonce (last_value (codes "--cache-nonce") (options_of (words rest)))) _ (λ nonce. (fine tt)))
-key_asked_fits key_name.Passwd rest =
-    field_fits (key_requests.first_grip (arguments_of (words rest))) _
-    (λ grip. field_fits (key_requests.nonce (last_value (codes "--cache-nonce") (options_of (words rest)))) _
-    (λ old. field_fits (key_requests.nonce (last_value (codes "--passwd-nonce") (options_of (words rest)))) _ (λ new. (fine tt))))
-key_asked_fits key_name.DeleteKey rest = field_fits (key_requests.first_grip (arguments_of (words rest))) _ (λ grip. if_fits _ (fault unsupported) (fine tt))
+key_asked_fits _ rest = search (rules, if_fits, field_fits, fine, fault, unsupported)
 
 either_asked : (result : Result KeyRequest Code) → FitsSo IsAsked result → (why : Code) → key_requests.key_or_bad result ≡ on.Bad why → IsLineCode why
 either_asked (Ok value) (fine good) why is = absurd (subst IsAsked is good)
@@ -146,9 +129,7 @@ either_asked (Err given) (fault code_is) why is = let same : given ≡ why = cc 
 
 named_asked : (found : Option Command) (input : List ℕ) (why : Code) → key_requests.key_request_by found (rest_of input) ≡ on.Bad why → IsLineCode why
 named_asked (Some (at_table.Key name)) input why is = either_asked (key_requests.key_asked_by name (rest_of input)) (key_asked_fits name (rest_of input)) why is
-named_asked (Some (at_table.Cache name)) input why is = let same : code.UnknownCommand ≡ why = cc in subst IsLineCode same unknown
-named_asked (Some (at_table.Trust name)) input why is = let same : code.UnknownCommand ≡ why = cc in subst IsLineCode same unknown
-named_asked None input why is = let same : code.UnknownCommand ≡ why = cc in subst IsLineCode same unknown
+named_asked _ input why is = let same : code.UnknownCommand ≡ why = cc in subst IsLineCode same unknown
 
 pub key_request_fits : (input : List ℕ) (why : Code) → key_request_of input ≡ on.Bad why → IsLineCode why
 unfolding key_request_of

@@ -1,25 +1,19 @@
 -- In a request a prompt is opened before the prompter is called, and once.
-use Rattle.std.{specs.{List.AllByRecursion, Prelude.⊤}, proofs.Common.{◌≡◌, ℕ, Bool, true, false, List, [], ◌∷◌, ◌++◌, Option, Some, None, Result, Ok, Err, refl, subst, inl, inr, append-nil}}
-use Rattle.agent_ask.specs.{PortCalls.{PortCall, Keys, Dice, NoMemory, Prompt, Trust}, SessionEvents.{Received, Sent, Cut, Inquiry, CacheTurn, Port, said_last}, Parts.{◌>>=◌, goes_on, stops, Returns, or_else}, TurnParts.Closes}
-use Rattle.{agent_ask.proofs.Within.{Within, Does, does_join, weaker, bind, or_otherwise}, agent_ports.specs.declared.grip.Grip.Grip, secret_file.specs.Opens.LockedKey, session_options.specs.OptionValues.OptionValues}
-use Rattle.{session_options.specs.declared.{options.PinMode.PinMode, rules.Rules.Rules}, sexp_keys.specs.Key.Key, agent_commands.specs.Events.EventWith, key_commands.specs.Events.IsUncalled}
-use Rattle.key_commands.specs.Exchanges.{KeyReply, KeyExchange, HaveKeyReplies, KeyInfoReplies, ListKeysReplies, KeyWrapReplies, ImportKeyReplies, ExportKeyReplies, PasswdReplies, VerifyReplies, DeleteKeyReplies, KeyReplies, wrap_key}
-use Rattle.key_commands.specs.{Exchanges.{RenewsPassphrase, ChangesOpened}, KeyParts.{IsShort, Consents}, Parts.Part, Passphrases.{PromptsOld, PromptsNew, UncachedOld, OpensLocked, OldPassphrase, LooksForNonce, TakesSeat}}
-use Rattle.key_commands.specs.declared.{request.{Direction.Direction, KeyRequest.KeyRequest}, went.KeyWent.KeyWent, wrap_keys.WrapKeys.WrapKeys}
-use Rattle.key_commands.proofs.EachEvent.{each_append, IsStill, still_uncalled, agrees_to, each_answer, EachSo, each_bind, each_returned, each_refused, each_needed, each_otherwise, each_wanted, each_looks, each_seats, each_changes}
-use Rattle.key_commands.proofs.EachEvent.{looks_nonce, looks_over, takes_seat, each_closes, finds, draws, reads_file, lists, told, is_short, names_key, wraps_key, receives_key, is_free, has_one, locks, tries_found, removes, tells_info}
-use Rattle.{key_commands.proofs.EachEvent.{writes_infos, client_old, rewrites_file, stores_key, client_new, prompts_old, prompts_new}, assuan_server.specs.Written.{ok, refusal_line}, session_client.specs.declared.refusal.Refusal.Refusal}
-use Rattle.session_client.specs.declared.refusal.Refusal.TheVariants.{Agent}
+use Rattle.std.{specs.{List.AllByRecursion, Prelude.⊤}, proofs.Common.{◌≡◌, ℕ, Bool, true, false, List, ◌∷◌, ◌++◌, Option, Some, None, Result, Ok, Err, refl, subst, inl, inr, append-nil, []}}
+use Rattle.agent_ask.{specs.{PortCalls.{PortCall, Trust}, SessionEvents.{CacheTurn, Port, said_last}, Parts.{◌>>=◌, goes_on, stops, Returns, or_else}, TurnParts.Closes}, proofs.Within.{Within, Does, does_join, weaker, bind, or_otherwise}}
+use Rattle.{agent_ports.specs.declared.grip.Grip.Grip, secret_file.specs.Opens.LockedKey, session_options.specs.{OptionValues.OptionValues, declared.{options.PinMode.PinMode, rules.Rules.Rules}}, sexp_keys.specs.Key.Key}
+use Rattle.{agent_commands.specs.Events.EventWith, key_commands.specs.{Events.IsUncalled, Exchanges.{KeyReply, RenewsPassphrase, ChangesOpened}, KeyParts.{IsShort, Consents}, Parts.Part}}
+use Rattle.key_commands.specs.{Passphrases.{PromptsOld, PromptsNew, UncachedOld, OpensLocked, OldPassphrase, LooksForNonce, TakesSeat}, declared.wrap_keys.WrapKeys.WrapKeys}
+use Rattle.key_commands.proofs.EachEvent.{each_append, IsStill, still_uncalled, agrees_to, each_answer, EachSo, each_returned, each_refused, each_looks, each_seats, looks_nonce, takes_seat, is_short, locks, tries_found, client_old}
+use Rattle.{key_commands.proofs.EachEvent.{rewrites_file, client_new, prompts_old, prompts_new}, assuan_server.specs.Written.ok, session_client.specs.declared.refusal.Refusal.{Refusal, TheVariants.Agent}}
 use Rattle.agent_session.specs.Refusals.{IsUnopening, OpensFirst}
 use Rattle.session_client.specs.declared.code.Code.TheVariants as code
 use Rattle.session_options.specs.declared.options.PinMode.TheVariants as mode
-use Rattle.agent_ask.specs.PartExchanges as part_exchanges
 use Rattle.key_commands.specs.Exchanges as exchange
 use Rattle.key_commands.specs.KeyParts as parts
 use Rattle.agent_ask.specs.Parts as chain
 use Rattle.agent_ask.specs.TurnParts as taken
 use Rattle.key_commands.specs.Passphrases as passphrases
-use Rattle.key_commands.specs.declared.request.KeyRequest.TheVariants as on
 
 abbrev pub Uncalled : List (EventWith PortCall) → Type 0
 Uncalled events = AllByRecursion IsUncalled events
@@ -34,16 +28,9 @@ abbrev pub UnopeningSo : {A : Type 0} → Part A → Type 0
 UnopeningSo part = EachSo IsUnopening part
 
 pub still_unopening : (event : EventWith PortCall) → IsStill event → IsUnopening event
-still_unopening (Sent text) still = tt
-still_unopening (Cut text) still = tt
-still_unopening (Inquiry word params limit inquired) still = tt
-still_unopening (Port (Keys call)) still = tt
-still_unopening (Port (Dice draw)) still = tt
 still_unopening (Port (Trust call)) still = absurd still
-still_unopening (Port NoMemory) still = tt
-still_unopening (Port (Prompt event)) still = tt
 still_unopening (CacheTurn taken) still = absurd still
-still_unopening (Received took) still = tt
+still_unopening _ still = tt
 
 -- ---- lists
 
@@ -78,7 +65,7 @@ OpensSo part = Within part (Does OpensFirst)
 uncalled_prompts : {A : Type 0} {part : Part A} → UncalledSo part → PromptsSo part
 uncalled_prompts = weaker (record { of = λ before events result after each. (uncalled_opens events each, λ none. each) })
 
-prompts_opens : {A : Type 0} {part : Part A} → PromptsSo part → OpensSo part
+pub prompts_opens : {A : Type 0} {part : Part A} → PromptsSo part → OpensSo part
 prompts_opens = weaker (record { of = λ before events result after prompts. prompts.0 })
 
 pub calls_nobody : {A : Type 0} {part : Part A} → UncalledSo part → OpensSo part
@@ -95,10 +82,10 @@ seated_prompts each holds = record {
 }
 
 module _ {A B : Type 0} {part : Part A} {next : A → Part B} where
-  before_opens : UncalledSo part → ((value : A) → OpensSo (next value)) → OpensSo (part >>= next)
+  pub before_opens : UncalledSo part → ((value : A) → OpensSo (next value)) → OpensSo (part >>= next)
   before_opens = bind (does_join uncalled_first uncalled_opens)
 
-  before_prompts : UncalledSo part → ((value : A) → PromptsSo (next value)) → PromptsSo (part >>= next)
+  pub before_prompts : UncalledSo part → ((value : A) → PromptsSo (next value)) → PromptsSo (part >>= next)
   before_prompts = bind (record {
     then = λ some later each prompts. (uncalled_first some later each prompts.0, λ none. each_append IsUncalled some later each (prompts.1 none));
     alone = λ {before} {after} {events} each. (uncalled_opens events each, λ none. each);
@@ -108,7 +95,7 @@ module _ {A B : Type 0} {part : Part A} {next : A → Part B} where
   pub behind_opens : OpensSo part → ((value : A) → UnopeningSo (next value)) → OpensSo (part >>= next)
   behind_opens = bind (does_join then_unopening (λ some opens. opens))
 
-otherwise_prompts : {A : Type 0} (value : Option A) {other : Part A} → PromptsSo other → PromptsSo (or_else value other)
+pub otherwise_prompts : {A : Type 0} (value : Option A) {other : Part A} → PromptsSo other → PromptsSo (or_else value other)
 otherwise_prompts = or_otherwise (record { of = λ held result. (tt, λ none. tt) })
 
 -- ---- prompts
@@ -142,21 +129,21 @@ module _ (rules : Rules) (options : OptionValues) (grip : Grip) where
       before_prompts (looks_nonce IsUncalled id (λ named turn. tt)) (λ by_nonce. before_prompts (tries_found IsUncalled still_uncalled locked by_nonce) (λ first. otherwise_prompts first
       (before_prompts (each_looks IsUncalled (λ turn. tt)) (λ cached. before_prompts (tries_found IsUncalled still_uncalled locked cached) (λ second. otherwise_prompts second (uncached_prompts locked options.mode))))))
 
-  old_by_prompts : (id : Option (List ℕ)) (key : Key) (clear : Bool) → PromptsSo (passphrases.old_by rules options grip id key clear)
+  pub old_by_prompts : (id : Option (List ℕ)) (key : Key) (clear : Bool) → PromptsSo (passphrases.old_by rules options grip id key clear)
   old_by_prompts id key true = uncalled_prompts (each_returned IsUncalled _)
   old_by_prompts id key false = before_prompts (locks IsUncalled still_uncalled key) (λ locked. locked_prompts id locked)
 
-  verified_prompts : (key : Key) (clear : Bool) → PromptsSo (passphrases.verified_by rules options grip key clear)
+  pub verified_prompts : (key : Key) (clear : Bool) → PromptsSo (passphrases.verified_by rules options grip key clear)
   verified_prompts key true = uncalled_prompts (each_returned IsUncalled _)
   verified_prompts key false = before_prompts (locks IsUncalled still_uncalled key) (λ locked. uncached_prompts locked options.mode)
 
-  new_by_prompts : (way : PinMode) → PromptsSo (passphrases.new_by rules options grip way)
+  pub new_by_prompts : (way : PinMode) → PromptsSo (passphrases.new_by rules options grip way)
   new_by_prompts mode.Ask = before_prompts (takes_seat IsUncalled grip (λ turn. tt)) (λ seated_so. new_prompts)
   new_by_prompts mode.Cancel = uncalled_prompts (each_refused IsUncalled (Agent code.Cancelled))
   new_by_prompts mode.Error = uncalled_prompts (each_refused IsUncalled (Agent code.NoPinentry))
   new_by_prompts mode.Loopback = uncalled_prompts (client_new IsUncalled still_uncalled)
 
-agrees_opens : (rules : Rules) (options : OptionValues) (grip : Grip) (way : PinMode) (force : Bool) → OpensSo (Consents rules (record options { mode = way }) force grip)
+pub agrees_opens : (rules : Rules) (options : OptionValues) (grip : Grip) (way : PinMode) (force : Bool) → OpensSo (Consents rules (record options { mode = way }) force grip)
 agrees_opens rules options grip way true = calls_nobody (each_returned IsUncalled tt)
 agrees_opens rules options grip mode.Ask false =
     before_opens (each_seats IsUncalled (λ turn. tt)) (λ seated_so. unopening_part_opens (agrees_to IsUnopening still_unopening (λ event. tt) rules (record options { mode = mode.Ask }) _))
@@ -232,7 +219,7 @@ module _ (rules : Rules) (options : OptionValues) (grip : Grip) where
       (λ pass. rewrites_file IsUnopening still_unopening (λ key_grip secret turn. refl) (λ ticket keep turn. refl) rules options grip file key pass))
 
   -- both passphrases, under one ticket
-  both_of : (wraps : WrapKeys) (old_id new_id : Option (List ℕ)) (file : List ℕ) (key : Key) (before : Option ℕ) (events : List (EventWith PortCall)) (result : Result KeyReply Refusal) (after : Option ℕ)
+  pub both_of : (wraps : WrapKeys) (old_id new_id : Option (List ℕ)) (file : List ℕ) (key : Key) (before : Option ℕ) (events : List (EventWith PortCall)) (result : Result KeyReply Refusal) (after : Option ℕ)
       → (OldPassphrase rules options grip old_id key >>= λ opened. (ChangesOpened rules options grip new_id file opened.key >>= λ changed. Returns (exchange.key_reply wraps ok))) before events result after
       → OpensFirst events
   both_of wraps old_id new_id file key before events result after (goes_on {first = some} {events = more} {value = opened} {mid = None} does next_does) =
@@ -242,73 +229,3 @@ module _ (rules : Rules) (options : OptionValues) (grip : Grip) where
       then_unopening some more ((old_by_prompts rules options grip old_id key key.is_clear).of before some (Ok opened) (Some number) does).0
       ((seated_then (changes_seated new_id file opened.key) (λ changed. each_returned IsUnopening _)).of (Some number) more result after next_does tt)
   both_of wraps old_id new_id file key before events result after (stops {refusal = why} does) = ((old_by_prompts rules options grip old_id key key.is_clear).of before events (Err why) after does).0
-
--- ---- requests
-
-module _ (rules : Rules) (options : OptionValues) (wraps : WrapKeys) where
-  have_key : (grips : List Grip) → OpensSo (HaveKeyReplies rules options wraps grips)
-  unfolding HaveKeyReplies
-  have_key grips = calls_nobody (each_bind IsUncalled (has_one IsUncalled still_uncalled grips) (λ one. each_returned IsUncalled _))
-
-  key_info : (grip : Grip) → OpensSo (KeyInfoReplies rules options wraps grip)
-  unfolding KeyInfoReplies
-  key_info grip = calls_nobody (each_bind IsUncalled (reads_file IsUncalled still_uncalled grip)
-      (λ file. each_bind IsUncalled (tells_info IsUncalled still_uncalled (λ key turn. tt) grip file.key) (λ line. each_returned IsUncalled _)))
-
-  list_keys : OpensSo (ListKeysReplies rules options wraps)
-  unfolding ListKeysReplies
-  list_keys = calls_nobody (each_bind IsUncalled (lists IsUncalled still_uncalled) (λ grips. each_bind IsUncalled (writes_infos IsUncalled still_uncalled (λ key turn. tt) grips) (λ written. each_returned IsUncalled _)))
-
-  key_wrap : (way : Direction) → OpensSo (KeyWrapReplies rules options wraps way)
-  unfolding KeyWrapReplies
-  key_wrap way =
-      calls_nobody (each_bind IsUncalled (each_otherwise IsUncalled (wrap_key way wraps) (draws IsUncalled still_uncalled 16))
-      (λ key. each_bind IsUncalled (told IsUncalled still_uncalled key) (λ text. each_returned IsUncalled _)))
-
-  export_key : (grip : Grip) (id : Option (List ℕ)) → OpensSo (ExportKeyReplies rules options wraps grip id)
-  unfolding ExportKeyReplies
-  export_key grip id =
-      before_opens (each_needed IsUncalled code.Parameter wraps.export) (λ wrap. before_opens (reads_file IsUncalled still_uncalled grip) (λ file.
-      behind_opens (prompts_opens (old_by_prompts rules options grip id file.key file.key.is_clear)) (λ opened. each_bind IsUnopening (each_closes IsUnopening opened.by (λ number turn. refl))
-      (λ closed. each_bind IsUnopening (wraps_key IsUnopening still_unopening wrap opened.key) (λ wrapped. each_bind IsUnopening (told IsUnopening still_unopening wrapped) (λ text. each_returned IsUnopening _))))))
-
-  verify : (grip : Grip) → OpensSo (VerifyReplies rules options wraps grip)
-  unfolding VerifyReplies
-  verify grip =
-      before_opens (reads_file IsUncalled still_uncalled grip) (λ file. behind_opens (prompts_opens (verified_prompts rules options grip file.key file.key.is_clear))
-      (λ opened. each_bind IsUnopening (each_closes IsUnopening opened.by (λ number turn. refl)) (λ closed. each_returned IsUnopening _)))
-
-  delete_key : (force : Bool) (grip : Grip) → OpensSo (DeleteKeyReplies rules options wraps force grip)
-  unfolding DeleteKeyReplies
-  delete_key force grip =
-      before_opens (finds IsUncalled still_uncalled grip) (λ there. before_opens (each_wanted IsUncalled code.NoSecKey there) (λ some. behind_opens (agrees_opens rules options grip options.mode force)
-      (λ agreed. each_bind IsUnopening (removes IsUnopening still_unopening grip) (λ removed. each_bind IsUnopening (each_changes IsUnopening (λ turn. refl)) (λ cleared. each_returned IsUnopening _)))))
-
-  passwd : (grip : Grip) (id new_id : Option (List ℕ)) → OpensSo (PasswdReplies rules options wraps grip id new_id)
-  unfolding PasswdReplies
-  passwd grip id new_id = before_opens (reads_file IsUncalled still_uncalled grip) (λ file. record { of = both_of rules options grip wraps id new_id file.bytes file.key })
-
-  import_key : (force : Bool) (id : Option (List ℕ)) → OpensSo (ImportKeyReplies rules options wraps force id)
-  unfolding ImportKeyReplies
-  import_key force id =
-      before_opens (each_needed IsUncalled code.Parameter wraps.import) (λ wrap. before_opens (receives_key IsUncalled still_uncalled wrap) (λ key. before_opens (names_key IsUncalled still_uncalled key)
-      (λ grip. before_opens (is_free IsUncalled still_uncalled force grip) (λ free. behind_opens
-      (prompts_opens (before_prompts (looks_over IsUncalled id (λ named turn. tt)) (λ found. otherwise_prompts found (new_by_prompts rules options grip options.mode))))
-      (λ pass. each_bind IsUnopening (stores_key IsUnopening still_unopening (λ key_grip secret turn. refl) (λ ticket keep turn. refl) (λ named secret turn. refl) options.s2k_count key grip pass)
-      (λ cache_nonce. each_returned IsUnopening _))))))
-
-  replies : (asked : KeyRequest) → OpensSo (KeyReplies rules options wraps asked)
-  replies (on.HaveKey grips) = have_key grips
-  replies (on.KeyInfo grip) = key_info grip
-  replies on.ListKeys = list_keys
-  replies (on.KeyWrap way) = key_wrap way
-  replies (on.ImportKey force id) = import_key force id
-  replies (on.ExportKey grip id) = export_key grip id
-  replies (on.Passwd grip old new true) = verify grip
-  replies (on.Passwd grip old new false) = passwd grip old new
-  replies (on.DeleteKey grip force) = delete_key force grip
-  replies (on.Bad why) = calls_nobody (each_refused IsUncalled (Agent why))
-
-  pub key_opens : (asked : KeyRequest) {events : List (EventWith PortCall)} {after : WrapKeys} {went : KeyWent} → KeyExchange rules options wraps asked events after went → OpensFirst events
-  key_opens asked (part_exchanges.answered events held reply does closes) = then_unopening events _ ((replies asked).of None events (Ok reply) held does) (answer_unopening (Some reply.text) closes)
-  key_opens asked (part_exchanges.refused events held why does closes) = then_unopening events _ ((replies asked).of None events (Err why) held does) (answer_unopening (refusal_line why) closes)

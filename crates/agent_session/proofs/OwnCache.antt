@@ -1,5 +1,5 @@
 -- What requests on the cache hand to it is their own, and so is the passphrase that they are answered; and so of what each request of a session hands in.
-use Rattle.std.{specs.{List.AllByRecursion, Prelude.⊤}, proofs.Common.{◌≡◌, ℕ, Bool, true, false, List, [], ◌∷◌, ◌++◌, Option, Some, None, Result, Ok, Err, refl, sym, ◌∙◌, subst, append_assoc, append-nil, codes}}
+use Rattle.std.{specs.{List.AllByRecursion, Prelude.⊤}, proofs.Common.{◌≡◌, ℕ, Bool, true, false, List, ◌∷◌, ◌++◌, Option, Some, None, Result, Ok, Err, refl, sym, ◌∙◌, subst, append_assoc, append-nil, codes, []}}
 use Rattle.agent_ask.specs.{ClientParts.{Writes, Inquires}, ConsentParts.AgreesTo, PortCalls.PortCall, PartExchanges.AnyExchange, Parts.{◌>>=◌, Returns, Refuses, needed, or_else}, SessionEvents.{Sent, cache_turn, said_last}}
 use Rattle.{agent_ask.{specs.TurnParts.{Asks, Seats, Changes, Closes}, proofs.Within.{HoldsOf, Within, Joins, returned_so, refused_so}}, assuan_server.specs.{Clients.session_lines, Written.{refusal_line, limit_line}}}
 use Rattle.cache_policy.specs.{Turns.{Given, FitsStep}, declared.{grant.Grant.Grant, life.Life.{Life, TheVariants.Default}, mark.MarkStep.{MarkStep, TheVariants.{Put, Seat}}, mode.Mode.TheVariants.User, secret.TheConstants.MAX_SECRET_LEN}}
@@ -10,10 +10,11 @@ use Rattle.agent_commands.specs.{Passphrases.{ask, ask_or_open, LooksFor, WantsP
 use Rattle.agent_commands.specs.declared.{request.{CacheCommand.CacheCommand, Info.Info, Request.{Request, TheVariants.{Cache, Key as OnKeys, Bad}}, Texts.Texts}, went.Went.Went}
 use Rattle.{key_commands.{proofs.EachEvent.{each_append, EachSo, each_bind, each_refused, each_seats, each_changes, each_wanted}, specs.Lines.of_passphrase}, agent_origin.specs.SessionExchanges.{RequestExchange, cache, keys}}
 use Rattle.agent_origin.specs.declared.session_state.SessionState.{SessionState}
-use Rattle.agent_session.specs.{Causes.{Has, here, wanted, IsSent, sent, on_keys}, OwnAnswers.{IsPublic, done, closes, helps, tells, notice, IsAnswered, cached, unprompted, typed, SaysOwn, public, passphrase, SaysOwnAlone}}
-use Rattle.agent_session.specs.{OwnPassphrases.{for_get, for_preset, by_command, WantsTicket, by_id, unkept, HasTicket, has_ticket, IsAccepted, any, HandsIn, StoresOwn}, Refusals.{preset, given}}
-use Rattle.agent_session.proofs.{OwnFacts.{ticket_more, accepted_more, sent_more}, OwnLines.{IsOpen, IsPlain, Open, Plain, each_first, each_second, shown_plain, refusal_plain, back_plain, open_are_own, said_last_own}}
-use Rattle.agent_session.proofs.{OwnKeys.{stand_last, key_own}, OwnParts.{IsQuiet, Fit, Fact, AreOwn, own_then, quiet_are_own, whatever, Anything}, Prompted.has_prompt, Standing.{has_left, has_right}}
+use Rattle.agent_session.specs.Causes.{Has, here, wanted, IsSent, sent, on_keys}
+use Rattle.agent_session.specs.OwnPassphrases.{IsPublic, done, closes, helps, tells, notice, IsAnswered, cached, unprompted, typed, SaysOwn, public, passphrase, SaysOwnAlone, for_get, for_preset, by_command, WantsTicket, by_id, unkept}
+use Rattle.agent_session.{specs.OwnPassphrases.{HasTicket, has_ticket, IsAccepted, any, HandsIn, StoresOwn, directly, under_get, under_preset}, proofs.OwnFacts.{ticket_more, accepted_more, sent_more}}
+use Rattle.agent_session.proofs.{OwnLines.{IsOpen, IsPlain, Open, Plain, each_first, each_second, shown_plain, refusal_plain, back_plain, open_are_own, said_last_own}, OwnKeys.{stand_last, key_own}}
+use Rattle.agent_session.proofs.{OwnParts.{IsQuiet, Fit, Fact, AreOwn, own_then, quiet_are_own, whatever, Anything}, Prompted.has_prompt, Standing.{has_left, has_right}}
 use Rattle.agent_ask.specs.ClientParts as client
 use Rattle.agent_ask.specs.ConsentParts as consent
 use Rattle.agent_ask.specs.PartExchanges as exchange
@@ -25,7 +26,6 @@ use Rattle.session_options.specs.declared.options.PinMode.TheVariants as mode
 use Rattle.agent_commands.specs.Exchanges as exchanges
 use Rattle.agent_commands.specs.Passphrases as passphrases
 use Rattle.agent_commands.specs.declared.request.CacheCommand.TheVariants as on
-use Rattle.agent_session.specs.OwnAnswers as answers
 use Rattle.agent_session.specs.OwnPassphrases as whose
 
 module _ (rules : Rules) where
@@ -181,10 +181,10 @@ module _ (rules : Rules) where
       keeps_under None same secret = returned tt (λ prior held says. says)
       keeps_under (Some id) same secret =
           let says_so : List (EventWith PortCall) → Type 0 = λ prior. IsSaid secret prior None in
-          changes says_so says_so (Put id User Default secret) (λ prior says hands. whose.sent (by_command (given fields is_get same)) (for_get fields is_get) says) (λ prior more says. sent_more more says)
+          changes says_so says_so (Put id User Default secret) (λ prior says hands. whose.sent (by_command (directly (under_get fields is_get same))) (for_get fields is_get) says) (λ prior more says. sent_more more says)
 
       by_client : OwnUntold Held (ByClient fields.id) IsFound
-      by_client = bind (asks_client Held IsSaid (λ pass prior held says. says)) (λ secret. bind (keeps_under fields.id refl secret) (λ kept. returned secret (λ prior held says. answers.sent says)))
+      by_client = bind (asks_client Held IsSaid (λ pass prior held says. says)) (λ secret. bind (keeps_under fields.id refl secret) (λ kept. returned secret (λ prior held says. whose.from_client says)))
 
       uncached : (way : PinMode) → OwnUntold Held (Uncached fields.id way) IsFound
       uncached mode.Ask = refused (Agent code.NoPinentry)
@@ -247,7 +247,7 @@ module _ (rules : Rules) where
       IsPreset pass prior = StoresOwn rules kept request prior (put id life pass)
 
       given_or_asked : (secret : Option (List ℕ)) → request ≡ Cache (on.PresetPassphrase id life secret) → OwnUntold Anything (GivenOrAsked secret) (λ pass prior held. IsPreset pass prior)
-      given_or_asked None is = asks_client Anything (λ pass prior held. IsPreset pass prior) (λ pass prior held says. whose.sent (by_command (preset is)) (for_preset is) says)
+      given_or_asked None is = asks_client Anything (λ pass prior held. IsPreset pass prior) (λ pass prior held says. whose.sent (by_command (directly (under_preset is))) (for_preset is) says)
       given_or_asked (Some pass) is = returned pass (λ prior held pre. whose.preset is)
 
       presets : (secret : Option (List ℕ)) → request ≡ Cache (on.PresetPassphrase id life secret) → OwnUntold Held (Presets rules id life secret) (λ stored. Anything)
@@ -282,7 +282,7 @@ module _ (rules : Rules) where
         found_more (cached same has) = cached same (has_left more has)
         found_more (unprompted same has) = unprompted same (has_left more has)
         found_more (typed accepted) = typed (accepted_more more accepted)
-        found_more (answers.sent says) = answers.sent (sent_more more says)
+        found_more (whose.from_client says) = whose.from_client (sent_more more says)
 
     -- what is done for a request is its own, and what is written for it
     abbrev AllOwn : List (EventWith PortCall) → Type 0

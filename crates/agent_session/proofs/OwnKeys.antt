@@ -1,21 +1,26 @@
--- What requests on keys hand to the cache is their own.
-use Rattle.std.{specs.{List.AllByRecursion, Prelude.{not, drop}}, proofs.Common.{◌≡◌, ◌==◌, ℕ, Bool, true, false, List, [], ◌∷◌, ◌++◌, length, codes, Option, Some, None, Result, Ok, Err, refl, sym, ap, subst, append-nil}}
-use Rattle.agent_ask.specs.{PortCalls.PortCall, SessionEvents.{Received, Sent, Cut, Inquiry, CacheTurn, Port, cache_turn, said_last}, ClientParts.AsksClient, TurnParts.{Asks, Changes, Closes}, Parts.{needed, or_else}}
-use Rattle.{agent_ask.proofs.Within.HoldsOf, assuan_server.specs.{Clients.session_lines, Written.{refusal_line, limit_line}}, agent_ports.specs.declared.grip.Grip.Grip, assuan_escape.specs.Escapes.hex_text, cache_policy.specs.Turns.Open}
+-- What requests on keys hand to the cache is their own, and no line of theirs has a passphrase in it: what is written before a reply are notices, and the reply is
+-- one of a few.
+use Rattle.std.specs.{List.AllByRecursion, Prelude.{not, drop, ⊤}, Option.option_map}
+use Rattle.std.proofs.Common.{◌≡◌, ◌==◌, ℕ, Bool, true, false, List, [], ◌∷◌, ◌++◌, length, codes, Option, Some, None, Result, Ok, Err, refl, sym, ap, subst, append-nil, append_assoc}
+use Rattle.agent_ask.{specs.{PortCalls.PortCall, SessionEvents.{Sent, CacheTurn, cache_turn, said_last}, ClientParts.AsksClient, TurnParts.{Asks, Changes, Closes}, Parts.{needed, or_else, goes_on, returns}}, proofs.Within.HoldsOf}
+use Rattle.{assuan_server.specs.{Clients.session_lines, Written.{refusal_line, limit_line, failed}}, agent_ports.specs.declared.grip.Grip.Grip, assuan_escape.specs.Escapes.hex_text, cache_policy.specs.Turns.Open}
 use Rattle.{cache_policy.specs.declared.{life.Life.TheVariants.Default, mark.MarkStep.{MarkStep, TheVariants.{Close, Put}}, mode.Mode.TheVariants.Nonce, secret.TheConstants.MAX_SECRET_LEN}, secret_file.specs.Opens.{LockedKey, IsLocked}}
-use Rattle.{session_options.specs.declared.{options.PinMode.PinMode, rules.Rules.Rules}, sexp_keys.specs.Key.Key, agent_commands.specs.{Events.EventWith, declared.request.Request.Request}}
+use Rattle.{session_options.specs.declared.{options.PinMode.PinMode, rules.Rules.Rules}, sexp_keys.specs.Key.Key, agent_commands.specs.{Events.EventWith, declared.request.Request.{Request, TheVariants.{Cache, Bad, Key as OnKeys}}}}
+use Rattle.agent_commands.specs.declared.went.Went.{Went}
 use Rattle.key_commands.specs.Exchanges.{KeyExchange, KeyReplies, HaveKeyReplies, KeyInfoReplies, ListKeysReplies, KeyWrapReplies, DeleteKeyReplies, wrap_key, RewritesFile, ChangesOpened, StoresKey, FoundOrNew, ExportKeyReplies}
-use Rattle.key_commands.specs.{Exchanges.{PasswdReplies, VerifyReplies, ImportKeyReplies}, Lines.max_key_data, KeyParts.{KeepsNew, ReceivesKey, NamesKey, IsFree, Consents}, Parts.{Part, refusal_events}}
-use Rattle.key_commands.specs.{Passphrases.{OpensBy, PromptsOld, PromptsNew, ClientOld, UncachedOld, OpensLocked, ClientNew, TakesSeat, TriesFound, Locks, ask_key, put_key, way_of}, declared.request.Direction.Direction}
-use Rattle.key_commands.specs.declared.{request.KeyRequest.KeyRequest, went.KeyWent.KeyWent, wrap_keys.WrapKeys.WrapKeys}
-use Rattle.key_commands.proofs.EachEvent.{each_append, each_shown, IsStill, EachSo, each_bind, each_returned, each_refused, each_otherwise, each_wanted, each_seats, each_changes, finds, draws, reads_file, lists, told, has_one, removes}
-use Rattle.{key_commands.proofs.EachEvent.{tells_info, writes_infos, agrees_to}, session_client.specs.declared.refusal.Refusal.{Refusal, TheVariants.Agent}, agent_origin.specs.declared.session_state.SessionState.SessionState}
-use Rattle.agent_session.specs.Causes.{here, StandIn, on_keys, Unlocks, KeyDataSays, data_says, AsksAny, of_new, of_import, new_plan, IsSent, IsDrawn, IsRead, IsReadLocked}
+use Rattle.key_commands.specs.{Exchanges.{PasswdReplies, VerifyReplies, ImportKeyReplies, KeyReply}, Lines.{max_key_data, IsNotice}, KeyParts.{KeepsNew, ReceivesKey, NamesKey, IsFree, Consents, tells, is_wrapped}}
+use Rattle.key_commands.specs.{Parts.{Part, refusal_events, Draws}, Passphrases.{OpensBy, PromptsOld, PromptsNew, ClientOld, UncachedOld, OpensLocked, ClientNew, TakesSeat, TriesFound, Locks, ask_key, put_key, way_of}}
+use Rattle.key_commands.specs.{declared.{request.{Direction.Direction, KeyRequest.KeyRequest}, went.KeyWent.KeyWent, wrap_keys.WrapKeys.WrapKeys}, Events.Event}
+use Rattle.key_commands.proofs.EachEvent.{each_append, each_shown, IsStill, EachSo, each_bind, each_returned, each_refused, each_wanted, each_seats, each_changes, finds, draws, lists, told, removes, agrees_to}
+use Rattle.{key_commands.proofs.EachRequest.{IsKeyWork, each_carries, key_replies, plain_replies}, session_client.specs.{declared.{refusal.Refusal.{Refusal, TheVariants.{Agent, Pinentry, Client}}, code.Code.Code}, Refusals.refusal_code}}
+use Rattle.agent_origin.specs.{declared.session_state.SessionState.SessionState, SessionExchanges.{RequestExchange, cache, keys}}
+use Rattle.agent_session.specs.Causes.{here, StandIn, on_keys, Unlocks, KeyDataSays, data_says, AsksAny, of_new, of_import, new_plan, IsSent, IsDrawn, IsRead, IsReadLocked, of_export}
 use Rattle.agent_session.specs.OwnPassphrases.{KeepsOld, exports, verifies, GivesBy, for_change, for_import, IsAbout, named, brought, by_command, of_key, NamesNew, brings, changes, WantsTicket, by_key, by_seat, HasTicket, has_ticket}
-use Rattle.agent_session.specs.{OwnPassphrases.{IsAccepted, any, opening, IsGivenNew, StoresOwn, HandsIn}, Refusals.{imported, nonce_of}}
-use Rattle.agent_session.proofs.{OwnFacts.{sent_more, key_data_more, drawn_more, read_more, locked_more, about_more, ticket_more, accepted_more, given_more, FoundNew}, Prompted.has_prompt}
+use Rattle.agent_session.specs.OwnPassphrases.{IsAccepted, any, opening, IsGivenNew, StoresOwn, HandsIn, IsWrapKey, TellsOfKeys, TellsOfKeysAlone, nonce_of, imported}
+use Rattle.agent_session.proofs.{OwnFacts.{sent_more, key_data_more, drawn_more, read_more, locked_more, about_more, ticket_more, accepted_more, given_more, FoundNew, opens_more}, Prompted.has_prompt}
 use Rattle.agent_session.proofs.OwnParts.{IsQuiet, kept_none, Fit, AreOwn, own_then, each_quiet, quiet_keeps, OwnSo, owns, own_bind, own_weaker, own_there, own_where, Stays, quiet_with, quietly, quiet_are_own, Anything, own_returned}
-use Rattle.agent_session.proofs.{OwnParts.{own_refused, own_needed, own_wanted}, AtOnce.FitsTurn, Standing.{has_right, each_left}}
+use Rattle.agent_session.proofs.{OwnParts.{own_refused, own_needed, own_wanted}, AtOnce.FitsTurn, Standing.{has_right, each_left, each_right, has_first, stand_all, stand_left, stand_right}, KeyRequests.old_passphrase}
+use Rattle.agent_session.proofs.OwnLines.{in_either, in_first, in_second}
 use Rattle.session_client.specs.declared.code.Code.TheVariants as code
 use Rattle.session_options.specs.declared.options.PinMode.TheVariants as mode
 use Rattle.agent_ask.specs.PartExchanges as part_exchanges
@@ -27,16 +32,15 @@ use Rattle.agent_session.specs.Causes as causes
 use Rattle.agent_session.specs.OwnPassphrases as whose
 use Rattle.agent_session.proofs.OwnFacts as quiet
 use Rattle.agent_session.proofs.Works as work
+use Rattle.assuan_server.specs.declared.errors.Origin.TheVariants as origin
+use Rattle.key_commands.specs.KeyParts as key_parts
+use Rattle.key_commands.specs.Parts as parts
 
 -- ---- what stays so
 
 pub still_quiet : (event : EventWith PortCall) → IsStill event → IsQuiet event
-still_quiet (Sent text) still = tt
-still_quiet (Cut text) still = tt
-still_quiet (Inquiry word params limit inquired) still = tt
-still_quiet (Port event) still = tt
 still_quiet (CacheTurn taken) still = absurd still
-still_quiet (Received took) still = tt
+still_quiet _ still = tt
 
 -- no ticket is held
 abbrev Unheld : List (EventWith PortCall) → Option ℕ → Type 0
@@ -431,40 +435,11 @@ module _ (rules : Rules) (kept : SessionState) (request : Request) where
   is_free stays true grip = own_returned Mine tt (λ prior held so. so)
   is_free stays false grip = own_bind Mine (quietly Mine stays (quiet_keeps (work.finds IsQuiet tt (λ answer. tt)))) (λ there. own_wanted Mine code.FileExists (not there))
 
-  export_key : (grip : Grip) → Unlocks request grip → KeepsOld request grip → (id : Option (List ℕ)) → OwnSo Mine Unheld (ExportKeyReplies rules kept.options kept.wraps grip id) (λ reply. Anything)
-  unfolding ExportKeyReplies
-  export_key grip unlocks keeps id =
-      own_bind Mine (own_needed Mine code.Parameter kept.wraps.export) (λ wrap. own_bind Mine (quiet_with Mine unheld_stays (quiet.reads_file_quiet grip))
-      (λ file. own_bind Mine (old_here grip unlocks id file.key file.key.is_clear) (λ opened. own_bind Mine (closes_own grip unlocks keeps kept.options.mode opened.by)
-      (λ closed. own_bind Mine (quietly Mine any_stays (quiet_keeps (work.wraps_key IsQuiet tt))) (λ wrapped. own_bind Mine (quietly Mine any_stays (quiet_keeps (work.told IsQuiet tt)))
-      (λ text. own_returned Mine _ (λ prior held so. tt)))))))
+  receives_at : (wrap : List ℕ) → OwnSo Mine (λ prior held. Unheld prior held × (kept.wraps.import ≡ Some wrap)) (ReceivesKey wrap) Brought
+  receives_at wrap = record { of = λ before events result after does. record { so = λ prior fits pre. ((receives_key wrap pre.1).of before events result after does).so prior fits pre.0 } }
 
-  verify : (grip : Grip) → Unlocks request grip → KeepsOld request grip → OwnSo Mine Unheld (VerifyReplies rules kept.options kept.wraps grip) (λ reply. Anything)
-  unfolding VerifyReplies
-  verify grip unlocks keeps =
-      own_bind Mine (quiet_with Mine unheld_stays (quiet.reads_file_quiet grip)) (λ file. own_bind Mine (verified_here grip unlocks file.key file.key.is_clear)
-      (λ opened. own_bind Mine (closes_own grip unlocks keeps kept.options.mode opened.by) (λ closed. own_returned Mine _ (λ prior held so. tt))))
-
-  passwd : (grip : Grip) {old new : Option (List ℕ)} → on_keys request ≡ Some (on.Passwd grip old new false) → OwnSo Mine Unheld (PasswdReplies rules kept.options kept.wraps grip old new) (λ reply. Anything)
-  unfolding PasswdReplies
-  passwd grip {old} {new} is =
-      let unlocks : Unlocks request grip = causes.changes is in
-      own_bind Mine (quiet_with Mine unheld_stays (quiet.reads_file_quiet grip)) (λ file. own_bind Mine (old_here grip unlocks old file.key file.key.is_clear)
-      (λ opened. own_bind Mine (own_where Mine (λ prior held so. (named unlocks, opened_ticket grip unlocks kept.options.mode opened.by prior held so)) (changes_opened grip (for_change is) (of_new is) is file.bytes opened.key))
-      (λ changed_so. own_returned Mine _ (λ prior held so. tt))))
-
-  import_key : (force : Bool) (nonce : Option (List ℕ)) → on_keys request ≡ Some (on.ImportKey force nonce) → OwnSo Mine Unheld (ImportKeyReplies rules kept.options kept.wraps force nonce) (λ reply. Anything)
-  unfolding ImportKeyReplies
-  import_key force id is =
-      own_bind Mine (own_there Mine code.Parameter kept.wraps.import) (λ wrap. own_bind Mine (receives_at wrap) (λ key. own_bind Mine (names_mine key)
-      (λ grip. own_bind Mine (is_free (mine_stays grip (for_import is) (of_import is) unheld_stays) force grip) (λ free_so. own_bind Mine (found_or_new grip (for_import is) (of_import is) is)
-      (λ pass. own_bind Mine (stores_key grip (for_import is) (of_import is) is kept.options.s2k_count key pass) (λ cache_nonce. own_returned Mine _ (λ prior held so. tt)))))))
-    where
-      receives_at : (wrap : List ℕ) → OwnSo Mine (λ prior held. Unheld prior held × (kept.wraps.import ≡ Some wrap)) (ReceivesKey wrap) Brought
-      receives_at wrap = record { of = λ before events result after does. record { so = λ prior fits pre. ((receives_key wrap pre.1).of before events result after does).so prior fits pre.0 } }
-
-      names_mine : (key : Key) → OwnSo Mine (Brought key) (NamesKey key) (λ grip prior held. IsAbout rules kept request prior grip × Unheld prior held)
-      names_mine key = own_weaker Mine (quiet_with Mine (brought_stays key) (quiet.names_quiet key)) (λ grip prior held so. (brought is so.0.1 so.1, so.0.0))
+  names_mine : {force : Bool} {nonce : Option (List ℕ)} → on_keys request ≡ Some (on.ImportKey force nonce) → (key : Key) → OwnSo Mine (Brought key) (NamesKey key) (λ grip prior held. IsAbout rules kept request prior grip × Unheld prior held)
+  names_mine is key = own_weaker Mine (quiet_with Mine (brought_stays key) (quiet.names_quiet key)) (λ grip prior held so. (brought is so.0.1 so.1, so.0.0))
 
   delete_agrees : (grip : Grip) (way : PinMode) (force : Bool) → EachSo IsQuiet (Consents rules (record kept.options { mode = way }) force grip)
   delete_agrees grip way true = each_returned IsQuiet tt
@@ -473,42 +448,31 @@ module _ (rules : Rules) (kept : SessionState) (request : Request) where
   delete_agrees grip mode.Error false = each_refused IsQuiet (Agent code.NoPinentry)
   delete_agrees grip mode.Loopback false = each_refused IsQuiet (Agent code.NoPinentry)
 
-  quiet_have : (grips : List Grip) → EachSo IsQuiet (HaveKeyReplies rules kept.options kept.wraps grips)
-  unfolding HaveKeyReplies
-  quiet_have grips = each_bind IsQuiet (has_one IsQuiet still_quiet grips) (λ one. each_returned IsQuiet _)
-
-  quiet_info : (grip : Grip) → EachSo IsQuiet (KeyInfoReplies rules kept.options kept.wraps grip)
-  unfolding KeyInfoReplies
-  quiet_info grip =
-      each_bind IsQuiet (reads_file IsQuiet still_quiet grip) (λ file. each_bind IsQuiet (tells_info IsQuiet still_quiet (λ key turn hands. elim hands [ ]) grip file.key) (λ line. each_returned IsQuiet _))
-
-  quiet_list : EachSo IsQuiet (ListKeysReplies rules kept.options kept.wraps)
-  unfolding ListKeysReplies
-  quiet_list =
-      each_bind IsQuiet (lists IsQuiet still_quiet) (λ grips. each_bind IsQuiet (writes_infos IsQuiet still_quiet (λ key turn hands. elim hands [ ]) grips) (λ written. each_returned IsQuiet _))
-
-  quiet_wrap : (way : Direction) → EachSo IsQuiet (KeyWrapReplies rules kept.options kept.wraps way)
-  unfolding KeyWrapReplies
-  quiet_wrap way =
-      each_bind IsQuiet (each_otherwise IsQuiet (wrap_key way kept.wraps) (draws IsQuiet still_quiet 16)) (λ key. each_bind IsQuiet (told IsQuiet still_quiet key) (λ text. each_returned IsQuiet _))
-
-  quiet_delete : (force : Bool) (grip : Grip) → EachSo IsQuiet (DeleteKeyReplies rules kept.options kept.wraps force grip)
-  unfolding DeleteKeyReplies
-  quiet_delete force grip =
-      each_bind IsQuiet (finds IsQuiet still_quiet grip) (λ there. each_bind IsQuiet (each_wanted IsQuiet code.NoSecKey there) (λ some. each_bind IsQuiet (delete_agrees grip kept.options.mode force)
-      (λ agreed. each_bind IsQuiet (removes IsQuiet still_quiet grip) (λ removed. each_bind IsQuiet (each_changes IsQuiet (λ turn hands. elim hands [ ])) (λ cleared. each_returned IsQuiet _)))))
-
   replies : (asked : KeyRequest) → on_keys request ≡ Some asked → OwnSo Mine Unheld (KeyReplies rules kept.options kept.wraps asked) (λ reply. Anything)
-  replies (on.HaveKey grips) is = each_quiet Mine (quiet_have grips)
-  replies (on.KeyInfo grip) is = each_quiet Mine (quiet_info grip)
-  replies on.ListKeys is = each_quiet Mine quiet_list
-  replies (on.KeyWrap way) is = each_quiet Mine (quiet_wrap way)
-  replies (on.ImportKey force nonce) is = import_key force nonce is
-  replies (on.ExportKey grip id) is = export_key grip (causes.exports is) (exports is) id
-  replies (on.Passwd grip old new true) is = verify grip (causes.changes is) (verifies is)
-  replies (on.Passwd grip old new false) is = passwd grip is
-  replies (on.DeleteKey grip force) is = each_quiet Mine (quiet_delete force grip)
-  replies (on.Bad why) is = own_refused Mine (Agent why)
+  unfolding ImportKeyReplies ExportKeyReplies VerifyReplies PasswdReplies DeleteKeyReplies
+  replies (on.ImportKey force id) is =
+      own_bind Mine (own_there Mine code.Parameter kept.wraps.import) (λ wrap. own_bind Mine (receives_at wrap) (λ key. own_bind Mine (names_mine is key)
+      (λ grip. own_bind Mine (is_free (mine_stays grip (for_import is) (of_import is) unheld_stays) force grip) (λ free_so. own_bind Mine (found_or_new grip (for_import is) (of_import is) is)
+      (λ pass. own_bind Mine (stores_key grip (for_import is) (of_import is) is kept.options.s2k_count key pass) (λ cache_nonce. own_returned Mine _ (λ prior held so. tt)))))))
+  replies (on.ExportKey grip id) is =
+      let unlocks : Unlocks request grip = causes.exports is in
+      own_bind Mine (own_needed Mine code.Parameter kept.wraps.export) (λ wrap. own_bind Mine (quiet_with Mine unheld_stays (quiet.reads_file_quiet grip))
+      (λ file. own_bind Mine (old_here grip unlocks id file.key file.key.is_clear) (λ opened. own_bind Mine (closes_own grip unlocks (exports is) kept.options.mode opened.by)
+      (λ closed. own_bind Mine (quietly Mine any_stays (quiet_keeps (work.wraps_key IsQuiet tt))) (λ wrapped. own_bind Mine (quietly Mine any_stays (quiet_keeps (work.told IsQuiet tt)))
+      (λ text. own_returned Mine _ (λ prior held so. tt)))))))
+  replies (on.Passwd grip old new true) is =
+      let unlocks : Unlocks request grip = causes.changes is in
+      own_bind Mine (quiet_with Mine unheld_stays (quiet.reads_file_quiet grip)) (λ file. own_bind Mine (verified_here grip unlocks file.key file.key.is_clear)
+      (λ opened. own_bind Mine (closes_own grip unlocks (verifies is) kept.options.mode opened.by) (λ closed. own_returned Mine _ (λ prior held so. tt))))
+  replies (on.Passwd grip old new false) is =
+      let unlocks : Unlocks request grip = causes.changes is in
+      own_bind Mine (quiet_with Mine unheld_stays (quiet.reads_file_quiet grip)) (λ file. own_bind Mine (old_here grip unlocks old file.key file.key.is_clear)
+      (λ opened. own_bind Mine (own_where Mine (λ prior held so. (named unlocks, opened_ticket grip unlocks kept.options.mode opened.by prior held so)) (changes_opened grip (for_change is) (of_new is) is file.bytes opened.key))
+      (λ changed_so. own_returned Mine _ (λ prior held so. tt))))
+  replies (on.DeleteKey grip force) is =
+      each_quiet Mine (each_bind IsQuiet (finds IsQuiet still_quiet grip) (λ there. each_bind IsQuiet (each_wanted IsQuiet code.NoSecKey there) (λ some. each_bind IsQuiet (delete_agrees grip kept.options.mode force)
+      (λ agreed. each_bind IsQuiet (removes IsQuiet still_quiet grip) (λ removed. each_bind IsQuiet (each_changes IsQuiet (λ turn hands. elim hands [ ])) (λ cleared. each_returned IsQuiet _))))))
+  replies asked is = each_quiet Mine (plain_replies IsQuiet still_quiet (λ grip turn hands. elim hands [ ]) rules kept.options kept.wraps asked tt)
 
   -- ---- exchanges
 
@@ -529,3 +493,122 @@ module _ (rules : Rules) (kept : SessionState) (request : Request) where
       ended_own events back (Sent reply.text ∷ []) (((replies asked is).of None events (Ok reply) held does).so [] (each_left FitsTurn events _ fits) refl).0 (back_quiet closes_so) (tt, tt)
   key_own asked is (part_exchanges.refused events held why {back} does closes_so) fits =
       ended_own events back (refusal_events why) (((replies asked is).of None events (Err why) held does).so [] (each_left FitsTurn events _ fits) refl).0 (back_quiet closes_so) (refusal_quiet (refusal_line why))
+
+-- ---- what is written before the reply
+
+abbrev IsNoted : Event → Type 0
+IsNoted (Sent text) = IsNotice text
+IsNoted _ = ⊤
+
+work_noted : (event : Event) → IsKeyWork event → IsNoted event
+work_noted (Sent text) work = work
+work_noted _ work = tt
+
+back_noted : {held : Option ℕ} {back : List Event} → Closes None held back (Ok tt) None → AllByRecursion IsNoted back
+back_noted turning.unheld = tt
+back_noted (turning.closed turn can) = (tt, tt)
+
+-- ---- what was drawn
+
+drawn_by : {count : ℕ} {before after : Option ℕ} {more : List Event} {bytes : List ℕ} → Draws count before more (Ok bytes) after → IsDrawn more count bytes
+drawn_by (parts.drawn long) = record { long = long; has = here }
+
+drawn_behind : (first : List Event) {more : List Event} {count : ℕ} {bytes : List ℕ} → IsDrawn more count bytes → IsDrawn (first ++ more) count bytes
+drawn_behind first drawn_so = record { long = drawn_so.long; has = has_right first drawn_so.has }
+
+module _ (rules : Rules) (kept : SessionState) (request : Request) where
+  -- ---- the reply
+
+  wrap_of : (way : Direction) (kept_wrap : Option (List ℕ)) → wrap_key way kept.wraps ≡ kept_wrap → (before after : Option ℕ) {more : List Event} {key : List ℕ} → or_else kept_wrap (Draws 16) before more (Ok key) after
+      → IsWrapKey rules kept request more way key
+  wrap_of way None is before after draws = whose.drew (drawn_by draws)
+  wrap_of way (Some key) is before after returns = whose.had is
+
+  there_is : (why : Code) (found : Option (List ℕ)) (before after : Option ℕ) (more : List Event) {value : List ℕ} → needed why found before more (Ok value) after → found ≡ Some value
+  there_is why (Some value) before after more returns = refl
+  there_is why None before after more does = elim does [ ]
+
+  more_wrap : {way : Direction} {key : List ℕ} {some : List Event} (more : List Event) → IsWrapKey rules kept request some way key → IsWrapKey rules kept request (some ++ more) way key
+  more_wrap more (whose.had is) = whose.had is
+  more_wrap more (whose.drew drawn_so) = whose.drew (drawn_more more drawn_so)
+
+  -- the nonce of a key that was stored is what was drawn for it
+  stored_nonce : (count : ℕ) (key : Key) (grip : Grip) (pass : List ℕ) {before after : Option ℕ} {more : List Event} {nonce : List ℕ} → StoresKey count key grip pass before more (Ok nonce) after
+      → (bytes : List ℕ) × IsDrawn more 32 bytes × (nonce ≡ drop 20 bytes)
+  stored_nonce count key grip pass (goes_on {value = bytes} draws (goes_on protects (goes_on puts (goes_on replaces (goes_on keeps returns))))) = (bytes, drawn_more _ (drawn_by draws), refl)
+
+  reply_of : (asked : KeyRequest) → on_keys request ≡ Some asked → (more : List Event) (reply : KeyReply) (held : Option ℕ) → KeyReplies rules kept.options kept.wraps asked None more (Ok reply) held
+      → TellsOfKeys rules kept request more reply.text
+  unfolding HaveKeyReplies KeyInfoReplies ListKeysReplies KeyWrapReplies ImportKeyReplies ExportKeyReplies PasswdReplies VerifyReplies DeleteKeyReplies
+  reply_of (on.HaveKey grips) is _ _ _ (goes_on has returns) = whose.succeeds
+  reply_of (on.KeyInfo grip) is _ _ _ (goes_on {value = file} reads (goes_on (goes_on {value = is_cached} peeks returns) returns)) = whose.known is_cached file.key.is_clear is
+  reply_of on.ListKeys is _ _ _ (goes_on lists (goes_on writes returns)) = whose.succeeds
+  reply_of (on.KeyWrap way) is _ _ _ (goes_on draws (goes_on (tells data_so) returns)) = whose.wrap is (more_wrap _ (wrap_of way (wrap_key way kept.wraps) refl _ _ draws)) data_so
+  reply_of (on.ImportKey force id) is _ _ _ (goes_on {first = a} wants (goes_on {first = b} receives (goes_on {first = c} names (goes_on {first = d} unused (goes_on {first = e} finds (goes_on {first = f} stores returns)))))) =
+      let found = stored_nonce _ _ _ _ stores in
+      rw found.2 (whose.drawn is (drawn_behind a (drawn_behind b (drawn_behind c (drawn_behind d (drawn_behind e (drawn_more _ found.1)))))))
+  reply_of (on.ExportKey grip id) asked _ _ _ (goes_on {first = a} {events = b} wants (goes_on {first = c} {events = d} (key_parts.is_key {key} found says) (goes_on {first = e} {events = f} {value = opened} does
+      (goes_on closes (goes_on is_wrapped (goes_on (tells data_so) returns)))))) =
+      let stands = stand_right a b (stand_all (a ++ b)) in
+      let comes = old_passphrase rules kept request (a ++ b) grip (causes.exports asked) key.is_clear key id (λ nonce same. of_export (subst (λ n. on_keys request ≡ Some (on.ExportKey grip n)) same asked)) (causes.read found says (has_first stands))
+      (λ locked is_locked by_id by_key. causes.exported _ asked is_locked by_id by_key) _ e (Ok opened) _ does
+      (stand_left e f (stand_right c d stands)) in
+      whose.wrapped opened.key asked (there_is _ kept.wraps.export _ _ _ wants) comes.explained data_so
+  reply_of (on.Passwd grip old new true) is _ _ _ (goes_on reads (goes_on opens (goes_on closes returns))) = whose.succeeds
+  reply_of (on.Passwd grip old new false) is _ _ _ (goes_on reads (goes_on opens (goes_on alters returns))) = whose.succeeds
+  reply_of (on.DeleteKey grip force) is _ _ _ (goes_on finds (goes_on there (goes_on agrees (goes_on removes (goes_on clears returns))))) = whose.succeeds
+  reply_of (on.Bad why) is _ _ _ does = elim does [ ]
+
+  -- ---- the exchange
+
+  more_told : {some : List Event} {text : List ℕ} (more : List Event) → TellsOfKeys rules kept request some text → TellsOfKeys rules kept request (some ++ more) text
+  more_told more (whose.fails why by) = whose.fails why by
+  more_told more whose.succeeds = whose.succeeds
+  more_told more (whose.notes is) = whose.notes is
+  more_told more (whose.known is_cached clear is) = whose.known is_cached clear is
+  more_told more (whose.drawn is drawn_so) = whose.drawn is (drawn_more more drawn_so)
+  more_told more (whose.wrap is wraps_so data_so) = whose.wrap is (more_wrap more wraps_so) data_so
+  more_told more (whose.wrapped key is there opened data_so) = whose.wrapped key is there (opens_more more opened) data_so
+
+  noted_told : (some : List Event) → AllByRecursion IsNoted some → TellsOfKeysAlone rules kept request some
+  noted_told some each front later text is = whose.notes (each_right IsNoted front (Sent text ∷ later) (subst (AllByRecursion IsNoted) is each)).0
+
+  last_told : (first : List Event) (text : List ℕ) → AllByRecursion IsNoted first → TellsOfKeys rules kept request first text → TellsOfKeysAlone rules kept request (first ++ Sent text ∷ [])
+  last_told first text each tells_so front later said is =
+      elim (in_either first (Sent text ∷ []) front (Sent said) later is) [
+        | in_first rest here_is ↦ noted_told first each front rest said here_is
+        | in_second rest there here_is ↦ subst (λ f. TellsOfKeys rules kept request f said) (sym there) (at_last rest here_is)
+      ]
+    where
+      at_last : (rest : List Event) → Sent text ∷ [] ≡ rest ++ Sent said ∷ later → TellsOfKeys rules kept request (first ++ rest) said
+      at_last [] here_is = let same : text ≡ said = cc here_is in subst (λ t. TellsOfKeys rules kept request (first ++ []) t) same (more_told [] tells_so)
+      at_last (event ∷ []) here_is = cc here_is
+      at_last (event ∷ second ∷ rest) here_is = cc here_is
+
+  code_told : (first : List Event) (why : Option Code) → AllByRecursion IsNoted first → TellsOfKeysAlone rules kept request (first ++ said_last (option_map failed why))
+  code_told first None each = subst (TellsOfKeysAlone rules kept request) (sym (append-nil first)) (noted_told first each)
+  code_told first (Some why) each = last_told first (failed why) each (whose.fails why origin.Agent)
+
+  refusal_told : (first : List Event) (why : Refusal) → AllByRecursion IsNoted first → TellsOfKeysAlone rules kept request (first ++ said_last (refusal_line why))
+  refusal_told first (Agent why) each = last_told first _ each (whose.fails why origin.Agent)
+  refusal_told first (Pinentry why) each = last_told first _ each (whose.fails why origin.Pinentry)
+  refusal_told first (Client why) each = code_told first (refusal_code why) each
+
+  noted : (asked : KeyRequest) (some : List Event) (result : Result KeyReply Refusal) (held : Option ℕ) → KeyReplies rules kept.options kept.wraps asked None some result held → AllByRecursion IsNoted some
+  noted asked some result held does = (key_replies (each_carries IsNoted work_noted) rules kept.options refl kept.wraps asked).of None some result held does
+
+  pub keys_told : (asked : KeyRequest) → on_keys request ≡ Some asked → {some : List Event} {after : WrapKeys} {went : KeyWent} → KeyExchange rules kept.options kept.wraps asked some after went
+      → TellsOfKeysAlone rules kept request some
+  keys_told asked is (part_exchanges.answered some held reply {back} does closes) =
+      subst (TellsOfKeysAlone rules kept request) (append_assoc some back (Sent reply.text ∷ []))
+      (last_told (some ++ back) reply.text (each_append IsNoted some back (noted asked some (Ok reply) held does) (back_noted closes)) (more_told back (reply_of asked is some reply held does)))
+  keys_told asked is (part_exchanges.refused some held why {back} does closes) =
+      subst (TellsOfKeysAlone rules kept request) (append_assoc some back (said_last (refusal_line why)))
+      (refusal_told (some ++ back) why (each_append IsNoted some back (noted asked some (Err why) held does) (back_noted closes)))
+
+pub request_told : (rules : Rules) (kept : SessionState) (request : Request) {asked : KeyRequest} → on_keys request ≡ Some asked → {now : SessionState} {events : List Event} {went : Went} → RequestExchange rules kept request events now went
+    → TellsOfKeysAlone rules kept request events
+request_told rules kept (Cache command) is exchanged = absurd (cc is)
+request_told rules kept (Bad why) is exchanged = absurd (cc is)
+request_told rules kept (OnKeys line) is (keys exchanged) = keys_told rules kept (OnKeys line) _ refl exchanged
+request_told rules kept (OnKeys line) is (cache exchanged) = elim exchanged [ ]

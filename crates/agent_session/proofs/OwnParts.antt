@@ -1,8 +1,8 @@
 -- Parts of a request on keys, by which nothing is handed to the cache but the request's own: how they follow one another.
 use Rattle.std.{specs.{List.AllByRecursion, Prelude.⊤}, proofs.Common.{◌≡◌, ℕ, Bool, true, false, List, [], ◌∷◌, ◌++◌, Option, Some, None, Result, Ok, Err, refl, sym, subst, append_assoc, append-nil}}
-use Rattle.agent_ask.specs.{PortCalls.PortCall, SessionEvents.{Received, Sent, Cut, Inquiry, CacheTurn, Port, cache_turn}, Parts.{◌>>=◌, Returns, Refuses, needed, wanted}}
-use Rattle.{agent_ask.proofs.Within.{HoldsOf, Within, Joins, weaker, bind, returned_so, refused_so}, cache_policy.specs.{Turns.Turn, declared.mark.MarkStep.{MarkStep, TheVariants.Close}}, agent_commands.specs.Events.EventWith}
-use Rattle.{session_client.specs.declared.{code.Code.Code, refusal.Refusal.{Refusal, TheVariants.Agent}}, key_commands.{specs.Parts.Part, proofs.EachEvent.EachSo}}
+use Rattle.agent_ask.{specs.{PortCalls.PortCall, SessionEvents.{CacheTurn, cache_turn}, Parts.{◌>>=◌, Returns, Refuses, needed, wanted}}, proofs.Within.{HoldsOf, Within, Joins, weaker, bind, returned_so, refused_so}}
+use Rattle.{cache_policy.specs.{Turns.Turn, declared.mark.MarkStep.{MarkStep, TheVariants.Close}}, agent_commands.specs.Events.EventWith, session_client.specs.declared.{code.Code.Code, refusal.Refusal.{Refusal, TheVariants.Agent}}}
+use Rattle.key_commands.{specs.Parts.Part, proofs.EachEvent.EachSo}
 use Rattle.agent_session.{specs.{Imports.HandsNothing, OwnPassphrases.HandsIn}, proofs.{AtOnce.FitsTurn, Standing.{each_left, each_right}, Works.{Keeps, each_fits}}}
 
 -- it hands no passphrase to the cache
@@ -74,11 +74,7 @@ module _ (Stores : List (EventWith PortCall) → MarkStep → Type 0) where
 
   quiet_own : (before : List (EventWith PortCall)) (event : EventWith PortCall) → IsQuiet event → IsOwn before event
   quiet_own before (CacheTurn taken) quiet = λ hands. absurd (quiet hands)
-  quiet_own before (Received took) quiet = tt
-  quiet_own before (Sent text) quiet = tt
-  quiet_own before (Cut text) quiet = tt
-  quiet_own before (Inquiry word params limit inquired) quiet = tt
-  quiet_own before (Port event) quiet = tt
+  quiet_own before _ quiet = tt
 
   pub quiet_are_own : (before events : List (EventWith PortCall)) → AllByRecursion IsQuiet events → AreOwn before events
   quiet_are_own before [] each = tt

@@ -1,12 +1,12 @@
 -- Requests that are answered for want of memory, or for a failure of the keys or of the dice: an event refused them.
 use Rattle.std.{specs.List.AllByRecursion, proofs.Common.{◌≡◌, List, [], ◌∷◌, ◌++◌, ℕ, Option, Some, None, refl, sym, ap, subst, inl, inr}}
-use Rattle.agent_ask.specs.{Events.{Called, OutOfMemory, Notified}, PortCalls.{PortCall, Read, Listed, Replaced, Removed, Drew, NotDrawn, Prompt, Keys, Dice, NoMemory, Trust}}
-use Rattle.{agent_ask.specs.SessionEvents.{Received, Sent, Cut, Inquiry, CacheTurn, Port, cache_turn}, agent_ports.specs.declared.grip.Grip.Grip, assuan_server.specs.{Written.failed, declared.errors.Origin.TheVariants.Agent}}
-use Rattle.{session_client.specs.declared.code.Code.Code, cache_policy.specs.{Turns.{Turn, Refused, FitsStep, closes}, declared.{mark.MarkStep.{MarkStep, TheVariants.{Clear, Close}}, mode.Mode.TheVariants.Normal}}}
-use Rattle.{session_options.specs.declared.rules.Rules.Rules, agent_commands.specs.{Events.EventWith, declared.request.Request.Request}, key_commands.specs.{Lines.grip_text, Passphrases.put_key}, agent_origin.specs.declared.session_state.SessionState.SessionState}
+use Rattle.agent_ask.specs.{Events.OutOfMemory, PortCalls.{PortCall, Read, Listed, Replaced, Removed, NotDrawn, Prompt, Keys, Dice, NoMemory, Trust}, SessionEvents.{Sent, CacheTurn, Port, cache_turn}}
+use Rattle.{agent_ports.specs.declared.grip.Grip.Grip, assuan_server.specs.{Written.failed, declared.errors.Origin.TheVariants.Agent}, session_client.specs.declared.code.Code.Code, cache_policy.specs.Turns.{Turn, Refused, FitsStep, closes}}
+use Rattle.{cache_policy.specs.declared.{mark.MarkStep.{MarkStep, TheVariants.{Clear, Close}}, mode.Mode.TheVariants.Normal}, session_options.specs.declared.rules.Rules.Rules, agent_commands.specs.Events.EventWith}
+use Rattle.{agent_commands.specs.declared.request.Request.Request, key_commands.specs.{Lines.grip_text, Passphrases.put_key}, agent_origin.specs.declared.session_state.SessionState.SessionState}
 use Rattle.agent_session.specs.Causes.{Has, here, later, HasOne, one, WantsMemory, FailsAtKeysOrDice, IsCaused}
-use Rattle.agent_session.specs.Refusals.{IsNonceOf, refuses, turn_refuses, AreWork, IsWork, IsEnd, Course, GivesBack, Settles, IsLast, RefusedEnd, at_work, at_answer, at_store, at_clear, RefusedCourse, IsOwnCode, memory, fault, shuts}
-use Rattle.agent_session.proofs.{AtOnce.FitsTurn, Explained.has_split, Refusing.no_close, Standing.each_has}
+use Rattle.agent_session.specs.Refusals.{refuses, turn_refuses, AreWork, IsWork, IsEnd, Course, GivesBack, IsLast, RefusedEnd, at_work, at_answer, at_store, at_clear, RefusedCourse, IsOwnCode, memory, fault, shuts}
+use Rattle.agent_session.{specs.OwnPassphrases.IsNonceOf, proofs.{AtOnce.FitsTurn, Explained.has_split, Refusing.no_close, Standing.each_has}}
 use Rattle.agent_ask.specs.TrustCalls as trust_call
 use Rattle.agent_ask.specs.Interrupts as turns
 use Rattle.agent_ports.specs.declared.keys.KeyDone.TheVariants as key_done
@@ -28,62 +28,21 @@ wants_refuses : (event : EventWith PortCall) → FitsTurn event → WantsMemory 
 wants_refuses (CacheTurn taken) fits wants = refused_turn taken.asked taken.turn fits wants
 wants_refuses (Port NoMemory) fits wants = refl
 wants_refuses (Port (Prompt OutOfMemory)) fits wants = refl
-wants_refuses (Port (Prompt (Called call))) fits wants = absurd wants
-wants_refuses (Port (Prompt (Notified pid heard))) fits wants = absurd wants
 wants_refuses (Port (Keys (Read grip key_read.NoMemory))) fits wants = refl
-wants_refuses (Port (Keys (Read grip key_read.Failed))) fits wants = absurd wants
-wants_refuses (Port (Keys (Read grip key_read.Absent))) fits wants = absurd wants
-wants_refuses (Port (Keys (Read grip (key_read.Found bytes)))) fits wants = absurd wants
 wants_refuses (Port (Keys (Listed key_names.NoMemory))) fits wants = refl
-wants_refuses (Port (Keys (Listed key_names.Failed))) fits wants = absurd wants
-wants_refuses (Port (Keys (Listed (key_names.Names grips)))) fits wants = absurd wants
 wants_refuses (Port (Keys (Replaced grip file key_done.NoMemory))) fits wants = refl
-wants_refuses (Port (Keys (Replaced grip file key_done.Done))) fits wants = absurd wants
-wants_refuses (Port (Keys (Replaced grip file key_done.Absent))) fits wants = absurd wants
-wants_refuses (Port (Keys (Replaced grip file key_done.Failed))) fits wants = absurd wants
 wants_refuses (Port (Keys (Removed grip key_done.NoMemory))) fits wants = refl
-wants_refuses (Port (Keys (Removed grip key_done.Done))) fits wants = absurd wants
-wants_refuses (Port (Keys (Removed grip key_done.Absent))) fits wants = absurd wants
-wants_refuses (Port (Keys (Removed grip key_done.Failed))) fits wants = absurd wants
-wants_refuses (Port (Dice draw)) fits wants = absurd wants
 wants_refuses (Port (Trust (trust_call.Read trust_read.NoMemory))) fits wants = refl
-wants_refuses (Port (Trust (trust_call.Read trust_read.Failed))) fits wants = absurd wants
-wants_refuses (Port (Trust (trust_call.Read trust_read.Absent))) fits wants = absurd wants
-wants_refuses (Port (Trust (trust_call.Read (trust_read.Found bytes)))) fits wants = absurd wants
 wants_refuses (Port (Trust (trust_call.Replaced file trust_done.NoMemory))) fits wants = refl
-wants_refuses (Port (Trust (trust_call.Replaced file trust_done.Done))) fits wants = absurd wants
-wants_refuses (Port (Trust (trust_call.Replaced file trust_done.Failed))) fits wants = absurd wants
-wants_refuses (Received took) fits wants = absurd wants
-wants_refuses (Sent text) fits wants = absurd wants
-wants_refuses (Cut text) fits wants = absurd wants
-wants_refuses (Inquiry word params limit inquired) fits wants = absurd wants
+wants_refuses _ fits wants = absurd wants
 
 fails_refuses : (event : EventWith PortCall) → FailsAtKeysOrDice event → refuses event ≡ Some code.General
 fails_refuses (Port (Keys (Read grip key_read.Failed))) fails = refl
-fails_refuses (Port (Keys (Read grip key_read.NoMemory))) fails = absurd fails
-fails_refuses (Port (Keys (Read grip key_read.Absent))) fails = absurd fails
-fails_refuses (Port (Keys (Read grip (key_read.Found bytes)))) fails = absurd fails
 fails_refuses (Port (Keys (Listed key_names.Failed))) fails = refl
-fails_refuses (Port (Keys (Listed key_names.NoMemory))) fails = absurd fails
-fails_refuses (Port (Keys (Listed (key_names.Names grips)))) fails = absurd fails
 fails_refuses (Port (Keys (Replaced grip file key_done.Failed))) fails = refl
-fails_refuses (Port (Keys (Replaced grip file key_done.Done))) fails = absurd fails
-fails_refuses (Port (Keys (Replaced grip file key_done.Absent))) fails = absurd fails
-fails_refuses (Port (Keys (Replaced grip file key_done.NoMemory))) fails = absurd fails
 fails_refuses (Port (Keys (Removed grip key_done.Failed))) fails = refl
-fails_refuses (Port (Keys (Removed grip key_done.Done))) fails = absurd fails
-fails_refuses (Port (Keys (Removed grip key_done.Absent))) fails = absurd fails
-fails_refuses (Port (Keys (Removed grip key_done.NoMemory))) fails = absurd fails
 fails_refuses (Port (Dice (NotDrawn count))) fails = refl
-fails_refuses (Port (Dice (Drew bytes))) fails = absurd fails
-fails_refuses (Port (Prompt event)) fails = absurd fails
-fails_refuses (Port (Trust call)) fails = absurd fails
-fails_refuses (Port NoMemory) fails = absurd fails
-fails_refuses (CacheTurn taken) fails = absurd fails
-fails_refuses (Received took) fails = absurd fails
-fails_refuses (Sent text) fails = absurd fails
-fails_refuses (Cut text) fails = absurd fails
-fails_refuses (Inquiry word params limit inquired) fails = absurd fails
+fails_refuses _ fails = absurd fails
 
 -- an event among these refuses the request by this code
 pub data HasRefusal (why : Code) (events : List (EventWith PortCall)) : Type 0 where
@@ -128,15 +87,7 @@ back_goes (course.with_ticket turn) = (refl, (refl, tt))
 
 shut_goes : (event : EventWith PortCall) (ending : List (EventWith PortCall)) → AllByRecursion Goes ending → AllByRecursion Goes (shuts event ++ ending)
 shut_goes (Port (Prompt event)) ending each = (refl, each)
-shut_goes (Port (Keys call)) ending each = each
-shut_goes (Port (Dice draw)) ending each = each
-shut_goes (Port (Trust call)) ending each = each
-shut_goes (Port NoMemory) ending each = each
-shut_goes (CacheTurn taken) ending each = each
-shut_goes (Received took) ending each = each
-shut_goes (Sent text) ending each = each
-shut_goes (Cut text) ending each = each
-shut_goes (Inquiry word params limit inquired) ending each = each
+shut_goes _ ending each = each
 
 abbrev unanswered_events : ℕ → Option (List ℕ) → Turn → List (EventWith PortCall)
 unanswered_events number keep turn = cache_turn (Close number keep) turn ∷ Port NoMemory ∷ Sent (failed code.NoMemory) ∷ []

@@ -1,19 +1,12 @@
 -- A turn that finds no memory leaves its desk.
 use Rattle.std.proofs.Common.{◌≡◌, ℕ, List, [], ◌++◌, Option, Some, None, refl, ap, ◌∙◌, append-nil}
-use Rattle.cache_policy.specs.{Desks.{AtDesk, GoesOn, GoesOnWhereKnown, MakesMarks, IsTurn}, Histories.History, Runs.joined, Turns.{Refused, FitsStep, closes}, declared.mark.{Mark.Mark, MarkStep.MarkStep}}
-use Rattle.cache_policy.specs.declared.mark.MarkStep.TheVariants.{Ask, Seat, Close, Put, Clear, Flush, Peek, Stop}
+use Rattle.cache_policy.specs.{Desks.{AtDesk, GoesOnWhereKnown, MakesMarks, IsTurn}, Histories.History, Runs.joined, Turns.{Refused, FitsStep, closes}, declared.mark.{Mark.Mark, MarkStep.{MarkStep, TheVariants.Close}}}
 use Rattle.agent_session.specs.Refusals.{LeavesRun, LeavesDesk}
 use Rattle.cache_policy.specs.Desks as desks
 
 pub no_close : (asked : MarkStep) → FitsStep asked Refused → closes asked ≡ None
-no_close (Ask id mode way since) fits = refl
-no_close (Seat under since) fits = refl
 no_close (Close number keep) fits = absurd fits
-no_close (Put id mode life secret) fits = refl
-no_close (Clear id mode) fits = refl
-no_close Flush fits = refl
-no_close (Peek id mode) fits = refl
-no_close Stop fits = refl
+no_close _ fits = refl
 
 makes_none : {limits : _} {session : _} {called : ℕ} {asked : MarkStep} {run : List History} {own : List Mark} → MakesMarks limits session called asked run Refused own → own ≡ []
 makes_none (desks.marked own is) = absurd is.shows

@@ -1,47 +1,28 @@
 -- Each exchange of a session is a course.
 use Rattle.std.proofs.Common.{◌≡◌, List, [], ◌∷◌, ℕ, refl, sym, subst, Some}
-use Rattle.{agent_ask.specs.{PortCalls.{PortCall, Replaced, Removed, Read, Listed, Prompt, Keys, Dice, Trust, NoMemory}, SessionEvents.{Received, Sent, Cut, Inquiry, CacheTurn, Port, cache_turn}}, cache_policy.specs.Turns.Turn}
-use Rattle.{cache_policy.specs.declared.{life.Life.Life, mark.MarkStep.{MarkStep, TheVariants.{Ask, Seat, Close, Put, Clear, Flush, Peek, Stop}}, mode.Mode.{Mode, TheVariants.Nonce}}, session_options.specs.declared.rules.Rules.Rules}
-use Rattle.{agent_commands.specs.{Events.EventWith, declared.{request.Request.Request, went.Went.Went}}, agent_origin.specs.{SessionExchanges.{RequestExchange, cache, keys}, declared.session_state.SessionState.SessionState}}
-use Rattle.agent_session.specs.Causes.{Has, here, later, on_keys}
-use Rattle.agent_session.specs.Refusals.{IsNonceOf, MayStore, preset, given, exported, changed, imported, IsWorkStep, IsAllowed, AreWork, IsEnd, answered, given_back, unanswered, refused, kept, stored, cleared, CourseBy, Course}
-use Rattle.agent_session.proofs.{CacheCourses.cache_course, Courses.AnyNonce, ImportCourses.{import_course, nonce_drawn}, KeyCourses.key_course, Standing.{has_left, has_right}}
+use Rattle.{agent_ask.specs.{PortCalls.{PortCall, Replaced, Keys}, SessionEvents.{CacheTurn, Port, cache_turn}}, cache_policy.specs.{Turns.Turn, declared.{life.Life.Life, mark.MarkStep.{MarkStep, TheVariants.Put}, mode.Mode.Mode}}}
+use Rattle.{cache_policy.specs.declared.mode.Mode.TheVariants.Nonce, session_options.specs.declared.rules.Rules.Rules, agent_commands.specs.{Events.EventWith, declared.{request.Request.Request, went.Went.Went}}}
+use Rattle.agent_origin.specs.{SessionExchanges.{RequestExchange, cache, keys}, declared.session_state.SessionState.SessionState}
+use Rattle.agent_session.specs.{Causes.{Has, here, later, on_keys}, Refusals.{IsWorkStep, IsAllowed, AreWork, IsEnd, answered, given_back, unanswered, refused, kept, stored, cleared, CourseBy, Course}}
+use Rattle.agent_session.{specs.OwnPassphrases.{IsNonceOf, MayStore, directly, imported}, proofs.{CacheCourses.cache_course, Courses.AnyNonce, ImportCourses.{import_course, nonce_drawn}, KeyCourses.key_course}}
+use Rattle.agent_session.proofs.Standing.{has_left, has_right}
 use Rattle.key_commands.specs.declared.request.KeyRequest.TheVariants as on
 
 -- a course by whatever nonces is one by those that were drawn for it
 module _ (request : Request) (events : List (EventWith PortCall))
     (drawn : (force : _) (nonce : _) → on_keys request ≡ Some (on.ImportKey force nonce) → (id pass : List ℕ) (life : Life) (turn : Turn) → Has (cache_turn (Put id Nonce life pass) turn) events → IsNonceOf events id) where
   may_store : (id : List ℕ) (mode : Mode) (life : Life) (pass : List ℕ) (turn : Turn) → Has (cache_turn (Put id mode life pass) turn) events → MayStore request AnyNonce id mode → MayStore request (IsNonceOf events) id mode
-  may_store id mode life pass turn has (preset is) = preset is
-  may_store id mode life pass turn has (given fields is named) = given fields is named
-  may_store id mode life pass turn has (exported is) = exported is
-  may_store id mode life pass turn has (changed is) = changed is
+  may_store id mode life pass turn has (directly under) = directly under
   may_store id mode life pass turn has (imported is any) = imported is (drawn _ _ is id pass life turn has)
 
   step_drawn : (asked : MarkStep) (turn : Turn) → Has (cache_turn asked turn) events → IsWorkStep request AnyNonce asked → IsWorkStep request (IsNonceOf events) asked
   step_drawn (Put id mode life pass) turn has works = may_store id mode life pass turn has works
-  step_drawn (Ask id mode way since) turn has works = tt
-  step_drawn (Seat under since) turn has works = tt
-  step_drawn (Close ticket keep) turn has works = works
-  step_drawn (Clear id mode) turn has works = works
-  step_drawn Flush turn has works = works
-  step_drawn (Peek id mode) turn has works = tt
-  step_drawn Stop turn has works = works
+  step_drawn _ turn has works = works
 
   allowed_drawn : (event : EventWith PortCall) → Has event events → IsAllowed request AnyNonce event → IsAllowed request (IsNonceOf events) event
   allowed_drawn (CacheTurn taken) has allowed = step_drawn taken.asked taken.turn has allowed
-  allowed_drawn (Received took) has allowed = allowed
-  allowed_drawn (Sent text) has allowed = allowed
-  allowed_drawn (Cut text) has allowed = tt
-  allowed_drawn (Inquiry word params limit inquired) has allowed = tt
-  allowed_drawn (Port (Keys (Read grip answer))) has allowed = tt
-  allowed_drawn (Port (Keys (Listed answer))) has allowed = tt
   allowed_drawn (Port (Keys (Replaced grip file answer))) has allowed = allowed
-  allowed_drawn (Port (Keys (Removed grip answer))) has allowed = allowed
-  allowed_drawn (Port (Prompt event)) has allowed = tt
-  allowed_drawn (Port (Dice draw)) has allowed = tt
-  allowed_drawn (Port NoMemory) has allowed = tt
-  allowed_drawn (Port (Trust call)) has allowed = allowed
+  allowed_drawn _ has allowed = allowed
 
   work_drawn : (work : List (EventWith PortCall)) → ((event : EventWith PortCall) → Has event work → Has event events) → AreWork request AnyNonce work → AreWork request (IsNonceOf events) work
   work_drawn [] among each = tt

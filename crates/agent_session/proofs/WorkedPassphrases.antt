@@ -1,5 +1,5 @@
 -- Worked exchanges: whose their passphrases are, and what stands after a refusal.
-use Rattle.std.{specs.Prelude.{⊤, take, drop}, proofs.Common.{◌≡◌, ◌≤◌, ℕ, false, true, List, [], ◌∷◌, ◌++◌, length, Some, None, Ok, Err, refl, sym, ap, subst, arith, codes}}
+use Rattle.std.{specs.Prelude.{⊤, take, drop}, proofs.Common.{◌≡◌, ◌≤◌, ℕ, false, true, List, ◌∷◌, ◌++◌, length, Some, None, Ok, Err, refl, sym, ap, subst, arith, codes, []}}
 use Rattle.{arrayvec.specs.ArrayVec.ArrayVec, agent_ask.specs.{Answering.whole, Events.{PromptEvent, Start, GetPin, Shut, Called}, PortCalls.{PortCall, Prompt, Replaced}, Plans.{IsSpec, plan_of}}}
 use Rattle.agent_ask.specs.{Prompts.{AsksPin, tried, quiet, good, accepted, same}, SessionEvents.{Received, Sent, Inquiry, Port, cache_turn}, Tests.test_of, SessionPrompts.AnyInSession, declared.spec.AskPlan.AskPlan}
 use Rattle.{agent_ask.specs.{declared.{spec.PromptSpec.PromptSpec, test.Tested.TheVariants.Yes}, Parts.{goes_on, stops, returns, wanted, or_else}}, agent_ports.specs.declared.grip.Grip.Grip, assuan_escape.specs.Escapes.hex_text}
@@ -11,8 +11,8 @@ use Rattle.agent_commands.specs.declared.{request.{CacheCommand.TheVariants.Pres
 use Rattle.key_commands.specs.{Lines.max_key_data, Events.{drew, called}, Exchanges.{KeyExchange, KeyWrapReplies, ImportKeyReplies, key_reply, wrap_key, with_wrap_key}, Parts.Draws, Requests.key_request_of}
 use Rattle.{key_commands.specs.{declared.{request.Direction.Direction, wrap_keys.WrapKeys.WrapKeys}, Passphrases.ask_nonce, Wrapping.WrappedSays}, agent_origin.specs.SessionExchanges.{SessionExchange, RequestExchange, cache, keys}}
 use Rattle.agent_origin.specs.declared.session_state.SessionState.{SessionState}
-use Rattle.agent_session.{specs.{Causes.{Has, here, later}, Imports.{put_nonce, ImportCourse}, OwnAnswers.{SaysOwn, TellsOfKeys}, OwnPassphrases.{StoresOwn, StoresOwnIn, keeps}}, proofs.ImportCourses.import_exchange}
-use Rattle.agent_session.proofs.{KeyExplained.exchange_goes_on, OwnCache.{cache_own, request_own}, OwnKeyLines.request_told, OwnParts.{Fit, own_at}, OwnSessions.{exchange_own, session_own}}
+use Rattle.agent_session.{specs.{Causes.{Has, here, later}, Imports.{put_nonce, ImportCourse}, OwnPassphrases.{SaysOwn, TellsOfKeys, StoresOwn, StoresOwnIn, keeps}}, proofs.{ImportCourses.import_exchange, KeyExplained.exchange_goes_on}}
+use Rattle.agent_session.proofs.{OwnCache.{cache_own, request_own}, OwnKeys.request_told, OwnParts.{Fit, own_at}, OwnSessions.{exchange_own, session_own}}
 use Rattle.agent_ask.specs.SessionPrompts as under
 use Rattle.agent_ask.specs.declared.ask.Asked.TheVariants as asked
 use Rattle.agent_ask.specs.declared.prompter.Opened.TheVariants as opened
@@ -155,7 +155,7 @@ module _ (rules : Rules) (options : OptionValues) (wrap wrapped : List ℕ) (key
 
   -- the passphrase stays under the nonce, and nothing is kept for the key
   import_stores : ImportCourse (imports ++ Sent (failed code.General) ∷ [])
-  import_stores = import_exchange rules options wraps (on.ImportKey true (Some nonce)) refl (part_exchange.refused imports None (Agent code.General) import_fails turning.unheld)
+  import_stores = import_exchange rules options wraps true (Some nonce) (part_exchange.refused imports None (Agent code.General) import_fails turning.unheld)
 
 -- ---- a wrapping key is drawn, and is told
 

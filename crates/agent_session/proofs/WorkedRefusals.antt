@@ -6,7 +6,7 @@ use Rattle.{agent_ports.specs.declared.{grip.Grip.Grip, trust.TrustRead.TrustRea
 use Rattle.{session_options.specs.{OptionValues.OptionValues, declared.rules.Rules.Rules}, agent_commands.specs.{Events.EventWith, Requests.{GetFields, get_passphrase}, declared.request.Request.{Request, TheVariants.Cache}}}
 use Rattle.{key_commands.specs.Passphrases.OpensBy, agent_origin.specs.{TrustParts.trust_called, declared.{session_state.SessionState.SessionState, trust.request.TrustRequest.TrustRequest}}}
 use Rattle.agent_session.specs.{Causes.{later, on_keys, IsReadLocked, exports, changes, wanted, of_new, of_import, data_says, sent, said}, DoorCauses.{IsTooMuch, inquired, too_long, read_again, read_trust}}
-use Rattle.agent_session.specs.{OwnPassphrases.{IsAccepted, any, opening, verifies, StoresOwn, accepted, changed, IsAbout, named, brought}, Refusals.{IsNonceOf, nonce_of}}
+use Rattle.agent_session.specs.OwnPassphrases.{IsAccepted, any, opening, verifies, StoresOwn, accepted, changed, IsAbout, named, brought, IsNonceOf, nonce_of}
 use Rattle.agent_ask.specs.Prompts as prompts
 use Rattle.agent_ask.specs.declared.ask.Asked.TheVariants as asked
 use Rattle.agent_ask.specs.declared.prompter.Outcome.TheVariants as outcome

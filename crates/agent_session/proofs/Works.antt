@@ -2,11 +2,12 @@
 -- part and what follows on its value, and of the smallest parts of a request.
 use Rattle.std.{specs.List.AllByRecursion, proofs.Common.{codes, ◌≡◌, ◌≢◌, ℕ, Bool, List, [], ◌∷◌, ◌++◌, Option, Some, None, Result, Ok, Err, refl, sym, ap, ◌∙◌, subst, append_assoc, append-nil}}
 use Rattle.agent_ask.specs.{ClientParts.{Writes, Inquires, AsksClient}, Events.{Called, Shut}, PortCalls.{Listed, Replaced, Dice, Draw, Prompt}, Interrupts.Interrupts, Parts.{◌>>=◌, Returns, Refuses, needed, or_else, unless, wanted}}
-use Rattle.agent_ask.{specs.{SessionEvents.{Received, Sent, Cut, Inquiry, CacheTurn, Port, cache_turn}, TurnParts.{Asks, Seats, Changes, Peeks, Closes}}, proofs.Within.{Within, Joins, OfNothing}}
-use Rattle.{agent_ports.specs.declared.{grip.Grip.Grip, keys.{KeyDone.KeyDone, KeyNames.KeyNames, KeyRead.KeyRead}}, assuan_server.specs.{Clients.session_lines, Inquiries.{Outcome, IsAtEnd}}, cache_policy.specs.Turns.{Turn, closes}}
+use Rattle.{agent_ask.{specs.{SessionEvents.{Received, Sent, Cut, Inquiry, CacheTurn, Port, cache_turn}, TurnParts.{Asks, Seats, Changes, Peeks, Closes}}, proofs.Within.{Within, Joins, OfNothing}}, agent_ports.specs.declared.grip.Grip.Grip}
+use Rattle.{agent_ports.specs.declared.keys.{KeyDone.KeyDone, KeyNames.KeyNames, KeyRead.KeyRead}, assuan_server.specs.{Clients.session_lines, Inquiries.{Outcome, IsAtEnd}}, cache_policy.specs.Turns.{Turn, closes}}
 use Rattle.{cache_policy.specs.declared.{mark.MarkStep.{MarkStep, TheVariants.{Peek, Close}}, mode.Mode.Mode}, secret_file.specs.Opens.LockedKey, session_client.specs.{Asking.{Asked, said_by}, declared.code.Code.Code}}
-use Rattle.{session_client.specs.declared.{refusal.Refusal.{Refusal, TheVariants.{Agent, Client}}, client_error.ClientError.ClientError}, sexp_keys.specs.Key.Key, key_commands.specs.{Lines.max_key_data, Events.{Event, called, read, out_of_memory}}}
-use Rattle.key_commands.specs.{Files.Rewrites, KeyParts.{Tells, tells, ReadsFile, Replaces, KeepsNew, Protects, IsShort, ListsGrips, ReadsListed, AsksKeyData, Unwraps, NamesKey, LooksOver, WrapsKey, file_in, grips_in, change_fault}}
+use Rattle.{session_client.specs.declared.{refusal.Refusal.{Refusal, TheVariants.{Agent, Client}}, client_error.ClientError.ClientError}, sexp_keys.specs.Key.Key, key_commands.specs.Lines.max_key_data}
+use Rattle.key_commands.specs.{Events.{Event, called, read, out_of_memory}, Files.Rewrites}
+use Rattle.key_commands.specs.KeyParts.{Tells, tells, ReadsFile, Replaces, KeepsNew, Protects, IsShort, ListsGrips, ReadsListed, AsksKeyData, Unwraps, NamesKey, LooksOver, WrapsKey, file_in, grips_in, change_fault}
 use Rattle.key_commands.{specs.{Parts.{Part, Finds, Draws, read_fault}, Passphrases.{LooksForNonce, TakesSeat, Locks, TriesPassphrase, TriesFound, ask_nonce, put_key, seat_for}}, proofs.EachEvent.each_append}
 use Rattle.agent_session.specs.Refusals.{turn_refuses, change_refuses, refuses, shuts}
 use Rattle.agent_ask.specs.ClientParts as client
@@ -112,12 +113,7 @@ module _ (Fits : Event → Type 0) where
 
   pub shuts_fit : Fits (Port (Prompt (Called Shut))) → (event : Event) → AllByRecursion Fits (shuts event)
   shuts_fit shut (Port (Prompt event)) = (shut, tt)
-  shuts_fit shut (Port _) = tt
-  shuts_fit shut (Received took) = tt
-  shuts_fit shut (Sent text) = tt
-  shuts_fit shut (Cut text) = tt
-  shuts_fit shut (CacheTurn taken) = tt
-  shuts_fit shut (Inquiry word params limit inquired) = tt
+  shuts_fit shut _ = tt
 
   -- all events are so, where the end of a prompt is
   pub each_fits : {A : Type 0} {events : List Event} {result : Result A Refusal} → Fits (Port (Prompt (Called Shut))) → WorksTo events result → AllByRecursion Fits events
@@ -284,12 +280,7 @@ module _ (Fits : Event → Type 0) where
     at_end_works : {A : Type 0} (outcome : Outcome) → IsAtEnd outcome → WorksTo {A = A} (Inquiry (codes "KEYDATA") [] max_key_data (Asked outcome) ∷ out_of_memory ∷ []) (Err (Agent code.NoMemory))
     at_end_works (outcomes.Data bytes) at_end = refused_second (asked _, refl, refl) memory refl refl
     at_end_works outcomes.TooMuch at_end = record { work = []; last = _; is = refl; each = tt; end = forgot (asked _) refl memory }
-    at_end_works outcomes.Cancelled at_end = absurd at_end
-    at_end_works outcomes.Unexpected at_end = absurd at_end
-    at_end_works outcomes.Ended at_end = absurd at_end
-    at_end_works outcomes.TooLong at_end = absurd at_end
-    at_end_works outcomes.Spent at_end = absurd at_end
-    at_end_works outcomes.ReadFault at_end = absurd at_end
+    at_end_works _ at_end = absurd at_end
 
     pub asks_key_data : Keeps AsksKeyData
     asks_key_data _ _ _ _ (parts.asked inquires_so) = ((inquires asked _ _ _ _ inquires_so).0, refl)

@@ -3,7 +3,6 @@ pub mod Completeness
 pub mod DoorCauses
 pub mod Exactly
 pub mod Imports
-pub mod OwnAnswers
 pub mod OwnPassphrases
 pub mod Refusals
 pub mod Sessions

@@ -1,14 +1,13 @@
 -- What stands after a refusal: how each request is carried out, as far as what it stores, clears, replaces and gives back goes, and what an event that refuses
 -- it leaves to be done. This is the project's own.
-use Rattle.std.specs.{List.AllByRecursion, Prelude.{◌≡◌, ◌≢◌, ◌⊎◌, ◌++◌, ℕ, Bool, true, false, List, [], ◌∷◌, drop, Option, Some, None, ⊤}}
+use Rattle.std.specs.{List.AllByRecursion, Prelude.{◌≡◌, ◌≢◌, ◌⊎◌, ◌++◌, ℕ, true, false, List, [], ◌∷◌, Option, Some, None, ⊤}}
 use Rattle.agent_ask.specs.{Events.{Call, GetPin, Confirm, Start, Shut, Called, OutOfMemory}, PortCalls.{PortCall, KeyCall, Read, Listed, Replaced, Removed, NotDrawn, Prompt, Keys, Dice, NoMemory, Trust}}
 use Rattle.{agent_ask.specs.{SessionEvents.{Received, Sent, CacheTurn, Port, cache_turn}, TrustCalls.TrustCall, Interrupts.Interrupts}, agent_ports.specs.declared.{grip.Grip.Grip, keys.{KeyDone.KeyDone, KeyRead.KeyRead}}}
-use Rattle.{assuan_escape.specs.Escapes.hex_text, assuan_server.specs.Written.failed, session_client.specs.declared.code.Code.Code, cache_policy.specs.{Desks.{AtDesk, is_of}, Histories.History, Runs.joined}}
-use Rattle.cache_policy.specs.{Turns.{Turn, Done, Refused, closes, opens}, declared.{life.Life.Life, mark.{Mark.Mark, MarkStep.{MarkStep, TheVariants.{Put, Clear, Flush, Stop, Close}}}, mode.Mode.Mode}}
-use Rattle.{cache_policy.specs.declared.mode.Mode.TheVariants.{Any, User, Normal, Nonce}, agent_commands.specs.{Events.EventWith, Exchanges.is_quiet, Requests.{GetFields, get_passphrase}}}
-use Rattle.{agent_commands.specs.declared.request.{CacheCommand.TheVariants.{GetPassphrase, PresetPassphrase, ClearPassphrase, ReloadAgent, KillAgent}, Request.{Request, TheVariants.Cache}}, key_commands.specs.Events.IsUncalled}
+use Rattle.{assuan_server.specs.Written.failed, session_client.specs.declared.code.Code.Code, cache_policy.specs.{Desks.{AtDesk, is_of}, Histories.History, Runs.joined, Turns.{Turn, Done, Refused, closes, opens}, declared.mark.Mark.Mark}}
+use Rattle.{cache_policy.specs.declared.{mark.MarkStep.{MarkStep, TheVariants.{Put, Clear, Flush, Stop, Close}}, mode.Mode.TheVariants.Normal}, agent_commands.specs.{Events.EventWith, Exchanges.is_quiet}}
+use Rattle.{agent_commands.specs.declared.request.{CacheCommand.TheVariants.{GetPassphrase, ClearPassphrase, ReloadAgent, KillAgent}, Request.{Request, TheVariants.Cache}}, key_commands.specs.Events.IsUncalled}
 use Rattle.key_commands.specs.{Lines.{IsNotice, grip_text}, Passphrases.put_key}
-use Rattle.agent_session.specs.{Causes.{on_keys, IsDrawn}, Completeness.{AnswersFromCache, AnswersDone, EndsInOk, IsAnswer}}
+use Rattle.agent_session.specs.{Completeness.{AnswersFromCache, AnswersDone, EndsInOk, IsAnswer}, OwnPassphrases.{IsNonceOf, MayStore}}
 use Rattle.agent_ask.specs.TrustCalls as trust_call
 use Rattle.agent_ask.specs.declared.prompter.Consent.TheVariants as consent
 use Rattle.agent_ask.specs.declared.prompter.Opened.TheVariants as opened
@@ -19,7 +18,6 @@ use Rattle.agent_ports.specs.declared.keys.KeyRead.TheVariants as key_read
 use Rattle.agent_ports.specs.declared.trust.TrustDone.TheVariants as trust_done
 use Rattle.agent_ports.specs.declared.trust.TrustRead.TheVariants as trust_read
 use Rattle.session_client.specs.declared.code.Code.TheVariants as code
-use Rattle.key_commands.specs.declared.request.KeyRequest.TheVariants as on
 
 -- ---- events that refuse their request
 
@@ -78,24 +76,10 @@ refuses _ = None
 
 -- ---- the work of a request
 
--- the nonce of a key that comes in: the hexadecimal text of the last 12 of 32 bytes that were drawn among these events
-pub data IsNonceOf (events : List (EventWith PortCall)) : List ℕ → Type 0 where
-  nonce_of : {drawn : List ℕ} → IsDrawn events 32 drawn → IsNonceOf events (hex_text (drop 20 drawn))
-
--- `IsNonce` is what is so of a nonce that is new
 module _ (request : Request) (IsNonce : List ℕ → Type 0) where
-  -- which requests store a passphrase by a turn of their own, and under which id and mode
-  pub data MayStore : List ℕ → Mode → Type 0 where
-    preset : {id : List ℕ} {life : Life} {secret : Option (List ℕ)} → request ≡ Cache (PresetPassphrase id life secret) → MayStore id Any
-    -- what the client gave in place of a prompt
-    given : {id : List ℕ} (fields : GetFields) → request ≡ Cache (get_passphrase fields) → fields.id ≡ Some id → MayStore id User
-    exported : {grip : Grip} {nonce : Option (List ℕ)} → on_keys request ≡ Some (on.ExportKey grip nonce) → MayStore (grip_text grip) Normal
-    changed : {grip : Grip} {old new : Option (List ℕ)} {verify : Bool} → on_keys request ≡ Some (on.Passwd grip old new verify) → MayStore (grip_text grip) Normal
-    imported : {force : Bool} {nonce : Option (List ℕ)} {id : List ℕ} → on_keys request ≡ Some (on.ImportKey force nonce) → IsNonce id → MayStore id Nonce
-
   -- the turns that are its work: the cache is asked, or the prompt is wanted; and what is stored, cleared or stopped, by its own commands alone
   abbrev pub IsWorkStep : MarkStep → Type 0
-  IsWorkStep (Put id mode life secret) = MayStore id mode
+  IsWorkStep (Put id mode life secret) = MayStore request IsNonce id mode
   IsWorkStep (Clear id mode) = request ≡ Cache (ClearPassphrase id mode)
   IsWorkStep Flush = request ≡ Cache ReloadAgent
   IsWorkStep Stop = request ≡ Cache KillAgent

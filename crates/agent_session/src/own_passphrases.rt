@@ -1,6 +1,6 @@
 //! Laws on whose a passphrase is: a request stores and is told none but its own. Nothing runs; each
 //! contract is a fact about the definitions. Begin with `each_request_stores_its_own`; definitions
-//! are in `specs/OwnPassphrases` and `specs/OwnAnswers`.
+//! are in `specs/OwnPassphrases`.
 
 ghost use Rattle.std.specs.Prelude.{◌≡◌, List, ℕ, Some};
 ghost use Rattle.{agent_ask.specs.Worlds.{Outside, Does}, agent_ports.specs.Leads.Leads};
@@ -9,12 +9,11 @@ ghost use Rattle.agent_commands.specs.Requests.{request_of};
 ghost use Rattle.agent_commands.specs.declared.went.{SessionEnd.SessionEnd as Ends, Went.Went};
 ghost use Rattle.key_commands.specs.{Events.Event, declared.request.KeyRequest.KeyRequest};
 ghost use Rattle.session_options.specs.{OptionValues.OptionValues, declared.rules.Rules.Rules};
-ghost use Rattle.agent_origin.specs.DoorSessions.{DoorExchange, ServesDoor};
-ghost use Rattle.agent_origin.specs.PortStates.{PortWorld};
+ghost use Rattle.agent_origin.specs.{DoorSessions.{DoorExchange, ServesDoor}, PortStates.PortWorld};
 ghost use Rattle.agent_origin.specs.SessionExchanges.{SessionExchange, kept_at_start};
 ghost use Rattle.agent_origin.specs.{Sessions.Surroundings, declared.door.Door.Door};
 ghost use Rattle.agent_origin.specs.declared.session_state.SessionState.{SessionState};
-ghost use Rattle.agent_session.specs.{Causes.on_keys, OwnAnswers.{SaysOwnAlone, TellsOfKeysAlone}};
+ghost use Rattle.agent_session.specs.{Causes.on_keys, OwnPassphrases.{SaysOwnAlone, TellsOfKeysAlone}};
 ghost use Rattle.agent_session.specs.OwnPassphrases.{StoresOwnAlone, StoresOwnThroughout};
 ghost use Rattle.agent_session.specs.Sessions.{ServesRules};
 
