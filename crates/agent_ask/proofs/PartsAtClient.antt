@@ -1,7 +1,7 @@
 -- Parts at the client: a text that is written, an inquiry, a prompt that it is told of.
 use Rattle.std.proofs.Common.{◌≡◌, ◌≤◌, ℕ, List, [], ◌∷◌, Option, Result, Ok, Err, arith, sym, ◌∙◌, subst}
 use Rattle.{agent_ports.specs.{Leads.Leads, Writing.StopsWriting, declared.link.WriteFault.WriteFault}, session_client.specs.{Asking.{HasSaid, LeftByError, AsksClient as AskedClient}, Lines.{Lines, Views, IsOpen}, Refusals.gone_by}}
-use Rattle.session_client.specs.declared.{refusal.Refusal.{Refusal, TheVariants.{Agent, Pinentry, Client}}, client_error.ClientError.ClientError}
+use Rattle.{session_client.specs.declared.{refusal.Refusal.{Refusal, TheVariants.{Agent, Pinentry, Client}}, client_error.ClientError.ClientError}, cache_policy.specs.{declared.mark.MarkStep.MarkStep, Turns.Turn}}
 use Rattle.agent_ask.specs.{Answering.{ReaderLeft, FaultsCounted}, ClientParts.{Writes, written, cut, Inquires, given, not_given}, Clients.{Hears, LeftByPart}, Doing.{PromptEnds, DoesCall, DoesPrompt, HasEvents}, Events.{Call, PromptEvent}}
 use Rattle.agent_ask.specs.{PortCalls.{PortCall, Prompt, EventOf, world_with}, Parts.PartOf, PartStates.{part_state, gone_in, DoesPart, NoTurn, NoEnd, DoesWithClient}, PinParts.{PromptsPin, AsksFor}, SessionEvents.{Sent, Cut, Inquiry}}
 use Rattle.agent_ask.{specs.{SessionPrompts.AnyInSession, declared.{ask.Asked.Asked, spec.{AskPlan.AskPlan, PromptSpec.PromptSpec}, test.Tested.Tested}}, proofs.{Doing.{done_said, done_cut, done_inquired}, Prompting.shown}}
@@ -82,16 +82,16 @@ module _ {lines : Lines} {C : Type 0} {views : Views lines C} {start now : C} wh
   }
 
 -- The ports hold the prompter: with each state of it they are these, and what a prompt does to it is done to them.
-module _ {lines : Lines} {C P E : Type 0} (views : Views lines C) {prompted : P → Call → P → Type 0} (ported : E → PortCall → E → Type 0) (put : P → E)
+module _ {lines : Lines} {C D P E : Type 0} (views : Views lines C) (turned : D → MarkStep → Turn → D → Type 0) (desk : D) {prompted : P → Call → P → Type 0} (ported : E → PortCall → E → Type 0) (put : P → E)
     (each : (before after : P) (event : PromptEvent) → DoesCall prompted before event after → ported (put before) (Prompt event) (put after))
-    {Wished : C → List ℕ → Result (List ℕ) ClientError → C → Type 0} {start now : PromptEnds P C} {A : Type 0} {part : PartOf (EventOf lines) A} where
+    {Wished : C → List ℕ → Result (List ℕ) ClientError → C → Type 0} {start now : PromptEnds P C} {A : Type 0} {part : PartOf (EventOf lines) A} {result : Result A Refusal} {ticket : Option ℕ} where
   -- A prompt was shown, and the session shows its events: a part that these are was done, and left the connection so.
-  pub part_prompted : {result : Result A Refusal} {ticket : Option ℕ} {prompt : List PromptEvent}
+  pub part_prompted : {prompt : List PromptEvent}
       → Leads (DoesPrompt prompted (Hears views Wished)) start prompt now → ((events : List (EventOf lines)) → AnyInSession lines prompt events → part ticket events result ticket)
       → LeftByPart views result start.caller now.caller
-      → DoesPart views NoTurn ported part ticket (part_state views NoTurn ported start.caller tt (put start.prompter)) result ticket (part_state views NoTurn ported now.caller tt (put now.prompter))
-  part_prompted {result} leads does left =
-      let s = shown views NoTurn prompted ported put each tt leads in
+      → DoesPart views turned ported part ticket (part_state views turned ported start.caller desk (put start.prompter)) result ticket (part_state views turned ported now.caller desk (put now.prompter))
+  part_prompted leads does left =
+      let s = shown views turned prompted ported put each desk leads in
       record {
         events = s.events;
         does = does s.events s.in_session;
@@ -102,10 +102,9 @@ module _ {lines : Lines} {C P E : Type 0} (views : Views lines C) {prompted : P 
 
   -- it was one for a passphrase
   pub prompt_answered : {T : Type 0} {tested : T → List ℕ → Tested → T → Type 0} {before after : T} {spec : PromptSpec} {plan : AskPlan} {Rule : List ℕ → Type 0} {given : Result (List ℕ) Refusal}
-      {result : Result A Refusal} {ticket : Option ℕ}
       → (asks : HasEvents (DoesPrompt prompted (Hears views Wished)) (λ events. AsksFor tested before after spec plan Rule events given) start now)
       → ((events : List (EventOf lines)) → PromptsPin lines spec plan Rule events asks.are.answer → part ticket events result ticket) → LeftByPart views result start.caller now.caller
-      → DoesPart views NoTurn ported part ticket (part_state views NoTurn ported start.caller tt (put start.prompter)) result ticket (part_state views NoTurn ported now.caller tt (put now.prompter))
+      → DoesPart views turned ported part ticket (part_state views turned ported start.caller desk (put start.prompter)) result ticket (part_state views turned ported now.caller desk (put now.prompter))
   prompt_answered asks is = part_prompted asks.lead (λ events in_session. is events (record { prompt = asks.events; asks = asks.are.asks.asks; in_session = in_session }))
 
 -- the same plan in other words

@@ -1,11 +1,11 @@
 -- Parts of a request that were done, one after another, and those that stand beside a desk and ports that they have nothing to do with.
 use Rattle.std.proofs.Common.{◌≡◌, ◌≤◌, ℕ, true, List, [], ◌∷◌, ◌++◌, Option, Some, None, Result, Ok, Err, is_some, refl, arith}
 use Rattle.cache_policy.specs.{declared.{mark.{MarkStep.{MarkStep, TheVariants.{Ask, Close}}, Way.{Way, TheVariants.{Quiet, Prompt}}}, mode.Mode.Mode}, Turns.{Turn, Given, Empty, Open, Done, FitsStep, opens}}
-use Rattle.session_client.specs.{Lines.{Lines, Views, IsOpen}, declared.{refusal.Refusal.Refusal, client_error.Gone.Gone}}
-use Rattle.agent_ask.specs.{Answering.{ReaderLeft, FaultsCounted}, PortCalls.{PortCall, EventOf, world_with}, Parts.{PartOf, ◌>>=◌, goes_on, stops}}
+use Rattle.{session_client.specs.{Lines.{Lines, Views, IsOpen}, declared.{refusal.Refusal.Refusal, client_error.Gone.Gone}}, session_options.specs.declared.options.PinMode.PinMode}
+use Rattle.agent_ask.specs.{Answering.{ReaderLeft, FaultsCounted}, PortCalls.{PortCall, EventOf, world_with}, Parts.{PartOf, ◌>>=◌, goes_on, stops, refuses}}
 use Rattle.agent_ask.specs.PartStates.{PartState, part_state, gone_in, DoesPart, NoTurn, NoEnd, DoesWithClient, DoesTurn, DoesTurns, still, one}
 use Rattle.agent_ask.specs.Seats.{Gives, TakesTicket, GivesTicket, Changed, ChangesCache, Answered, AsksCache, opened as ticket_opened, interrupted as ticket_refused, taken, refused, unheld, given, changed, unchanged, found, none_found}
-use Rattle.agent_ask.{specs.{Seats.{prompt_opened, not_answered}, SessionEvents.{AnyEvent, cache_turn}, TurnParts.{Asks, Seats, Changes, Closes, closed}}, proofs.{Beside.done_in, Doing.{done_none, done_then, done_turned}}}
+use Rattle.agent_ask.{specs.{Seats.{prompt_opened, not_answered, SeatsIn}, SessionEvents.{AnyEvent, cache_turn}, TurnParts.{Asks, Seats, Changes, Closes, closed, in_mode}}, proofs.{Beside.done_in, Doing.{done_none, done_then, done_turned}}}
 use Rattle.agent_ask.specs.TurnParts as turns
 
 module _ {lines : Lines} {C : Type 0} (views : Views lines C) where
@@ -177,3 +177,18 @@ pub ticket_given : {T O F D : Type 0} {turned : D → MarkStep → Turn → D �
     → DoesTurns turned (Closes {T = T} {O = O} {F = F} keep) before desk (Ok tt) None now
 ticket_given unheld = still turns.Closes.unheld refl
 ticket_given (given {ticket} turn turned_so fits) = one (record { step = Close ticket _; turn = turn; turned_so = turned_so; does = closed turn fits; on = refl })
+
+-- a request took the seat by the pinentry-mode, or is refused
+module _ {lines : Lines} {C D E A : Type 0} {views : Views lines C} {turned : D → MarkStep → Turn → D → Type 0} {ported : E → PortCall → E → Type 0} (prompt : PartOf (EventOf lines) A)
+    {conn : C} (going : IsOpen views conn) {ends : E} {desk : D} where
+  pub unseated_in : {mode : PinMode} {why : Refusal} {held : Option ℕ} {now : D} → SeatsIn turned desk mode (Err why) held now
+      → DoesPart views turned ported (in_mode mode prompt) None (part_state views turned ported conn desk ends) (Err why) held (part_state views turned ported conn now ends)
+  unseated_in (SeatsIn.asks takes) = part_stops (part_turned going (ticket_taken takes))
+  unseated_in SeatsIn.cancels = part_still going refl refuses
+  unseated_in SeatsIn.errs = part_still going refl refuses
+  unseated_in SeatsIn.loops = part_still going refl refuses
+
+  pub seated_in : {mode : PinMode} {result : Result A Refusal} {held after : Option ℕ} {now : D} {last : PartState views turned ported} → SeatsIn turned desk mode (Ok tt) held now
+      → DoesPart views turned ported prompt held (part_state views turned ported conn now ends) result after last
+      → DoesPart views turned ported (in_mode mode prompt) None (part_state views turned ported conn desk ends) result after last
+  seated_in (SeatsIn.asks takes) rest = part_then (part_turned going (ticket_taken takes)) rest

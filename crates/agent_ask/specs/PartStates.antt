@@ -1,8 +1,8 @@
--- Private: how a session stands at some state of its code before and after a part of a request, and how events lead from one to the other. Its connection is of any
+-- How a session stands at some state of its code before and after a part of a request, and how events lead from one to the other. Its connection is of any
 -- type of which this is seen. This is the project's own.
 use Rattle.std.specs.Prelude.{◌≡◌, ℕ, List, [], ◌∷◌, Option, None, Result, Ok, Err}
 use Rattle.{cache_policy.specs.{declared.mark.MarkStep.MarkStep, Turns.Turn}, session_client.specs.{Lines.{Lines, Views}, Refusals.gone_by, declared.{refusal.Refusal.Refusal, client_error.Gone.Gone}}}
-use Rattle.agent_ask.specs.{Answering.{ReaderLeft, FaultsCounted}, PortCalls.{PortCall, EventOf, world_with}, Parts.PartOf, SessionEvents.{AnyEvent, cache_turn}, States.{AnyState, AnyLead}}
+use Rattle.agent_ask.specs.{Answering.{ReaderLeft, FaultsCounted}, Doing.DoesCall, Events.{Call, PromptEvent}, PortCalls.{PortCall, Prompt, EventOf, world_with}, Parts.PartOf, SessionEvents.{AnyEvent, cache_turn}, States.{AnyState, AnyLead}}
 
 -- how the client is gone after a part that came to this, where it is
 abbrev pub gone_in : {A : Type 0} → Result A Refusal → Option Gone
@@ -32,6 +32,10 @@ NoTurn before asked turn after = ⊥
 
 abbrev pub NoEnd : Unit {0} → PortCall → Unit {0} → Type 0
 NoEnd before what after = ⊥
+
+-- what is done to a prompter that is the only port
+pub data DoesPrompts {P : Type 0} (prompted : P → Call → P → Type 0) : P → PortCall → P → Type 0 where
+  prompts : {before after : P} {event : PromptEvent} → DoesCall prompted before event after → DoesPrompts prompted before (Prompt event) after
 
 -- a part in which nothing is done but with the client, whatever ticket is held
 abbrev pub DoesWithClient : {lines : Lines} {C : Type 0} (views : Views lines C) {A : Type 0} → PartOf (EventOf lines) A → C → Result A Refusal → C → Type 0

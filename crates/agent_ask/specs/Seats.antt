@@ -1,8 +1,10 @@
 -- How a request comes by the ticket of a prompt, and how it asks the cache and changes it. This is the project's own.
 use Rattle.std.specs.Prelude.{◌≡◌, ℕ, List, Option, Some, None, Result, Ok, Err}
-use Rattle.cache_policy.specs.{Desks.AtDesk, declared.{mark.MarkStep.{MarkStep, TheVariants.{Close, Put, Clear, Flush, Stop}}, grant.Grant.Grant}, Turns.{Turn, Given, Empty, Open, Done, FitsStep}}
+use Rattle.cache_policy.specs.{Desks.AtDesk, declared.{mark.MarkStep.{MarkStep, TheVariants.{Close, Put, Clear, Flush, Seat, Stop}}, grant.Grant.Grant}, Turns.{Turn, Given, Empty, Open, Done, FitsStep}}
 use Rattle.session_client.specs.declared.{code.Code.Code, refusal.Refusal.{Refusal, TheVariants.Agent}}
-use Rattle.agent_ask.specs.{Interrupts.Interrupts, Prompters.{AtPrompter, IsShut}}
+use Rattle.{agent_ask.specs.{Interrupts.Interrupts, Prompters.{AtPrompter, IsShut}}, session_options.specs.declared.options.PinMode.PinMode}
+use Rattle.session_client.specs.declared.code.Code.TheVariants as code
+use Rattle.session_options.specs.declared.options.PinMode.TheVariants as mode
 
 -- what a turn that wants the seat gives: a ticket, or why the request is refused
 pub data Gives : Turn → Result ℕ Refusal → Type 0 where
@@ -20,6 +22,13 @@ pub record WantsSeat {D : Type 0} (turned : D → MarkStep → Turn → D → Ty
 pub data TakesTicket {D : Type 0} (turned : D → MarkStep → Turn → D → Type 0) (step : MarkStep) (desk : D) : Result (Unit {0}) Refusal → Option ℕ → D → Type 0 where
   taken : {number : ℕ} {now : D} → WantsSeat turned step desk (Ok number) now → TakesTicket turned step desk (Ok tt) (Some number) now
   refused : {why : Refusal} {now : D} → WantsSeat turned step desk (Err why) now → TakesTicket turned step desk (Err why) None now
+
+-- the same by the pinentry-mode: it wanted the seat, or is refused
+pub data SeatsIn {D : Type 0} (turned : D → MarkStep → Turn → D → Type 0) (desk : D) : PinMode → Result (Unit {0}) Refusal → Option ℕ → D → Type 0 where
+  asks : {result : Result (Unit {0}) Refusal} {held : Option ℕ} {now : D} → TakesTicket turned (Seat None None) desk result held now → SeatsIn turned desk mode.Ask result held now
+  cancels : SeatsIn turned desk mode.Cancel (Err (Agent code.Cancelled)) None desk
+  errs : SeatsIn turned desk mode.Error (Err (Agent code.NoPinentry)) None desk
+  loops : SeatsIn turned desk mode.Loopback (Err (Agent code.NoPinentry)) None desk
 
 -- a request that may hold a ticket gave it back, and this is kept
 pub data GivesTicket {D : Type 0} (turned : D → MarkStep → Turn → D → Type 0) (keep : Option (List ℕ)) : Option ℕ → D → D → Type 0 where

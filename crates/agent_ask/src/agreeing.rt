@@ -1,22 +1,52 @@
-//! The user's consent, as a part (action) of a request that holds a ticket (permit): all but a yes
-//! refuses the request. It calls the prompter and the client. Begin with `agree`;
-//! `specs/ConsentParts` says what it does, and which answer is which error (`IsConsented`).
+//! The user's consent, as a part (action) of a request: all but a yes refuses the request. It takes
+//! the seat (lock) at the desk (cache handle), and calls the prompter and the client. Begin with
+//! `agree_by_mode`, or with `agree` where the request holds a ticket (permit); `specs/ConsentParts`
+//! says what they do, and which answer is which error (`IsConsented`).
 
-ghost use Rattle.std.specs.Prelude.{◌≡◌};
+ghost use Rattle.std.specs.Prelude.{◌≡◌, None};
 ghost use Rattle.session_client.specs.Lines.{IsOpen};
 ghost use Rattle.agent_ask.specs.Clients.{Hears, LeftByPart};
-ghost use Rattle.agent_ask.specs.{ConsentParts.{AsksQuestion, IsConsented}, Consents.agreed_of};
-ghost use Rattle.agent_ask.specs.{Doing.{HasEvents, DoesPrompt, ends}, Prompters.IsShut, Trying.IsOwn};
+ghost use Rattle.agent_ask.specs.ConsentParts.{AgreesTo, AsksQuestion, IsConsented};
+ghost use Rattle.agent_ask.specs.{Consents.agreed_of, Trying.IsOwn, TurnParts.in_mode};
+ghost use Rattle.agent_ask.specs.PartStates.{DoesPart, DoesPrompts, part_state};
+ghost use Rattle.agent_ask.specs.{Doing.{HasEvents, DoesPrompt, ends}, Prompters.IsShut};
 
 use crate::consent::prompt_consent;
-use crate::{Consent, Prompter, prompt_spec};
+use crate::{Consent, Held, Prompter, prompt_spec, seat_by_mode};
 use assuan_text::Text;
-use cache_policy::Secret;
+use cache_policy::{Desk, Secret};
 use prompt_seat::Ticket;
 use session_client::{Client, Code, Refusal};
 use session_options::{Options, Rules};
 
-/// Asks the user this question by one prompt. A request whose user doesn't say yes is refused.
+/// Asks the user this question by one prompt, where the pinentry-mode has prompts.
+pub fn agree_by_mode<C: Client<Secret>, D: Desk, P: Prompter>(
+    question: &Text,
+    rules: &Rules,
+    options: &Options,
+    held: &mut Held,
+    client: &mut C,
+    desk: &mut D,
+    prompter: &mut P,
+) -> Result<(), Refusal>
+    requires none { held.old ≡ None }
+    requires open { IsOpen C.views client.old }
+    requires out { (D.at desk.old).out ≡ held.old }
+    requires shut { IsShut (P.at prompter.old) }
+    ensures agrees { DoesPart C.views D.turned (DoesPrompts P.prompted) (in_mode options.now.mode
+        (AgreesTo C.lines rules.now options.now question.now.items)) held.old
+        (part_state C.views D.turned (DoesPrompts P.prompted) client.old desk.old prompter.old)
+        result held.new
+        (part_state C.views D.turned (DoesPrompts P.prompted) client.new desk.new prompter.new) }
+    ensures out { (D.at desk.new).out ≡ held.new }
+    ensures shut { IsShut (P.at prompter.new) }
+{
+    seat_by_mode(options.mode(), held, desk)?;
+    agree(question, rules, options, held.ticket(), client, prompter)
+}
+
+/// Asks the user this question by one prompt under a ticket. A request whose user doesn't say yes
+/// is refused.
 pub fn agree<C: Client<Secret>, P: Prompter>(
     question: &Text,
     rules: &Rules,

@@ -4,7 +4,7 @@
 //! Definitions are in `specs/Seats` and `specs/TurnParts`.
 
 ghost use Rattle.std.specs.Prelude.{◌≡◌, Ok, Err, Some, None, IfOk, IfErr, IsOk, IsSome};
-ghost use Rattle.agent_ask.specs.Seats.{GivesTicket, TakesTicket, WantsSeat};
+ghost use Rattle.agent_ask.specs.Seats.{GivesTicket, SeatsIn, TakesTicket, WantsSeat};
 ghost use Rattle.cache_policy.specs.declared.mark.MarkStep.TheVariants.{Close, Seat};
 ghost use Rattle.cache_policy.specs.Turns.{Turn, FitsStep, asked_step, closes};
 
@@ -12,6 +12,7 @@ use crate::held::Held;
 use cache_policy::{Desk, Refused, Reply, Secret, Step, Under};
 use prompt_seat::Ticket;
 use session_client::{Code, Refusal};
+use session_options::PinMode;
 
 /// Takes the seat before a prompt, whose passphrase is cached so where it is one for a passphrase.
 pub fn take_seat<D: Desk>(under: Option<Under>, desk: &mut D) -> Result<Ticket, Refusal>
@@ -73,6 +74,21 @@ pub fn hold_seat<D: Desk>(
     let ticket = take_seat(under, desk)?;
     held.put(ticket);
     Ok(())
+}
+
+/// The same by the pinentry-mode, which may refuse the request.
+pub fn seat_by_mode<D: Desk>(mode: PinMode, held: &mut Held, desk: &mut D) -> Result<(), Refusal>
+    requires none { held.old ≡ None }
+    requires out { (D.at desk.old).out ≡ held.old }
+    ensures seats { SeatsIn D.turned desk.old mode result held.new desk.new }
+    ensures out { (D.at desk.new).out ≡ held.new }
+    ensures seated { IsOk result → IsSome held.new }
+{
+    match mode {
+        PinMode::Ask => hold_seat(None, held, desk),
+        PinMode::Cancel => Err(Refusal::Agent(Code::Cancelled)),
+        PinMode::Error | PinMode::Loopback => Err(Refusal::Agent(Code::NoPinentry)),
+    }
 }
 
 /// Gives the ticket of a request back, where it holds one, with the passphrase that is kept.

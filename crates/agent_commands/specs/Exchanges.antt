@@ -1,7 +1,7 @@
 -- Requests and what is done for them, as the GnuPG manual has them ("Agent's Assuan protocol"). The codes, the texts and the order of
 -- what is done are this project's own. A row of each stands in proofs/WorkedExchanges, or where it prompts in proofs/WorkedPrompts.
 use Rattle.std.specs.{Prelude.{ℕ, Bool, true, List, [], Option, Some, None, Result, Ok, if◌then◌else◌}, Option.option_and_then}
-use Rattle.{arrayvec.specs.ArrayVec.ArrayVec, agent_ask.specs.{ConsentParts.AgreesTo, Parts.{◌>>=◌, Returns, Refuses, wanted, or_else}, TurnParts.{Seats, Changes}, PartExchanges.{AnyReply, AnyExchange}}}
+use Rattle.{arrayvec.specs.ArrayVec.ArrayVec, agent_ask.specs.{ConsentParts.AgreesTo, Parts.{◌>>=◌, Returns, Refuses, wanted, or_else}, TurnParts.{Changes, in_mode}, PartExchanges.{AnyReply, AnyExchange}}}
 use Rattle.{assuan_server.specs.{Clients.session_lines, Written.{refusal_line, ok}}, cache_policy.specs.declared.{life.Life.Life, mark.MarkStep.{MarkStep, TheVariants.{Seat, Put, Clear, Flush, Stop}}, mode.Mode.TheVariants.Any}}
 use Rattle.{session_client.specs.declared.refusal.Refusal.{Refusal, TheVariants.Agent}, session_options.specs.{OptionValues.{OptionValues, at_start, applied, with_description}, declared.options.OptionAnswer.OptionAnswer}}
 use Rattle.session_options.specs.declared.{options.{OptionAnswer.TheVariants.{Set, Unknown, Parameter, NotSupported}, PinMode.PinMode}, rules.Rules.Rules}
@@ -9,7 +9,6 @@ use Rattle.agent_commands.specs.{Answers.{closing, help, IsInfo, IsPassphrase}, 
 use Rattle.agent_commands.specs.declared.request.CacheCommand.{CacheCommand, TheVariants.{Nop, Reset, Bye, Help, SetOption, GetInfo, GetPassphrase, PresetPassphrase, ClearPassphrase, GetConfirmation, ReloadAgent, KillAgent, SetKeyDesc}}
 use Rattle.agent_commands.specs.declared.{request.{Info.Info, QuietRequest.QuietRequest, Request.{Request, TheVariants.{Cache, Key, Bad}}, Texts.Texts}, went.{SessionEnd.SessionEnd, Went.{Went, TheVariants.{On, End}}}}
 use Rattle.session_client.specs.declared.code.Code.TheVariants as code
-use Rattle.session_options.specs.declared.options.PinMode.TheVariants as mode
 use Rattle.agent_commands.specs.declared.went.SessionEnd.TheVariants as ends
 
 -- what a request is answered where it isn't refused, the option values after it, and how the session goes on
@@ -62,12 +61,7 @@ module _ (rules : Rules) where
   module _ (options : OptionValues) where
     -- the user's consent, where the client wants a prompt
     abbrev pub confirms_by : PinMode → ArrayVec ℕ → CachePart (Unit {0})
-    confirms_by mode.Ask description = do
-      seated ← Seats (Seat None None)
-      AgreesTo session_lines rules options description.items
-    confirms_by mode.Cancel description = Refuses (Agent code.Cancelled)
-    confirms_by mode.Error description = Refuses (Agent code.NoPinentry)
-    confirms_by mode.Loopback description = Refuses (Agent code.NoPinentry)
+    confirms_by mode description = in_mode mode (AgreesTo session_lines rules options description.items)
 
     abbrev pub InfoReplies : Info → CachePart CacheReply
     InfoReplies what = do

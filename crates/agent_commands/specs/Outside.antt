@@ -1,6 +1,5 @@
 -- What a session of this project stands on: the lines that its server reads, a desk, and ports.
-use Rattle.{agent_ask.specs.{Doing.DoesCall, Events.{Call, PromptEvent}, PortCalls.{PortCall, Prompt, world_with}, Worlds.AnyWorld}, assuan_server.specs.Clients.session_lines, cache_policy.specs.declared.mark.MarkStep.MarkStep}
-use Rattle.cache_policy.specs.Turns.{Turn}
+use Rattle.{agent_ask.specs.{Events.Call, PartStates.DoesPrompts, PortCalls.world_with, Worlds.AnyWorld}, assuan_server.specs.Clients.session_lines, cache_policy.specs.{declared.mark.MarkStep.MarkStep, Turns.Turn}}
 
 abbrev pub World : Type 1
 World = AnyWorld session_lines
@@ -8,10 +7,6 @@ World = AnyWorld session_lines
 -- a desk, and no ports
 abbrev pub world : {D : Type 0} → (D → MarkStep → Turn → D → Type 0) → World
 world turned = world_with turned {E = Unit {0}} (λ before what after. ⊥)
-
--- what is done to a prompter that is the only port
-pub data DoesPrompts {P : Type 0} (prompted : P → Call → P → Type 0) : P → PortCall → P → Type 0 where
-  prompts : {before after : P} {event : PromptEvent} → DoesCall prompted before event after → DoesPrompts prompted before (Prompt event) after
 
 -- a desk, and a prompter that shows its calls so
 abbrev pub prompt_world : {D P : Type 0} → (D → MarkStep → Turn → D → Type 0) → (P → Call → P → Type 0) → World

@@ -1,10 +1,10 @@
 -- Private: what the steps of a request know, and what is written for it, once all else is done.
 use Rattle.std.specs.Prelude.{◌≡◌, ℕ, Bool, List, decimal, Option, None, Result, Ok as Whole, Err as Part}
-use Rattle.{agent_ask.specs.{Events.Call, PortCalls.PortCall, Parts.Refuses, PartReplies.{RespondsBy, CarriesBy}, PartStates.{PartState, part_state, DoesPart, NoTurn, NoEnd, DoesTurns}}, assuan_server.specs.Clients.connection_views}
+use Rattle.{agent_ask.specs.{Events.Call, PortCalls.PortCall, Parts.Refuses, PartReplies.{RespondsBy, CarriesBy}, PartStates.{PartState, part_state, DoesPart, DoesPrompts, NoTurn, NoEnd, DoesTurns}}, assuan_server.specs.Clients.connection_views}
 use Rattle.{assuan_server.specs.{Connections.Connection, Written.{refusal_line, ok, IsDataAnswer}}, cache_policy.specs.{declared.mark.MarkStep.MarkStep, Turns.Turn}, session_client.specs.declared.refusal.Refusal.Refusal}
 use Rattle.{session_client.specs.declared.refusal.Refusal.TheVariants.Agent, session_options.specs.{OptionValues.OptionValues, declared.options.OptionAnswer.{OptionAnswer, TheVariants.{Set, Unknown, Parameter, NotSupported}}}}
 use Rattle.session_options.specs.declared.rules.Rules.{Rules}
-use Rattle.agent_commands.specs.{Answers.{closing, help, version_text, IsPassphrase}, Endings.went_after, Exchanges.CacheReply, Outside.DoesPrompts, Parts.CachePart, Passphrases.{Passphrase as ThePassphrase, ByCache}}
+use Rattle.agent_commands.specs.{Answers.{closing, help, version_text, IsPassphrase}, Endings.went_after, Exchanges.CacheReply, Parts.CachePart, Passphrases.{Passphrase as ThePassphrase, ByCache}}
 use Rattle.agent_commands.specs.declared.{request.{Info.Info, CacheCommand.{CacheCommand, TheVariants.{GetPassphrase, PresetPassphrase, GetConfirmation}}}, response.Response.Response}
 use Rattle.agent_commands.specs.declared.{response.Response.TheVariants.{Ok, Bye, Killed, Help, Version, Number, Passphrase}, went.Went.{Went, TheVariants.{On, End}}}
 use Rattle.session_client.specs.declared.code.Code.TheVariants as code

@@ -4,7 +4,7 @@
 //! `CacheExchange` (`specs/Exchanges`).
 
 ghost use Rattle.std.specs.Prelude.{◌≡◌, ℕ, List, None, Some};
-ghost use Rattle.agent_ask.specs.{Prompters.IsShut, PartStates.{DoesWithClient, NoEnd, part_state}};
+ghost use Rattle.agent_ask.specs.{Prompters.IsShut, PartStates.{DoesPrompts, DoesWithClient, NoEnd, part_state}};
 ghost use Rattle.{agent_ask.specs.Seats.ChangesCache, assuan_server.specs.Clients.connection_views};
 ghost use Rattle.assuan_server.specs.Connections.{Connection, IsOpen};
 ghost use Rattle.cache_policy.specs.declared.mark.MarkStep.TheVariants.{Clear};
@@ -12,20 +12,19 @@ ghost use Rattle.session_options.specs.OptionValues.{OptionValues};
 ghost use Rattle.session_options.specs.declared.rules.Rules.{Rules as TheRules};
 ghost use Rattle.agent_commands.specs.Exchanges.{LineExchange, quiet_of, CacheExchange};
 ghost use Rattle.agent_commands.specs.Exchanges.{CacheReplies, GivenOrAsked, Presets};
-ghost use Rattle.agent_commands.specs.Outside.{DoesPrompts, prompt_world, world};
+ghost use Rattle.agent_commands.specs.Outside.{prompt_world, world};
 ghost use Rattle.agent_commands.specs.Requests.{request_of};
 ghost use Rattle.agent_commands.specs.States.{served_state, prompt_state, AnswersRequest};
 ghost use Rattle.agent_commands.specs.Steps.{AsksNobody, CarriesOut, DoesAtDesk, TellsCached};
 ghost use Rattle.agent_commands.specs.Steps.{info_response, option_reply};
 ghost use Rattle.agent_commands.specs.declared.request.Request.TheVariants as request;
 
-use crate::confirmation::confirm;
 use crate::inquiry::ask_client;
 use crate::passphrase::{by_cache, get_passphrase};
 use crate::read::text_of;
 use crate::response::{Response, respond};
 use crate::{CacheCommand, Info, QuietRequest, Went};
-use agent_ask::{Held, Prompter, change, close};
+use agent_ask::{Held, Prompter, agree_by_mode, change, close};
 use agent_ports::Link;
 use assuan_server::{Code, Conn};
 use cache_policy::{CacheId, Desk, Life, Mode, Secret, Step};
@@ -128,7 +127,7 @@ fn carry_out<L: Link, D: Desk, P: Prompter>(
             Ok(Response::Ok)
         }
         CacheCommand::GetConfirmation { description } => {
-            confirm(description, rules, options, held, conn, desk, prompter)?;
+            agree_by_mode(description, rules, options, held, conn, desk, prompter)?;
             Ok(Response::Ok)
         }
         command => carry_alone(command, rules, options, desk),

@@ -8,7 +8,6 @@
 #![tactic(auto)]
 
 mod command;
-mod confirmation;
 mod fields;
 mod found;
 mod get_line;

@@ -4,9 +4,8 @@
 //! each of the ways, as `ByUser` and `ByCache`.
 
 ghost use Rattle.std.specs.Prelude.{◌≡◌, ◌≢◌, None, Ok, is_some, true};
-ghost use Rattle.agent_ask.specs.{Prompters.IsShut, PartStates.{DoesPart, DoesTurn, DoesTurns}};
+ghost use Rattle.agent_ask.specs.{Prompters.IsShut, PartStates.{DoesPart, DoesPrompts, DoesTurn, DoesTurns}};
 ghost use Rattle.assuan_server.specs.{Clients.connection_views, Connections.IsOpen};
-ghost use Rattle.agent_commands.specs.Outside.{DoesPrompts};
 ghost use Rattle.agent_commands.specs.Passphrases.{ByCache, ByClient, ByUser, KeepsUnder, LooksFor};
 ghost use Rattle.agent_commands.specs.Passphrases.{PromptsAny, Uncached, WantsPrompt};
 ghost use Rattle.agent_commands.specs.{Passphrases.WithoutPrompt, States.prompt_state};

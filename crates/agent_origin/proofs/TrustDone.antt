@@ -62,7 +62,7 @@ pub agreed_done : {P : Type 0} {prompted : P → Call → P → Type 0} {rules :
     → LeftByPart connection_views result start.caller now.caller
     → LeavesKeys NoTurn prompted (AgreesTo session_lines rules options question) (Some ticket) start.caller tt start.prompter file result (Some ticket) now.caller tt now.prompter file
 agreed_done {prompted} {result} ticket file asked left keys dice =
-    part_prompted connection_views (DoesPort prompted) (λ prompter. port_ends prompter keys dice file) (λ before after event does. ported.prompt does) asked.lead
+    part_prompted connection_views NoTurn tt (DoesPort prompted) (λ prompter. port_ends prompter keys dice file) (λ before after event does. ported.prompt does) asked.lead
     (λ events in_session. agrees ticket result asked.are in_session) left
 
 -- ---- requests

@@ -1,14 +1,13 @@
 -- Requests on the trust list and what is done for them, as the GnuPG manual has them ("Agent's Assuan protocol", ISTRUSTED and MARKTRUSTED). The
 -- codes, the texts and the order of what is done are this project's own. A row of each stands in proofs/WorkedExchanges.
 use Rattle.std.specs.Prelude.{◌++◌, ℕ, Bool, true, false, List, codes, Option, Some, None}
-use Rattle.{agent_ask.specs.{ConsentParts.AgreesTo, Events.Call, PartExchanges.AnyExchange, Parts.{◌>>=◌, Returns, Refuses}, TurnParts.Seats}, assuan_server.specs.{Written.{ok, refusal_line}, Clients.session_lines, Connections.Connection}}
+use Rattle.{agent_ask.specs.{ConsentParts.AgreesTo, Events.Call, PartExchanges.AnyExchange, Parts.{◌>>=◌, Returns, Refuses}, TurnParts.in_mode}, assuan_server.specs.{Written.{ok, refusal_line}, Clients.session_lines, Connections.Connection}}
 use Rattle.{agent_commands.specs.{Endings.went_after, Exchanges.{CacheReply, reply}, States.AnswersRequest, declared.went.Went.Went}, agent_ports.specs.{KeyFiles.KeyFiles, Sides.Side, TrustFiles.TrustState, declared.grip.Grip.Grip}}
 use Rattle.{cache_policy.specs.{Turns.Turn, declared.mark.MarkStep.{MarkStep, TheVariants.Seat}}, hex.specs.Hex.encode_upper, key_commands.specs.{Events.Event, Parts.Part}, session_client.specs.declared.refusal.Refusal.TheVariants.Agent}
 use Rattle.{session_options.specs.{OptionValues.OptionValues, declared.{options.PinMode.PinMode, rules.Rules.Rules}}, trust_list.specs.Trust.trust}
 use Rattle.agent_origin.specs.{PortStates.{PortWorld, port_state}, TrustParts.{ReadsFile, AddsEntry, Replaces}, declared.trust.request.{TrustPurpose.{TrustPurpose, TheVariants.{X509, OpenPgp}}, TrustRequest.TrustRequest}}
 use Rattle.agent_origin.specs.declared.trust.request.TrustRequest.TheVariants.{IsTrusted, MarkTrusted, Bad}
 use Rattle.session_client.specs.declared.code.Code.TheVariants as code
-use Rattle.session_options.specs.declared.options.PinMode.TheVariants as mode
 
 -- the flag of an entry
 abbrev pub flag_of : TrustPurpose → ℕ
@@ -56,12 +55,7 @@ module _ (rules : Rules) (options : OptionValues) (fingerprint : Grip) (purpose 
 
   -- the user is asked, where the client wants prompts
   abbrev pub asked_in : PinMode → Part (Unit {0})
-  asked_in mode.Ask = do
-    seated ← Seats (Seat None None)
-    Consented
-  asked_in mode.Cancel = Refuses (Agent code.Cancelled)
-  asked_in mode.Error = Refuses (Agent code.NoPinentry)
-  asked_in mode.Loopback = Refuses (Agent code.NoPinentry)
+  asked_in mode = in_mode mode Consented
 
   -- the certificate is marked as trusted, unless the file says already whether it is
   unfoldable pub Marked : Part (Unit {0})

@@ -1,6 +1,6 @@
 -- Parts that have nothing to do with some ends of a session, with these beside.
 use Rattle.std.proofs.Common.{ℕ, Option, Result}
-use Rattle.{agent_ask.{specs.{Doing.{DoesCall, called, out_of_memory}, Events.{Call, PromptEvent}, PortCalls.{PortCall, Prompt}, PartStates.NoTurn}, proofs.{PartsDone.part_in, Replying.carries_in}}, agent_ports.specs.KeyFiles.KeyFiles}
+use Rattle.{agent_ask.{specs.{Doing.{DoesCall, called, out_of_memory}, Events.{Call, PromptEvent}, PortCalls.{PortCall, Prompt}, PartStates.{part_state, DoesPart, DoesPrompts, prompts, NoTurn}}, proofs.{PartsDone.part_in, Replying.carries_in}}, agent_ports.specs.KeyFiles.KeyFiles}
 use Rattle.{agent_ports.specs.Sides.Side, assuan_server.specs.{Clients.connection_views, Connections.Connection}, cache_policy.specs.{declared.mark.MarkStep.MarkStep, Turns.Turn}, session_client.specs.declared.refusal.Refusal.Refusal}
 use Rattle.key_commands.specs.{Exchanges.KeyReply, KeyEnds.{KeyEnds, DoesAtKeys, prompt, keys, dice, no_memory}, Parts.Part}
 use Rattle.key_commands.specs.{Partial.{DoesKeyPart, NoCall, DoesBesideKeys, prompt as prompt_beside, no_memory as no_memory_beside, LeavesKeys, DoesAtPrompter, DoesAtDesk, DoesAtClient}, Replies.CarriesOut, States.{KeyState, key_state}}
@@ -10,6 +10,9 @@ module _ {P : Type 0} {prompted : P → Call → P → Type 0} where
   -- what a prompt does to a prompter
   pub each_prompted : (before after : P) (event : PromptEvent) → DoesCall prompted before event after → DoesBesideKeys prompted before (Prompt event) after
   each_prompted before after event does = prompt_beside does
+
+  prompts_beside : (before after : P) (what : PortCall) → DoesPrompts prompted before what after → DoesBesideKeys prompted before what after
+  prompts_beside before after what (prompts does) = prompt_beside does
 
   none_beside : (prompter : P) (before after : Unit {0}) (what : PortCall) → DoesBesideKeys NoCall before what after → DoesBesideKeys prompted prompter what prompter
   none_beside prompter before after what (prompt_beside (called never)) = absurd never
@@ -36,6 +39,14 @@ module _ {D P : Type 0} {turned : D → MarkStep → Turn → D → Type 0} {pro
         → LeavesKeys turned prompted part held conn desk prompter result held conn_now desk prompter_now
     beside_prompter {desk} done =
         part_in connection_views NoTurn (DoesBesideKeys prompted) turned (DoesBesideKeys prompted) (λ none. desk) (λ same. same) (λ before after step turn never. absurd never) (λ before after what does. does) done
+
+    -- one at which the prompter is the only port
+    pub beside_prompts : {before after : Option ℕ} {desk desk_now : D} {prompter prompter_now : P}
+        → DoesPart connection_views turned (DoesPrompts prompted) part before (part_state connection_views turned (DoesPrompts prompted) conn desk prompter) result after
+        (part_state connection_views turned (DoesPrompts prompted) conn_now desk_now prompter_now)
+        → LeavesKeys turned prompted part before conn desk prompter result after conn_now desk_now prompter_now
+    beside_prompts done =
+        part_in connection_views turned (DoesPrompts prompted) turned (DoesBesideKeys prompted) (λ same. same) (λ same. same) (λ before after step turn does. does) prompts_beside done
 
     -- one without a prompter
     pub beside_desk : {before after : Option ℕ} {desk desk_now : D} {prompter : P} → DoesAtDesk part turned before conn desk result after conn_now desk_now

@@ -13,18 +13,14 @@ pub keeps_seat : (grip : Grip) (held : Option ℕ) → is_some held ≡ true →
 keeps_seat grip None is = cc is
 keeps_seat grip (Some ticket) is = returns
 
--- one that holds none takes the seat, or is refused
-pub seat_turn : {D : Type 0} {turned : D → MarkStep → Turn → D → Type 0} {desk now : D} {step : MarkStep} {result : Result (Unit {0}) Refusal} {after : Option ℕ}
-    → TakesTicket turned step desk result after now → TakesTurn turned (Seats step) None desk result after now
-seat_turn = ticket_taken
-
 module _ {D : Type 0} {turned : D → MarkStep → Turn → D → Type 0} (grip : Grip) {desk now : D} where
+  -- one that holds none takes the seat, or is refused
   seat_one : {result : Result (Unit {0}) Refusal} {after : Option ℕ} → TakesTurn turned (Seats (seat_for grip)) None desk result after now → TakesTurns turned (TakesSeat grip) None desk result after now
   seat_one done = one (record { step = done.step; turn = done.turn; turned_so = done.turned_so; does = done.does; on = done.on })
 
   pub seat_taken : {result : Result (Unit {0}) Refusal} {after : Option ℕ} (held : Option ℕ) → held ≡ None → TakesTicket turned (seat_for grip) desk result after now
       → TakesTurns turned (TakesSeat grip) held desk result after now
-  seat_taken None is takes = seat_one (seat_turn takes)
+  seat_taken None is takes = seat_one (ticket_taken takes)
   seat_taken (Some ticket) is takes = cc is
 
 -- a request that has taken its seat holds a ticket

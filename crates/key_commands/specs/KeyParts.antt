@@ -2,7 +2,7 @@
 -- manual, "Agent's Assuan protocol"). The codes, the texts and the order of what is done are this project's own.
 use Rattle.std.specs.Prelude.{◌≡◌, ◌≢◌, ◌≤◌, ◌<◌, length, ℕ, Bool, true, false, List, [], ◌∷◌, codes, not, Option, Some, None, Result, Ok, Err}
 use Rattle.agent_ask.specs.{ClientParts.{Writes, Inquires}, PortCalls.{Listed, Replaced, Removed}, SessionEvents.{Inquiry, cache_turn}, ConsentParts.AgreesTo, Parts.{◌>>=◌, Returns, Refuses, wanted, unless}}
-use Rattle.{agent_ask.specs.TurnParts.{Seats, Changes, Peeks, Closes}, agent_ports.specs.declared.{grip.Grip.Grip, keys.{KeyDone.KeyDone, KeyRead.KeyRead, KeyNames.KeyNames}}, assuan_server.specs.Clients.session_lines}
+use Rattle.{agent_ask.specs.TurnParts.{Changes, Peeks, Closes, in_mode}, agent_ports.specs.declared.{grip.Grip.Grip, keys.{KeyDone.KeyDone, KeyRead.KeyRead, KeyNames.KeyNames}}, assuan_server.specs.Clients.session_lines}
 use Rattle.{assuan_server.specs.{Inquiries.{Outcome, IsAtEnd}, Written.{IsDataAnswer, limit_line}}, session_client.specs.{declared.{code.Code.Code, refusal.Refusal.{Refusal, TheVariants.Agent}}, Asking.Asked}}
 use Rattle.{cache_policy.specs.{declared.{grant.Grant.Grant, mark.MarkStep.TheVariants.Seat, mode.Mode.TheVariants.Normal}, Turns.{Given, Empty, Stopping, Refused, FitsStep}}, secret_file.specs.Protects.{ocb_protection, protected_file}}
 use Rattle.{session_options.specs.{OptionValues.OptionValues, declared.{options.PinMode.PinMode, rules.Rules.Rules}}, sexp_keys.specs.{Key.Key, Lists.{grip_of, key_list_of}, declared.fault.KeyFault.KeyFault}}
@@ -12,7 +12,6 @@ use Rattle.agent_ports.specs.declared.keys.KeyDone.TheVariants as key_done
 use Rattle.agent_ports.specs.declared.keys.KeyNames.TheVariants as key_names
 use Rattle.agent_ports.specs.declared.keys.KeyRead.TheVariants as key_read
 use Rattle.session_client.specs.declared.code.Code.TheVariants as code
-use Rattle.session_options.specs.declared.options.PinMode.TheVariants as mode
 
 -- bytes are answered by data lines
 pub data Tells (bytes : List ℕ) (held : Option ℕ) : List Event → Result (List ℕ) Refusal → Option ℕ → Type 0 where
@@ -172,15 +171,7 @@ module _ (rules : Rules) (options : OptionValues) where
   abbrev pub Agrees : Grip → Part (Unit {0})
   Agrees grip = AgreesTo session_lines rules options (described options.description (delete_description grip))
 
-  abbrev agrees_by : PinMode → Grip → Part (Unit {0})
-  agrees_by mode.Ask grip = do
-    seated ← Seats (Seat None None)
-    Agrees grip
-  agrees_by mode.Cancel grip = Refuses (Agent code.Cancelled)
-  agrees_by mode.Error grip = Refuses (Agent code.NoPinentry)
-  agrees_by mode.Loopback grip = Refuses (Agent code.NoPinentry)
-
   -- the user agrees that a key is deleted, unless nobody is to be asked
   abbrev pub Consents : (force : Bool) → Grip → Part (Unit {0})
   Consents true grip = Returns tt
-  Consents false grip = agrees_by options.mode grip
+  Consents false grip = in_mode options.mode (Agrees grip)

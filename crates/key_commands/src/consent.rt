@@ -2,21 +2,17 @@
 //! given. It takes the seat (lock: the right to prompt) at the desk (cache handle), and calls the
 //! prompter and the client. Begin with `consent`; it is `Consents` (`specs/KeyParts`).
 
-ghost use Rattle.std.specs.Prelude.{◌≡◌, None, Some};
-ghost use Rattle.agent_ask.specs.{Prompters.IsShut, Seats.IsReady};
-ghost use Rattle.assuan_server.specs.Connections.{IsOpen};
-ghost use Rattle.key_commands.specs.KeyParts.{Agrees, Consents};
-ghost use Rattle.key_commands.specs.Partial.{LeavesKeys, DoesAtPrompter};
+ghost use Rattle.std.specs.Prelude.{◌≡◌, None};
+ghost use Rattle.{agent_ask.specs.Seats.IsReady, assuan_server.specs.Connections.IsOpen};
+ghost use Rattle.key_commands.specs.{KeyParts.Consents, Partial.LeavesKeys};
 
 use crate::asking::Asking;
 use crate::texts::{delete_description, described};
-use agent_ask::{Held, Prompter, agree, hold_seat};
+use agent_ask::{Held, Prompter, agree_by_mode};
 use agent_ports::Link;
-use assuan_server::{Code, Conn};
+use assuan_server::Conn;
 use cache_policy::Desk;
-use prompt_seat::Ticket;
 use session_client::Refusal;
-use session_options::PinMode;
 
 /// The user agrees that a key is deleted, unless nobody is to be asked.
 pub(crate) fn consent<L: Link, D: Desk, P: Prompter>(
@@ -38,37 +34,7 @@ pub(crate) fn consent<L: Link, D: Desk, P: Prompter>(
     if force {
         return Ok(());
     }
-    match asking.options.mode() {
-        PinMode::Ask => {
-            hold_seat(None, held, desk)?;
-            ask_consent(asking, held.ticket(), conn, prompter)
-        }
-        PinMode::Cancel => Err(Refusal::Agent(Code::Cancelled)),
-        PinMode::Error | PinMode::Loopback => Err(Refusal::Agent(Code::NoPinentry)),
-    }
-}
-
-/// Asks the user by one prompt under the ticket that the request holds.
-fn ask_consent<L: Link, P: Prompter>(
-    asking: &Asking<'_>,
-    ticket: &Ticket,
-    conn: &mut Conn<'_, L>,
-    prompter: &mut P,
-) -> Result<(), Refusal>
-    requires open { IsOpen conn.old }
-    requires shut { IsShut (P.at prompter.old) }
-    ensures agrees { DoesAtPrompter
-        (Agrees asking.now.rules.now asking.now.options.now asking.now.grip.now) P.prompted
-        (Some ticket.now) conn.old prompter.old result conn.new prompter.new }
-    ensures shut { IsShut (P.at prompter.new) }
-{
     let question = described(asking.options, delete_description(asking.grip));
-    agree(
-        &question,
-        asking.rules,
-        asking.options,
-        ticket,
-        conn,
-        prompter,
-    )
+    let (rules, options) = (asking.rules, asking.options);
+    agree_by_mode(&question, rules, options, held, conn, desk, prompter)
 }

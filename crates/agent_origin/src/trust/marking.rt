@@ -11,13 +11,13 @@ ghost use Rattle.agent_origin.specs.TrustStates.{LeavesKeys};
 use super::calls::{read_file, store_unsaid};
 use super::questions::{fingerprint_question, trust_question};
 use super::{OwnerName, TrustPurpose};
-use agent_ask::{Held, Prompter, agree, hold_seat};
+use agent_ask::{Held, Prompter, agree, seat_by_mode};
 use agent_ports::{Grip, Link, TrustFile};
 use assuan_server::{Code, Conn};
 use cache_policy::Desk;
 use prompt_seat::Ticket;
 use session_client::Refusal;
-use session_options::{Options, PinMode, Rules};
+use session_options::{Options, Rules};
 use std::alloc::Global;
 use trust_list::trusted;
 
@@ -78,14 +78,8 @@ fn ask<L: Link, D: Desk, P: Prompter, T: TrustFile>(
         desk.new prompter.new (T.trust trust.new) }
     ensures ready { IsReady (D.at desk.new) (P.at prompter.new) held.new }
 {
-    match marking.options.mode() {
-        PinMode::Ask => {
-            hold_seat(None, held, desk)?;
-            mark_consented(marking, held.ticket(), conn, prompter, trust)
-        }
-        PinMode::Cancel => Err(Refusal::Agent(Code::Cancelled)),
-        PinMode::Error | PinMode::Loopback => Err(Refusal::Agent(Code::NoPinentry)),
-    }
+    seat_by_mode(marking.options.mode(), held, desk)?;
+    mark_consented(marking, held.ticket(), conn, prompter, trust)
 }
 
 /// Asks the user twice under the ticket, and only then reads the file from which the new one is

@@ -1,6 +1,6 @@
 use Rattle.std.proofs.{Common.refl, lemmas.Result.err_from_is_err_and}
-use Rattle.agent_ask.{specs.{Parts.{returns, goes_on}, PartReplies.{comes_to, stops_at}}, proofs.PartsDone.{part_then, part_stops, part_still}}
-use Rattle.agent_commands.{specs.{Exchanges.tells, Outside.DoesPrompts}, proofs.{Asking.asks_nobody, Carrying.{beside_desk, carries_beside, replies_ok}}}
+use Rattle.agent_ask.{specs.{PartStates.DoesPrompts, Parts.{returns, goes_on}, PartReplies.{comes_to, stops_at}}, proofs.PartsDone.{part_then, part_stops, part_still}}
+use Rattle.agent_commands.{specs.Exchanges.tells, proofs.{Asking.asks_nobody, Carrying.{beside_desk, carries_beside, replies_ok}}}
 use Rattle.agent_commands.proofs.command.carry_out.Goals as goal
 
 pub get_passphrase-requires-clause-get : goal.get_passphrase-requires-clause-get
@@ -33,17 +33,17 @@ returns-in_ok-preset-in-PresetPassphrase-clause-carries g c =
     (replies_ok g.D.Desk.turned (DoesPrompts g.P.Prompter.prompted) c.preset.new.conn c.preset.new.desk c.args.prompter.now
     (beside_desk g.D.Desk.turned g.P.Prompter.prompted c.args.prompter.now c.in_ok-preset-in-PresetPassphrase.ensures.presets))
 
-pub returns-in_err-confirm-in-GetConfirmation-clause-carries : goal.returns-in_err-confirm-in-GetConfirmation-clause-carries
-returns-in_err-confirm-in-GetConfirmation-clause-carries g c =
-    let p = err_from_is_err_and c.from_residual-in_err-confirm-in-GetConfirmation.result c.from_residual-in_err-confirm-in-GetConfirmation.ensures.1 in
+pub returns-in_err-agree_by_mode-in-GetConfirmation-clause-carries : goal.returns-in_err-agree_by_mode-in-GetConfirmation-clause-carries
+returns-in_err-agree_by_mode-in-GetConfirmation-clause-carries g c =
+    let p = err_from_is_err_and c.from_residual-in_err-agree_by_mode-in-GetConfirmation.result c.from_residual-in_err-agree_by_mode-in-GetConfirmation.ensures.1 in
     rw (c.in-GetConfirmation.is, p.1, p.2)
-    (stops_at (part_stops (rw c.requires.none at c.in_err-confirm-in-GetConfirmation.ensures.confirms)))
+    (stops_at (part_stops (rw c.requires.none at c.in_err-agree_by_mode-in-GetConfirmation.ensures.agrees)))
 
-pub returns-in_ok-confirm-in-GetConfirmation-clause-carries : goal.returns-in_ok-confirm-in-GetConfirmation-clause-carries
-returns-in_ok-confirm-in-GetConfirmation-clause-carries g c =
+pub returns-in_ok-agree_by_mode-in-GetConfirmation-clause-carries : goal.returns-in_ok-agree_by_mode-in-GetConfirmation-clause-carries
+returns-in_ok-agree_by_mode-in-GetConfirmation-clause-carries g c =
     rw c.in-GetConfirmation.is
-    (replies_ok g.D.Desk.turned (DoesPrompts g.P.Prompter.prompted) c.confirm.new.conn c.confirm.new.desk c.confirm.new.prompter
-    (rw c.requires.none at c.in_ok-confirm-in-GetConfirmation.ensures.confirms))
+    (replies_ok g.D.Desk.turned (DoesPrompts g.P.Prompter.prompted) c.agree_by_mode.new.client c.agree_by_mode.new.desk c.agree_by_mode.new.prompter
+    (rw c.requires.none at c.in_ok-agree_by_mode-in-GetConfirmation.ensures.agrees))
 
 pub returns-in_default-clause-carries : goal.returns-in_default-clause-carries
 returns-in_default-clause-carries g c =

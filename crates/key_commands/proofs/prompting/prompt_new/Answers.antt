@@ -1,5 +1,5 @@
 use Rattle.std.{proofs.Common.{◌≢◌, ℕ, true, [], List, Some, Result, Ok, Err}, specs.Prelude.⊤}
-use Rattle.agent_ask.{specs.{PinParts.{IsGiven, PromptsPin}, Plans.{IsSpec, plan_of, text}, declared.{ask.Asked.{Asked, TheVariants.NoMemory}, spec.PromptSpec.PromptSpec}}, proofs.{PartsAtClient.{prompt_answered, planned}, Trying.wants_no_memory}}
+use Rattle.agent_ask.{specs.{PartStates.NoTurn, PinParts.{IsGiven, PromptsPin}, Plans.{IsSpec, plan_of, text}, declared.{ask.Asked.{Asked, TheVariants.NoMemory}, spec.PromptSpec.PromptSpec}}, proofs.{PartsAtClient.{prompt_answered, planned}, Trying.wants_no_memory}}
 use Rattle.{agent_ports.specs.declared.grip.Grip.Grip, assuan_server.specs.Clients.{session_lines, connection_views}, session_client.specs.declared.refusal.Refusal.Refusal, session_options.specs.{OptionValues.OptionValues, declared.rules.Rules.Rules}}
 use Rattle.key_commands.{proofs.{Partial.each_prompted, AtPrompt.{spec_says, plan_says}}, specs.{Events.Event, Lines.{new_description, field_text}, Partial.DoesBesideKeys, Passphrases.{PromptsNew, given, refused}}}
 use Rattle.key_commands.proofs.prompting.prompt_new.Goals as goal
@@ -16,5 +16,5 @@ returns-clause-prompts g c =
     let spec = spec_says c.new_description.ensures c.field_text.ensures c.prompt_spec-spec.ensures in
     let plan = plan_says c.args.asking.now.rules.now c.args.asking.now.options.now true 1 c.ask_plan-plan.ensures c.new.ensures in
     rw (← c.ticket.ensures)
-    (prompt_answered connection_views (DoesBesideKeys g.P.Prompter.prompted) (λ same. same) each_prompted asked
+    (prompt_answered connection_views NoTurn tt (DoesBesideKeys g.P.Prompter.prompted) (λ same. same) each_prompted asked
     (λ events prompts. prompts_new c.prompt_spec-spec.result c.ask_user.result asked.are.gives (wants_no_memory asked.are.asks) spec (planned plan prompts)) c.ask_user.ensures.left)
