@@ -1,11 +1,10 @@
 -- Parts of a request on the cache, one after another, and requests whose parts are done.
 use Rattle.std.proofs.Common.{◌≡◌, ◌≢◌, ℕ, Bool, true, false, List, [], Option, Some, None, Result, Ok, Err, refl}
 use Rattle.agent_ask.specs.{Doing.DoesCall, Events.{Call, PromptEvent}, PortCalls.{PortCall, Prompt}, PartReplies.{reply_by, comes_to, stops_at}, Parts.{◌>>=◌, Returns, returns, refuses, goes_on}}
-use Rattle.agent_ask.specs.{PartStates.{PartState, part_state, gone_in, DoesPart, DoesPrompts, prompts, NoTurn, NoEnd, DoesTurn, DoesTurns}, Seats.{TakesTicket, ChangesCache}, TurnParts.Seats}
-use Rattle.{agent_ask.proofs.{PartsDone.{part_then, part_stops, part_turned, part_still, part_turns, part_in, ticket_taken, cache_changed}, Replying.carries_in}, assuan_server.specs.Clients.connection_views}
-use Rattle.{assuan_server.specs.{Connections.{Connection, IsOpen}, Written.ok}, cache_policy.specs.{declared.mark.MarkStep.MarkStep, Turns.Turn}, session_client.specs.declared.refusal.Refusal.Refusal}
-use Rattle.session_options.specs.{OptionValues.OptionValues, declared.options.{OptionAnswer.{OptionAnswer, TheVariants.{Set, Unknown, Parameter, NotSupported}}, PinMode.{PinMode, TheVariants.{Ask, Cancel, Error, Loopback}}}}
-use Rattle.session_options.specs.declared.rules.Rules.{Rules}
+use Rattle.agent_ask.specs.{PartStates.{PartState, part_state, gone_in, DoesPart, DoesPrompts, prompts, NoTurn, NoEnd, DoesTurn, DoesTurns}, Seats.ChangesCache}
+use Rattle.{agent_ask.proofs.{PartsDone.{part_then, part_stops, part_turned, part_still, part_turns, part_in, cache_changed}, Replying.carries_in}, assuan_server.specs.{Clients.connection_views, Connections.{Connection, IsOpen}}}
+use Rattle.{assuan_server.specs.Written.ok, cache_policy.specs.{declared.mark.MarkStep.MarkStep, Turns.Turn}, session_client.specs.declared.refusal.Refusal.Refusal, session_options.specs.OptionValues.OptionValues}
+use Rattle.session_options.specs.declared.{options.{OptionAnswer.{OptionAnswer, TheVariants.{Set, Unknown, Parameter, NotSupported}}, PinMode.{PinMode, TheVariants.{Ask, Cancel, Error, Loopback}}}, rules.Rules.Rules}
 use Rattle.agent_commands.specs.{Exchanges.{CacheReply, reply, tells, option_replies, InfoReplies, ChangeReplies, GetReplies, is_quiet}, Parts.CachePart, Passphrases.{ByCache, WithoutPrompt, as_wanted, passphrase_by}, Requests.GetFields}
 use Rattle.agent_commands.specs.{Steps.{IsText, went_of, CarriesOut, DoesAtDesk, DoesAtPrompter, option_reply, info_response, TellsCached, cached, refused}, declared.{request.{Info.Info, Texts.Texts}, response.Response.Response}}
 use Rattle.agent_commands.specs.declared.request.Info.TheVariants as info

@@ -3,7 +3,7 @@
 use Rattle.std.specs.Prelude.{◌++◌, ℕ, Bool, true, false, List, codes, Option, Some, None}
 use Rattle.{agent_ask.specs.{ConsentParts.AgreesTo, Events.Call, PartExchanges.AnyExchange, Parts.{◌>>=◌, Returns, Refuses}, TurnParts.in_mode}, assuan_server.specs.{Written.{ok, refusal_line}, Clients.session_lines, Connections.Connection}}
 use Rattle.{agent_commands.specs.{Endings.went_after, Exchanges.{CacheReply, reply}, States.AnswersRequest, declared.went.Went.Went}, agent_ports.specs.{KeyFiles.KeyFiles, Sides.Side, TrustFiles.TrustState, declared.grip.Grip.Grip}}
-use Rattle.{cache_policy.specs.{Turns.Turn, declared.mark.MarkStep.{MarkStep, TheVariants.Seat}}, hex.specs.Hex.encode_upper, key_commands.specs.{Events.Event, Parts.Part}, session_client.specs.declared.refusal.Refusal.TheVariants.Agent}
+use Rattle.{cache_policy.specs.{Turns.Turn, declared.mark.MarkStep.MarkStep}, hex.specs.Hex.encode_upper, key_commands.specs.{Events.Event, Parts.Part}, session_client.specs.declared.refusal.Refusal.TheVariants.Agent}
 use Rattle.{session_options.specs.{OptionValues.OptionValues, declared.{options.PinMode.PinMode, rules.Rules.Rules}}, trust_list.specs.Trust.trust}
 use Rattle.agent_origin.specs.{PortStates.{PortWorld, port_state}, TrustParts.{ReadsFile, AddsEntry, Replaces}, declared.trust.request.{TrustPurpose.{TrustPurpose, TheVariants.{X509, OpenPgp}}, TrustRequest.TrustRequest}}
 use Rattle.agent_origin.specs.declared.trust.request.TrustRequest.TheVariants.{IsTrusted, MarkTrusted, Bad}

@@ -4,8 +4,8 @@ use Rattle.std.specs.Prelude.{◌≡◌, ◌≢◌, ◌≤◌, ◌<◌, length, 
 use Rattle.agent_ask.specs.{ClientParts.{Writes, Inquires}, PortCalls.{Listed, Replaced, Removed}, SessionEvents.{Inquiry, cache_turn}, ConsentParts.AgreesTo, Parts.{◌>>=◌, Returns, Refuses, wanted, unless}}
 use Rattle.{agent_ask.specs.TurnParts.{Changes, Peeks, Closes, in_mode}, agent_ports.specs.declared.{grip.Grip.Grip, keys.{KeyDone.KeyDone, KeyRead.KeyRead, KeyNames.KeyNames}}, assuan_server.specs.Clients.session_lines}
 use Rattle.{assuan_server.specs.{Inquiries.{Outcome, IsAtEnd}, Written.{IsDataAnswer, limit_line}}, session_client.specs.{declared.{code.Code.Code, refusal.Refusal.{Refusal, TheVariants.Agent}}, Asking.Asked}}
-use Rattle.{cache_policy.specs.{declared.{grant.Grant.Grant, mark.MarkStep.TheVariants.Seat, mode.Mode.TheVariants.Normal}, Turns.{Given, Empty, Stopping, Refused, FitsStep}}, secret_file.specs.Protects.{ocb_protection, protected_file}}
-use Rattle.{session_options.specs.{OptionValues.OptionValues, declared.{options.PinMode.PinMode, rules.Rules.Rules}}, sexp_keys.specs.{Key.Key, Lists.{grip_of, key_list_of}, declared.fault.KeyFault.KeyFault}}
+use Rattle.{cache_policy.specs.{declared.{grant.Grant.Grant, mode.Mode.TheVariants.Normal}, Turns.{Given, Empty, Stopping, Refused, FitsStep}}, secret_file.specs.Protects.{ocb_protection, protected_file}}
+use Rattle.{session_options.specs.{OptionValues.OptionValues, declared.rules.Rules.Rules}, sexp_keys.specs.{Key.Key, Lists.{grip_of, key_list_of}, declared.fault.KeyFault.KeyFault}}
 use Rattle.key_commands.specs.{Events.{Event, called, read, out_of_memory}, Files.FileSays, Lines.{grip_text, info_line, max_key_data, described, delete_description}, Parts.{Part, Finds, read_fault}, Passphrases.{ask_nonce, put_key}}
 use Rattle.key_commands.specs.{Faults.fault_code, Wrapping.{wrapped_key, WrappedSays}, declared.{key_calls.KeyFile.KeyFile, wrapping.TheConstants.MAX_LIST_LEN}}
 use Rattle.agent_ports.specs.declared.keys.KeyDone.TheVariants as key_done
