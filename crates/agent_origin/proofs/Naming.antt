@@ -1,11 +1,11 @@
 -- Each prompt of a session's request names the terminal and the language that its option values have.
 use Rattle.std.{specs.List.AllByRecursion, proofs.Common.{◌≡◌, Bool, List, [], ◌∷◌, ◌++◌, Option, refl, sym, subst}}
-use Rattle.agent_ask.specs.{Consents.{AsksConsent, ConsentBefore}, Events.{Start, GetPin, Confirm, Shut, PromptEvent, Called, Notified, OutOfMemory}, PortCalls.{Keys, Dice, NoMemory, Prompt, Trust}, Prompts.{AsksPin, AsksBefore, Opens}}
-use Rattle.agent_ask.specs.{SessionEvents.{Received, Sent, Cut, Inquiry, CacheTurn, Port}, SessionPrompts.AnyInSession, Tests.PinTest, declared.{ask.Asked.Asked, consent.Agreed.Agreed, spec.{AskPlan.AskPlan, PromptSpec.PromptSpec}}}
-use Rattle.{agent_commands.specs.declared.{request.Request.Request, went.Went.Went}, assuan_server.specs.Clients.session_lines, key_commands.{specs.Events.Event, proofs.EachEvent.{IsStill, each_append, each_returned}}}
-use Rattle.{key_commands.proofs.EachRequest.{Carries, so, then, whole}, session_options.specs.{OptionValues.{OptionValues, EnvWords, words_of}, declared.rules.Rules.Rules}}
-use Rattle.agent_origin.specs.{DoorSessions.{AllowedExchange, DoorExchange}, OuterPrompts.{Names, PromptNames, PromptsName}, SessionExchanges.RequestExchange, TrustExchanges.TrustExchange, declared.{door.Door.Door, session_state.SessionState.SessionState}}
-use Rattle.agent_origin.{specs.declared.trust.request.TrustRequest.TrustRequest, proofs.{Between.{Between, tries_between}, EachLine.request_whole, EachTrust.{carried_so, carried_laws}}}
+use Rattle.agent_ask.specs.{Consents.ConsentBefore, Events.{Start, GetPin, Confirm, Shut, PromptEvent, Called, Notified, OutOfMemory}, PortCalls.{Prompt, Trust}, Prompts.{AsksBefore, Opens}, SessionEvents.{Received, CacheTurn, Port}}
+use Rattle.{agent_ask.specs.{SessionPrompts.AnyInSession, Tests.PinTest, declared.{ask.Asked.Asked, consent.Agreed.Agreed, spec.{AskPlan.AskPlan, PromptSpec.PromptSpec}}}, agent_commands.specs.declared.request.Request.Request}
+use Rattle.{agent_commands.specs.declared.went.Went.Went, assuan_server.specs.Clients.session_lines, key_commands.{specs.Events.Event, proofs.{EachEvent.{IsStill, each_append, each_returned}, EachRequest.{Carries, so, then, whole}}}}
+use Rattle.session_options.specs.{OptionValues.{OptionValues, EnvWords, words_of}, declared.rules.Rules.Rules}
+use Rattle.agent_origin.specs.{DoorSessions.{AllowedExchange, DoorExchange}, OuterPrompts.{Names, PromptNames, PromptsName}, SessionExchanges.RequestExchange, TrustExchanges.TrustExchange, declared.door.Door.Door}
+use Rattle.agent_origin.{specs.declared.{session_state.SessionState.SessionState, trust.request.TrustRequest.TrustRequest}, proofs.{Between.{Between, tries_between}, EachLine.request_whole, EachTrust.{carried_so, carried_laws}}}
 use Rattle.agent_ask.specs.Consents as consents
 use Rattle.agent_ask.specs.Prompts as prompts
 use Rattle.agent_ask.specs.SessionPrompts as session
@@ -58,16 +58,11 @@ module _ (env : EnvWords) where
   shown_names (session.out_of_memory more) each = (tt, shown_names more each.1)
 
   still_names : (event : Event) → IsStill event → PromptNames env event
-  still_names (Sent text) still = tt
-  still_names (Cut text) still = tt
-  still_names (Inquiry word params limit inquired) still = tt
-  still_names (Port (Keys call)) still = tt
-  still_names (Port (Dice draw)) still = tt
-  still_names (Port NoMemory) still = tt
   still_names (Port (Prompt event)) still = absurd still
   still_names (Port (Trust call)) still = absurd still
   still_names (CacheTurn taken) still = absurd still
   still_names (Received took) still = absurd still
+  still_names _ still = tt
 
   names_carries : Carries env (PromptNames env) (PromptsName env)
   names_carries = record {

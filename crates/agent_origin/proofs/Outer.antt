@@ -220,11 +220,7 @@ module _ (agent : Rules) (options : OptionValues) where
       bind_unseated (passphrase_leaves agent options (record { plain = plain; check = check; no_ask = no_ask; repeat = repeat; quality = quality; id = id; texts = texts }) outer no_ask texts)
       (λ secret. bind (record { of = tells_passphrase_of plain secret }) (λ text. gives _))
   replies_leave (GetConfirmation description) outer = bind_unseated (confirms_leave options.mode description) (λ agreed. gives _)
-  replies_leave (PresetPassphrase id life secret) outer = absurd outer
-  replies_leave (ClearPassphrase id mode) outer = absurd outer
-  replies_leave ReloadAgent outer = absurd outer
-  replies_leave KillAgent outer = absurd outer
-  replies_leave (SetKeyDesc text) outer = absurd outer
+  replies_leave _ outer = absurd outer
 
 pub said_leaves : (T O F : Type 0) (line : Option (List ℕ)) → LeavesCache (said_last {T = T} {O = O} {F = F} line)
 said_leaves T O F None = no_turns
@@ -265,20 +261,7 @@ no_id_there (Some id) is = cc is
 
 uncached_outer : (request : Request) → leaves_cache (get_fields request) ≡ true → IsOuterRequest request
 uncached_outer (Cache (GetPassphrase plain check no_ask repeat quality id texts)) is = no_id_there id is
-uncached_outer (Cache Nop) is = cc is
-uncached_outer (Cache Reset) is = cc is
-uncached_outer (Cache Bye) is = cc is
-uncached_outer (Cache Help) is = cc is
-uncached_outer (Cache (SetOption text)) is = cc is
-uncached_outer (Cache (GetInfo what)) is = cc is
-uncached_outer (Cache (PresetPassphrase id life secret)) is = cc is
-uncached_outer (Cache (ClearPassphrase id mode)) is = cc is
-uncached_outer (Cache (GetConfirmation description)) is = cc is
-uncached_outer (Cache ReloadAgent) is = cc is
-uncached_outer (Cache KillAgent) is = cc is
-uncached_outer (Cache (SetKeyDesc text)) is = cc is
-uncached_outer (Key line) is = cc is
-uncached_outer (Bad code) is = cc is
+uncached_outer _ is = cc is
 
 passes_outer : (name : CommandName) (line : List ℕ) → request_of line ≡ either (asked_by name (rest_of line)) → passes (outer_rule (at_table.Cache name)) line ≡ true → IsOuterRequest (either (asked_by name (rest_of line)))
 passes_outer name.Nop line same is = tt
@@ -288,12 +271,8 @@ passes_outer name.Help line same is = tt
 passes_outer name.SetOption line same is = tt
 passes_outer name.GetInfo line same is = info_outer (info_of (arguments_of (words (rest_of line))))
 passes_outer name.GetPassphrase line same is = subst IsOuterRequest same (uncached_outer (request_of line) is)
-passes_outer name.PresetPassphrase line same is = cc is
-passes_outer name.ClearPassphrase line same is = cc is
 passes_outer name.GetConfirmation line same is = confirmation_outer (arguments_of (words (rest_of line)))
-passes_outer name.ReloadAgent line same is = cc is
-passes_outer name.KillAgent line same is = cc is
-passes_outer name.SetKeyDesc line same is = cc is
+passes_outer _ line same is = cc is
 
 named_outer : (line : List ℕ) (found : Option Command) → request_of line ≡ request_by found line → passes_by found line ≡ true → IsOuterRequest (request_by found line)
 named_outer line None same allows = tt

@@ -6,7 +6,7 @@ use Rattle.{arrayvec.specs.ArrayVec.ArrayVec, session_client.specs.{declared.{co
 use Rattle.{assuan_text.specs.Words.{rest_of, words}, command_table.specs.{Commands.{command_in, outer_rule}, declared.commands.{Command.Command, KeyCommandName.KeyCommandName}}, key_commands.specs.Events.Event}
 use Rattle.key_commands.specs.{Exchanges.{KeyExchange, KeyReply, KeyReplies, HaveKeyReplies, KeyInfoReplies}, KeyParts.{HasOne, is_key, faulty, no_memory as no_key_memory, unread}, Parts.{Finds, found, absent, faulted, no_memory}}
 use Rattle.key_commands.specs.{Requests.{key_or_bad, some_grips, first_grip, key_request_by, key_request_of}, declared.{request.KeyRequest.{KeyRequest, TheVariants.{HaveKey, KeyInfo, ListKeys, Bad}}, went.KeyWent.KeyWent}}
-use Rattle.{key_commands.specs.declared.wrap_keys.WrapKeys.WrapKeys, session_options.specs.{OptionValues.OptionValues, declared.rules.Rules.Rules}}
+use Rattle.{key_commands.specs.declared.keywrap_key.WrapKeys.WrapKeys, session_options.specs.{OptionValues.OptionValues, declared.rules.Rules.Rules}}
 use Rattle.agent_origin.specs.{Doors.{passes, passes_by, allowed}, OuterTurns.{peeks, LeavesCache}, Serving.is_on_keys, declared.door.Door.TheVariants.Outer}
 use Rattle.agent_origin.proofs.Outer.{LeaveLaw, Leaves, LeavesUnseated, unseated_too, leaves_nothing, bind, gives, refused_by, parts_leave}
 use Rattle.session_client.specs.declared.code.Code.TheVariants as code

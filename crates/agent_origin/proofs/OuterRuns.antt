@@ -3,9 +3,9 @@ use Rattle.std.proofs.{Common.{◌≡◌, ◌≤◌, ◌<◌, ◌+◌, ◌==◌,
 use Rattle.std.{proofs.lemmas.{Bool.Decides.nat_tests, Grind.flat_map-append}, specs.{Prelude.{◌≢◌, ⊤, ◌⊎◌, IfSome}, List.{AllByRecursion, list_any}, Option.{option_or, option_map, option_and_then}}}
 use Rattle.{agent_ports.specs.{Leads.{Leads, none as stay, one}, declared.session.SessionId.SessionId}, cache_policy.specs.Desks.{AtDesk, IsTurn, is_of, Shows, MakesMarks, marked, refused, spent, GoesOn, GoesOnWhereKnown}}
 use Rattle.cache_policy.specs.{Entries.{stored, kept, kept_under}, Extending.{Taken, TakesTurn, AreMarked, none, turned, IsExtendedWhereKnown}, Histories.{History, start_of, next_number, with_mark, with_marks}, Legal.IsLegalRun}
-use Rattle.cache_policy.specs.{Runs.{joined, start_of_run, last_history, IsFollowedBy, IsRun}, Seat.{under_of, is_open, gives_back, last_open, unless_back, seat}}
-use Rattle.cache_policy.specs.{Turns.{Turn, Given, Empty, Open, Stand, Done, Held as Looked, Stopping, Late, Refused, FitsStep, since_of, with_since}, declared.{grant.Grant.Grant, history.Held.Held, life.Limits.Limits, mark.Mark.Mark}}
-use Rattle.cache_policy.{specs.declared.mark.{MarkStep.{MarkStep, TheVariants.{Seat, Close, Peek}}, Under.Under}, proofs.{Extending.extends, Lists.{all_append, all_weaker}, OnePromptLemmas.numbers_go_on}}
+use Rattle.cache_policy.specs.{Runs.{joined, start_of_run, last_history, IsFollowedBy, IsRun}, Seat.{under_of, is_open, gives_back, last_open, unless_back, seat}, Turns.{Turn, Given, Open, Stand, Refused, FitsStep, since_of, with_since}}
+use Rattle.cache_policy.{specs.declared.{grant.Grant.Grant, history.Held.Held, life.Limits.Limits, mark.{Mark.Mark, MarkStep.{MarkStep, TheVariants.{Seat, Close, Peek}}, Under.Under}}, proofs.Extending.extends}
+use Rattle.cache_policy.proofs.{Lists.{all_append, all_weaker}, OnePromptLemmas.numbers_go_on}
 use Rattle.agent_origin.specs.{OuterRuns.{IsOuterStep, seats, closes, peeks as looks, IsOuterMark, LeavesWhereKnown, LeavesDesk}, OuterTurns.{AreOuterTurns, no_turns, peeks, unseated, seated, GiveNothing}}
 use Rattle.cache_policy.specs.declared.mark.MarkReply.TheVariants as reply
 
@@ -17,14 +17,10 @@ fits_ungiven : (limits : Limits) (before : History) (mark : Mark) (asked : MarkS
 fits_ungiven limits before mark _ (Given grant) seats fits shows number given = fits
 fits_ungiven limits before mark _ (Given grant) closes fits shows number given = fits
 fits_ungiven limits before mark _ (Given grant) looks fits shows number given = fits
-fits_ungiven limits before mark asked Empty outer fits shows number given = cc (shows, given)
 fits_ungiven limits before mark asked (Open ticket) outer fits shows number given = cc (shows.0, given)
 fits_ungiven limits before mark asked (Stand wait) outer fits shows number given = absurd shows
-fits_ungiven limits before mark asked Done outer fits shows number given = cc (shows, given)
-fits_ungiven limits before mark asked (Looked held) outer fits shows number given = cc (shows, given)
-fits_ungiven limits before mark asked Stopping outer fits shows number given = cc (shows, given)
-fits_ungiven limits before mark asked Late outer fits shows number given = cc (shows, given)
 fits_ungiven limits before mark asked Refused outer fits shows number given = absurd shows
+fits_ungiven limits before mark _ _ _ fits shows number given = cc (shows, given)
 
 since_outer : (since : Option ℕ) (asked : MarkStep) → IsOuterStep asked → IsOuterStep (with_since since asked)
 since_outer since _ seats = seats

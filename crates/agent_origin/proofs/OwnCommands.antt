@@ -22,18 +22,7 @@ unnamed_by terminal false rest is = is
 -- of those on the cache it answers HELP alone
 of_cache : (name : CommandName) → (own_to_door (Some (on.Cache name)) ≡ Some Help) ⊎ (own_to_door (Some (on.Cache name)) ≡ None)
 of_cache name.Help = inl refl
-of_cache name.Nop = inr refl
-of_cache name.Reset = inr refl
-of_cache name.Bye = inr refl
-of_cache name.SetOption = inr refl
-of_cache name.GetInfo = inr refl
-of_cache name.GetPassphrase = inr refl
-of_cache name.PresetPassphrase = inr refl
-of_cache name.ClearPassphrase = inr refl
-of_cache name.GetConfirmation = inr refl
-of_cache name.ReloadAgent = inr refl
-of_cache name.KillAgent = inr refl
-of_cache name.SetKeyDesc = inr refl
+of_cache _ = inr refl
 
 trust_by : (found : Option Command) → own_to_door found ≡ Some Trust → (name : TrustCommandName) × (trust_command found ≡ Some name)
 trust_by (Some (on.Trust name)) is = (name, refl)

@@ -2,7 +2,7 @@
 -- is this project's own.
 use Rattle.std.specs.Prelude.{ℕ, List, None, if◌then◌else◌}
 use Rattle.{arrayvec.specs.ArrayVec.ArrayVec, agent_ask.specs.PortCalls.PortCall, agent_commands.specs.{Endings.end_of, Events.EventWith, Exchanges.CacheExchange, Requests.request_of, declared.request.Request.{Request, TheVariants.Key}}}
-use Rattle.{agent_commands.specs.declared.went.Went.{Went, TheVariants.{On, End}}, key_commands.specs.{Exchanges.KeyExchange, Requests.key_request_of, declared.{went.KeyWent.KeyWent, wrap_keys.WrapKeys.WrapKeys}}}
+use Rattle.{agent_commands.specs.declared.went.Went.{Went, TheVariants.{On, End}}, key_commands.specs.{Exchanges.KeyExchange, Requests.key_request_of, declared.{went.KeyWent.KeyWent, keywrap_key.WrapKeys.WrapKeys}}}
 use Rattle.{command_table.specs.Commands.{command_in, ends_description}, session_options.specs.{OptionValues.{OptionValues, at_start, without_description}, declared.rules.Rules.Rules}}
 use Rattle.agent_origin.specs.declared.session_state.SessionState.{SessionState}
 use Rattle.key_commands.specs.declared.went.KeyWent.TheVariants as key

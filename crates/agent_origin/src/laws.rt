@@ -12,7 +12,7 @@ ghost use Rattle.agent_commands.specs.declared.went.Went.{Went as Goes, TheVaria
 ghost use Rattle.{arrayvec.specs.ArrayVec.ArrayVec, assuan_server.specs.Written.{failed, ok}};
 ghost use Rattle.session_client.specs.declared.code.Code.TheVariants.{Forbidden};
 ghost use Rattle.key_commands.specs.{Events.Event, Exchanges.KeyExchange, Requests.key_request_of};
-ghost use Rattle.key_commands.specs.declared.{went.KeyWent.KeyWent, wrap_keys.WrapKeys.WrapKeys};
+ghost use Rattle.key_commands.specs.declared.{went.KeyWent.KeyWent, keywrap_key.WrapKeys.WrapKeys};
 ghost use Rattle.session_options.specs.{OptionValues.OptionValues, declared.rules.Rules.Rules};
 ghost use Rattle.agent_origin.specs.DoorSessions.{DoorExchange, ServesDoor};
 ghost use Rattle.agent_origin.specs.{Doors.{sets_terminal, allowed}, TrustExchanges.TrustExchange};

@@ -5,7 +5,7 @@ use Rattle.{agent_ports.specs.declared.grip.Grip.Grip, assuan_server.specs.{Writ
 use Rattle.{key_lines.specs.Canon.Canon, session_client.specs.{declared.{code.Code.Code, refusal.Refusal.{Refusal, TheVariants.Agent}, client_error.ClientError.ClientError}, Refusals.refusal_code}}
 use Rattle.{session_options.specs.{OptionValues.OptionValues, declared.{rules.Rules.Rules, options.OptionAnswer.OptionAnswer}}, sexp_keys.specs.{Key.Key, declared.fault.KeyFault.KeyFault}, key_commands.specs.Events.Event}
 use Rattle.key_commands.specs.Exchanges.{KeyExchange, KeyReplies, HaveKeyReplies, KeyInfoReplies, ImportKeyReplies, ExportKeyReplies, PasswdReplies, VerifyReplies, DeleteKeyReplies, StoresKey, FoundOrNew, RewritesFile, ChangesOpened}
-use Rattle.key_commands.specs.{Exchanges.KeyReply, Parts.{Part, refusal_events}, Passphrases.{OldPassphrase, VerifiesPassphrase}, declared.{request.KeyRequest.KeyRequest, went.KeyWent.KeyWent, wrap_keys.WrapKeys.WrapKeys}, KeyParts.HasOne}
+use Rattle.key_commands.specs.{Exchanges.KeyReply, Parts.{Part, refusal_events}, Passphrases.{OldPassphrase, VerifiesPassphrase}, declared.{request.KeyRequest.KeyRequest, went.KeyWent.KeyWent, keywrap_key.WrapKeys.WrapKeys}, KeyParts.HasOne}
 use Rattle.{key_commands.specs.{Lines.max_key_data, Faults.fault_code, Files.FileSays, Requests.key_request_of}, arrayvec.specs.ArrayVec.ArrayVec, agent_commands.specs.{Exchanges.CacheExchange, declared.request.Request.Request}}
 use Rattle.{agent_commands.specs.{declared.{request.Request.TheVariants.{Cache, Key as OnKeys, Bad}, went.Went.Went}, Requests.{request_of, request_by}}, agent_origin.specs.SessionExchanges.{RequestExchange, cache, keys}}
 use Rattle.agent_origin.specs.declared.{session_state.SessionState.SessionState, door.Door.Door, trust.request.{TrustPurpose.TrustPurpose, TrustRequest.{TrustRequest, TheVariants.MarkTrusted}}}

@@ -4,7 +4,7 @@ use Rattle.{agent_ask.specs.{SessionEvents.said_last, PartExchanges.{answered, r
 use Rattle.agent_commands.specs.declared.request.CacheCommand.{CacheCommand, TheVariants.{Nop, Reset, Bye, Help, SetOption, GetInfo, GetPassphrase, PresetPassphrase, ClearPassphrase, GetConfirmation, ReloadAgent, KillAgent, SetKeyDesc}}
 use Rattle.{agent_commands.specs.declared.{request.Request.{Request, TheVariants.{Cache, Key as OnKeys, Bad}}, went.{SessionEnd.TheVariants.TooLong, Went.{Went, TheVariants.{On, End}}}}, assuan_server.specs.Written.refusal_line}
 use Rattle.{assuan_server.specs.declared.errors.Origin.TheVariants.Agent, key_commands.specs.{Events.Event, Exchanges.KeyExchange, Parts.key_went_after, declared.{request.KeyRequest.KeyRequest, went.KeyWent.KeyWent}}}
-use Rattle.{key_commands.specs.declared.wrap_keys.WrapKeys.WrapKeys, session_client.specs.{Refusals.gone_by, declared.{refusal.Refusal.Refusal, client_error.Gone.Gone}}, session_options.specs.OptionValues.{OptionValues, applied}}
+use Rattle.{key_commands.specs.declared.keywrap_key.WrapKeys.WrapKeys, session_client.specs.{Refusals.gone_by, declared.{refusal.Refusal.Refusal, client_error.Gone.Gone}}, session_options.specs.OptionValues.{OptionValues, applied}}
 use Rattle.{session_options.specs.declared.{options.OptionAnswer.{OptionAnswer, TheVariants.{Set, Unknown, Parameter, NotSupported}}, rules.Rules.Rules}, agent_origin.specs.SessionExchanges.{RequestExchange, cache, keys, went_after_key}}
 use Rattle.agent_origin.specs.declared.session_state.SessionState.{SessionState}
 use Rattle.agent_session.{specs.{Causes.here, Completeness.HasError}, proofs.{Standing.has_right, KeyCourses.replies_ok}}

@@ -8,7 +8,7 @@ use Rattle.{secret_file.specs.Opens.LockedKey, session_client.specs.declared.{co
 use Rattle.{sexp_keys.specs.{Key.Key, Lists.key_list_of}, agent_commands.specs.declared.request.Request.Request, key_commands.specs.Events.Event}
 use Rattle.key_commands.specs.{Exchanges.{KeyReply, KeyExchange, PasswdReplies, RenewsPassphrase, RewritesFile, ChangesOpened}, Files.FileSays, KeyParts.{ReadsFile, file_in}, Lines.grip_text}
 use Rattle.key_commands.specs.{Passphrases.{OpensBy, PromptsOld, ClientOld, UncachedOld, CachedOld, OpensLocked, OldPassphrase, TakesSeat, old_by, put_key}, declared.{wrapping.TheConstants.MAX_LIST_LEN, request.KeyRequest.KeyRequest}}
-use Rattle.{key_commands.{specs.declared.{went.KeyWent.KeyWent, wrap_keys.WrapKeys.WrapKeys}, proofs.EachEvent.each_append}, agent_origin.specs.declared.session_state.SessionState.SessionState}
+use Rattle.{key_commands.{specs.declared.{went.KeyWent.KeyWent, keywrap_key.WrapKeys.WrapKeys}, proofs.EachEvent.each_append}, agent_origin.specs.declared.session_state.SessionState.SessionState}
 use Rattle.agent_session.specs.{Causes.{Has, here, IsRead, read, IsReadOf, read_of, IsDrawn, protected, OpensRead, of_change, on_keys, StandIn, changed, changes}, Completeness.{HasError, Remembers}}
 use Rattle.agent_session.{specs.Exactly.{OpensIt, IsOpened, clear, by_nonce, cached, typed, given, HasLongList, HasLongFile, IsLong, long, long_file}, proofs.ImportCourses.some_key}
 use Rattle.agent_session.proofs.{ExactParts.{Deciding, IsDecided, IsFree, NoneOwed, SaysTo, answer_free, decided_before, said_error}, ExactReads.{by_file, reads_file, read_refuses, owes}, KeyRequests.old_passphrase}

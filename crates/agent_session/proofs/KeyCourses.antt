@@ -7,7 +7,7 @@ use Rattle.{cache_policy.specs.declared.{mark.MarkStep.{MarkStep, TheVariants.Cl
 use Rattle.{agent_commands.specs.declared.request.Request.Request, key_commands.specs.Events.{Event, IsUncalled, read, called}}
 use Rattle.key_commands.specs.Exchanges.{KeyReply, KeyExchange, HaveKeyReplies, KeyInfoReplies, ListKeysReplies, KeyWrapReplies, ImportKeyReplies, ExportKeyReplies, PasswdReplies, VerifyReplies, DeleteKeyReplies, KeyReplies, wrap_key}
 use Rattle.key_commands.specs.{Exchanges.{StoresKey, RewritesFile, ChangesOpened}, KeyParts.{Tells, tells, Replaces, Removes, KeepsNew, TellsKeyInfo, ReceivesKey, IsFree, WrapsKey}}
-use Rattle.key_commands.specs.{Lines.{grip_text, info_line, of_passphrase, of_key_data, of_key}, Parts.{Part, key_went_after}, declared.{request.KeyRequest.KeyRequest, went.KeyWent.KeyWent, wrap_keys.WrapKeys.WrapKeys}}
+use Rattle.key_commands.specs.{Lines.{grip_text, info_line, of_passphrase, of_key_data, of_key}, Parts.{Part, key_went_after}, declared.{request.KeyRequest.KeyRequest, went.KeyWent.KeyWent, keywrap_key.WrapKeys.WrapKeys}}
 use Rattle.{key_commands.proofs.{EachEvent.{each_bind, each_returned, each_needed, each_wanted, each_closes, each_changes, still_uncalled}, EachRequest.{IsPlain, plain_replies}}, assuan_escape.specs.Escapes.hex_text}
 use Rattle.agent_session.specs.{Causes.{on_keys, IsSaid}, Completeness.EndsInOk, Refusals.{IsAllowed, IsWorkStep, CourseBy, IsUnopening, OpensFirst}, OwnPassphrases.{MayStore, directly, imported, under_export, under_change}}
 use Rattle.agent_session.proofs.Asides.{info_status, nonce_status, status_aside}

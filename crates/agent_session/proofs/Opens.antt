@@ -3,7 +3,7 @@ use Rattle.std.{specs.{List.AllByRecursion, Prelude.⊤}, proofs.Common.{◌≡�
 use Rattle.agent_ask.{specs.{PortCalls.{PortCall, Trust}, SessionEvents.{CacheTurn, Port, said_last}, Parts.{◌>>=◌, goes_on, stops, Returns, or_else}, TurnParts.Closes}, proofs.Within.{Within, Does, does_join, weaker, bind, or_otherwise}}
 use Rattle.{agent_ports.specs.declared.grip.Grip.Grip, secret_file.specs.Opens.LockedKey, session_options.specs.{OptionValues.OptionValues, declared.{options.PinMode.PinMode, rules.Rules.Rules}}, sexp_keys.specs.Key.Key}
 use Rattle.{agent_commands.specs.Events.EventWith, key_commands.specs.{Events.IsUncalled, Exchanges.{KeyReply, RenewsPassphrase, ChangesOpened}, KeyParts.{IsShort, Consents}, Parts.Part}}
-use Rattle.key_commands.specs.{Passphrases.{PromptsOld, PromptsNew, UncachedOld, OpensLocked, OldPassphrase, LooksForNonce, TakesSeat}, declared.wrap_keys.WrapKeys.WrapKeys}
+use Rattle.key_commands.specs.{Passphrases.{PromptsOld, PromptsNew, UncachedOld, OpensLocked, OldPassphrase, LooksForNonce, TakesSeat}, declared.keywrap_key.WrapKeys.WrapKeys}
 use Rattle.key_commands.proofs.EachEvent.{each_append, IsStill, still_uncalled, agrees_to, each_answer, EachSo, each_returned, each_refused, each_looks, each_seats, looks_nonce, takes_seat, is_short, locks, tries_found, client_old}
 use Rattle.{key_commands.proofs.EachEvent.{rewrites_file, client_new, prompts_old, prompts_new}, assuan_server.specs.Written.ok, session_client.specs.declared.refusal.Refusal.{Refusal, TheVariants.Agent}}
 use Rattle.agent_session.specs.Refusals.{IsUnopening, OpensFirst}

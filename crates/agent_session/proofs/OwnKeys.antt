@@ -10,7 +10,7 @@ use Rattle.agent_commands.specs.declared.went.Went.{Went}
 use Rattle.key_commands.specs.Exchanges.{KeyExchange, KeyReplies, HaveKeyReplies, KeyInfoReplies, ListKeysReplies, KeyWrapReplies, DeleteKeyReplies, wrap_key, RewritesFile, ChangesOpened, StoresKey, FoundOrNew, ExportKeyReplies}
 use Rattle.key_commands.specs.{Exchanges.{PasswdReplies, VerifyReplies, ImportKeyReplies, KeyReply}, Lines.{max_key_data, IsNotice}, KeyParts.{KeepsNew, ReceivesKey, NamesKey, IsFree, Consents, tells, is_wrapped}}
 use Rattle.key_commands.specs.{Parts.{Part, refusal_events, Draws}, Passphrases.{OpensBy, PromptsOld, PromptsNew, ClientOld, UncachedOld, OpensLocked, ClientNew, TakesSeat, TriesFound, Locks, ask_key, put_key, way_of}}
-use Rattle.key_commands.specs.{declared.{request.{Direction.Direction, KeyRequest.KeyRequest}, went.KeyWent.KeyWent, wrap_keys.WrapKeys.WrapKeys}, Events.Event}
+use Rattle.key_commands.specs.{declared.{request.{Direction.Direction, KeyRequest.KeyRequest}, went.KeyWent.KeyWent, keywrap_key.WrapKeys.WrapKeys}, Events.Event}
 use Rattle.key_commands.proofs.EachEvent.{each_append, each_shown, IsStill, EachSo, each_bind, each_returned, each_refused, each_wanted, each_seats, each_changes, finds, draws, lists, told, removes, agrees_to}
 use Rattle.{key_commands.proofs.EachRequest.{IsKeyWork, each_carries, key_replies, plain_replies}, session_client.specs.{declared.{refusal.Refusal.{Refusal, TheVariants.{Agent, Pinentry, Client}}, code.Code.Code}, Refusals.refusal_code}}
 use Rattle.agent_origin.specs.{declared.session_state.SessionState.SessionState, SessionExchanges.{RequestExchange, cache, keys}}

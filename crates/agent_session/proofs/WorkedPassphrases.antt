@@ -9,7 +9,7 @@ use Rattle.{session_client.specs.{Asking.Asked, declared.refusal.Refusal.TheVari
 use Rattle.agent_commands.specs.{Events.EventWith, Exchanges.{CacheExchange, Presets, put, reply}, Passphrases.{ask_or_open, ByUser, as_wanted}, Requests.{GetFields, get_passphrase, request_of}, Talks.{Session, greeted}}
 use Rattle.agent_commands.specs.declared.{request.{CacheCommand.TheVariants.PresetPassphrase, Request.{Request, TheVariants.{Cache, Key as OnKeys}}, Texts.Texts}, went.{SessionEnd.TheVariants.Ended, Went.TheVariants.On}}
 use Rattle.key_commands.specs.{Lines.max_key_data, Events.{drew, called}, Exchanges.{KeyExchange, KeyWrapReplies, ImportKeyReplies, key_reply, wrap_key, with_wrap_key}, Parts.Draws, Requests.key_request_of}
-use Rattle.{key_commands.specs.{declared.{request.Direction.Direction, wrap_keys.WrapKeys.WrapKeys}, Passphrases.ask_nonce, Wrapping.WrappedSays}, agent_origin.specs.SessionExchanges.{SessionExchange, RequestExchange, cache, keys}}
+use Rattle.{key_commands.specs.{declared.{request.Direction.Direction, keywrap_key.WrapKeys.WrapKeys}, Passphrases.ask_nonce, Wrapping.WrappedSays}, agent_origin.specs.SessionExchanges.{SessionExchange, RequestExchange, cache, keys}}
 use Rattle.agent_origin.specs.declared.session_state.SessionState.{SessionState}
 use Rattle.agent_session.{specs.{Causes.{Has, here, later}, Imports.{put_nonce, ImportCourse}, OwnPassphrases.{SaysOwn, TellsOfKeys, StoresOwn, StoresOwnIn, keeps}}, proofs.{ImportCourses.import_exchange, KeyExplained.exchange_goes_on}}
 use Rattle.agent_session.proofs.{OwnCache.{cache_own, request_own}, OwnKeys.request_told, OwnParts.{Fit, own_at}, OwnSessions.{exchange_own, session_own}}

@@ -1,6 +1,6 @@
 -- Parts of a request on keys each of whose events is so.
 use Rattle.std.{specs.{List.AllByRecursion, Prelude.{⊤, not, take, drop}}, proofs.Common.{◌==◌, ◌++◌, ℕ, Bool, true, false, List, [], ◌∷◌, length, codes, Option, Some, None, Result, Ok}}
-use Rattle.agent_ask.specs.{Events.PromptEvent, PortCalls.{Keys, Dice, NoMemory, Prompt, Trust}, SessionEvents.{Received, Sent, Cut, Inquiry, CacheTurn, Port, cache_turn, said_last}, SessionPrompts.AnyInSession}
+use Rattle.agent_ask.specs.{Events.PromptEvent, PortCalls.{Keys, Dice, NoMemory, Prompt, Trust}, SessionEvents.{Sent, Cut, Inquiry, Port, cache_turn, said_last}, SessionPrompts.AnyInSession}
 use Rattle.agent_ask.specs.{Parts.{◌>>=◌, goes_on, stops, Returns, returns, Refuses, needed, or_else, unless, wanted}, TurnParts.{Asks, Seats, Changes, Peeks, Closes}, ClientParts.{Writes, Inquires}, ConsentParts.AgreesTo}
 use Rattle.{agent_ask.proofs.Within.{Within, Joins, OfNothing, Does, does_join, bind, returned, refused, is_needed, or_otherwise, is_unless, is_wanted}, agent_ports.specs.declared.grip.Grip.Grip, assuan_server.specs.Clients.session_lines}
 use Rattle.{assuan_server.specs.Written.limit_line, session_client.specs.declared.{code.Code.Code, refusal.Refusal.{Refusal, TheVariants.Agent}}, cache_policy.specs.{Turns.Turn, declared.life.Life.TheVariants.Default}}
@@ -36,16 +36,9 @@ IsStill (Port NoMemory) = ⊤
 IsStill _ = ⊥
 
 pub still_uncalled : (event : Event) → IsStill event → IsUncalled event
-still_uncalled (Sent text) still = tt
-still_uncalled (Cut text) still = tt
-still_uncalled (Inquiry word params limit inquired) still = tt
-still_uncalled (Port (Keys call)) still = tt
-still_uncalled (Port (Dice draw)) still = tt
 still_uncalled (Port (Trust call)) still = absurd still
-still_uncalled (Port NoMemory) still = tt
 still_uncalled (Port (Prompt event)) still = absurd still
-still_uncalled (CacheTurn taken) still = tt
-still_uncalled (Received took) still = tt
+still_uncalled _ still = tt
 
 -- what is told of a key is a notice
 told_info : (grip : Grip) (key : Key) {before after : Option ℕ} {events : List Event} {line : List ℕ} → TellsKeyInfo grip key before events (Ok line) after → IsNotice line

@@ -1,14 +1,14 @@
 -- Requests on keys each of whose events is so, where each event but a read request and a call of the trust file is so.
 use Rattle.std.{proofs.Common.{◌≡◌, ◌∙◌, ℕ, Bool, true, false, List, ◌++◌, Option, Some, None, Result, Ok, Err, []}, specs.Prelude.⊤}
-use Rattle.agent_ask.specs.{PortCalls.{Keys, Dice, NoMemory, Prompt, Trust}, SessionEvents.{Received, Sent, Cut, Inquiry, CacheTurn, Port, cache_turn}, ConsentParts.{AgreesTo, PromptsConsent}, PartExchanges.{AnyReply, AnyExchange}}
-use Rattle.agent_ask.specs.{Parts.◌>>=◌, PinParts.PromptsPin, declared.{ask.Asked.Asked, consent.Agreed.Agreed, spec.{AskPlan.AskPlan, PromptSpec.PromptSpec}}}
-use Rattle.{agent_ask.proofs.Within.{Within, OfNothing, Does, does_join, weaker, bind, or_otherwise}, assuan_server.specs.Clients.session_lines, cache_policy.specs.{Turns.Turn, declared.mark.MarkStep.{MarkStep, TheVariants.Peek}}}
-use Rattle.{cache_policy.specs.declared.mode.Mode.TheVariants.Normal, session_client.specs.declared.{refusal.Refusal.{Refusal, TheVariants.Agent}, client_error.Gone.Gone}, agent_ports.specs.declared.grip.Grip.Grip}
-use Rattle.{secret_file.specs.Opens.LockedKey, session_options.specs.{OptionValues.{OptionValues, EnvWords, words_of}, declared.{options.PinMode.PinMode, rules.Rules.Rules}}, sexp_keys.specs.Key.Key}
+use Rattle.agent_ask.specs.{PortCalls.{Prompt, Trust}, SessionEvents.{Received, Sent, CacheTurn, Port, cache_turn}, ConsentParts.{AgreesTo, PromptsConsent}, PartExchanges.{AnyReply, AnyExchange}, Parts.◌>>=◌, PinParts.PromptsPin}
+use Rattle.agent_ask.{specs.declared.{ask.Asked.Asked, consent.Agreed.Agreed, spec.{AskPlan.AskPlan, PromptSpec.PromptSpec}}, proofs.Within.{Within, OfNothing, Does, does_join, weaker, bind, or_otherwise}}
+use Rattle.{assuan_server.specs.Clients.session_lines, cache_policy.specs.{Turns.Turn, declared.{mark.MarkStep.{MarkStep, TheVariants.Peek}, mode.Mode.TheVariants.Normal}}, session_client.specs.declared.refusal.Refusal.Refusal}
+use Rattle.{session_client.specs.declared.{refusal.Refusal.TheVariants.Agent, client_error.Gone.Gone}, agent_ports.specs.declared.grip.Grip.Grip, secret_file.specs.Opens.LockedKey}
+use Rattle.{session_options.specs.{OptionValues.{OptionValues, EnvWords, words_of}, declared.{options.PinMode.PinMode, rules.Rules.Rules}}, sexp_keys.specs.Key.Key}
 use Rattle.key_commands.specs.{Parts.Part, Events.Event}
 use Rattle.key_commands.specs.Exchanges.{KeyExchange, HaveKeyReplies, KeyInfoReplies, ListKeysReplies, KeyWrapReplies, ImportKeyReplies, ExportKeyReplies, PasswdReplies, VerifyReplies, DeleteKeyReplies, KeyReplies, wrap_key, FoundOrNew}
 use Rattle.key_commands.specs.{Exchanges.{RenewsPassphrase, ChangesOpened}, Lines.{IsNotice, grip_text}, KeyParts.Consents, Passphrases.{PromptsOld, PromptsNew, UncachedOld, OpensLocked, old_by, verified_by, new_by}}
-use Rattle.key_commands.specs.declared.{request.KeyRequest.KeyRequest, went.KeyWent.KeyWent, wrap_keys.WrapKeys.WrapKeys}
+use Rattle.key_commands.specs.declared.{request.KeyRequest.KeyRequest, went.KeyWent.KeyWent, keywrap_key.WrapKeys.WrapKeys}
 use Rattle.key_commands.proofs.EachEvent.{IsStill, All, each_append, each_shown, each_answer, EachSo, each_bind, each_returned, each_refused, each_needed, each_otherwise, each_wanted, each_looks, each_seats, each_changes, looks_nonce}
 use Rattle.key_commands.proofs.EachEvent.{looks_over, takes_seat, each_closes, finds, draws, reads_file, lists, told, is_short, names_key, wraps_key, receives_key, is_free, has_one, locks, tries_found, removes, tells_info, writes_infos}
 use Rattle.key_commands.proofs.EachEvent.{client_old, rewrites_file, stores_key, client_new}
@@ -32,27 +32,15 @@ IsKeyWork event = IsBesideTrust event
 
 still_works : (event : Event) → IsStill event → IsKeyWork event
 still_works (Sent text) noted = noted
-still_works (Cut text) still = tt
-still_works (Inquiry word params limit inquired) still = tt
-still_works (Port (Keys call)) still = tt
-still_works (Port (Dice draw)) still = tt
-still_works (Port NoMemory) still = tt
 still_works (Port (Prompt event)) still = absurd still
 still_works (Port (Trust call)) still = absurd still
 still_works (CacheTurn taken) still = absurd still
 still_works (Received took) still = absurd still
+still_works _ _ = tt
 
 pub works_beside : (event : Event) → IsKeyWork event → IsBesideTrust event
 works_beside (Sent text) work = tt
-works_beside (Cut text) work = work
-works_beside (Inquiry word params limit inquired) work = work
-works_beside (CacheTurn taken) work = work
-works_beside (Port (Keys call)) work = work
-works_beside (Port (Dice draw)) work = work
-works_beside (Port NoMemory) work = work
-works_beside (Port (Prompt event)) work = work
-works_beside (Port (Trust call)) work = work
-works_beside (Received took) work = work
+works_beside _ work = work
 
 pub still_beside : (event : Event) → IsStill event → IsBesideTrust event
 still_beside event still = works_beside event (still_works event still)

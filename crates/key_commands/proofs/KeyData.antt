@@ -50,12 +50,7 @@ module _ (start now : Connection) where
   open_at_end : (what : Outcome) → IsAtEnd what → LeftBy connection_views (outcome_says what) start now → IsOpen now
   open_at_end (outcome.Data bytes) at_end left = left
   open_at_end outcome.TooMuch at_end left = left
-  open_at_end outcome.Cancelled at_end left = absurd at_end
-  open_at_end outcome.Unexpected at_end left = absurd at_end
-  open_at_end outcome.Ended at_end left = absurd at_end
-  open_at_end outcome.TooLong at_end left = absurd at_end
-  open_at_end outcome.Spent at_end left = absurd at_end
-  open_at_end outcome.ReadFault at_end left = absurd at_end
+  open_at_end _ at_end left = absurd at_end
 
 module _ {start now : Connection} (going : IsOpen start) where
   named : (what : Outcome) → Inquire max_key_data (inquire_text word []) (λ other. what ≡ other) start now → AsksClient connection_views word max_key_data (outcome_says what) start now

@@ -4,7 +4,7 @@ use Rattle.{agent_ask.{specs.{Doing.{DoesCall, called, out_of_memory}, Events.{C
 use Rattle.{agent_ports.specs.Sides.Side, assuan_server.specs.{Clients.connection_views, Connections.Connection}, cache_policy.specs.{declared.mark.MarkStep.MarkStep, Turns.Turn}, session_client.specs.declared.refusal.Refusal.Refusal}
 use Rattle.key_commands.specs.{Exchanges.KeyReply, KeyEnds.{KeyEnds, DoesAtKeys, prompt, keys, dice, no_memory}, Parts.Part}
 use Rattle.key_commands.specs.{Partial.{DoesKeyPart, NoCall, DoesBesideKeys, prompt as prompt_beside, no_memory as no_memory_beside, LeavesKeys, DoesAtPrompter, DoesAtDesk, DoesAtClient}, Replies.CarriesOut, States.{KeyState, key_state}}
-use Rattle.key_commands.specs.declared.{reply.Reply.Reply, wrap_keys.WrapKeys.WrapKeys}
+use Rattle.key_commands.specs.declared.{reply.Reply.Reply, keywrap_key.WrapKeys.WrapKeys}
 
 module _ {P : Type 0} {prompted : P → Call → P → Type 0} where
   -- what a prompt does to a prompter

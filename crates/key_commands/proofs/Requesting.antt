@@ -4,7 +4,7 @@ use Rattle.{agent_ask.{specs.{Events.Call, PartReplies.comes_to, Parts.returns, 
 use Rattle.{cache_policy.specs.{declared.mark.MarkStep.MarkStep, Turns.Turn}, session_client.specs.declared.{refusal.Refusal.Refusal, client_error.Gone.Gone}, session_options.specs.{OptionValues.OptionValues, declared.rules.Rules.Rules}}
 use Rattle.{sexp_keys.specs.Key.Key, assuan_server.specs.Written.ok}
 use Rattle.key_commands.specs.{Exchanges.{KeyReply, key_reply}, KeyParts.KeepsNew, Parts.{Part, key_went_after, key_gone}, Passphrases.{put_key, old_by, verified_by}, Replies.CarriesOut, Partial.DoesKeyPart, States.KeyState}
-use Rattle.key_commands.specs.{Steps.{TakesTurn, TakesTurns}, declared.wrap_keys.WrapKeys.WrapKeys}
+use Rattle.key_commands.specs.{Steps.{TakesTurn, TakesTurns}, declared.keywrap_key.WrapKeys.WrapKeys}
 use Rattle.key_commands.specs.declared.reply.Reply.TheVariants as replies
 
 -- a session whose client is gone so goes on as one

@@ -12,7 +12,7 @@ use Rattle.key_commands.specs.Exchanges.{KeyExchange, key_reply, with_wrap_key, 
 use Rattle.key_commands.specs.{Files.{FileSays, canonical_file}, KeyParts.{is_key, file_in, grips_in, tells, short, made, done as replaced, listed, named, asked, is_wrapped, ReadsListed, LooksOver, Unwraps, Removes}}
 use Rattle.key_commands.specs.{Lines.{info_line, grip_text, nonce_line, max_key_data}, Parts.{found, absent, drawn, faulted}, Passphrases.{ask_nonce, ask_key, put_key, is_locked, opens, OpensLocked, ClientOld, ClientNew}}
 use Rattle.key_commands.specs.declared.{request.{Direction.TheVariants.Import, KeyRequest.TheVariants.{HaveKey, KeyInfo, ListKeys, KeyWrap, ImportKey, ExportKey, Passwd, DeleteKey}}, wrapping.TheConstants.MAX_LIST_LEN}
-use Rattle.key_commands.specs.declared.{went.KeyWent.TheVariants.On, wrap_keys.WrapKeys.WrapKeys}
+use Rattle.key_commands.specs.declared.{went.KeyWent.TheVariants.On, keywrap_key.WrapKeys.WrapKeys}
 use Rattle.session_options.specs.declared.options.PinMode.TheVariants as mode
 
 -- the line of a clear key that isn't cached

@@ -12,7 +12,7 @@ use Rattle.key_commands.specs.{Events.{Event, called, read, drew}, Exchanges.{Ke
 use Rattle.key_commands.specs.KeyParts.{file_in, tells, short, made, named, asked, is_wrapped, ReadsFile, Unwraps, LooksOver, Replaces, Removes}
 use Rattle.key_commands.specs.{Lines.{grip_text, described, old_description, new_description, delete_description, field_text, nonce_line, max_key_data}, Parts.{found, absent, drawn}}
 use Rattle.key_commands.specs.{Passphrases.{ask_key, seat_for, is_locked, opens, OpensBy, OpensLocked, PromptsOld, PromptsNew}, Wrapping.{wrapped_key, WrappedSays}}
-use Rattle.key_commands.specs.declared.{request.KeyRequest.TheVariants.{ImportKey, ExportKey, Passwd, DeleteKey}, went.KeyWent.TheVariants.On, wrap_keys.WrapKeys.WrapKeys, wrapping.TheConstants.MAX_LIST_LEN}
+use Rattle.key_commands.specs.declared.{request.KeyRequest.TheVariants.{ImportKey, ExportKey, Passwd, DeleteKey}, went.KeyWent.TheVariants.On, keywrap_key.WrapKeys.WrapKeys, wrapping.TheConstants.MAX_LIST_LEN}
 use Rattle.agent_ask.specs.ConsentParts as consent
 use Rattle.agent_ask.specs.declared.consent.Agreed.TheVariants as agreed
 use Rattle.agent_ask.specs.declared.prompter.Consent.TheVariants as consented

@@ -6,7 +6,7 @@ use Rattle.{cache_policy.specs.declared.{life.Life.TheVariants.Default, mark.Mar
 use Rattle.{session_options.specs.{OptionValues.OptionValues, declared.rules.Rules.Rules}, sexp_keys.specs.Key.Key, session_client.specs.declared.refusal.Refusal.TheVariants.Agent}
 use Rattle.key_commands.specs.{Events.Event, Files.Rewrites, Lines.{grip_text, nonce_line}, Parts.{Part, Finds, Draws, key_went_after}, Passphrases.{OldPassphrase, NewPassphrase, VerifiesPassphrase, LooksForNonce}}
 use Rattle.key_commands.specs.declared.request.{Direction.{Direction, TheVariants.{Import, Export}}, KeyRequest.{KeyRequest, TheVariants.{HaveKey, KeyInfo, ListKeys, KeyWrap, ImportKey, ExportKey, Passwd, DeleteKey, Bad}}}
-use Rattle.key_commands.specs.declared.{went.KeyWent.{KeyWent, TheVariants.On}, wrap_keys.WrapKeys.WrapKeys}
+use Rattle.key_commands.specs.declared.{went.KeyWent.{KeyWent, TheVariants.On}, keywrap_key.WrapKeys.WrapKeys}
 use Rattle.key_commands.specs.KeyParts.{Tells, ReadsFile, Replaces, Removes, Protects, IsShort, KeepsNew, HasOne, TellsKeyInfo, ListsGrips, WritesInfos, ReceivesKey, NamesKey, IsFree, LooksOver, WrapsKey, Consents}
 use Rattle.session_client.specs.declared.code.Code.TheVariants as code
 

@@ -1,18 +1,16 @@
 -- Private: what is written for a request, once all else is done for it.
 use Rattle.std.specs.Prelude.{◌≡◌, ◌++◌, ℕ, List, Option, Result}
-use Rattle.{agent_ask.specs.{Events.Call, PartReplies.{RespondsBy, CarriesBy}}, assuan_escape.specs.Escapes.hex_text, assuan_server.specs.{Clients.connection_views, Connections.Connection, Written.{refusal_line, ok, IsDataAnswer}}}
+use Rattle.{agent_ask.specs.{Events.Call, PartReplies.{RespondsBy, CarriesBy}}, assuan_server.specs.{Clients.connection_views, Connections.Connection, Written.{refusal_line, ok, IsDataAnswer}}}
 use Rattle.{cache_policy.specs.{declared.mark.MarkStep.MarkStep, Turns.Turn}, session_client.specs.declared.refusal.Refusal.Refusal}
-use Rattle.key_commands.specs.{Exchanges.KeyReply, KeyEnds.DoesAtKeys, Lines.{info_line, nonce_line}, Parts.{Part, key_went_after}, States.KeyState, declared.{reply.Reply.Reply, went.KeyWent.{KeyWent, TheVariants.On}}}
-use Rattle.key_commands.specs.declared.wrap_keys.WrapKeys.{WrapKeys}
+use Rattle.key_commands.specs.{Exchanges.KeyReply, KeyEnds.DoesAtKeys, Parts.{Part, key_went_after}, States.KeyState, declared.{reply.Reply.Reply, went.KeyWent.{KeyWent, TheVariants.On}, keywrap_key.WrapKeys.WrapKeys}}
 use Rattle.key_commands.specs.declared.reply.Reply.TheVariants as replies
 
 -- the text of a reply
 abbrev pub IsReply : Reply → List ℕ → Type 0
 IsReply replies.Ok text = text ≡ ok
-IsReply (replies.Info grip cached clear) text = text ≡ info_line grip cached clear ++ ok
+IsReply (replies.Status line) text = text ≡ line ++ ok
 IsReply (replies.WrapKey key) text = IsDataAnswer key text
 IsReply (replies.Data bytes) text = IsDataAnswer bytes text
-IsReply (replies.Nonce nonce) text = text ≡ nonce_line (hex_text nonce) ++ ok
 
 -- how the session goes on after it
 abbrev pub key_goes_on : Reply → KeyWent

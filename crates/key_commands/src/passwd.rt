@@ -11,7 +11,7 @@ ghost use Rattle.key_commands.specs.Exchanges.{VerifyReplies, PasswdReplies, Cha
 ghost use Rattle.key_commands.specs.{Exchanges.RewritesFile, Files.IsSomeKey};
 ghost use Rattle.key_commands.specs.{Partial.{DoesKeyPart, NoCall}, Replies.CarriesOut};
 ghost use Rattle.key_commands.specs.{States.key_state, Trials.IsUsable};
-ghost use Rattle.key_commands.specs.declared.wrap_keys.WrapKeys.{WrapKeys as Wraps};
+ghost use Rattle.key_commands.specs.declared.keywrap_key.WrapKeys.{WrapKeys as Wraps};
 ghost use Rattle.key_commands.specs.declared.wrapping.TheConstants.{MAX_LIST_LEN};
 
 use crate::asking::Asking;

@@ -3,17 +3,14 @@
 //! (`specs/Replies`).
 
 ghost use Rattle.std.specs.Prelude.{◌≡◌, ℕ, List};
-ghost use Rattle.{assuan_escape.specs.Escapes.hex_text, assuan_server.specs.Written.WritesText};
-ghost use Rattle.session_client.specs.Refusals.{gone_by};
-ghost use Rattle.key_commands.specs.{Lines.nonce_line, Parts.key_went_after};
-ghost use Rattle.key_commands.specs.Replies.{IsReply, RespondsTo};
+ghost use Rattle.{assuan_server.specs.Written.WritesText, session_client.specs.Refusals.gone_by};
+ghost use Rattle.key_commands.specs.{Parts.key_went_after, Replies.{IsReply, RespondsTo}};
 
 use crate::drawing::Drawn;
-use crate::texts::write_info;
+use crate::texts::StatusLine;
 use crate::went::KeyWent;
 use agent_ask::unless_cut;
-use agent_ports::{Grip, Link, WriteFault};
-use assuan_escape::upper_hex;
+use agent_ports::{Link, WriteFault};
 use assuan_server::Conn;
 use session_client::{Gone, Refusal};
 use sexp_canonical::Bytes;
@@ -22,18 +19,12 @@ use sexp_canonical::Bytes;
 #[derive(Drop)]
 pub(crate) enum Reply {
     Ok,
-    /// What is known of a key: whether its passphrase is cached, and whether its file is clear.
-    Info {
-        grip: Grip,
-        cached: bool,
-        clear: bool,
-    },
+    /// A status line, and OK.
+    Status(StatusLine),
     /// A wrapping key by data lines.
     WrapKey(Drawn<16>),
     /// Bytes by data lines, which are overwritten.
     Data(Bytes),
-    /// The nonce under which a passphrase was cached.
-    Nonce([u8; 12]),
 }
 
 /// Writes the reply of a request, or how it is refused, and says how the session goes on.
@@ -53,29 +44,13 @@ fn write_reply<L: Link>(reply: &Reply, conn: &mut Conn<'_, L>) -> Result<(), Wri
 {
     match reply {
         Reply::Ok => conn.ok(b"").whole(),
-        Reply::Info {
-            grip,
-            cached,
-            clear,
-        } => {
-            write_info(conn, grip, *cached, *clear)?;
+        Reply::Status(line) => {
+            line.write(conn)?;
             conn.ok(b"").whole()
         }
         Reply::WrapKey(key) => conn.last_data(key.bytes()).whole(),
         Reply::Data(bytes) => conn.last_data(bytes.as_slice()).whole(),
-        Reply::Nonce(nonce) => {
-            write_nonce(nonce, conn)?;
-            conn.ok(b"").whole()
-        }
     }
-}
-
-/// Writes the nonce under which a passphrase was cached.
-#[tactic(auto, using(assuan_server::proofs::Saying::said))]
-fn write_nonce<L: Link>(nonce: &[u8; 12], conn: &mut Conn<'_, L>) -> Result<(), WriteFault>
-    ensures { WritesText (nonce_line (hex_text nonce.now)) conn.old result conn.new }
-{
-    conn.status(b"CACHE_NONCE", &upper_hex(nonce)).whole()
 }
 
 /// How a session goes on after a refusal.

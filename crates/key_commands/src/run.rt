@@ -10,15 +10,16 @@ ghost use Rattle.key_commands.specs.{Exchanges.{KeyExchange, KeyReplies}, Replie
 ghost use Rattle.key_commands.specs.States.{AnswersKey, key_state};
 
 use crate::asking::Asking;
-use crate::deleting::delete_key;
-use crate::export::export_key;
-use crate::importing::import_key;
-use crate::listing::{has_one, key_info, list_keys};
+use crate::delete_key::delete_key;
+use crate::export_key::export_key;
+use crate::have_key::has_one;
+use crate::import_key::import_key;
+use crate::key_info::{key_info, list_keys};
+use crate::keywrap_key::{WrapKeys, wrapping_key};
 use crate::passwd::{change_passphrase, verify_key};
 use crate::reply::{Reply, respond};
 use crate::request::KeyRequest;
 use crate::went::KeyWent;
-use crate::wrap_keys::{WrapKeys, wrapping_key};
 use agent_ask::{Held, Prompter, close};
 use agent_ports::{Dice, Keys, Link};
 use assuan_server::Conn;

@@ -1,21 +1,21 @@
-//! What is written and shown of a key: its name in the cache, the line of KEYINFO, and the
-//! descriptions of its prompts. Pure but for `write_info`, which writes on the connection. Begin
-//! with `key_id` and `described`; `specs/Lines` defines each text.
+//! What is written and shown of a key: its name in the cache, status lines, and the descriptions of
+//! its prompts. Pure but for `StatusLine::write`, which writes on the connection. Begin with
+//! `key_id`, `described` and `StatusLine`; `specs/Lines` defines each text.
 
-ghost use Rattle.std.specs.Prelude.{◌≡◌, ◌≤◌, ◌++◌, ℕ, List, length, false};
-ghost use Rattle.agent_ports.specs.declared.link.WriteFault.{WriteFault as Fault};
-ghost use Rattle.assuan_escape.specs.Escapes.{hex_text};
-ghost use Rattle.assuan_server.specs.Written.{WritesText, status_text};
+ghost use Rattle.std.specs.Prelude.{◌≡◌, length, false};
+ghost use Rattle.{assuan_escape.specs.Escapes.hex_text, assuan_server.specs.Written.WritesText};
 ghost use Rattle.assuan_text.specs.LineEnds.{has_lf};
-ghost use Rattle.key_commands.specs.Lines.{grip_text, info_text, info_line, described};
-ghost use Rattle.key_commands.specs.Lines.{old_description, new_description, delete_description};
+ghost use Rattle.key_commands.specs.Lines.{grip_text, described, old_description};
+ghost use Rattle.key_commands.specs.Lines.{new_description, delete_description};
 
 use agent_ports::{Grip, Link, WriteFault};
+use arrayvec::ArrayVec;
 use assuan_escape::upper_hex;
 use assuan_server::Conn;
 use assuan_text::Text;
 use cache_policy::CacheId;
 use session_options::Options;
+use std::marker::Model;
 
 /// A key's name in the cache: its grip in uppercase hexadecimal digits.
 pub(crate) fn key_id(grip: &Grip) -> CacheId
@@ -34,7 +34,7 @@ pub(crate) fn nonce_id(nonce: &[u8; 12]) -> CacheId
 }
 
 /// A key's grip in uppercase hexadecimal digits.
-fn digits_of(grip: &Grip) -> Text
+pub(crate) fn digits_of(grip: &Grip) -> Text
     ensures digits { result.items ≡ grip_text grip.now }
     ensures len { length result.items ≡ 40 }
     ensures one_line { has_lf result.items ≡ false }
@@ -88,33 +88,34 @@ pub(crate) fn delete_description(grip: &Grip) -> Text
     text
 }
 
-/// What KEYINFO tells of a key behind the word of its line.
-fn info_text(grip: &Grip, cached: bool, clear: bool) -> Text
-    ensures text { result.items ≡ info_text grip.now cached clear }
-    ensures len { length result.items ≤ 60 }
-    ensures one_line { has_lf result.items ≡ false }
-{
-    let mut text = digits_of(grip);
-    text.try_extend_from_slice(b" D - - ").unwrap();
-    text.try_extend_from_slice(if cached { b"1" } else { b"-" })
-        .unwrap();
-    text.try_extend_from_slice(b" ").unwrap();
-    text.try_extend_from_slice(if clear { b"C" } else { b"P" })
-        .unwrap();
-    text.try_extend_from_slice(b" - - -").unwrap();
-    text
+/// What a status line says at most.
+pub(crate) const MAX_STATUS_LEN: usize = 60;
+
+/// A status line by its word and what it says. Contracts see the line.
+#[derive(Drop)]
+pub(crate) struct StatusLine {
+    pub(crate) word: &'static [u8],
+    pub(crate) text: ArrayVec<u8, MAX_STATUS_LEN>,
 }
 
-/// Writes the line of a key: whether its passphrase is cached, and whether its file is clear.
-#[tactic(auto, using(assuan_server::proofs::Saying::said))]
-pub(crate) fn write_info<L: Link>(
-    conn: &mut Conn<'_, L>,
-    grip: &Grip,
-    cached: bool,
-    clear: bool,
-) -> Result<(), WriteFault>
-    ensures { WritesText (info_line grip.now cached clear) conn.old result conn.new }
-{
-    let text = info_text(grip, cached, clear);
-    conn.status(b"KEYINFO", &text).whole()
+impl Model for StatusLine {
+    ghost use Rattle.std.specs.Prelude.{ℕ, List};
+    ghost use Rattle.{assuan_line.specs.Lines.IsLine, assuan_server.specs.Written.status_text};
+    ghost use Rattle.assuan_text.specs.LineEnds.{line_of};
+
+    ghost Value = { List ℕ };
+
+    ghost view = { λ line. line_of (status_text line.word.now line.text.items) };
+
+    ghost invariant = { λ line. IsLine (status_text line.word.now line.text.items) };
+}
+
+impl StatusLine {
+    /// Writes it.
+    #[tactic(auto, using(assuan_server::proofs::Saying::said))]
+    pub(crate) fn write<L: Link>(&self, conn: &mut Conn<'_, L>) -> Result<(), WriteFault>
+        ensures { WritesText self.now conn.old result conn.new }
+    {
+        conn.status(self.word, &self.text).whole()
+    }
 }
