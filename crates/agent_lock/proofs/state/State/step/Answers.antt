@@ -50,38 +50,14 @@ returns-in-Some c =
       back = search rules;
     }
 
-pub returns-in-None : goal.returns-in-None
-returns-in-None c =
-    let k = c.requires in
-    let more : c.args.self.now.core.base + c.args.self.now.core.count ≢ last_base = search rules in
-    let taken = c.in-Ok.ensures.step k.stands.history k.stands.legal k.stands.stands in
-    let stepped = unmade c.args.self.now k more taken (sym c.of.ensures ∙ c.in-None.is) in
-    record {
-      kept = stepped.kept;
-      journaled = stepped.journaled;
-      core = search rules;
-      totals = grind (arith, common_steps);
-      grant = search rules;
-      fits = search rules;
-      memory = search rules;
-      limits = search rules;
-      back = search rules;
-    }
+pub returns-in-None-clause-kept : goal.returns-in-None-clause-kept
+returns-in-None-clause-kept c = let k = c.requires in (unmade c.args.self.now k (search rules) (c.in-Ok.ensures.step k.stands.history k.stands.legal k.stands.stands) (sym c.of.ensures ∙ c.in-None.is)).kept
 
-pub returns-in-Err : goal.returns-in-Err
-returns-in-Err c =
-    let k = c.requires in
-    let more : c.args.self.now.core.base + c.args.self.now.core.count ≢ last_base = search rules in
-    let taken = c.in-Err.ensures.step k.stands.history k.stands.legal k.stands.stands in
-    let stepped = unmade c.args.self.now k more taken refl in
-    record {
-      kept = stepped.kept;
-      journaled = stepped.journaled;
-      core = search rules;
-      totals = grind (arith, common_steps);
-      grant = search rules;
-      fits = search rules;
-      memory = search rules;
-      limits = search rules;
-      back = search rules;
-    }
+pub returns-in-None-clause-journaled : goal.returns-in-None-clause-journaled
+returns-in-None-clause-journaled c = let k = c.requires in (unmade c.args.self.now k (search rules) (c.in-Ok.ensures.step k.stands.history k.stands.legal k.stands.stands) (sym c.of.ensures ∙ c.in-None.is)).journaled
+
+pub returns-in-Err-clause-kept : goal.returns-in-Err-clause-kept
+returns-in-Err-clause-kept c = let k = c.requires in (unmade c.args.self.now k (search rules) (c.in-Err.ensures.step k.stands.history k.stands.legal k.stands.stands) refl).kept
+
+pub returns-in-Err-clause-journaled : goal.returns-in-Err-clause-journaled
+returns-in-Err-clause-journaled c = let k = c.requires in (unmade c.args.self.now k (search rules) (c.in-Err.ensures.step k.stands.history k.stands.legal k.stands.stands) refl).journaled
