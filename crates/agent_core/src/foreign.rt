@@ -14,17 +14,15 @@ pub struct Foreign {
     pub step: ForeignStep,
 }
 
-/// A step that is told before it is taken, and so without a ticket.
+/// A step that is told before it is taken, and so without a ticket and never tried again. But for
+/// `CloseHeld` each is the `Step` of its name.
 #[derive(Drop)]
 pub enum ForeignStep {
-    /// Asks for a passphrase. Where it opens a prompt, the passphrase can be kept under its id and
-    /// mode.
     Ask {
         id: CacheId,
         mode: Mode,
         way: Way,
     },
-    /// Asks for the seat at the prompt, whatever the cache has.
     Seat {
         under: Option<Under>,
     },
@@ -33,25 +31,20 @@ pub enum ForeignStep {
     CloseHeld {
         keep: Option<Secret>,
     },
-    /// Stores a passphrase.
     Put {
         id: CacheId,
         mode: Mode,
         life: Life,
         secret: Secret,
     },
-    /// Forgets what is stored under an id, in the modes that cover the named one.
     Clear {
         id: CacheId,
         mode: Mode,
     },
-    /// Forgets everything.
     Flush,
-    /// Looks whether a passphrase is there, without using it.
     Peek {
         id: CacheId,
         mode: Mode,
     },
-    /// Opens no prompt from now on.
     Stop,
 }
