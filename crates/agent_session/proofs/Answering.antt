@@ -6,8 +6,8 @@ use Rattle.{agent_commands.specs.{Requests.request_of, Talks.Session, declared.w
 use Rattle.{agent_origin.specs.{SessionExchanges.{SessionExchange, kept_at_start}, Sessions.{Surroundings, ServesSession}, declared.session_state.SessionState.SessionState}, key_commands.{specs.Events.Event, proofs.EachEvent.each_append}}
 use Rattle.agent_session.specs.Causes.{HasOne, one, HasCall, called, HasTrustCall, called_trust, WantsMemory, FailsAtKeysOrDice, FailsAtTrust, IsUnprompted, is_broken}
 use Rattle.agent_session.specs.Completeness.{HasError, Exchanges, Causes, Remembers, FaultlessExchange, IsFaultless, NoCountRose, AnswersAll, SessionCauses, CausedInSession}
-use Rattle.agent_session.proofs.{Completing.{IsPossible, IsSteady, never_absent, StandStill, all_steady, all_possible}, KeyExplained.{exchange_caused, exchange_goes_on}, Standing.{each_left, each_right, each_has}}
-use Rattle.agent_session.proofs.Talking.{session_whole, session_moved}
+use Rattle.agent_session.proofs.{Counts.Completing.{IsPossible, IsSteady, never_absent, StandStill, all_steady, all_possible}, Causes.KeyExplained.{exchange_caused, exchange_goes_on}, Standing.{each_left, each_right, each_has}}
+use Rattle.agent_session.proofs.Decisions.Talking.{session_whole, session_moved}
 use Rattle.session_client.specs.declared.code.Code.TheVariants as code
 
 -- nothing that stands still has failed

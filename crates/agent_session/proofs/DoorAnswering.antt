@@ -3,12 +3,13 @@ use Rattle.std.{specs.List.AllByRecursion, proofs.Common.{◌≡◌, ◌⊎◌, 
 use Rattle.{agent_ask.specs.{Prompters.is_failed, SessionEvents.Sent}, agent_commands.specs.{Requests.request_of, declared.went.Went.{Went, TheVariants.On}}, assuan_server.specs.Written.{failed as failed_line, ok}}
 use Rattle.{assuan_server.specs.declared.errors.Origin.{Origin, TheVariants.Agent}, session_client.specs.declared.code.Code.Code, key_commands.{specs.Events.Event, proofs.EachRequest.IsBesideTrust}}
 use Rattle.{session_options.specs.declared.rules.Rules.Rules, agent_origin.specs.{DoorSessions.{door_help, AllowedExchange, DoorExchange, door_command}, Doors.allowed, TrustExchanges.TrustExchange}}
-use Rattle.agent_origin.{specs.{TrustRequests.{trust_request_of, trust_command}, SessionExchanges.SessionExchange, declared.{door.Door.Door, session_state.SessionState.SessionState, trust.request.TrustRequest.TheVariants.Bad}}, proofs.EachLine.each_request}
-use Rattle.{agent_origin.proofs.OwnCommands.{trust_named, other_is_no_trust}, command_table.specs.{Commands.{command_in, commands, names_told}, declared.commands.TrustCommandName.TrustCommandName}}
+use Rattle.agent_origin.specs.{TrustRequests.{trust_request_of, trust_command}, SessionExchanges.SessionExchange, declared.{door.Door.Door, session_state.SessionState.SessionState, trust.request.TrustRequest.TheVariants.Bad}}
+use Rattle.{agent_origin.proofs.{EachLine.each_request, OwnCommands.{trust_named, other_is_no_trust}}, command_table.specs.{Commands.{command_in, commands, names_told}, declared.commands.TrustCommandName.TrustCommandName}}
 use Rattle.agent_session.specs.{Causes.{HasOne, HasCall, WantsMemory, is_broken}, Completeness.{IsAnsweredBy, HasError, CausedAtDoor, WantsNoPrompt, any, on_trust}}
 use Rattle.agent_session.{specs.DoorCauses.{IsTrustCaused, IsCausedBy, IsCausedAtDoor, IsReadTrust, read_trust, IsNotTrusted, unsaid, denied, denied_mark, forbidden, is_allowed}, proofs.Answering.{Judging, none_failed, no_trust_failed}}
-use Rattle.agent_session.proofs.{Completing.{IsPossible, IsSteady, never_absent}, Explained.{Explained, replied, failed, silent, is_answered, is_caused, went_on, goes_on as explained_on}, KeyExplained.{exchange_caused, exchange_goes_on}}
-use Rattle.agent_session.proofs.{Replying.{IsReply, reply_names, reply_ok}, Standing.stand_all, TrustDenied.{none_called, denial_is_said}, TrustExplained.{trust_explained, trust_line_form}}
+use Rattle.agent_session.proofs.{Counts.Completing.{IsPossible, IsSteady, never_absent}, Causes.Explained.{Explained, replied, failed, silent, is_answered, is_caused, went_on, goes_on as explained_on}}
+use Rattle.agent_session.proofs.{Causes.{KeyExplained.{exchange_caused, exchange_goes_on}, Replying.{IsReply, reply_names, reply_ok}, TrustExplained.{trust_explained, trust_line_form}}, Standing.stand_all}
+use Rattle.agent_session.proofs.Decisions.TrustDenied.{none_called, denial_is_said}
 use Rattle.session_client.specs.declared.code.Code.TheVariants as code
 use Rattle.agent_origin.specs.DoorSessions as doors
 

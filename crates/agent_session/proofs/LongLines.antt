@@ -7,8 +7,8 @@ use Rattle.{agent_origin.specs.declared.session_state.SessionState.SessionState,
 use Rattle.{assuan_server.specs.declared.errors.Origin.TheVariants.Agent, assuan_text.specs.LineEnds.line_of, key_commands.specs.Events.Event, session_client.specs.declared.client_error.Gone.Gone}
 use Rattle.session_options.specs.declared.rules.Rules.{Rules}
 use Rattle.agent_session.specs.{Causes.{Has, here, later, IsSaid, said}, Completeness.{AnswersNothing, AnswersAtLast, IsAnsweredBy, HasError, Exchanges, CausedInSession, CausedAtDoor}, DoorCauses.IsCausedBy}
-use Rattle.agent_session.{specs.Exactly.{WasTooLong, at_read, at_inquiry, EndsTooLong}, proofs.{CacheCourses.cache_gone, Courses.heard_so, DoorAnswering.because, ErrorLines.{no_reply, no_status}, ExactEnds.{refusal_told, end_told}}}
-use Rattle.agent_session.proofs.{Explained.has_split, KeyCourses.key_gone, Replying.begins, Standing.{has_left, has_right, each_has}, TrustGone.trust_gone, TrustTold.{Told, told}}
+use Rattle.agent_session.{specs.Exactly.{WasTooLong, at_read, at_inquiry, EndsTooLong}, proofs.{Courses.{CacheCourses.cache_gone, Courses.heard_so, KeyCourses.key_gone}, DoorAnswering.because, Causes.ErrorLines.{no_reply, no_status}}}
+use Rattle.agent_session.proofs.{Causes.{Explained.has_split, Replying.begins}, Decisions.{ExactEnds.{refusal_told, end_told}, TrustGone.trust_gone, TrustTold.{Told, told}}, Standing.{has_left, has_right, each_has}}
 use Rattle.agent_commands.specs.Talks as talks
 use Rattle.agent_origin.specs.DoorSessions as doors
 use Rattle.assuan_line.specs.declared.reader.Took.TheVariants as took
@@ -16,7 +16,7 @@ use Rattle.session_client.specs.declared.code.Code.TheVariants as code
 use Rattle.session_client.specs.declared.client_error.Gone.TheVariants as gone
 use Rattle.session_client.specs.declared.client_error.ClientError.TheVariants as client_error
 use Rattle.agent_session.specs.Completeness as answers
-use Rattle.agent_session.proofs.TrustTold as telling
+use Rattle.agent_session.proofs.Decisions.TrustTold as telling
 
 -- ---- lists
 

@@ -7,8 +7,8 @@ use Rattle.{assuan_server.specs.declared.errors.Origin.TheVariants.Agent, cache_
 use Rattle.session_options.specs.declared.rules.Rules.{Rules}
 use Rattle.agent_session.specs.{Completeness.{Exchanges as Relations, Causes, IsAnsweredBy}, Exactly.EndsTooLong, OwnPassphrases.StoresOwn}
 use Rattle.agent_session.{specs.RunExchanges.{Between, LinkBytes, with_link, Saying, ExchangeBetween, LawfulRequest, LawfulExchange, LawfulSession}, proofs.{Answering.Judging, AtOnce.{all_fit, at_once, each_calm}}}
-use Rattle.agent_session.proofs.{Completing.{failures_rise, all_possible, never_absent}, Counting.counts_failures, Fair.{first_fair, alone_first}, KeyExplained.exchange_caused, OwnCache.{request_own, request_says_own}}
-use Rattle.agent_session.proofs.{OwnKeys.request_told, OwnParts.own_at, RefusedCourses.{caused_refuses, refused_course}, SessionCourses.request_course, Uncaused.ok_by}
+use Rattle.agent_session.proofs.{Counts.{Completing.{failures_rise, all_possible, never_absent}, Counting.counts_failures}, Fair.{first_fair, alone_first}, Causes.{KeyExplained.exchange_caused, Uncaused.ok_by}}
+use Rattle.agent_session.proofs.{Own.{OwnCache.{request_own, request_says_own}, OwnKeys.request_told, OwnParts.own_at}, Courses.{RefusedCourses.{caused_refuses, refused_course}, SessionCourses.request_course}}
 use Rattle.agent_ask.specs.Worlds as worlds
 use Rattle.agent_commands.specs.Talks as talks
 

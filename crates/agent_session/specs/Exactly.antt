@@ -5,8 +5,8 @@ use Rattle.{agent_commands.specs.declared.went.SessionEnd.{SessionEnd, TheVarian
 use Rattle.{assuan_server.specs.declared.errors.Origin.TheVariants.Agent, cache_policy.specs.{Turns.{Given, Done}, declared.{grant.Grant.Grant, mark.Way.Way}}, key_commands.specs.{Events.Event, Files.IsWithList}}
 use Rattle.{key_commands.specs.{Passphrases.{OpensBy, ask_nonce, ask_key, put_key}, declared.wrapping.TheConstants.MAX_LIST_LEN}, key_lines.specs.Canon.is_canonical, secret_file.specs.Opens.LockedKey}
 use Rattle.{sexp_canonical.specs.Spelling.most_bytes, sexp_keys.specs.{Key.Key, Lists.key_list_of}, session_options.specs.declared.rules.Rules.Rules, agent_origin.specs.{Doors.allowed, DoorSessions.door_command}}
-use Rattle.{agent_origin.specs.{TrustRequests.{trust_request_of, trust_command}, declared.{door.Door.Door, session_state.SessionState.SessionState, trust.request.TrustRequest.{TrustRequest, TheVariants.Bad}}}, command_table.specs.Commands.command_in}
-use Rattle.command_table.specs.declared.commands.TrustCommandName.{TrustCommandName}
+use Rattle.agent_origin.specs.{TrustRequests.{trust_request_of, trust_command}, declared.{door.Door.Door, session_state.SessionState.SessionState, trust.request.TrustRequest.{TrustRequest, TheVariants.Bad}}}
+use Rattle.command_table.specs.{Commands.command_in, declared.commands.TrustCommandName.TrustCommandName}
 use Rattle.agent_session.specs.{Causes.{Has, IsCaused, IsFaulty, IsSaid, IsRead, IsReadOf, IsReadLocked, IsDrawn, IsListOf, OpensRead, on_keys}, Completeness.HasError, DoorCauses.{IsNotTrusted, IsTooMuch}}
 use Rattle.session_client.specs.declared.code.Code.TheVariants as code
 use Rattle.assuan_line.specs.declared.reader.Took.TheVariants as took

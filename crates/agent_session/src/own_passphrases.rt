@@ -13,7 +13,8 @@ ghost use Rattle.agent_origin.specs.{DoorSessions.{DoorExchange, ServesDoor}, Po
 ghost use Rattle.agent_origin.specs.SessionExchanges.{SessionExchange, kept_at_start};
 ghost use Rattle.agent_origin.specs.{Sessions.Surroundings, declared.door.Door.Door};
 ghost use Rattle.agent_origin.specs.declared.session_state.SessionState.{SessionState};
-ghost use Rattle.agent_session.specs.{Causes.on_keys, OwnPassphrases.{SaysOwnAlone, TellsOfKeysAlone}};
+ghost use Rattle.agent_session.specs.Causes.{on_keys};
+ghost use Rattle.agent_session.specs.OwnPassphrases.{SaysOwnAlone, TellsOfKeysAlone};
 ghost use Rattle.agent_session.specs.OwnPassphrases.{StoresOwnAlone, StoresOwnThroughout};
 ghost use Rattle.agent_session.specs.Sessions.{ServesRules};
 

@@ -1,4 +1,4 @@
-use Rattle.agent_session.proofs.Counting.{counts_failures}
+use Rattle.agent_session.proofs.Counts.Counting.{counts_failures}
 use Rattle.agent_session.proofs.completeness.each_failure_is_counted.Goals as goal
 
 pub returns : goal.returns

@@ -1,4 +1,4 @@
-use Rattle.agent_session.proofs.Completing.{failures_rise}
+use Rattle.agent_session.proofs.Counts.Completing.{failures_rise}
 use Rattle.agent_session.proofs.completeness.failures_raise_counts.Goals as goal
 
 pub returns : goal.returns

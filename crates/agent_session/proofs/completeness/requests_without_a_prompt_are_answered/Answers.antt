@@ -1,5 +1,5 @@
-use Rattle.agent_session.proofs.AtOnce.{all_fit, at_once, each_calm}
 use Rattle.agent_commands.specs.Requests.{request_of}
+use Rattle.agent_session.proofs.AtOnce.{all_fit, at_once, each_calm}
 use Rattle.agent_session.proofs.completeness.requests_without_a_prompt_are_answered.Goals as goal
 
 pub returns : goal.returns

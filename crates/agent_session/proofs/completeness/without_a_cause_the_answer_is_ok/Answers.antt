@@ -1,4 +1,4 @@
-use Rattle.agent_session.proofs.Uncaused.{ok_by}
+use Rattle.agent_session.proofs.Causes.Uncaused.{ok_by}
 use Rattle.agent_session.proofs.completeness.without_a_cause_the_answer_is_ok.Goals as goal
 
 pub returns-clause-session : goal.returns-clause-session

@@ -1,5 +1,5 @@
 use Rattle.agent_commands.specs.Requests.{request_of}
-use Rattle.agent_session.proofs.Exact.{cause_answered, door_cause}
+use Rattle.agent_session.proofs.Decisions.Exact.{cause_answered, door_cause}
 use Rattle.agent_session.proofs.exactly.each_cause_has_its_error.Goals as goal
 
 pub returns-clause-session : goal.returns-clause-session

@@ -1,5 +1,5 @@
 use Rattle.{assuan_server.specs.declared.errors.Origin.TheVariants.Agent, agent_commands.specs.Requests.request_of}
-use Rattle.agent_session.proofs.{AtOnce.all_fit, Completing.{all_possible, never_absent}, KeyExplained.exchange_caused, RefusedCourses.{caused_refuses, refused_course}, SessionCourses.request_course}
+use Rattle.agent_session.proofs.{AtOnce.all_fit, Counts.Completing.{all_possible, never_absent}, Causes.KeyExplained.exchange_caused, Courses.{RefusedCourses.{caused_refuses, refused_course}, SessionCourses.request_course}}
 use Rattle.agent_session.proofs.refusals.a_refused_request_does_nothing_more.Goals as goal
 
 pub returns : goal.returns

@@ -1,5 +1,5 @@
 use Rattle.cache_policy.specs.Turns.{Refused}
-use Rattle.agent_session.proofs.Refusing.{desk_left}
+use Rattle.agent_session.proofs.Courses.Refusing.{desk_left}
 use Rattle.agent_session.proofs.refusals.a_refused_turn_leaves_the_desk.Goals as goal
 
 pub returns : goal.returns

@@ -1,4 +1,4 @@
-use Rattle.agent_session.proofs.{Answering.in_session, Completing.all_possible, DoorAnswering.at_door}
+use Rattle.agent_session.proofs.{Answering.in_session, Counts.Completing.all_possible, DoorAnswering.at_door}
 use Rattle.agent_session.proofs.refusals.a_session_goes_on_after_an_error.Goals as goal
 
 pub returns-clause-session : goal.returns-clause-session

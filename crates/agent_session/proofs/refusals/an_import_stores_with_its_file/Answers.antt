@@ -1,5 +1,5 @@
 use Rattle.agent_commands.specs.Requests.{request_of}
-use Rattle.agent_session.proofs.ImportCourses.{import_course}
+use Rattle.agent_session.proofs.Courses.ImportCourses.{import_course}
 use Rattle.agent_session.proofs.refusals.an_import_stores_with_its_file.Goals as goal
 
 pub returns : goal.returns

@@ -1,5 +1,5 @@
 use Rattle.agent_commands.specs.Requests.{request_of}
-use Rattle.agent_session.proofs.SessionCourses.{request_course}
+use Rattle.agent_session.proofs.Courses.SessionCourses.{request_course}
 use Rattle.agent_session.proofs.refusals.each_request_takes_its_course.Goals as goal
 
 pub returns : goal.returns
