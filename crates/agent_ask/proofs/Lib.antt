@@ -8,10 +8,10 @@ pub mod Doing
 pub mod Beside
 pub mod Clients
 pub mod Prompting
-pub mod ConsentParts
-pub mod PartsDone
-pub mod PartsAtClient
+pub mod ConsentActions
+pub mod ActionsDone
+pub mod ActionsAtClient
 pub mod Replying
 pub mod Answered
-pub mod PartValues
+pub mod ActionValues
 pub mod Within

@@ -2,10 +2,10 @@
 use Rattle.std.proofs.Common.{◌≡◌, ℕ, List, [], ◌∷◌, ◌++◌, Option, Some, None, Result, Ok, Err, refl, ap, sym, ◌∙◌, subst, arith, append_assoc}
 use Rattle.{agent_ports.specs.{Sides.Side, Writing.StopsWriting, declared.link.WriteFault.WriteFault as Fault}, cache_policy.specs.{declared.mark.MarkStep.MarkStep, Turns.Turn}, session_client.specs.Asking.{HasSaid, SaysLine}}
 use Rattle.session_client.specs.{Lines.{Lines, Views}, Refusals.gone_by, declared.{refusal.Refusal.Refusal, client_error.Gone.{Gone, TheVariants.{ReadFault, WriteFault}}}}
-use Rattle.agent_ask.specs.{Answering.{unless_cut, whole, cut, ReaderLeft, FaultsCounted, AnswersBy}, PortCalls.{PortCall, EventOf, world_with}, PartExchanges.{AnyReply, AnyExchange, answered, refused as is_refused}}
-use Rattle.agent_ask.specs.{PartReplies.{RespondsBy, replied, refused, reply_by, CarriesBy, comes_to, stops_at}, Parts.PartOf, PartStates.{PartState, part_state, DoesPart, DoesTurns, still, one}, Seats.GivesTicket}
-use Rattle.agent_ask.{specs.{SessionEvents.{AnyEvent, Sent, Cut, cache_turn, said_last}, States.{AnyState, AnyLead}, TurnParts.Closes, Worlds.AnyWorld}, proofs.Doing.{done_none, done_then, done_turned, done_said, done_cut}}
-use Rattle.agent_ask.proofs.PartsDone.{no_fault, state_of, part_in, ticket_given}
+use Rattle.agent_ask.specs.{Answering.{unless_cut, whole, cut, ReaderLeft, FaultsCounted, AnswersBy}, PortCalls.{PortCall, EventOf, world_with}, ActionExchanges.{AnyReply, AnyExchange, answered, refused as is_refused}}
+use Rattle.agent_ask.specs.{ActionReplies.{RespondsBy, replied, refused, reply_by, CarriesBy, comes_to, stops_at}, Actions.ActionOf, ActionStates.{ActionState, action_state, DoesAction, DoesTurns, still, one}, Seats.GivesTicket}
+use Rattle.agent_ask.{specs.{SessionEvents.{AnyEvent, Sent, Cut, cache_turn, said_last}, States.{AnyState, AnyLead}, TurnActions.Closes, Worlds.AnyWorld}, proofs.Doing.{done_none, done_then, done_turned, done_said, done_cut}}
+use Rattle.agent_ask.proofs.ActionsDone.{no_fault, state_of, action_in, ticket_given}
 
 module _ {lines : Lines} {C : Type 0} (views : Views lines C) where
   -- a reader that ended as another did, and holds as much
@@ -50,8 +50,8 @@ module _ {lines : Lines} {C : Type 0} (views : Views lines C) where
     line_written (Some text) is written now says = text_written text is written now says
 
 module _ {lines : Lines} {C D E : Type 0} (views : Views lines C) (turned : D → MarkStep → Turn → D → Type 0) (ported : E → PortCall → E → Type 0) where
-  abbrev at_conn : C → D → E → PartState views turned ported
-  at_conn = part_state views turned ported
+  abbrev at_conn : C → D → E → ActionState views turned ported
+  at_conn = action_state views turned ported
 
   -- the ticket was given back, where one was held
   record GivesBack (held : Option ℕ) (conn : C) (desk desk_now : D) (ends : E) : Type 0 where
@@ -69,15 +69,15 @@ module _ {lines : Lines} {C D E : Type 0} (views : Views lines C) (turned : D �
   }
 
   module _ {S W : Type 0} (went_after : Option Gone → W) (gone_of : W → Option Gone) (ends_so : (how : Option Gone) → gone_of (went_after how) ≡ how) where
-    module _ (refusal_line : Refusal → Option (List ℕ)) (part : PartOf (EventOf lines) (AnyReply S W)) (before : S) (start : PartState views turned ported) (held : Option ℕ) (mid now : C) (desk desk_now : D)
+    module _ (refusal_line : Refusal → Option (List ℕ)) (action : ActionOf (EventOf lines) (AnyReply S W)) (before : S) (start : ActionState views turned ported) (held : Option ℕ) (mid now : C) (desk desk_now : D)
         (ends : E) where
       abbrev exchange : List (EventOf lines) → S → W → Type 0
-      exchange = AnyExchange refusal_line went_after part before
+      exchange = AnyExchange refusal_line went_after action before
 
       abbrev Answers : W → S → Type 0
       Answers went kept = AnswersBy {w = world_with {lines = lines} turned ported} views went_after gone_of exchange start went kept (at_conn now desk_now ends)
 
-      with_refusal : GivesBack held mid desk desk_now ends → (why : Refusal) → DoesPart views turned ported part None start (Err why) held (at_conn mid desk ends) → (written : Result (Unit {0}) Fault)
+      with_refusal : GivesBack held mid desk desk_now ends → (why : Refusal) → DoesAction views turned ported action None start (Err why) held (at_conn mid desk ends) → (written : Result (Unit {0}) Fault)
           → SaysLine views (refusal_line why) mid written now → Answers (unless_cut (went_after (gone_by why)) (went_after (Some WriteFault)) written) before
       with_refusal gives why does written said =
           line_written views {w = world_with {lines = lines} turned ported} went_after gone_of ends_so exchange before (went_after (gone_by why)) (does.events ++ gives.back) start mid desk_now ends (done_then does.done gives.done)
@@ -87,7 +87,7 @@ module _ {lines : Lines} {C D E : Type 0} (views : Views lines C) (turned : D �
           (is_refused does.events held why does.does gives.closes)) written now said
 
       module _ {R : Type 0} (IsText : R → List ℕ → Type 0) (went_of : R → W) (goes : (answer : R) → gone_of (went_of answer) ≡ None) where
-        with_reply : GivesBack held mid desk desk_now ends → (answer : R) (kept : S) (text : List ℕ) → DoesPart views turned ported part None start (Ok (reply_by went_of answer kept text)) held (at_conn mid desk ends)
+        with_reply : GivesBack held mid desk desk_now ends → (answer : R) (kept : S) (text : List ℕ) → DoesAction views turned ported action None start (Ok (reply_by went_of answer kept text)) held (at_conn mid desk ends)
             → (written : Result (Unit {0}) Fault) → HasSaid views text mid written now → Answers (unless_cut (went_of answer) (went_after (Some WriteFault)) written) kept
         with_reply gives answer kept text does written said =
             text_written views {w = world_with {lines = lines} turned ported} went_after gone_of ends_so exchange kept (went_of answer) (does.events ++ gives.back) start mid desk_now ends (done_then does.done gives.done)
@@ -95,24 +95,24 @@ module _ {lines : Lines} {C D E : Type 0} (views : Views lines C) (turned : D �
             text (subst (λ (e : List (EventOf lines)). exchange e kept (went_of answer)) (sym (append_assoc does.events gives.back (Sent text ∷ [])))
             (answered does.events held (reply_by went_of answer kept text) does.does gives.closes)) written now said
 
-        answers_by : (answer : Result R Refusal) (kept : S) (went : W) → CarriesBy views IsText went_of turned ported part before start answer kept held (at_conn mid desk ends)
+        answers_by : (answer : Result R Refusal) (kept : S) (went : W) → CarriesBy views IsText went_of turned ported action before start answer kept held (at_conn mid desk ends)
             → GivesBack held mid desk desk_now ends → RespondsBy views IsText went_of refusal_line went_after mid answer went now → Answers went kept
         answers_by answer kept went (comes_to {answer = reply} each) gives (replied {text} written is said) = with_reply gives reply kept text (each text is) written said
         answers_by answer kept went (stops_at does) gives (refused {why} written said) = with_refusal gives why does written said
 
         -- a request was carried out, its ticket given back, and its reply written
-        pub answers : {answer : Result R Refusal} {kept : S} {went : W} → CarriesBy views IsText went_of turned ported part before start answer kept held (at_conn mid desk ends)
+        pub answers : {answer : Result R Refusal} {kept : S} {went : W} → CarriesBy views IsText went_of turned ported action before start answer kept held (at_conn mid desk ends)
             → GivesTicket turned None held desk desk_now → RespondsBy views IsText went_of refusal_line went_after mid answer went now → Answers went kept
         answers {answer} {kept} {went} carries gives responds = answers_by answer kept went carries (gives_back held mid desk desk_now ends (ticket_given gives)) responds
 
 -- all of a request but its reply, with another desk and ports that hold its own
-module _ {lines : Lines} {C B D E Whole : Type 0} {views : Views lines C} (part_turned : B → MarkStep → Turn → B → Type 0) (part_port : E → PortCall → E → Type 0)
+module _ {lines : Lines} {C B D E Whole : Type 0} {views : Views lines C} (action_turned : B → MarkStep → Turn → B → Type 0) (action_port : E → PortCall → E → Type 0)
     (turned : D → MarkStep → Turn → D → Type 0) (ported : Whole → PortCall → Whole → Type 0) (desk_of : B → D) (put : E → Whole)
-    (each_turn : (before after : B) (step : MarkStep) (turn : Turn) → part_turned before step turn after → turned (desk_of before) step turn (desk_of after))
-    (each : (before after : E) (what : PortCall) → part_port before what after → ported (put before) what (put after)) where
-  pub carries_in : {R S W : Type 0} {IsText : R → List ℕ → Type 0} {went_of : R → W} {part : PartOf (EventOf lines) (AnyReply S W)} {before kept : S} {held : Option ℕ} {answer : Result R Refusal}
-      {start now : PartState views part_turned part_port} → CarriesBy views IsText went_of part_turned part_port part before start answer kept held now
-      → CarriesBy views IsText went_of turned ported part before (state_of views part_turned part_port turned ported desk_of put each_turn each start) answer kept held
-      (state_of views part_turned part_port turned ported desk_of put each_turn each now)
-  carries_in (comes_to each_text) = comes_to (λ text is. part_in views part_turned part_port turned ported desk_of put each_turn each (each_text text is))
-  carries_in (stops_at does) = stops_at (part_in views part_turned part_port turned ported desk_of put each_turn each does)
+    (each_turn : (before after : B) (step : MarkStep) (turn : Turn) → action_turned before step turn after → turned (desk_of before) step turn (desk_of after))
+    (each : (before after : E) (what : PortCall) → action_port before what after → ported (put before) what (put after)) where
+  pub carries_in : {R S W : Type 0} {IsText : R → List ℕ → Type 0} {went_of : R → W} {action : ActionOf (EventOf lines) (AnyReply S W)} {before kept : S} {held : Option ℕ} {answer : Result R Refusal}
+      {start now : ActionState views action_turned action_port} → CarriesBy views IsText went_of action_turned action_port action before start answer kept held now
+      → CarriesBy views IsText went_of turned ported action before (state_of views action_turned action_port turned ported desk_of put each_turn each start) answer kept held
+      (state_of views action_turned action_port turned ported desk_of put each_turn each now)
+  carries_in (comes_to each_text) = comes_to (λ text is. action_in views action_turned action_port turned ported desk_of put each_turn each (each_text text is))
+  carries_in (stops_at does) = stops_at (action_in views action_turned action_port turned ported desk_of put each_turn each does)

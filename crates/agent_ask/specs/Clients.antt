@@ -9,9 +9,9 @@ module _ {lines : Lines} {C : Type 0} (views : Views lines C) where
   LeftByRefusal (Client why) start now = LeftByError views why start now
   LeftByRefusal _ start now = IsOpen views now
 
-  abbrev pub LeftByPart : {A : Type 0} → Result A Refusal → C → C → Type 0
-  LeftByPart (Ok value) start now = IsOpen views now
-  LeftByPart (Err why) start now = LeftByRefusal why start now
+  abbrev pub LeftByAction : {A : Type 0} → Result A Refusal → C → C → Type 0
+  LeftByAction (Ok value) start now = IsOpen views now
+  LeftByAction (Err why) start now = LeftByRefusal why start now
 
   module _ (Wished : C → List ℕ → Result (List ℕ) ClientError → C → Type 0) where
     -- a question to a client whose connection is open, and its answer

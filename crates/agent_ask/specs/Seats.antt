@@ -70,7 +70,7 @@ pub record AsksCache {D : Type 0} (turned : D → MarkStep → Turn → D → Ty
   pub fits : FitsStep step turn
   pub gives : Answered before turn result after
 
--- Between the parts of a request that holds this ticket: no other is out, and no prompt is open.
+-- Between the actions of a request that holds this ticket: no other is out, and no prompt is open.
 pub record IsReady (desk : AtDesk) (prompter : AtPrompter) (ticket : Option ℕ) : Type 0 where
   pub out : desk.out ≡ ticket
   pub shut : IsShut prompter

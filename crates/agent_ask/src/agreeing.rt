@@ -1,14 +1,14 @@
-//! The user's consent, as a part (action) of a request: all but a yes refuses the request. It takes
+//! The user's consent, as an action of a request: all but a yes refuses the request. It takes
 //! the seat (lock) at the desk (cache handle), and calls the prompter and the client. Begin with
-//! `agree_by_mode`, or with `agree` where the request holds a ticket (permit); `specs/ConsentParts`
+//! `agree_by_mode`, or with `agree` where the request holds a ticket (permit); `specs/ConsentActions`
 //! says what they do, and which answer is which error (`IsConsented`).
 
 ghost use Rattle.std.specs.Prelude.{◌≡◌, None};
 ghost use Rattle.session_client.specs.Lines.{IsOpen};
-ghost use Rattle.agent_ask.specs.Clients.{Hears, LeftByPart};
-ghost use Rattle.agent_ask.specs.ConsentParts.{AgreesTo, AsksQuestion, IsConsented};
-ghost use Rattle.agent_ask.specs.{Consents.agreed_of, Trying.IsOwn, TurnParts.in_mode};
-ghost use Rattle.agent_ask.specs.PartStates.{DoesPart, DoesPrompts, part_state};
+ghost use Rattle.agent_ask.specs.Clients.{Hears, LeftByAction};
+ghost use Rattle.agent_ask.specs.ConsentActions.{AgreesTo, AsksQuestion, IsConsented};
+ghost use Rattle.agent_ask.specs.{Consents.agreed_of, Trying.IsOwn, TurnActions.in_mode};
+ghost use Rattle.agent_ask.specs.ActionStates.{DoesAction, DoesPrompts, action_state};
 ghost use Rattle.agent_ask.specs.{Doing.{HasEvents, DoesPrompt, ends}, Prompters.IsShut};
 
 use crate::consent::prompt_consent;
@@ -33,11 +33,11 @@ pub fn agree_by_mode<C: Client<Secret>, D: Desk, P: Prompter>(
     requires open { IsOpen C.views client.old }
     requires out { (D.at desk.old).out ≡ held.old }
     requires shut { IsShut (P.at prompter.old) }
-    ensures agrees { DoesPart C.views D.turned (DoesPrompts P.prompted) (in_mode options.now.mode
+    ensures agrees { DoesAction C.views D.turned (DoesPrompts P.prompted) (in_mode options.now.mode
         (AgreesTo C.lines rules.now options.now question.now.items)) held.old
-        (part_state C.views D.turned (DoesPrompts P.prompted) client.old desk.old prompter.old)
+        (action_state C.views D.turned (DoesPrompts P.prompted) client.old desk.old prompter.old)
         result held.new
-        (part_state C.views D.turned (DoesPrompts P.prompted) client.new desk.new prompter.new) }
+        (action_state C.views D.turned (DoesPrompts P.prompted) client.new desk.new prompter.new) }
     ensures out { (D.at desk.new).out ≡ held.new }
     ensures shut { IsShut (P.at prompter.new) }
 {
@@ -61,7 +61,7 @@ pub fn agree<C: Client<Secret>, P: Prompter>(
         AsksQuestion rules.now options.now question.now.items events result)
         (ends prompter.old client.old) (ends prompter.new client.new) }
     ensures shut { IsShut (P.at prompter.new) }
-    ensures left { LeftByPart C.views result client.old client.new }
+    ensures left { LeftByAction C.views result client.old client.new }
 {
     let spec = prompt_spec(question, &Text::new(), false, rules, options);
     consented(prompt_consent(ticket, &spec, options.notify(), prompter, client)?)

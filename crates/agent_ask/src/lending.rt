@@ -1,12 +1,12 @@
-//! The prompt for a passphrase, as a part (action) of a request that holds a ticket (permit): all
+//! The prompt for a passphrase, as an action of a request that holds a ticket (permit): all
 //! but a passphrase refuses the request. It calls the prompter, the test and the session's client.
-//! Begin with `ask_user`; `specs/PinParts` says which answer is which error (`IsGiven`).
+//! Begin with `ask_user`; `specs/PinActions` says which answer is which error (`IsGiven`).
 
 ghost use Rattle.std.specs.Prelude.{◌≡◌, ⊤};
 ghost use Rattle.session_client.specs.Lines.{IsOpen};
-ghost use Rattle.agent_ask.specs.Clients.{Hears, LeftByPart};
+ghost use Rattle.agent_ask.specs.Clients.{Hears, LeftByAction};
 ghost use Rattle.agent_ask.specs.{Doing.{HasEvents, DoesPrompt, ends}, Prompters.IsShut};
-ghost use Rattle.agent_ask.specs.{PinParts.{AsksFor, IsGiven}, Trying.{IsTried, IsOwn}};
+ghost use Rattle.agent_ask.specs.{PinActions.{AsksFor, IsGiven}, Trying.{IsTried, IsOwn}};
 
 use crate::ask::prompt_pin;
 use crate::{AskPlan, Asked, PromptSpec, Prompter, Test, Tested};
@@ -51,7 +51,7 @@ pub fn ask_user<C: Client<Secret>, P: Prompter, T: Test>(
         AsksFor T.tested test.old test.new spec.now plan.now (T.rule test.old) events result)
         (ends prompter.old client.old) (ends prompter.new client.new) }
     ensures shut { IsShut (P.at prompter.new) }
-    ensures left { LeftByPart C.views result client.old client.new }
+    ensures left { LeftByAction C.views result client.old client.new }
 {
     given(prompt_pin(ticket, spec, plan, test, prompter, client)?)
 }

@@ -1,11 +1,11 @@
 -- Requests and what is done for them, as the GnuPG manual has them ("Agent's Assuan protocol"). The codes, the texts and the order of
 -- what is done are this project's own. A row of each stands in proofs/WorkedExchanges, or where it prompts in proofs/WorkedPrompts.
 use Rattle.std.specs.{Prelude.{ℕ, Bool, true, List, [], Option, Some, None, Result, Ok, if◌then◌else◌}, Option.option_and_then}
-use Rattle.{arrayvec.specs.ArrayVec.ArrayVec, agent_ask.specs.{ConsentParts.AgreesTo, Parts.{◌>>=◌, Returns, Refuses, wanted, or_else}, TurnParts.{Changes, in_mode}, PartExchanges.{AnyReply, AnyExchange}}}
+use Rattle.{arrayvec.specs.ArrayVec.ArrayVec, agent_ask.specs.{ConsentActions.AgreesTo, Actions.{◌>>=◌, Returns, Refuses, wanted, or_else}, TurnActions.{Changes, in_mode}, ActionExchanges.{AnyReply, AnyExchange}}}
 use Rattle.{assuan_server.specs.{Clients.session_lines, Written.{refusal_line, ok}}, cache_policy.specs.declared.{life.Life.Life, mark.MarkStep.{MarkStep, TheVariants.{Put, Clear, Flush, Stop}}, mode.Mode.TheVariants.Any}}
 use Rattle.{session_client.specs.declared.refusal.Refusal.{Refusal, TheVariants.Agent}, session_options.specs.{OptionValues.{OptionValues, at_start, applied, with_description}, declared.options.OptionAnswer.OptionAnswer}}
 use Rattle.session_options.specs.declared.{options.{OptionAnswer.TheVariants.{Set, Unknown, Parameter, NotSupported}, PinMode.PinMode}, rules.Rules.Rules}
-use Rattle.agent_commands.specs.{Answers.{closing, help, IsInfo, IsPassphrase}, Endings.went_after, Parts.{CacheEvent, AsksPassphrase, CachePart}, Passphrases.Passphrase, Requests.{GetFields, get_fields, request_of}}
+use Rattle.agent_commands.specs.{Answers.{closing, help, IsInfo, IsPassphrase}, Endings.went_after, Actions.{CacheEvent, AsksPassphrase, CacheAction}, Passphrases.Passphrase, Requests.{GetFields, get_fields, request_of}}
 use Rattle.agent_commands.specs.declared.request.CacheCommand.{CacheCommand, TheVariants.{Nop, Reset, Bye, Help, SetOption, GetInfo, GetPassphrase, PresetPassphrase, ClearPassphrase, GetConfirmation, ReloadAgent, KillAgent, SetKeyDesc}}
 use Rattle.agent_commands.specs.declared.{request.{Info.Info, QuietRequest.QuietRequest, Request.{Request, TheVariants.{Cache, Key, Bad}}, Texts.Texts}, went.{SessionEnd.SessionEnd, Went.{Went, TheVariants.{On, End}}}}
 use Rattle.session_client.specs.declared.code.Code.TheVariants as code
@@ -34,25 +34,25 @@ abbrev pub put : List ℕ → Life → List ℕ → MarkStep
 put id life secret = Put id Any life secret
 
 -- what OPTION is answered. A refusal leaves the values as they were.
-abbrev pub option_replies : OptionAnswer → OptionValues → CachePart CacheReply
+abbrev pub option_replies : OptionAnswer → OptionValues → CacheAction CacheReply
 option_replies Set after = Returns (reply after ok)
 option_replies Unknown after = Refuses (Agent code.UnknownOption)
 option_replies Parameter after = Refuses (Agent code.Parameter)
 option_replies NotSupported after = Refuses (Agent code.NotSupported)
 
 -- a command that is one change of the cache
-abbrev pub ChangeReplies : MarkStep → CacheReply → CachePart CacheReply
+abbrev pub ChangeReplies : MarkStep → CacheReply → CacheAction CacheReply
 ChangeReplies step reply = do
   changed ← Changes step
   Returns reply
 
 -- the passphrase that the line has, or that the client is asked for
-abbrev pub GivenOrAsked : Option (List ℕ) → CachePart (List ℕ)
+abbrev pub GivenOrAsked : Option (List ℕ) → CacheAction (List ℕ)
 GivenOrAsked secret = or_else secret AsksPassphrase
 
 module _ (rules : Rules) where
   -- a passphrase is stored that the line has, or that the client is asked for
-  abbrev pub Presets : List ℕ → Life → Option (List ℕ) → CachePart (Unit {0})
+  abbrev pub Presets : List ℕ → Life → Option (List ℕ) → CacheAction (Unit {0})
   Presets id life secret = do
     allowed ← wanted code.NotSupported rules.allow_preset
     given ← GivenOrAsked secret
@@ -60,32 +60,32 @@ module _ (rules : Rules) where
 
   module _ (options : OptionValues) where
     -- the user's consent, where the client wants a prompt
-    abbrev pub confirms_by : PinMode → ArrayVec ℕ → CachePart (Unit {0})
+    abbrev pub confirms_by : PinMode → ArrayVec ℕ → CacheAction (Unit {0})
     confirms_by mode description = in_mode mode (AgreesTo session_lines rules options description.items)
 
-    abbrev pub InfoReplies : Info → CachePart CacheReply
+    abbrev pub InfoReplies : Info → CacheAction CacheReply
     InfoReplies what = do
       text ← TellsInfo rules what
       Returns (reply options text)
 
-    abbrev pub GetReplies : GetFields → CachePart CacheReply
+    abbrev pub GetReplies : GetFields → CacheAction CacheReply
     GetReplies fields = do
       secret ← Passphrase rules options fields
       text ← TellsPassphrase fields.plain secret
       Returns (reply options text)
 
-    abbrev pub PresetReplies : List ℕ → Life → Option (List ℕ) → CachePart CacheReply
+    abbrev pub PresetReplies : List ℕ → Life → Option (List ℕ) → CacheAction CacheReply
     PresetReplies id life secret = do
       stored ← Presets id life secret
       Returns (reply options ok)
 
-    abbrev pub ConfirmationReplies : ArrayVec ℕ → CachePart CacheReply
+    abbrev pub ConfirmationReplies : ArrayVec ℕ → CacheAction CacheReply
     ConfirmationReplies description = do
       agreed ← confirms_by options.mode description
       Returns (reply options ok)
 
     -- what is done for a command, up to its reply
-    abbrev pub CacheReplies : CacheCommand → CachePart CacheReply
+    abbrev pub CacheReplies : CacheCommand → CacheAction CacheReply
     CacheReplies Nop = Returns (reply options ok)
     -- what the rules said stays
     CacheReplies Reset = Returns (reply (at_start options.rules_count options.allow_loopback) ok)

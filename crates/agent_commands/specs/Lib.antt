@@ -4,7 +4,7 @@ pub mod Events
 pub mod Exchanges
 pub mod Fields
 pub mod Outside
-pub mod Parts
+pub mod Actions
 pub mod Passphrases
 pub mod Requests
 pub mod Sources

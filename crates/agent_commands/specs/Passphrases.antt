@@ -1,9 +1,9 @@
 -- How GET_PASSPHRASE comes by a passphrase (GnuPG manual, "Agent GET_PASSPHRASE"). The codes, the texts and the order of what is done are this project's own.
 use Rattle.std.specs.Prelude.{◌≡◌, ◌≢◌, ℕ, Bool, true, false, List, Option, Some, None, Result, Ok, Err, ⊤}
-use Rattle.agent_ask.specs.{Parts.{◌>>=◌, Returns, Refuses, needed, or_else}, Plans.{IsSpec, plan_of}, TurnParts.{Asks, Seats, Changes, Closes}, declared.{ask.Asked.Asked, spec.PromptSpec.PromptSpec}, PinParts.{PromptsPin, pin_refusal}}
+use Rattle.agent_ask.specs.{Actions.{◌>>=◌, Returns, Refuses, needed, or_else}, Plans.{IsSpec, plan_of}, TurnActions.{Asks, Seats, Changes, Closes}, declared.{ask.Asked.Asked, spec.PromptSpec.PromptSpec}, PinActions.{PromptsPin, pin_refusal}}
 use Rattle.{assuan_server.specs.Clients.session_lines, cache_policy.specs.declared.{life.Life.TheVariants.Default, mark.{MarkStep.{MarkStep, TheVariants.{Ask, Seat, Put}}, Way.TheVariants.{Quiet, Prompt}}, mode.Mode.TheVariants.User}}
 use Rattle.{session_client.specs.declared.refusal.Refusal.{Refusal, TheVariants.Agent}, session_options.specs.{OptionValues.OptionValues, declared.{options.PinMode.PinMode, rules.Rules.Rules}}}
-use Rattle.agent_commands.specs.{Parts.{CacheEvent, AsksPassphrase, CachePart}, Requests.GetFields, declared.request.Texts.Texts}
+use Rattle.agent_commands.specs.{Actions.{CacheEvent, AsksPassphrase, CacheAction}, Requests.GetFields, declared.request.Texts.Texts}
 use Rattle.agent_ask.specs.declared.ask.Asked.TheVariants as asked
 use Rattle.session_client.specs.declared.code.Code.TheVariants as code
 use Rattle.session_options.specs.declared.options.PinMode.TheVariants as mode
@@ -16,44 +16,44 @@ abbrev pub ask_or_open : List ℕ → MarkStep
 ask_or_open id = Ask id User Prompt None
 
 -- what is cached, where there is an id
-abbrev pub LooksFor : Option (List ℕ) → CachePart (Option (List ℕ))
+abbrev pub LooksFor : Option (List ℕ) → CacheAction (Option (List ℕ))
 LooksFor None = Returns None
 LooksFor (Some id) = Asks (ask id)
 
 -- the same, or the seat for a prompt
-abbrev pub WantsPrompt : Option (List ℕ) → CachePart (Option (List ℕ))
+abbrev pub WantsPrompt : Option (List ℕ) → CacheAction (Option (List ℕ))
 WantsPrompt None = do
   seated ← Seats (Seat None None)
   Returns None
 WantsPrompt (Some id) = Asks (ask_or_open id)
 
 -- what the client gave is kept, where there is an id
-abbrev pub KeepsUnder : Option (List ℕ) → List ℕ → CachePart (Unit {0})
+abbrev pub KeepsUnder : Option (List ℕ) → List ℕ → CacheAction (Unit {0})
 KeepsUnder None secret = Returns tt
 KeepsUnder (Some id) secret = Changes (Put id User Default secret)
 
 -- by the cache alone
-abbrev pub ByCache : Option (List ℕ) → CachePart (List ℕ)
+abbrev pub ByCache : Option (List ℕ) → CacheAction (List ℕ)
 ByCache id = do
   cached ← LooksFor id
   needed code.NoData cached
 
 -- by the client itself
-abbrev pub ByClient : Option (List ℕ) → CachePart (List ℕ)
+abbrev pub ByClient : Option (List ℕ) → CacheAction (List ℕ)
 ByClient id = do
   secret ← AsksPassphrase
   kept ← KeepsUnder id secret
   Returns secret
 
 -- one that isn't cached, where the client wants no prompt
-abbrev pub Uncached : Option (List ℕ) → PinMode → CachePart (List ℕ)
+abbrev pub Uncached : Option (List ℕ) → PinMode → CacheAction (List ℕ)
 Uncached id mode.Ask = Refuses (Agent code.NoPinentry)
 Uncached id mode.Cancel = Refuses (Agent code.Cancelled)
 Uncached id mode.Error = Refuses (Agent code.NoPinentry)
 Uncached id mode.Loopback = ByClient id
 
 -- by the cache, or else without a prompt
-abbrev pub WithoutPrompt : Option (List ℕ) → PinMode → CachePart (List ℕ)
+abbrev pub WithoutPrompt : Option (List ℕ) → PinMode → CacheAction (List ℕ)
 WithoutPrompt id mode = do
   cached ← LooksFor id
   or_else cached (Uncached id mode)
@@ -70,28 +70,28 @@ module _ (rules : Rules) (options : OptionValues) where
           → pin_refusal answer ≡ Some why → PromptsAny (Some ticket) shown (Err why) (Some ticket)
 
     -- the user is asked, and what is given is kept as the ticket is given back
-    abbrev pub Prompts : CachePart (List ℕ)
+    abbrev pub Prompts : CacheAction (List ℕ)
     Prompts = do
       pin ← PromptsAny
       kept ← Closes (Some pin)
       Returns pin
 
     -- By the cache, or else by a prompt. Where nothing is cached and no prompt is opened, there is none to ask by.
-    abbrev pub ByUser : Option (List ℕ) → CachePart (List ℕ)
+    abbrev pub ByUser : Option (List ℕ) → CacheAction (List ℕ)
     ByUser id = do
       cached ← WantsPrompt id
       or_else cached Prompts
 
   module _ (fields : GetFields) where
-    abbrev pub as_wanted : PinMode → Texts → CachePart (List ℕ)
+    abbrev pub as_wanted : PinMode → Texts → CacheAction (List ℕ)
     as_wanted mode.Ask texts = ByUser texts fields.check fields.quality fields.repeat fields.id
     as_wanted other texts = WithoutPrompt fields.id other
 
     -- a request that asks the cache alone says so, or has no texts for a prompt
-    abbrev pub passphrase_by : Bool → Option Texts → CachePart (List ℕ)
+    abbrev pub passphrase_by : Bool → Option Texts → CacheAction (List ℕ)
     passphrase_by no_ask None = ByCache fields.id
     passphrase_by true (Some texts) = ByCache fields.id
     passphrase_by false (Some texts) = as_wanted options.mode texts
 
-    abbrev pub Passphrase : CachePart (List ℕ)
+    abbrev pub Passphrase : CacheAction (List ℕ)
     Passphrase = passphrase_by fields.no_ask fields.texts

@@ -1,10 +1,10 @@
 -- Private: what the steps of a request know, and what is written for it, once all else is done.
 use Rattle.std.specs.Prelude.{◌≡◌, ℕ, Bool, List, decimal, Option, None, Result, Ok as Whole, Err as Part}
-use Rattle.{agent_ask.specs.{Events.Call, PortCalls.PortCall, Parts.Refuses, PartReplies.{RespondsBy, CarriesBy}, PartStates.{PartState, part_state, DoesPart, DoesPrompts, NoTurn, NoEnd, DoesTurns}}, assuan_server.specs.Clients.connection_views}
+use Rattle.{agent_ask.specs.{Events.Call, PortCalls.PortCall, Actions.Refuses, ActionReplies.{RespondsBy, CarriesBy}, ActionStates.{ActionState, action_state, DoesAction, DoesPrompts, NoTurn, NoEnd, DoesTurns}}, assuan_server.specs.Clients.connection_views}
 use Rattle.{assuan_server.specs.{Connections.Connection, Written.{refusal_line, ok, IsDataAnswer}}, cache_policy.specs.{declared.mark.MarkStep.MarkStep, Turns.Turn}, session_client.specs.declared.refusal.Refusal.Refusal}
 use Rattle.{session_client.specs.declared.refusal.Refusal.TheVariants.Agent, session_options.specs.{OptionValues.OptionValues, declared.options.OptionAnswer.{OptionAnswer, TheVariants.{Set, Unknown, Parameter, NotSupported}}}}
 use Rattle.session_options.specs.declared.rules.Rules.{Rules}
-use Rattle.agent_commands.specs.{Answers.{closing, help, version_text, IsPassphrase}, Endings.went_after, Exchanges.CacheReply, Parts.CachePart, Passphrases.{Passphrase as ThePassphrase, ByCache}}
+use Rattle.agent_commands.specs.{Answers.{closing, help, version_text, IsPassphrase}, Endings.went_after, Exchanges.CacheReply, Actions.CacheAction, Passphrases.{Passphrase as ThePassphrase, ByCache}}
 use Rattle.agent_commands.specs.declared.{request.{Info.Info, CacheCommand.{CacheCommand, TheVariants.{GetPassphrase, PresetPassphrase, GetConfirmation}}}, response.Response.Response}
 use Rattle.agent_commands.specs.declared.{response.Response.TheVariants.{Ok, Bye, Killed, Help, Version, Number, Passphrase}, went.Went.{Went, TheVariants.{On, End}}}
 use Rattle.session_client.specs.declared.code.Code.TheVariants as code
@@ -38,19 +38,19 @@ AsksNobody (PresetPassphrase id life secret) = ⊥
 AsksNobody (GetConfirmation description) = ⊥
 AsksNobody _ = Unit {0}
 
-module _ {A : Type 0} (part : CachePart A) where
-  -- a part in which no prompter is called, of a request that holds no ticket
+module _ {A : Type 0} (action : CacheAction A) where
+  -- an action in which no prompter is called, of a request that holds no ticket
   abbrev pub DoesAtDesk : {D : Type 0} → (D → MarkStep → Turn → D → Type 0) → Connection → D → Result A Refusal → Connection → D → Type 0
-  DoesAtDesk turned conn desk result now desk_now = DoesPart connection_views turned NoEnd part None (part_state connection_views turned NoEnd conn desk tt) result None (part_state connection_views turned NoEnd now desk_now tt)
+  DoesAtDesk turned conn desk result now desk_now = DoesAction connection_views turned NoEnd action None (action_state connection_views turned NoEnd conn desk tt) result None (action_state connection_views turned NoEnd now desk_now tt)
 
   -- one in which no turn is taken
   abbrev pub DoesAtPrompter : {P : Type 0} → (P → Call → P → Type 0) → Option ℕ → Connection → P → Result A Refusal → Connection → P → Type 0
   DoesAtPrompter prompted held conn prompter result now prompter_now =
-      DoesPart connection_views NoTurn (DoesPrompts prompted) part held (part_state connection_views NoTurn (DoesPrompts prompted) conn tt prompter) result held
-      (part_state connection_views NoTurn (DoesPrompts prompted) now tt prompter_now)
+      DoesAction connection_views NoTurn (DoesPrompts prompted) action held (action_state connection_views NoTurn (DoesPrompts prompted) conn tt prompter) result held
+      (action_state connection_views NoTurn (DoesPrompts prompted) now tt prompter_now)
 
 -- how a GET_PASSPHRASE comes by its passphrase
-abbrev pub PassphraseOf : Rules → OptionValues → CacheCommand → CachePart (List ℕ)
+abbrev pub PassphraseOf : Rules → OptionValues → CacheCommand → CacheAction (List ℕ)
 PassphraseOf rules options (GetPassphrase plain check no_ask repeat quality id texts) =
     ThePassphrase rules options (record { plain = plain; check = check; no_ask = no_ask; repeat = repeat; quality = quality; id = id; texts = texts })
 PassphraseOf rules options _ = Refuses (Agent code.NoData)
@@ -79,8 +79,8 @@ pub data TellsCached {D : Type 0} (turned : D → MarkStep → Turn → D → Ty
   refused : {why : Refusal} {after : D} → DoesTurns turned (ByCache id) None before (Part why) None after → TellsCached turned plain id before (Part why) after
 
 -- all was done for a request but its reply, whatever text that is written by
-abbrev pub CarriesOut : {D E : Type 0} (turned : D → MarkStep → Turn → D → Type 0) (ported : E → PortCall → E → Type 0) → CachePart CacheReply → OptionValues → PartState connection_views turned ported
-    → Result Response Refusal → OptionValues → Option ℕ → PartState connection_views turned ported → Type 0
+abbrev pub CarriesOut : {D E : Type 0} (turned : D → MarkStep → Turn → D → Type 0) (ported : E → PortCall → E → Type 0) → CacheAction CacheReply → OptionValues → ActionState connection_views turned ported
+    → Result Response Refusal → OptionValues → Option ℕ → ActionState connection_views turned ported → Type 0
 CarriesOut = CarriesBy connection_views IsText went_of
 
 -- the reply of a request was written, or its refusal, and the session goes on so

@@ -4,7 +4,7 @@
 //! `CacheExchange` (`specs/Exchanges`).
 
 ghost use Rattle.std.specs.Prelude.{◌≡◌, ℕ, List, None, Some};
-ghost use Rattle.agent_ask.specs.{Prompters.IsShut, PartStates.{DoesPrompts, DoesWithClient, NoEnd, part_state}};
+ghost use Rattle.agent_ask.specs.{Prompters.IsShut, ActionStates.{DoesPrompts, DoesWithClient, NoEnd, action_state}};
 ghost use Rattle.{agent_ask.specs.Seats.ChangesCache, assuan_server.specs.Clients.connection_views};
 ghost use Rattle.assuan_server.specs.Connections.{Connection, IsOpen};
 ghost use Rattle.cache_policy.specs.declared.mark.MarkStep.TheVariants.{Clear};
@@ -144,8 +144,8 @@ fn carry_alone<D: Desk>(
     requires { AsksNobody command.now }
     ensures carries { (conn : Connection) → IsOpen conn → CarriesOut D.turned NoEnd
         (CacheReplies rules.now options.old command.now) options.old
-        (part_state connection_views D.turned NoEnd conn desk.old tt) result options.new None
-        (part_state connection_views D.turned NoEnd conn desk.new tt) }
+        (action_state connection_views D.turned NoEnd conn desk.old tt) result options.new None
+        (action_state connection_views D.turned NoEnd conn desk.new tt) }
     ensures out { (D.at desk.new).out ≡ (D.at desk.old).out }
 {
     match command {

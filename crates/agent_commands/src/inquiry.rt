@@ -1,10 +1,10 @@
-//! The client is asked for a passphrase, as a part (action) of a request: a status with the limit,
+//! The client is asked for a passphrase, as an action of a request: a status with the limit,
 //! and an inquiry (Assuan manual, "server responses"). It works on the connection alone. Begin with
-//! `ask_client`; its events are `AsksPassphrase` (`specs/Parts`).
+//! `ask_client`; its events are `AsksPassphrase` (`specs/Actions`).
 
 ghost use Rattle.assuan_server.specs.{Clients.connection_views, Connections.IsOpen};
-ghost use Rattle.agent_ask.specs.PartStates.{DoesWithClient};
-ghost use Rattle.agent_commands.specs.Parts.{AsksPassphrase};
+ghost use Rattle.agent_ask.specs.ActionStates.{DoesWithClient};
+ghost use Rattle.agent_commands.specs.Actions.{AsksPassphrase};
 
 use agent_ports::Link;
 use assuan_server::Conn;

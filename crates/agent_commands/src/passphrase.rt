@@ -4,7 +4,7 @@
 //! each of the ways, as `ByUser` and `ByCache`.
 
 ghost use Rattle.std.specs.Prelude.{◌≡◌, ◌≢◌, None, Ok, is_some, true};
-ghost use Rattle.agent_ask.specs.{Prompters.IsShut, PartStates.{DoesPart, DoesPrompts, DoesTurn, DoesTurns}};
+ghost use Rattle.agent_ask.specs.{Prompters.IsShut, ActionStates.{DoesAction, DoesPrompts, DoesTurn, DoesTurns}};
 ghost use Rattle.assuan_server.specs.{Clients.connection_views, Connections.IsOpen};
 ghost use Rattle.agent_commands.specs.Passphrases.{ByCache, ByClient, ByUser, KeepsUnder, LooksFor};
 ghost use Rattle.agent_commands.specs.Passphrases.{PromptsAny, Uncached, WantsPrompt};
@@ -40,7 +40,7 @@ pub(crate) fn get_passphrase<L: Link, D: Desk, P: Prompter>(
     requires open { IsOpen conn.old }
     requires out { (D.at desk.old).out ≡ held.old }
     requires shut { IsShut (P.at prompter.old) }
-    ensures comes { DoesPart connection_views D.turned (DoesPrompts P.prompted)
+    ensures comes { DoesAction connection_views D.turned (DoesPrompts P.prompted)
         (PassphraseOf rules.now options.now command.now) held.old
         (prompt_state D.turned P.prompted conn.old desk.old prompter.old) result held.new
         (prompt_state D.turned P.prompted conn.new desk.new prompter.new) }
@@ -231,7 +231,7 @@ fn by_user<L: Link, D: Desk, P: Prompter>(
     requires open { IsOpen conn.old }
     requires out { (D.at desk.old).out ≡ held.old }
     requires shut { IsShut (P.at prompter.old) }
-    ensures comes { DoesPart connection_views D.turned (DoesPrompts P.prompted)
+    ensures comes { DoesAction connection_views D.turned (DoesPrompts P.prompted)
         (ByUser asking.now.rules.now asking.now.options.now asking.now.texts.now
         asking.now.check asking.now.quality asking.now.repeat id.now) held.old
         (prompt_state D.turned P.prompted conn.old desk.old prompter.old) result held.new

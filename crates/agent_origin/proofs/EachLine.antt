@@ -1,11 +1,11 @@
 -- What is so of all that is done for a line of a session. And so each event is so, where each but a read request and a call of the trust file is: no line of
 -- a session calls the trust file, but by the commands on it.
 use Rattle.std.proofs.Common.{◌≡◌, ◌∙◌, ℕ, Bool, true, false, List, Option, Some, None, Result, refl}
-use Rattle.agent_ask.{specs.{Events.PromptEvent, Parts.{◌>>=◌, Returns}, SessionEvents.Sent, TurnParts.Changes, SessionPrompts.AnyInSession}, proofs.Within.{Within, Does, or_otherwise}}
+use Rattle.agent_ask.{specs.{Events.PromptEvent, Actions.{◌>>=◌, Returns}, SessionEvents.Sent, TurnActions.Changes, SessionPrompts.AnyInSession}, proofs.Within.{Within, Does, or_otherwise}}
 use Rattle.agent_commands.specs.{Exchanges.{CacheExchange, CacheReply, confirms_by, CacheReplies}, Passphrases.{PromptsAny, Prompts, as_wanted, passphrase_by}, Requests.GetFields, declared.request.CacheCommand.CacheCommand}
 use Rattle.{agent_commands.specs.declared.{request.{Request.{Request, TheVariants.{Cache, Key, Bad}}, Texts.Texts}, went.Went.Went}, arrayvec.specs.ArrayVec.ArrayVec, assuan_server.specs.Clients.session_lines}
 use Rattle.{cache_policy.specs.declared.mark.MarkStep.MarkStep, session_client.specs.declared.refusal.Refusal.{Refusal, TheVariants.Agent}, session_options.specs.{OptionValues.{OptionValues, EnvWords}, declared.options.PinMode.PinMode}}
-use Rattle.{session_options.specs.declared.rules.Rules.Rules, key_commands.{specs.{Events.Event, Parts.Part}, proofs.EachEvent.{All, each_shown, each_bind, each_returned, each_refused, each_seats, each_changes, each_closes}}}
+use Rattle.{session_options.specs.declared.rules.Rules.Rules, key_commands.{specs.{Events.Event, Actions.Action}, proofs.EachEvent.{All, each_shown, each_bind, each_returned, each_refused, each_seats, each_changes, each_closes}}}
 use Rattle.key_commands.proofs.EachRequest.{IsBesideTrust, works_beside, still_beside, Carries, each_carries, so, then, nothing, agrees, whole, key_whole}
 use Rattle.agent_origin.{proofs.EachCache.{wants_prompt, without_prompt, by_cache, presets, tells_passphrase, tells_info, option_so}, specs.{SessionExchanges.{RequestExchange, cache, keys}, declared.session_state.SessionState.SessionState}}
 use Rattle.agent_commands.specs.Passphrases as passphrase
@@ -14,8 +14,8 @@ use Rattle.session_client.specs.declared.code.Code.TheVariants as code
 use Rattle.session_options.specs.declared.options.PinMode.TheVariants as mode
 
 module _ {env : EnvWords} {Is : Event → Type 0} {So : List Event → Type 0} (law : Carries env Is So) where
-  abbrev Here : {A : Type 0} → Part A → Type 0
-  Here part = Within part (Does So)
+  abbrev Here : {A : Type 0} → Action A → Type 0
+  Here action = Within action (Does So)
 
   module _ (rules : Rules) (options : OptionValues) (same : options.env ≡ env) where
     prompts_any_of : (texts : Texts) (check quality : Bool) (repeat : ℕ) (before : Option ℕ) (events : List Event) (result : Result (List ℕ) Refusal) (after : Option ℕ)

@@ -1,18 +1,18 @@
--- What is so of requests on the trust list, by what is so of their smallest parts; and those of these each of whose events is so.
+-- What is so of requests on the trust list, by what is so of their smallest actions; and those of these each of whose events is so.
 use Rattle.std.proofs.Common.{ℕ, Bool, true, false, List, Option, Some, None, Result, refl}
-use Rattle.agent_ask.{proofs.Within.{Within, Joins, OfNothing, Does, does_join, bind, returned, refused}, specs.{ConsentParts.AgreesTo, Parts.{◌>>=◌, Refuses}, TrustCalls.TrustCall, TurnParts.Seats}}
+use Rattle.agent_ask.{proofs.Within.{Within, Joins, OfNothing, Does, does_join, bind, returned, refused}, specs.{ConsentActions.AgreesTo, Actions.{◌>>=◌, Refuses}, TrustCalls.TrustCall, TurnActions.Seats}}
 use Rattle.{agent_ports.specs.declared.grip.Grip.Grip, assuan_server.specs.Clients.session_lines, cache_policy.specs.declared.mark.MarkStep.TheVariants.Seat, session_client.specs.declared.{code.Code.Code, refusal.Refusal.Refusal}}
 use Rattle.{session_client.specs.declared.refusal.Refusal.TheVariants.Agent, session_options.specs.{OptionValues.OptionValues, declared.{options.PinMode.PinMode, rules.Rules.Rules}}, trust_list.specs.Trust.trust}
-use Rattle.key_commands.{specs.{Events.{Event, out_of_memory}, Parts.Part}, proofs.{EachEvent.{All, EachSo, each_seats}, EachRequest.Carries}}
-use Rattle.agent_origin.specs.{TrustExchanges.{flag_of, trust_question, fingerprint_question, unless_said, TrustedNow, Stores, StoresUnsaid, Consented, asked_in, Marked, Carried}, TrustParts.{trust_called, ReadsFile, AddsEntry, Replaces}}
+use Rattle.key_commands.{specs.{Events.{Event, out_of_memory}, Actions.Action}, proofs.{EachEvent.{All, EachSo, each_seats}, EachRequest.Carries}}
+use Rattle.agent_origin.specs.{TrustExchanges.{flag_of, trust_question, fingerprint_question, unless_said, TrustedNow, Stores, StoresUnsaid, Consented, asked_in, Marked, Carried}, TrustActions.{trust_called, ReadsFile, AddsEntry, Replaces}}
 use Rattle.agent_origin.specs.declared.trust.request.{TrustPurpose.TrustPurpose, TrustRequest.{TrustRequest, TheVariants.{IsTrusted, MarkTrusted, Bad}}}
 use Rattle.session_client.specs.declared.code.Code.TheVariants as code
 use Rattle.session_options.specs.declared.options.PinMode.TheVariants as mode
 use Rattle.key_commands.proofs.EachRequest as all_so
-use Rattle.agent_origin.specs.TrustParts as parts
+use Rattle.agent_origin.specs.TrustActions as actions
 
--- A law of what is done for a request under these option values, and one of what others follow: where these join, and the smallest parts keep them, so do whole requests.
-pub record TrustLaws (options : OptionValues) (First Law : (A : Type 0) → Part A) : Type 1 where
+-- A law of what is done for a request under these option values, and one of what others follow: where these join, and the smallest actions keep them, so do whole requests.
+pub record TrustLaws (options : OptionValues) (First Law : (A : Type 0) → Action A) : Type 1 where
   pub joins : {A B : Type 0} → Joins (First A) (λ value. Law B) (Law B)
   pub nothing : {A : Type 0} → OfNothing (Law A)
   pub seats : Within (Seats (Seat None None)) (First (Unit {0}))
@@ -21,18 +21,18 @@ pub record TrustLaws (options : OptionValues) (First Law : (A : Type 0) → Part
   pub adds : (file : List ℕ) (fingerprint : Grip) (purpose : TrustPurpose) → Within (AddsEntry file fingerprint (flag_of purpose)) (First (List ℕ))
   pub replaces : (file : List ℕ) → Within (Replaces file) (Law (Unit {0}))
 
-module _ {options : OptionValues} {First Law : (A : Type 0) → Part A} (laws : TrustLaws options First Law) where
-  abbrev Here : Part (Unit {0}) → Type 0
-  Here part = Within part (Law (Unit {0}))
+module _ {options : OptionValues} {First Law : (A : Type 0) → Action A} (laws : TrustLaws options First Law) where
+  abbrev Here : Action (Unit {0}) → Type 0
+  Here action = Within action (Law (Unit {0}))
 
-  then : {A B : Type 0} {part : Part A} {next : A → Part B} → Within part (First A) → ((value : A) → Within (next value) (Law B)) → Within (part >>= next) (Law B)
+  then : {A B : Type 0} {action : Action A} {next : A → Action B} → Within action (First A) → ((value : A) → Within (next value) (Law B)) → Within (action >>= next) (Law B)
   then = bind laws.joins
 
   refusal : (why : Code) → Here (Refuses (Agent why))
   refusal why = refused laws.nothing (Agent why)
 
   -- what the file says decides the request, or something else is done
-  says : (answer : Option Bool) {other : Part (Unit {0})} → Here other → Here (unless_said answer other)
+  says : (answer : Option Bool) {other : Action (Unit {0})} → Here other → Here (unless_said answer other)
   says (Some true) other = returned laws.nothing tt
   says (Some false) other = refusal code.NotTrusted
   says None other = other
@@ -71,21 +71,21 @@ module _ {options : OptionValues} {First Law : (A : Type 0) → Part A} (laws : 
   carried_so rules (MarkTrusted fingerprint purpose name) = marked fingerprint purpose rules name.items
   carried_so rules (Bad why) = refusal why
 
--- ---- the smallest parts each of whose events is so
+-- ---- the smallest actions each of whose events is so
 
 module _ (Is : Event → Type 0) (calls : (call : TrustCall) → Is (trust_called call)) where
   reads_of : (before : Option ℕ) (events : List Event) (result : Result (List ℕ) Refusal) (after : Option ℕ) → ReadsFile before events result after → All Is events
-  reads_of before events result after (parts.has_read is) = (calls _, tt)
-  reads_of before events result after parts.ReadsFile.faulted = (calls _, tt)
-  reads_of before events result after parts.ReadsFile.no_memory = (calls _, tt)
+  reads_of before events result after (actions.has_read is) = (calls _, tt)
+  reads_of before events result after actions.ReadsFile.faulted = (calls _, tt)
+  reads_of before events result after actions.ReadsFile.no_memory = (calls _, tt)
 
   pub each_reads : EachSo Is ReadsFile
   each_reads = record { of = reads_of }
 
   replaces_of : (file : List ℕ) (before : Option ℕ) (events : List Event) (result : Result (Unit {0}) Refusal) (after : Option ℕ) → Replaces file before events result after → All Is events
-  replaces_of file before events result after parts.replaced = (calls _, tt)
-  replaces_of file before events result after parts.Replaces.faulted = (calls _, tt)
-  replaces_of file before events result after parts.Replaces.no_memory = (calls _, tt)
+  replaces_of file before events result after actions.replaced = (calls _, tt)
+  replaces_of file before events result after actions.Replaces.faulted = (calls _, tt)
+  replaces_of file before events result after actions.Replaces.no_memory = (calls _, tt)
 
   pub each_replaces : (file : List ℕ) → EachSo Is (Replaces file)
   each_replaces file = record { of = replaces_of file }
@@ -93,9 +93,9 @@ module _ (Is : Event → Type 0) (calls : (call : TrustCall) → Is (trust_calle
 module _ (Is : Event → Type 0) (memory : Is out_of_memory) where
   adds_of : (file : List ℕ) (fingerprint : Grip) (flag : ℕ) (before : Option ℕ) (events : List Event) (result : Result (List ℕ) Refusal) (after : Option ℕ) → AddsEntry file fingerprint flag before events result after
       → All Is events
-  adds_of file fingerprint flag before events result after (parts.added fits) = tt
-  adds_of file fingerprint flag before events result after (parts.too_long long) = tt
-  adds_of file fingerprint flag before events result after parts.AddsEntry.no_memory = (memory, tt)
+  adds_of file fingerprint flag before events result after (actions.added fits) = tt
+  adds_of file fingerprint flag before events result after (actions.too_long long) = tt
+  adds_of file fingerprint flag before events result after actions.AddsEntry.no_memory = (memory, tt)
 
   pub each_adds : (file : List ℕ) (fingerprint : Grip) (flag : ℕ) → EachSo Is (AddsEntry file fingerprint flag)
   each_adds file fingerprint flag = record { of = adds_of file fingerprint flag }

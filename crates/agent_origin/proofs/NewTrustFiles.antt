@@ -1,22 +1,22 @@
 -- New trust files: each has its two consents.
 use Rattle.std.{proofs.{Common.{◌≡◌, ◌≤◌, ℕ, Bool, true, false, List, [], ◌∷◌, ◌++◌, length, Option, None, Some, Result, Ok, Err, refl, ap, sym, ◌∙◌, subst}, lemmas.List.{append_assoc, append-nil}}, specs.List.AllByRecursion}
-use Rattle.{arrayvec.specs.ArrayVec.ArrayVec, agent_ask.specs.{Answering.{WholeOrCut, whole, cut}, ConsentParts.{AgreesTo, consents, refused as dissents}, PartExchanges.{AnyExchange, answered, refused}}}
-use Rattle.agent_ask.specs.{Parts.{Follows, goes_on, stops, returns, Refuses, refuses}, SessionEvents.{Received, Sent, Cut, cache_turn, CutAtLast, said_last}, TrustCalls.Read, TurnParts.{Seats, opened, Closes, closed}}
+use Rattle.{arrayvec.specs.ArrayVec.ArrayVec, agent_ask.specs.{Answering.{WholeOrCut, whole, cut}, ConsentActions.{AgreesTo, consents, refused as dissents}, ActionExchanges.{AnyExchange, answered, refused}}}
+use Rattle.agent_ask.specs.{Actions.{Follows, goes_on, stops, returns, Refuses, refuses}, SessionEvents.{Received, Sent, Cut, cache_turn, CutAtLast, said_last}, TrustCalls.Read, TurnActions.{Seats, opened, Closes, closed}}
 use Rattle.agent_commands.specs.{Endings.went_after, Exchanges.CacheReply, Requests.request_of, Talks.{Talk, over, ended, spent, read_fault, too_long as talk_too_long, cut_too_long, Session as SessionOf, greeted, cut_greeting}}
 use Rattle.{agent_commands.specs.declared.went.{SessionEnd.SessionEnd, Went.Went}, agent_ports.specs.declared.{grip.Grip.Grip, trust.TrustRead.TrustRead}, assuan_server.specs.{Clients.session_lines, Written.{failed, refusal_line}}}
-use Rattle.{cache_policy.specs.{Turns.{Turn, Open}, declared.mark.MarkStep.TheVariants.{Seat, Close}}, key_commands.{specs.{Events.Event, Parts.Part}, proofs.{EachEvent.{each_seats, each_answer}, EachRequest.IsBesideTrust}}}
+use Rattle.{cache_policy.specs.{Turns.{Turn, Open}, declared.mark.MarkStep.TheVariants.{Seat, Close}}, key_commands.{specs.{Events.Event, Actions.Action}, proofs.{EachEvent.{each_seats, each_answer}, EachRequest.IsBesideTrust}}}
 use Rattle.{session_client.specs.declared.{code.Code.TheVariants.LineTooLong, refusal.Refusal.{Refusal, TheVariants.Agent}}, session_options.specs.{OptionValues.OptionValues, declared.{options.PinMode.PinMode, rules.Rules.Rules}}}
 use Rattle.trust_list.specs.{Trust.{trust, with_entry}, declared.TheConstants.MAX_TRUST_FILE_LEN}
 use Rattle.agent_origin.specs.{DoorSessions.{AllowedExchange, helped, unset, trusts as on_trust, any, DoorExchange, forbidden, is_allowed}, Doors.allowed, NewTrustFiles.{replaced, HasConsents, HasConsentsIn}}
 use Rattle.agent_origin.specs.TrustExchanges.{flag_of, trust_question, fingerprint_question, unless_said, TrustedNow, Stores, StoresUnsaid, Consented, asked_in, Marked, Carried, TrustReplies}
-use Rattle.agent_origin.specs.{TrustParts.{ReadsFile, AddsEntry, Replaces, file_in, has_read, added, trust_called}, TrustRequests.trust_request_of, declared.door.Door.{Door, TheVariants.{Home, Outer}}}
+use Rattle.agent_origin.specs.{TrustActions.{ReadsFile, AddsEntry, Replaces, file_in, has_read, added, trust_called}, TrustRequests.trust_request_of, declared.door.Door.{Door, TheVariants.{Home, Outer}}}
 use Rattle.agent_origin.specs.declared.{door_session.DoorCommand.DoorCommand, session_state.SessionState.SessionState, trust.request.{TrustPurpose.TrustPurpose, TrustRequest.{TrustRequest, TheVariants.{IsTrusted, MarkTrusted, Bad}}}}
 use Rattle.agent_origin.proofs.{EachLine.{shown_so, each_request}, OuterTrust.{IsOuterTrust, trust_outer}}
 use Rattle.agent_commands.specs.Talks as talks
 use Rattle.assuan_line.specs.declared.reader.Took.TheVariants as took
 use Rattle.session_client.specs.declared.code.Code.TheVariants as code
 use Rattle.session_options.specs.declared.options.PinMode.TheVariants as mode
-use Rattle.agent_origin.specs.TrustParts as parts
+use Rattle.agent_origin.specs.TrustActions as actions
 
 -- ---- where a file became another's successor
 
@@ -65,27 +65,27 @@ its_own (first ∷ front) event back each = its_own front event back each.1
 each_lacks : (events : List Event) → AllByRecursion IsBesideTrust events → Lacks events
 each_lacks events each front file back is = its_own front (replaced file) back (subst (λ (e : List Event). AllByRecursion IsBesideTrust e) is each)
 
--- ---- parts
+-- ---- actions
 
 module _ (file : List ℕ) (later : List Event) where
   abbrev Here : List Event → List Event → Type 0
   Here before events = events ≡ before ++ replaced file ∷ later
 
-  -- it did behind a part, which came to a value
-  record Behind {A B : Type 0} (part : Part A) (next : A → Part B) (held : Option ℕ) (before : List Event) (result : Result B Refusal) (after : Option ℕ) : Type 0 where
+  -- it did behind an action, which came to a value
+  record Behind {A B : Type 0} (action : Action A) (next : A → Action B) (held : Option ℕ) (before : List Event) (result : Result B Refusal) (after : Option ℕ) : Type 0 where
     pub first : List Event
     pub value : A
     pub mid : Option ℕ
-    pub does : part held first (Ok value) mid
+    pub does : action held first (Ok value) mid
     pub more : List Event
     pub goes_on : next value mid more result after
     pub rest : List Event
     pub here : Here rest more
     pub begins : before ≡ first ++ rest
 
-  goes_past : {A B : Type 0} {part : Part A} {next : A → Part B} {held after : Option ℕ} {events : List Event} {result : Result B Refusal}
-      → ((events : List Event) (result : Result A Refusal) (after : Option ℕ) → part held events result after → Lacks events) → Follows part next held events result after → (before : List Event) → Here before events
-      → Behind part next held before result after
+  goes_past : {A B : Type 0} {action : Action A} {next : A → Action B} {held after : Option ℕ} {events : List Event} {result : Result B Refusal}
+      → ((events : List Event) (result : Result A Refusal) (after : Option ℕ) → action held events result after → Lacks events) → Follows action next held events result after → (before : List Event) → Here before events
+      → Behind action next held before result after
   goes_past lacks (goes_on {first} {events = more} {value} {mid} does next_does) before is =
       elim (in_either first more before (replaced file) later is) [
         | in_first rest here past ↦ absurd (lacks first (Ok value) mid does before file rest here)
@@ -95,7 +95,7 @@ module _ (file : List ℕ) (later : List Event) where
   goes_past {after} {events} lacks (stops {refusal} does) before is = absurd (lacks events (Err refusal) after does before file later is)
 
   -- what the file says decides nothing
-  unsaid : (said : Option Bool) (other : Part (Unit {0})) (held after : Option ℕ) (events : List Event) (result : Result (Unit {0}) Refusal) → unless_said said other held events result after
+  unsaid : (said : Option Bool) (other : Action (Unit {0})) (held after : Option ℕ) (events : List Event) (result : Result (Unit {0}) Refusal) → unless_said said other held events result after
       → (before : List Event) → Here before events → (said ≡ None) × other held events result after
   unsaid (Some true) other held after events result returns before is = absurd (none_lacks before file later is)
   unsaid (Some false) other held after events result refuses before is = absurd (none_lacks before file later is)
@@ -106,15 +106,15 @@ module _ (file : List ℕ) (later : List Event) where
 
 reads_lack : (held : Option ℕ) (events : List Event) (result : Result (List ℕ) Refusal) (after : Option ℕ) → ReadsFile held events result after → Lacks events
 reads_lack held events result after (has_read is) = one_lacks _ (λ file same. cc same)
-reads_lack held events result after parts.ReadsFile.faulted = one_lacks _ (λ file same. cc same)
-reads_lack held events result after parts.ReadsFile.no_memory = one_lacks _ (λ file same. cc same)
+reads_lack held events result after actions.ReadsFile.faulted = one_lacks _ (λ file same. cc same)
+reads_lack held events result after actions.ReadsFile.no_memory = one_lacks _ (λ file same. cc same)
 
 was_read : {held after : Option ℕ} {events : List Event} {file : List ℕ} → ReadsFile held events (Ok file) after
     → (answer : TrustRead) × (file_in answer ≡ Some file) × (events ≡ trust_called (Read answer) ∷ []) × (after ≡ held)
 was_read (has_read {answer} is) = (answer, is, refl, refl)
 
 module _ (rules : Rules) (options : OptionValues) (question : List ℕ) where
-  abbrev Agrees : Part (Unit {0})
+  abbrev Agrees : Action (Unit {0})
   Agrees = AgreesTo session_lines rules options question
 
   agrees_lack : (held : Option ℕ) (events : List Event) (result : Result (Unit {0}) Refusal) (after : Option ℕ) → Agrees held events result after → Lacks events
@@ -133,17 +133,17 @@ module _ (fingerprint : Grip) (purpose : TrustPurpose) (file : List ℕ) (later 
 
   replaces_it : (new : List ℕ) {held after : Option ℕ} {events : List Event} {result : Result (Unit {0}) Refusal} → Replaces new held events result after → (before : List Event)
       → Here file later before events → (before ≡ []) × (file ≡ new) × (later ≡ []) × (after ≡ held)
-  replaces_it new parts.replaced before is =
+  replaces_it new actions.replaced before is =
       let it = only_there _ (replaced file) before later is in
       let same : replaced file ≡ replaced new = it.1 in
       (it.0, cc same, it.2, refl)
-  replaces_it new parts.Replaces.faulted before is = let same = (only_there _ (replaced file) before later is).1 in cc same
-  replaces_it new parts.Replaces.no_memory before is = let same = (only_there _ (replaced file) before later is).1 in cc same
+  replaces_it new actions.Replaces.faulted before is = let same = (only_there _ (replaced file) before later is).1 in cc same
+  replaces_it new actions.Replaces.no_memory before is = let same = (only_there _ (replaced file) before later is).1 in cc same
 
   adds_lack : (old : List ℕ) (held : Option ℕ) (events : List Event) (result : Result (List ℕ) Refusal) (after : Option ℕ) → AddsEntry old fingerprint (flag_of purpose) held events result after → Lacks events
   adds_lack old held events result after (added fits) = none_lacks
-  adds_lack old held events result after (parts.too_long long) = none_lacks
-  adds_lack old held events result after parts.AddsEntry.no_memory = one_lacks _ (λ file same. cc same)
+  adds_lack old held events result after (actions.too_long long) = none_lacks
+  adds_lack old held events result after actions.AddsEntry.no_memory = one_lacks _ (λ file same. cc same)
 
   was_added : {old new : List ℕ} {held after : Option ℕ} {events : List Event} → AddsEntry old fingerprint (flag_of purpose) held events (Ok new) after
       → (new ≡ new_file old) × (events ≡ []) × (length new ≤ MAX_TRUST_FILE_LEN) × (after ≡ held)
@@ -252,7 +252,7 @@ module _ (fingerprint : Grip) (purpose : TrustPurpose) (file : List ℕ) (later 
     marks_it held after events result marked before is =
         let early = goes_past file later (reads_lack held) marked before is in
         let read = was_read early.does in
-        let asked : Part (Unit {0}) = asked_in rules options fingerprint purpose name.items options.mode in
+        let asked : Action (Unit {0}) = asked_in rules options fingerprint purpose name.items options.mode in
         let said = unsaid file later (trust early.value fingerprint.0) asked early.mid after early.more result early.goes_on early.rest early.here in
         let seat = goes_past file later (seats_lack early.mid) (asks options.mode early.mid after early.more result said.1 early.rest early.here) early.rest early.here in
         let seated = was_seated seat.does in
@@ -308,30 +308,30 @@ module _ (rules : Rules) (options : OptionValues) (before : List Event) (file : 
   unfolding TrustedNow
   carried_consents (IsTrusted fingerprint) events rest back last result held is carried closes =
       let at = goes_past file rest (reads_lack None) carried before is in
-      let refusal : Part (Unit {0}) = Refuses (Agent code.NotTrusted) in
+      let refusal : Action (Unit {0}) = Refuses (Agent code.NotTrusted) in
       let said = unsaid file rest (trust at.value fingerprint.0) refusal at.mid held at.more result at.goes_on at.rest at.here in
       absurd (refuses_lack file rest said.1 at.rest at.here)
   carried_consents (MarkTrusted fingerprint purpose name) events rest back last result held is carried closes =
       has_consents fingerprint purpose name rest back last held (marks_it fingerprint purpose file rest rules options name None held events result carried before is) closes
   carried_consents (Bad code) events rest back last result held is carried closes = absurd (refuses_lack file rest carried before is)
 
-  -- and what comes behind the parts of a request
-  parts_consents : (request : TrustRequest) (back last : List Event) (held : Option ℕ) → Closes None held back (Ok tt) None → (own : List Event) (result : Result CacheReply Refusal)
+  -- and what comes behind the actions of a request
+  actions_consents : (request : TrustRequest) (back last : List Event) (held : Option ℕ) → Closes None held back (Ok tt) None → (own : List Event) (result : Result CacheReply Refusal)
       → TrustReplies rules options request None own result held → (rest : List Event) → own ≡ before ++ replaced file ∷ rest → HasConsents rules options request before file (rest ++ (back ++ last))
-  parts_consents request back last held closes own result (goes_on {first} {value} does returns) rest here =
+  actions_consents request back last held closes own result (goes_on {first} {value} does returns) rest here =
       elim (in_either first [] before (replaced file) rest here) [
         | in_first more there past ↦
             subst (λ (r : List Event). HasConsents rules options request before file (r ++ (back ++ last))) (sym (past ∙ append-nil more))
             (carried_consents request first more back last (Ok value) held there does closes)
         | in_second more past there ↦ absurd (none_lacks more file rest there)
       ]
-  parts_consents request back last held closes own result (stops {refusal} does) rest here = carried_consents request own rest back last (Err refusal) held here does closes
+  actions_consents request back last held closes own result (stops {refusal} does) rest here = carried_consents request own rest back last (Err refusal) held here does closes
 
   replies_consents : (request : TrustRequest) (events back last after : List Event) (result : Result CacheReply Refusal) (held : Option ℕ) → TrustReplies rules options request None events result held
       → Closes None held back (Ok tt) None → AllByRecursion IsBesideTrust (back ++ last) → events ++ (back ++ last) ≡ before ++ replaced file ∷ after → HasConsents rules options request before file after
   replies_consents request events back last after result held replies closes each is =
       elim (in_either events (back ++ last) before (replaced file) after is) [
-        | in_first rest here past ↦ subst (HasConsents rules options request before file) (sym past) (parts_consents request back last held closes events result replies rest here)
+        | in_first rest here past ↦ subst (HasConsents rules options request before file) (sym past) (actions_consents request back last held closes events result replies rest here)
         | in_second rest there here ↦ absurd (each_lacks (back ++ last) each rest file after here)
       ]
 

@@ -1,9 +1,9 @@
 -- Lines that are allowed at the outer door, and what is done for them to the cache.
 use Rattle.std.{proofs.Common.{◌≡◌, ℕ, Bool, true, false, List, [], ◌∷◌, ◌++◌, Option, None, Some, Result, Ok, Err, is_none, refl, ap, sym, ◌∙◌, subst, append_assoc}, specs.Prelude.⊤}
-use Rattle.agent_ask.specs.{ClientParts.{Writes, written, cut, Inquires, given, not_given}, ConsentParts.AgreesTo, Events.PromptEvent, PartExchanges.{AnyReply, AnyExchange, answered, refused}, Parts.{Follows, Returns, Refuses}}
-use Rattle.agent_ask.specs.{SessionEvents.{AnyEvent, Received, Sent, Cut, Inquiry, CacheTurn, Port, turns_in, said_last}, TurnParts.{Seats, opened, interrupted, Closes, unheld, closed}}
+use Rattle.agent_ask.specs.{ClientActions.{Writes, written, cut, Inquires, given, not_given}, ConsentActions.AgreesTo, Events.PromptEvent, ActionExchanges.{AnyReply, AnyExchange, answered, refused}, Actions.{Follows, Returns, Refuses}}
+use Rattle.agent_ask.specs.{SessionEvents.{AnyEvent, Received, Sent, Cut, Inquiry, CacheTurn, Port, turns_in, said_last}, TurnActions.{Seats, opened, interrupted, Closes, unheld, closed}}
 use Rattle.agent_ask.{specs.SessionPrompts.{AnyInSession, none, called, noted, out_of_memory}, proofs.Within.{Within, OfNothing, weaker, returned, refused as refused_so, is_needed, or_otherwise}}
-use Rattle.agent_commands.specs.{Exchanges.{CacheExchange, LineExchange, option_replies, confirms_by, CacheReplies, TellsPassphrase, TellsInfo}, Parts.{CacheEvent, CachePart, AsksPassphrase}}
+use Rattle.agent_commands.specs.{Exchanges.{CacheExchange, LineExchange, option_replies, confirms_by, CacheReplies, TellsPassphrase, TellsInfo}, Actions.{CacheEvent, CacheAction, AsksPassphrase}}
 use Rattle.agent_commands.specs.Passphrases.{LooksFor, WantsPrompt, KeepsUnder, ByCache, Uncached as NotCached, WithoutPrompt, PromptsAny, Prompts, as_wanted, passphrase_by}
 use Rattle.agent_commands.specs.{Requests.{GetFields, get_fields, leaves_cache, request_of, request_by, asked_by, either, info_of, confirmation_of}, declared.request.CacheCommand.CacheCommand}
 use Rattle.agent_commands.specs.declared.request.{CacheCommand.TheVariants.{Nop, Reset, Bye, Help, SetOption, GetInfo, GetPassphrase, PresetPassphrase, ClearPassphrase, GetConfirmation, ReloadAgent, KillAgent, SetKeyDesc}, Info.Info}
@@ -12,7 +12,7 @@ use Rattle.{session_client.specs.declared.{code.Code.Code, refusal.Refusal.{Refu
 use Rattle.{command_table.specs.declared.commands.CommandName.CommandName, assuan_text.specs.{Options.arguments_of, Words.{rest_of, words}}, arrayvec.specs.ArrayVec.ArrayVec, cache_policy.specs.declared.secret.TheConstants.MAX_SECRET_LEN}
 use Rattle.{cache_policy.specs.{declared.mark.MarkStep.TheVariants.Seat, Extending.Taken, Turns.Open}, session_options.specs.{declared.{options.{OptionAnswer.OptionAnswer, PinMode.PinMode}, rules.Rules.Rules}, OptionValues.OptionValues}}
 use Rattle.agent_origin.specs.{Doors.{passes, passes_by, allowed}, OuterTurns.{AreOuterTurns, no_turns, peeks, unseated, seated, LeavesCache}, declared.door.Door.TheVariants.Outer}
-use Rattle.agent_ask.specs.ConsentParts as consent
+use Rattle.agent_ask.specs.ConsentActions as consent
 use Rattle.agent_ask.proofs.Within as within
 use Rattle.agent_commands.specs.Exchanges as exchange
 use Rattle.agent_commands.specs.Passphrases as passphrase
@@ -49,40 +49,40 @@ prompt_still (called more) = prompt_still more
 prompt_still (noted says more) = prompt_still more
 prompt_still (out_of_memory more) = prompt_still more
 
--- ---- parts
+-- ---- actions
 
 -- What turns are to come to that a request takes with this ticket in hand: with the turn by which it was had, they leave the cache.
 abbrev pub Owes : Option ℕ → List Taken → Type 0
 Owes None turns = AreOuterTurns turns
 Owes (Some ticket) turns = AreOuterTurns (record { asked = Seat None None; turn = Open ticket } ∷ turns)
 
-abbrev pub LeaveLaw : {A : Type 0} → CachePart A
+abbrev pub LeaveLaw : {A : Type 0} → CacheAction A
 LeaveLaw before events result after = (later : List Taken) → Owes after later → Owes before (turns_in events ++ later)
 
--- a part leaves the cache, where all that follows does
-abbrev pub Leaves : {A : Type 0} → CachePart A → Type 0
-Leaves part = Within part LeaveLaw
+-- an action leaves the cache, where all that follows does
+abbrev pub Leaves : {A : Type 0} → CacheAction A → Type 0
+Leaves action = Within action LeaveLaw
 
 -- and where no ticket is held
-abbrev pub LeavesUnseated : {A : Type 0} → CachePart A → Type 0
-LeavesUnseated part = Within part (λ before events result after. before ≡ None → LeaveLaw before events result after)
+abbrev pub LeavesUnseated : {A : Type 0} → CacheAction A → Type 0
+LeavesUnseated action = Within action (λ before events result after. before ≡ None → LeaveLaw before events result after)
 
 turns_behind : (held : Option ℕ) (some more : List CacheEvent) (later : List Taken) → Owes held (turns_in some ++ (turns_in more ++ later)) → Owes held (turns_in (some ++ more) ++ later)
 turns_behind held some more later = subst (Owes held) (sym (ap (λ (t : List Taken). t ++ later) (turns_then some more) ∙ append_assoc (turns_in some) (turns_in more) later))
 
-pub bind : {A B : Type 0} {part : CachePart A} {next : A → CachePart B} → Leaves part → ((value : A) → Leaves (next value)) → Leaves (Follows part next)
+pub bind : {A B : Type 0} {action : CacheAction A} {next : A → CacheAction B} → Leaves action → ((value : A) → Leaves (next value)) → Leaves (Follows action next)
 bind = within.bind (record {
   then = λ {before} some more one other later owes. turns_behind before some more later (one (turns_in more ++ later) (other later owes));
   alone = λ one. one;
 })
 
-pub bind_unseated : {A B : Type 0} {part : CachePart A} {next : A → CachePart B} → LeavesUnseated part → ((value : A) → Leaves (next value)) → LeavesUnseated (Follows part next)
+pub bind_unseated : {A B : Type 0} {action : CacheAction A} {next : A → CacheAction B} → LeavesUnseated action → ((value : A) → Leaves (next value)) → LeavesUnseated (Follows action next)
 bind_unseated = within.bind (record {
   then = λ {before} some more one other free later owes. turns_behind before some more later (one free (turns_in more ++ later) (other later owes));
   alone = λ one. one;
 })
 
-pub unseated_too : {A : Type 0} {part : CachePart A} → Leaves part → LeavesUnseated part
+pub unseated_too : {A : Type 0} {action : CacheAction A} → Leaves action → LeavesUnseated action
 unseated_too = weaker (record { of = λ before events result after leaves free. leaves })
 
 pub leaves_nothing : {A : Type 0} → OfNothing {A = A} LeaveLaw
@@ -226,23 +226,23 @@ pub said_leaves : (T O F : Type 0) (line : Option (List ℕ)) → LeavesCache (s
 said_leaves T O F None = no_turns
 said_leaves T O F (Some line) = no_turns
 
--- behind its parts a ticket is given back
-ends_leave : {A : Type 0} {part : CachePart A} (leaves : LeavesUnseated part) (events back last : List CacheEvent) (result : Result A Refusal) (held : Option ℕ) → part None events result held
+-- behind its actions a ticket is given back
+ends_leave : {A : Type 0} {action : CacheAction A} (leaves : LeavesUnseated action) (events back last : List CacheEvent) (result : Result A Refusal) (held : Option ℕ) → action None events result held
     → Closes None held back (Ok tt) None → LeavesCache last → LeavesCache (events ++ (back ++ last))
 ends_leave leaves events back last result held does closes last_leaves =
     subst AreOuterTurns (sym (turns_then events (back ++ last)))
     (leaves.of None events result held does refl (turns_in (back ++ last))
     (subst (Owes held) (sym (turns_then back last)) (closes_of None held back (Ok tt) None closes (turns_in last) last_leaves)))
 
-pub parts_leave : {S W : Type 0} {refusal_text : Refusal → Option (List ℕ)} {went_after : Option Gone → W} {parts : CachePart (AnyReply S W)} {before after : S} {events : List CacheEvent} {went : W} → LeavesUnseated parts
-    → AnyExchange refusal_text went_after parts before events after went → LeavesCache events
-parts_leave leaves (answered events held reply {back} does closes) = ends_leave leaves events back _ (Ok reply) held does closes no_turns
-parts_leave {refusal_text} leaves (refused events held why {back} does closes) = ends_leave leaves events back _ (Err why) held does closes (said_leaves _ _ _ (refusal_text why))
+pub actions_leave : {S W : Type 0} {refusal_text : Refusal → Option (List ℕ)} {went_after : Option Gone → W} {actions : CacheAction (AnyReply S W)} {before after : S} {events : List CacheEvent} {went : W} → LeavesUnseated actions
+    → AnyExchange refusal_text went_after actions before events after went → LeavesCache events
+actions_leave leaves (answered events held reply {back} does closes) = ends_leave leaves events back _ (Ok reply) held does closes no_turns
+actions_leave {refusal_text} leaves (refused events held why {back} does closes) = ends_leave leaves events back _ (Err why) held does closes (said_leaves _ _ _ (refusal_text why))
 
 exchange_leaves : (agent : Rules) (before after : OptionValues) (request : Request) (events : List CacheEvent) (went : Went) → IsOuterRequest request → CacheExchange agent before request events after went
     → LeavesCache events
-exchange_leaves agent before after (Cache command) events went outer does = parts_leave (replies_leave agent before command outer) does
-exchange_leaves agent before after (Bad why) events went outer does = parts_leave (unseated_too (refused_by (Agent why))) does
+exchange_leaves agent before after (Cache command) events went outer does = actions_leave (replies_leave agent before command outer) does
+exchange_leaves agent before after (Bad why) events went outer does = actions_leave (unseated_too (refused_by (Agent why))) does
 exchange_leaves agent before after (Key line) events went outer does = absurd does
 
 -- ---- lines

@@ -1,14 +1,14 @@
 -- Lines with a command on keys that are allowed at the outer door, and what is done for them to the cache.
 use Rattle.std.{proofs.Common.{◌≡◌, ℕ, Bool, true, false, not, cond, List, [], ◌∷◌, Option, None, Some, Result, Ok, Err, refl, ap, sym}, specs.Prelude.codes}
-use Rattle.{agent_ask.{specs.{PortCalls.PortCall, Plans.text, Parts.{goes_on, stops, returns}, TurnParts.{peeked, interrupted}}, proofs.Within.is_unless}, agent_commands.specs.Events.EventWith}
+use Rattle.{agent_ask.{specs.{PortCalls.PortCall, Plans.text, Actions.{goes_on, stops, returns}, TurnActions.{peeked, interrupted}}, proofs.Within.is_unless}, agent_commands.specs.Events.EventWith}
 use Rattle.{agent_commands.specs.{Requests.{request_of, request_by, cache_request_by, asked_by, either as of_cache}, declared.request.{CacheCommand.CacheCommand, Request.TheVariants.Key}}, agent_ports.specs.declared.grip.Grip.Grip}
 use Rattle.{arrayvec.specs.ArrayVec.ArrayVec, session_client.specs.{declared.{code.Code.Code, refusal.Refusal.{Refusal, TheVariants.Agent}}, Fields.{◌>>=◌, in_form}}, assuan_text.specs.Options.{arguments_of, has_option, options_of}}
 use Rattle.{assuan_text.specs.Words.{rest_of, words}, command_table.specs.{Commands.{command_in, outer_rule}, declared.commands.{Command.Command, KeyCommandName.KeyCommandName}}, key_commands.specs.Events.Event}
-use Rattle.key_commands.specs.{Exchanges.{KeyExchange, KeyReply, KeyReplies, HaveKeyReplies, KeyInfoReplies}, KeyParts.{HasOne, is_key, faulty, no_memory as no_key_memory, unread}, Parts.{Finds, found, absent, faulted, no_memory}}
+use Rattle.key_commands.specs.{Exchanges.{KeyExchange, KeyReply, KeyReplies, HaveKeyReplies, KeyInfoReplies}, KeyActions.{HasOne, is_key, faulty, no_memory as no_key_memory, unread}, Actions.{Finds, found, absent, faulted, no_memory}}
 use Rattle.key_commands.specs.{Requests.{key_or_bad, some_grips, first_grip, key_request_by, key_request_of}, declared.{request.KeyRequest.{KeyRequest, TheVariants.{HaveKey, KeyInfo, ListKeys, Bad}}, went.KeyWent.KeyWent}}
 use Rattle.{key_commands.specs.declared.keywrap_key.WrapKeys.WrapKeys, session_options.specs.{OptionValues.OptionValues, declared.rules.Rules.Rules}}
 use Rattle.agent_origin.specs.{Doors.{passes, passes_by, allowed}, OuterTurns.{peeks, LeavesCache}, Serving.is_on_keys, declared.door.Door.TheVariants.Outer}
-use Rattle.agent_origin.proofs.Outer.{LeaveLaw, Leaves, LeavesUnseated, unseated_too, leaves_nothing, bind, gives, refused_by, parts_leave}
+use Rattle.agent_origin.proofs.Outer.{LeaveLaw, Leaves, LeavesUnseated, unseated_too, leaves_nothing, bind, gives, refused_by, actions_leave}
 use Rattle.session_client.specs.declared.code.Code.TheVariants as code
 use Rattle.command_table.specs.declared.commands.Command.TheVariants as at_table
 use Rattle.command_table.specs.declared.commands.KeyCommandName.TheVariants as name
@@ -110,4 +110,4 @@ module _ (agent : Rules) (options : OptionValues) (wraps : WrapKeys) (line : Lis
 
   pub key_leaves : {events : List (EventWith PortCall)} {after : WrapKeys} {went : KeyWent} → allowed Outer line ≡ true → KeyExchange agent options wraps (key_request_of line) events after went → LeavesCache events
   unfolding key_request_of
-  key_leaves allows exchanged = parts_leave (key_replies_leave agent options wraps (key_request_by (command_in line) (rest_of line)) (named_outer (command_in line) allows)) exchanged
+  key_leaves allows exchanged = actions_leave (key_replies_leave agent options wraps (key_request_by (command_in line) (rest_of line)) (named_outer (command_in line) allows)) exchanged

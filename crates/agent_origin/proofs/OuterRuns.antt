@@ -283,12 +283,12 @@ opens_so : {limits : Limits} {session : SessionId} {called ticket : ℕ} (run : 
 opens_so run (marked own is) front marks is_run start begins =
     let last = last_split run (with_mark is.before own) is.last in
     let number = numbers_go_on run last.0 [] start (with_mark is.before own) is_run begins last.1 in
-    let parts : joined run ≡ joined last.0 ++ ((is.before.marks ++ own ∷ []) ++ []) = ap joined last.1 ∙ flat_map-append (λ (h : History). h.marks) last.0 (with_mark is.before own ∷ []) in
+    let actions : joined run ≡ joined last.0 ++ ((is.before.marks ++ own ∷ []) ++ []) = ap joined last.1 ∙ flat_map-append (λ (h : History). h.marks) last.0 (with_mark is.before own ∷ []) in
     let a = length-append (joined last.0) ((is.before.marks ++ own ∷ []) ++ []) in
     let b = length-append (is.before.marks ++ own ∷ []) [] in
     let c = length-append is.before.marks (own ∷ []) in
     let d = length-append front (own ∷ []) in
-    let e = ap (λ (m : List Mark). length m) parts in
+    let e = ap (λ (m : List Mark). length m) actions in
     let f = ap (λ (m : List Mark). length m) marks in
     record {
       front = front;
@@ -363,15 +363,15 @@ own_store_nothing limits session before after turns outer chain legal earlier la
     let start = begins.0 in
     let goes = facts outer chain legal start begins.1 in
     let legal_after = chain_legal chain legal in
-    let parts : joined after ≡ (joined earlier ++ prior.marks) ++ mark ∷ (more ++ joined later) =
+    let actions : joined after ≡ (joined earlier ++ prior.marks) ++ mark ∷ (more ++ joined later) =
     ap joined is ∙ flat_map-append (λ (h : History). h.marks) earlier (with_marks prior (mark ∷ more) ∷ later)
     ∙ ap (λ (m : List Mark). joined earlier ++ m) (append_assoc prior.marks (mark ∷ more) (joined later)) ∙ sym (append_assoc (joined earlier) prior.marks (mark ∷ (more ++ joined later))) in
     let its = all_behind (λ (m : Mark). is_of session m ≡ true → OwnStep (joined after) start.base m.step) (joined before) goes.more (joined earlier ++ prior.marks) mark (more ++ joined later)
-    (sym goes.marks ∙ parts) place goes.all own in
+    (sym goes.marks ∙ actions) place goes.all own in
     let known = run_known start.base [] earlier later prior (mark ∷ more) (subst IsRun is legal_after.turns_over)
     (subst (HeadKnown start.base []) is (head_known limits after start legal_after (chain_start chain ∙ begins.1))) in
     let all : Known (joined after) start.base (seat prior) =
-    subst (λ (m : List Mark). Known m start.base (seat prior)) (sym parts) (known_then (joined earlier ++ prior.marks) start.base (seat prior) (mark ∷ (more ++ joined later)) known) in
+    subst (λ (m : List Mark). Known m start.base (seat prior)) (sym actions) (known_then (joined earlier ++ prior.marks) start.base (seat prior) (mark ∷ (more ++ joined later)) known) in
     stores_nothing limits prior mark.moment mark.step its all
 
 -- ---- a session's turns

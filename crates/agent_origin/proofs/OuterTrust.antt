@@ -1,11 +1,11 @@
 -- Lines with a command on the trust list that are allowed at the outer door, and what is done for them to the cache.
 use Rattle.std.proofs.Common.{◌≡◌, ℕ, Bool, true, false, List, Option, None, Some, Result, Ok, Err}
-use Rattle.{agent_ask.specs.Parts.Refuses, agent_commands.specs.declared.went.Went.Went, agent_ports.specs.declared.grip.Grip.Grip, session_client.specs.declared.{code.Code.Code, refusal.Refusal.{Refusal, TheVariants.Agent}}}
+use Rattle.{agent_ask.specs.Actions.Refuses, agent_commands.specs.declared.went.Went.Went, agent_ports.specs.declared.grip.Grip.Grip, session_client.specs.declared.{code.Code.Code, refusal.Refusal.{Refusal, TheVariants.Agent}}}
 use Rattle.{session_client.specs.Fields.◌>>=◌, command_table.specs.{Commands.command_in, declared.commands.Command.Command}, key_commands.specs.Events.Event, session_options.specs.{OptionValues.OptionValues, declared.rules.Rules.Rules}}
 use Rattle.trust_list.specs.Trust.{trust}
-use Rattle.agent_origin.specs.{Doors.{passes_by, allowed}, TrustExchanges.{TrustExchange, Carried, TrustedNow, unless_said}, OuterTurns.LeavesCache, TrustParts.{ReadsFile, has_read, faulted, no_memory}}
+use Rattle.agent_origin.specs.{Doors.{passes_by, allowed}, TrustExchanges.{TrustExchange, Carried, TrustedNow, unless_said}, OuterTurns.LeavesCache, TrustActions.{ReadsFile, has_read, faulted, no_memory}}
 use Rattle.agent_origin.specs.{TrustRequests.{trust_or_bad, trust_request_by, trust_request_of}, declared.{door.Door.TheVariants.Outer, trust.request.TrustRequest.{TrustRequest, TheVariants.{IsTrusted, MarkTrusted, Bad}}}}
-use Rattle.agent_origin.proofs.Outer.{LeaveLaw, Leaves, bind, unseated_too, gives, refused_by, parts_leave}
+use Rattle.agent_origin.proofs.Outer.{LeaveLaw, Leaves, bind, unseated_too, gives, refused_by, actions_leave}
 use Rattle.session_client.specs.declared.code.Code.TheVariants as code
 use Rattle.command_table.specs.declared.commands.Command.TheVariants as at_table
 use Rattle.command_table.specs.declared.commands.TrustCommandName.TheVariants as name
@@ -54,4 +54,4 @@ trust_outer line allows = named_outer line (command_in line) allows
 pub trust_leaves : (agent : Rules) (options : OptionValues) (line : List ℕ) {events : List Event} {went : Went} → allowed Outer line ≡ true
     → TrustExchange agent options (trust_request_of line) events went → LeavesCache events
 trust_leaves agent options line allows exchanged =
-    parts_leave (unseated_too (bind (carried_leaves agent options (trust_request_of line) (trust_outer line allows)) (λ carried. gives _))) exchanged
+    actions_leave (unseated_too (bind (carried_leaves agent options (trust_request_of line) (trust_outer line allows)) (λ carried. gives _))) exchanged

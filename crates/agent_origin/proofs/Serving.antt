@@ -2,20 +2,20 @@
 use Rattle.std.proofs.Common.{◌≡◌, ℕ, List, [], ◌∷◌, ◌++◌, Option, Some, None, Ok, Err, refl, ap, sym, ◌∙◌, subst, arith, append_assoc}
 use Rattle.{agent_ports.specs.{Counts.Rose, declared.link.WriteFault.WriteFault, Writing.StopsWriting}, assuan_line.specs.{Next.Reader, declared.reader.Took.Took}, assuan_server.specs.{Clients.connection_views, Connections.Connection}}
 use Rattle.{assuan_server.{specs.{Requests.NextRequest, Written.{failed, WritesText}, Reading.unread}, proofs.{Clients.{said_so, received_so}, Reading.here_going}}, session_client.specs.declared.code.Code.TheVariants.LineTooLong}
-use Rattle.agent_ask.{specs.{Answering.{ReaderLeft, FaultsCounted}, SessionEvents.{Received, Sent, Cut}}, proofs.{PartsDone.{still_open, no_fault}, Replying.text_written, Doing.{done_none, done_then, done_said, done_cut, done_received}}}
+use Rattle.agent_ask.{specs.{Answering.{ReaderLeft, FaultsCounted}, SessionEvents.{Received, Sent, Cut}}, proofs.{ActionsDone.{still_open, no_fault}, Replying.text_written, Doing.{done_none, done_then, done_said, done_cut, done_received}}}
 use Rattle.agent_commands.specs.{Endings.{gone_of, went_after, gone_after}, Events.EventWith, Outside.World, States.{ServedState, EventsLead, AnswersRequest}, Talks.{Talk, goes_on, over, ended, spent, read_fault, too_long, cut_too_long}}
 use Rattle.agent_commands.{specs.declared.went.{SessionEnd.{SessionEnd, TheVariants.{Bye, Killed, Ended, TooLong, Spent, ReadFault}}, Went.{Went, TheVariants.{On, End}}}, proofs.Replying.gone_as_it_went}
 use Rattle.agent_origin.specs.{Sessions.{LineRelation, Leaves}, Serving.{ServesRequests, SaysText, says}}
 use Rattle.assuan_line.specs.declared.reader.Took.TheVariants as took
 use Rattle.agent_commands.specs.declared.went.SessionEnd.TheVariants as ends
 
-leaves_part_of : (reader : Reader) (left : List ℕ) (o : Option Took) → reader.ended ≡ o → (ahead : List ℕ) × (unread reader left ≡ ahead ++ left)
-leaves_part_of reader left None is = (reader.ahead, here_going reader left is)
-leaves_part_of reader left (Some took) is = ([], rw is refl)
+leaves_action_of : (reader : Reader) (left : List ℕ) (o : Option Took) → reader.ended ≡ o → (ahead : List ℕ) × (unread reader left ≡ ahead ++ left)
+leaves_action_of reader left None is = (reader.ahead, here_going reader left is)
+leaves_action_of reader left (Some took) is = ([], rw is refl)
 
 -- what the source holds after a write that failed
-leaves_part : (reader : Reader) (left : List ℕ) → (ahead : List ℕ) × (unread reader left ≡ ahead ++ left)
-leaves_part reader left = leaves_part_of reader left reader.ended refl
+leaves_action : (reader : Reader) (left : List ℕ) → (ahead : List ℕ) × (unread reader left ≡ ahead ++ left)
+leaves_action reader left = leaves_action_of reader left reader.ended refl
 
 -- and after an exchange that ended the session
 leaves : (end : SessionEnd) (before after : Connection) (left : List ℕ) → ReaderLeft connection_views (gone_of end) before after → Leaves end (unread after.reader left) left
@@ -25,7 +25,7 @@ leaves Ended before after left is = rw is refl
 leaves TooLong before after left is = rw is refl
 leaves Spent before after left is = rw is refl
 leaves ReadFault before after left is = rw is refl
-leaves ends.WriteFault before after left is = leaves_part after.reader left
+leaves ends.WriteFault before after left is = leaves_action after.reader left
 
 -- a reader that gave no line has ended so
 leaves_what_is_unread : (reader : Reader) (took : Took) → reader.ended ≡ Some took → (left : List ℕ) → unread reader left ≡ left
@@ -135,7 +135,7 @@ module _ {w : World} {S : Type 0} (exchange : LineRelation w S) (before : S) (st
               whole = ap (λ (x : List ℕ). Sent x ∷ []) stopped.split;
               done_is = refl;
             }))
-            (leaves_part last.reader) (record { read = λ e. absurd (cc e); write = λ e. omega (arith, received.output_faults, stopped.rose) })
+            (leaves_action last.reader) (record { read = λ e. absurd (cc e); write = λ e. omega (arith, received.output_faults, stopped.rose) })
 
 -- nothing was done for a request but to say one text
 pub text_answers : {w : World} {S : Type 0} (exchange : S → List (EventWith w.Port) → S → Went → Type 0) (before : S) {text : List ℕ} (start : ServedState w)

@@ -2,12 +2,12 @@
 use Rattle.std.{proofs.Common.{◌≡◌, ℕ, Bool, false, List, [], ◌∷◌, ◌++◌, replicate, Some, None, refl, lit≤}, specs.{Fmt.digits, Prelude.codes}}
 use Rattle.{hex.specs.Hex.encode_with, agent_ask.specs.{Consents.{AsksConsent, agreed_of, asked}, Events.{Called, Start, Confirm, Shut}, PortCalls.Prompt, Plans.{IsSpec, text}, Prompts.quiet, SessionEvents.{Sent, Port, cache_turn}}}
 use Rattle.agent_ask.specs.{TrustCalls.{Read, Replaced}, SessionPrompts.{none, called as shown}, declared.{prompter.{Consent.{Consent, TheVariants.{Yes, No}}, Opened.TheVariants.Pid}, spec.PromptSpec.PromptSpec}}
-use Rattle.agent_ask.specs.{ConsentParts.{consents, refused as dissents}, Parts.{goes_on, stops, returns, refuses}, PartExchanges.{answered, refused}, TurnParts.{opened, unheld, closed}}
+use Rattle.agent_ask.specs.{ConsentActions.{consents, refused as dissents}, Actions.{goes_on, stops, returns, refuses}, ActionExchanges.{answered, refused}, TurnActions.{opened, unheld, closed}}
 use Rattle.{assuan_server.specs.Written.{ok, failed, failed_at_pinentry}, agent_commands.specs.{declared.went.Went.TheVariants.On, Exchanges.reply}, agent_ports.specs.declared.{grip.Grip.Grip, trust.TrustDone.TheVariants.Done as IsDone}}
 use Rattle.{agent_ports.specs.declared.trust.TrustRead.{TrustRead, TheVariants.{Absent, Failed}}, cache_policy.specs.{declared.mark.MarkStep.TheVariants.{Seat, Close}, Turns.{Open, Done}}, key_commands.specs.Events.Event}
 use Rattle.{session_options.specs.{OptionValues.OptionValues, declared.rules.Rules.Rules}, trust_list.specs.Trust.with_entry, session_client.specs.declared.refusal.Refusal.TheVariants.{Agent, Pinentry}}
 use Rattle.session_client.specs.declared.code.Code.TheVariants.{General, NotTrusted, NotConfirmed, Forbidden}
-use Rattle.agent_origin.specs.{TrustExchanges.{trust_question, fingerprint_question, TrustExchange, TrustedNow, Stores, StoresUnsaid, Consented, Marked}, TrustParts.{has_read, faulted, added, replaced, file_in, trust_called}}
+use Rattle.agent_origin.specs.{TrustExchanges.{trust_question, fingerprint_question, TrustExchange, TrustedNow, Stores, StoresUnsaid, Consented, Marked}, TrustActions.{has_read, faulted, added, replaced, file_in, trust_called}}
 use Rattle.agent_origin.specs.declared.trust.request.{TrustPurpose.TheVariants.X509, TrustRequest.{TrustRequest, TheVariants.{IsTrusted, MarkTrusted}}}
 use Rattle.session_options.specs.declared.options.PinMode.TheVariants as mode
 

@@ -5,7 +5,7 @@ pub mod OuterPrompts
 pub mod TrustRequests
 pub mod Sessions
 pub mod PortStates
-pub mod TrustParts
+pub mod TrustActions
 pub mod TrustExchanges
 pub mod NewTrustFiles
 pub mod TrustStates

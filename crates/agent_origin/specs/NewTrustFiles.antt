@@ -1,10 +1,10 @@
 -- A new trust file: what was done for its request before it took the old one's place. This is this project's own.
 use Rattle.std.specs.Prelude.{◌≡◌, ◌≤◌, ℕ, List, [], ◌∷◌, ◌++◌, length, Some, None, Ok}
-use Rattle.{arrayvec.specs.ArrayVec.ArrayVec, agent_ask.specs.{ConsentParts.AgreesTo, SessionEvents.{Received, cache_turn}, TrustCalls.{Read, Replaced}}, agent_ports.specs.declared.{grip.Grip.Grip, trust.TrustDone.TheVariants.Done}}
+use Rattle.{arrayvec.specs.ArrayVec.ArrayVec, agent_ask.specs.{ConsentActions.AgreesTo, SessionEvents.{Received, cache_turn}, TrustCalls.{Read, Replaced}}, agent_ports.specs.declared.{grip.Grip.Grip, trust.TrustDone.TheVariants.Done}}
 use Rattle.{agent_ports.specs.declared.trust.TrustRead.TrustRead, assuan_line.specs.declared.reader.Took.TheVariants.Line, assuan_server.specs.Clients.session_lines, cache_policy.specs.Turns.{Turn, Open}}
 use Rattle.{cache_policy.specs.declared.mark.MarkStep.TheVariants.{Seat, Close}, key_commands.specs.Events.Event, session_options.specs.{OptionValues.OptionValues, declared.rules.Rules.Rules}, trust_list.specs.Trust.{trust, with_entry}}
 use Rattle.trust_list.specs.declared.TheConstants.{MAX_TRUST_FILE_LEN}
-use Rattle.agent_origin.specs.{TrustExchanges.{flag_of, trust_question, fingerprint_question}, TrustParts.{file_in, trust_called}, TrustRequests.trust_request_of, declared.trust.request.TrustPurpose.TrustPurpose}
+use Rattle.agent_origin.specs.{TrustExchanges.{flag_of, trust_question, fingerprint_question}, TrustActions.{file_in, trust_called}, TrustRequests.trust_request_of, declared.trust.request.TrustPurpose.TrustPurpose}
 use Rattle.agent_origin.specs.declared.trust.request.TrustRequest.{TrustRequest, TheVariants.MarkTrusted}
 
 -- these bytes became the file

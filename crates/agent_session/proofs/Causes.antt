@@ -6,7 +6,7 @@ pub mod Explained
 pub mod Explaining
 pub mod Faulty
 pub mod KeyExplained
-pub mod KeyParts
+pub mod KeyActions
 pub mod KeyRequests
 pub mod LineFaults
 pub mod Prompted

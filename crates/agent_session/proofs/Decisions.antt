@@ -4,7 +4,7 @@ pub mod ExactCache
 pub mod ExactEnds
 pub mod ExactFiles
 pub mod ExactLong
-pub mod ExactParts
+pub mod ExactActions
 pub mod ExactReads
 pub mod ExactTrust
 pub mod Talking

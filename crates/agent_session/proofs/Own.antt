@@ -3,5 +3,5 @@ pub mod OwnCache
 pub mod OwnFacts
 pub mod OwnKeys
 pub mod OwnLines
-pub mod OwnParts
+pub mod OwnActions
 pub mod OwnTrust

@@ -6,7 +6,7 @@ use Rattle.{agent_commands.specs.{Talks.{Talk, Session}, declared.went.{SessionE
 use Rattle.{session_options.specs.declared.rules.Rules.Rules, agent_origin.{proofs.EachLine.each_request, specs.{DoorSessions.{AllowedExchange, DoorExchange, door_help}, TrustRequests.trust_request_of, SessionExchanges.SessionExchange}}}
 use Rattle.{agent_origin.specs.declared.{door.Door.Door, session_state.SessionState.SessionState}, assuan_text.specs.LineEnds.line_of}
 use Rattle.agent_session.{specs.{Completeness.Exchanges, OwnPassphrases.{StoresOwn, HandsIn, IsUnreceived, Served, none, one_more, StoresOwnIn, StoresOwnThroughout}}, proofs.Own.OwnCache.request_own}
-use Rattle.agent_session.proofs.{Own.{OwnLines.{each_first, each_second, in_first, in_second, in_either}, OwnParts.{IsQuiet, Fit, AreOwn, own_at, own_left, own_then, quiet_are_own}, OwnTrust.{IsIdle, trust_idle}}, AtOnce.FitsTurn}
+use Rattle.agent_session.proofs.{Own.{OwnLines.{each_first, each_second, in_first, in_second, in_either}, OwnActions.{IsQuiet, Fit, AreOwn, own_at, own_left, own_then, quiet_are_own}, OwnTrust.{IsIdle, trust_idle}}, AtOnce.FitsTurn}
 use Rattle.agent_session.proofs.Standing.{each_left, each_right}
 use Rattle.assuan_line.specs.declared.reader.Took.TheVariants as took
 use Rattle.agent_commands.specs.Talks as talks

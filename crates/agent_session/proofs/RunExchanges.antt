@@ -8,7 +8,7 @@ use Rattle.session_options.specs.declared.rules.Rules.{Rules}
 use Rattle.agent_session.specs.{Completeness.{Exchanges as Relations, Causes, IsAnsweredBy}, Exactly.EndsTooLong, OwnPassphrases.StoresOwn}
 use Rattle.agent_session.{specs.RunExchanges.{Between, LinkBytes, with_link, Saying, ExchangeBetween, LawfulRequest, LawfulExchange, LawfulSession}, proofs.{Answering.Judging, AtOnce.{all_fit, at_once, each_calm}}}
 use Rattle.agent_session.proofs.{Counts.{Completing.{failures_rise, all_possible, never_absent}, Counting.counts_failures}, Fair.{first_fair, alone_first}, Causes.{KeyExplained.exchange_caused, Uncaused.ok_by}}
-use Rattle.agent_session.proofs.{Own.{OwnCache.{request_own, request_says_own}, OwnKeys.request_told, OwnParts.own_at}, Courses.{RefusedCourses.{caused_refuses, refused_course}, SessionCourses.request_course}}
+use Rattle.agent_session.proofs.{Own.{OwnCache.{request_own, request_says_own}, OwnKeys.request_told, OwnActions.own_at}, Courses.{RefusedCourses.{caused_refuses, refused_course}, SessionCourses.request_course}}
 use Rattle.agent_ask.specs.Worlds as worlds
 use Rattle.agent_commands.specs.Talks as talks
 
@@ -41,8 +41,8 @@ module _ {w : World} where
 
   uncut : {supply : Supply} {start now : Outside w} {events done : List (EventWith w.Port)} → CutAtLast events done → Leads (Does w supply) start done now → Uncut supply start events now
   uncut {supply} {start} {now} last leads =
-      let parts = parted last.before (subst (λ (e : List (EventWith w.Port)). Leads (Does w supply) start e now) last.done_is leads) in
-      subst (λ (e : List (EventWith w.Port)). Uncut supply start e now) (sym last.whole) (uncut_last last.sent last.unsent parts.leads parts.later)
+      let actions = parted last.before (subst (λ (e : List (EventWith w.Port)). Leads (Does w supply) start e now) last.done_is leads) in
+      subst (λ (e : List (EventWith w.Port)). Uncut supply start e now) (sym last.whole) (uncut_last last.sent last.unsent actions.leads actions.later)
 
   -- what is said of each exchange, at a desk of which this stays so
   module _ {S : Type 0} {supply : Supply} (relation : LineRelation w S) (Says : Saying w S) (Stays : w.Desk → Type 0)
@@ -79,8 +79,8 @@ module _ {w : World} where
     talk_between : {kept : S} {events : List (EventWith w.Port)} {end : SessionEnd} (before after : Outside w) → Stays before.desk → Talk relation kept events end → Leads (Does w supply) before events after
         → Talk Here (between kept before) events end
     talk_between before after so (talks.goes_on {events} line exchanged talk) (one (worlds.received known needed) leads) =
-        let parts = parted events leads in
-        talks.goes_on line (one_between line _ parts.mid so exchanged parts.leads) (talk_between parts.mid after (stays parts.leads so) talk parts.later)
+        let actions = parted events leads in
+        talks.goes_on line (one_between line _ actions.mid so exchanged actions.leads) (talk_between actions.mid after (stays actions.leads so) talk actions.later)
     talk_between before after so (talks.over line exchanged) (one (worlds.received known needed) leads) = talks.over line (one_between line _ after so exchanged leads)
     talk_between before after so talks.ended leads = talks.ended
     talk_between before after so talks.spent leads = talks.spent

@@ -10,7 +10,7 @@ pub has_right : {E : Type 0} {event : E} (first : List E) {events : List E} → 
 has_right [] has = has
 has_right (event ∷ first) has = later (has_right first has)
 
--- they stand in a list of which they are the whole, a first part, or a last one
+-- they stand in a list of which they are the whole, a first action, or a last one
 pub stand_all : {E : Type 0} (events : List E) → StandIn events events
 stand_all events = record { before = []; after = []; is = sym (append-nil events) }
 
@@ -27,7 +27,7 @@ stand_right first more stands = record {
 pub stand_tail : {E : Type 0} {whole : List E} (event : E) (more : List E) → StandIn (event ∷ more) whole → StandIn more whole
 stand_tail event more stands = stand_right (event ∷ []) more stands
 
-pub has_in : {E : Type 0} {event : E} {part whole : List E} → StandIn part whole → Has event part → Has event whole
+pub has_in : {E : Type 0} {event : E} {action whole : List E} → StandIn action whole → Has event action → Has event whole
 has_in {event} stands has = subst (λ x. Has event x) (sym stands.is) (has_right stands.before (has_left stands.after has))
 
 -- the first one is in the list

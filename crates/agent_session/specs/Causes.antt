@@ -10,7 +10,7 @@ use Rattle.{cache_policy.specs.declared.secret.TheConstants.MAX_SECRET_LEN, secr
 use Rattle.{session_options.specs.{OptionValues.{OptionValues, applied}, declared.{options.OptionAnswer.OptionAnswer, rules.Rules.Rules}}, sexp_canonical.specs.Spelling.most_bytes, sexp_keys.specs.{Key.Key, Lists.{grip_of, key_list_of}}}
 use Rattle.{sexp_keys.specs.declared.fault.KeyFault.KeyFault, agent_commands.specs.{Events.{EventWith, Inquired}, Exchanges.is_quiet, Passphrases.ask, Requests.{GetFields, get_passphrase}}}
 use Rattle.{agent_commands.specs.declared.request.{CacheCommand.TheVariants.{SetOption, PresetPassphrase, GetConfirmation}, Request.{Request, TheVariants.{Cache, Key as OnKeys, Bad}}, Texts.Texts}, key_commands.specs.Lines.max_key_data}
-use Rattle.key_commands.specs.{Faults.fault_code, Files.{FileSays, IsWithList}, KeyParts.file_in, Passphrases.{OpensBy, ask_nonce, ask_key}, Requests.key_request_of, Wrapping.WrappedSays, declared.request.KeyRequest.KeyRequest}
+use Rattle.key_commands.specs.{Faults.fault_code, Files.{FileSays, IsWithList}, KeyActions.file_in, Passphrases.{OpensBy, ask_nonce, ask_key}, Requests.key_request_of, Wrapping.WrappedSays, declared.request.KeyRequest.KeyRequest}
 use Rattle.{key_commands.specs.declared.wrapping.TheConstants.MAX_LIST_LEN, agent_origin.specs.declared.session_state.SessionState.SessionState}
 use Rattle.agent_ask.specs.Plans as plans
 use Rattle.agent_ask.specs.TrustCalls as trust_call
@@ -38,10 +38,10 @@ pub data Has {E : Type 0} (event : E) : List E → Type 0 where
   later : {first : E} {more : List E} → Has event more → Has event (first ∷ more)
 
 -- they stand among those, one after another
-pub record StandIn {E : Type 0} (part whole : List E) : Type 0 where
+pub record StandIn {E : Type 0} (action whole : List E) : Type 0 where
   pub before : List E
   pub after : List E
-  pub is : whole ≡ before ++ (part ++ after)
+  pub is : whole ≡ before ++ (action ++ after)
 
 -- ---- what single events say
 

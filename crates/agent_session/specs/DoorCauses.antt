@@ -4,7 +4,7 @@ use Rattle.std.specs.Prelude.{◌≡◌, ◌<◌, ◌⊎◌, ℕ, Bool, true, fa
 use Rattle.{agent_ask.specs.{Prompters.is_failed, TrustCalls.Read}, agent_commands.specs.Requests.request_of, agent_ports.specs.declared.{grip.Grip.Grip, trust.TrustRead.TrustRead}, arrayvec.specs.ArrayVec.ArrayVec}
 use Rattle.{session_client.specs.declared.code.Code.Code, assuan_server.specs.declared.errors.Origin.{Origin, TheVariants.{Agent, Pinentry}}, cache_policy.specs.Turns.{Stopping, Late}, key_commands.specs.Events.Event}
 use Rattle.{session_options.specs.{OptionValues.OptionValues, declared.rules.Rules.Rules}, trust_list.specs.{Trust.{trust, with_entry}, declared.TheConstants.MAX_TRUST_FILE_LEN}, agent_origin.specs.{Doors.allowed, TrustExchanges.flag_of}}
-use Rattle.agent_origin.specs.{TrustParts.{file_in, trust_called}, TrustRequests.{trust_request_of, trust_command}, declared.{door.Door.Door, session_state.SessionState.SessionState, trust.request.TrustPurpose.TrustPurpose}}
+use Rattle.agent_origin.specs.{TrustActions.{file_in, trust_called}, TrustRequests.{trust_request_of, trust_command}, declared.{door.Door.Door, session_state.SessionState.SessionState, trust.request.TrustPurpose.TrustPurpose}}
 use Rattle.{agent_origin.specs.declared.trust.request.TrustRequest.{TrustRequest, TheVariants.{IsTrusted, MarkTrusted, Bad}}, command_table.specs.{Commands.command_in, declared.commands.TrustCommandName.TrustCommandName}}
 use Rattle.agent_session.specs.Causes.{Has, HasOne, HasCall, HasTrustCall, HasTurn, IsSaid, WantsMemory, FailsAtTrust, IsCaused, is_broken, is_cancelled, is_disagreed, is_timed_out}
 use Rattle.session_client.specs.declared.code.Code.TheVariants as code

@@ -144,7 +144,7 @@ pub data IsEnd (request : Request) (IsNonce : List ℕ → Type 0) : List (Event
   cleared : {grip : Grip} {text : List ℕ} {turn : Turn} {ending : List (EventWith PortCall)} → Settles turn text → GivesBack (Sent text ∷ []) ending
       → IsEnd request IsNonce (Port (Keys (Removed grip key_done.Done)) ∷ cache_turn (Clear (grip_text grip) Normal) turn ∷ ending)
 
--- What is done for a request, from its first event to its last: its work, and its end. A failed write of its answer ends the whole session, and is no part
+-- What is done for a request, from its first event to its last: its work, and its end. A failed write of its answer ends the whole session, and is no action
 -- of this.
 pub record CourseBy (request : Request) (IsNonce : List ℕ → Type 0) (events : List (EventWith PortCall)) : Type 0 where
   pub work : List (EventWith PortCall)

@@ -1,23 +1,23 @@
--- Parts of a request on keys each of whose events is so.
+-- Actions of a request on keys each of whose events is so.
 use Rattle.std.{specs.{List.AllByRecursion, Prelude.{⊤, not, take, drop}}, proofs.Common.{◌==◌, ◌++◌, ℕ, Bool, true, false, List, [], ◌∷◌, length, codes, Option, Some, None, Result, Ok}}
 use Rattle.agent_ask.specs.{Events.PromptEvent, PortCalls.{Keys, Dice, NoMemory, Prompt, Trust}, SessionEvents.{Sent, Cut, Inquiry, Port, cache_turn, said_last}, SessionPrompts.AnyInSession}
-use Rattle.agent_ask.specs.{Parts.{◌>>=◌, goes_on, stops, Returns, returns, Refuses, needed, or_else, unless, wanted}, TurnParts.{Asks, Seats, Changes, Peeks, Closes}, ClientParts.{Writes, Inquires}, ConsentParts.AgreesTo}
+use Rattle.agent_ask.specs.{Actions.{◌>>=◌, goes_on, stops, Returns, returns, Refuses, needed, or_else, unless, wanted}, TurnActions.{Asks, Seats, Changes, Peeks, Closes}, ClientActions.{Writes, Inquires}, ConsentActions.AgreesTo}
 use Rattle.{agent_ask.proofs.Within.{Within, Joins, OfNothing, Does, does_join, bind, returned, refused, is_needed, or_otherwise, is_unless, is_wanted}, agent_ports.specs.declared.grip.Grip.Grip, assuan_server.specs.Clients.session_lines}
 use Rattle.{assuan_server.specs.Written.limit_line, session_client.specs.declared.{code.Code.Code, refusal.Refusal.{Refusal, TheVariants.Agent}}, cache_policy.specs.{Turns.Turn, declared.life.Life.TheVariants.Default}}
 use Rattle.{cache_policy.specs.declared.{mark.MarkStep.{MarkStep, TheVariants.{Close, Put, Peek}}, mode.Mode.TheVariants.{Normal, Nonce}, secret.TheConstants.MAX_SECRET_LEN}, assuan_escape.specs.Escapes.hex_text}
 use Rattle.{secret_file.specs.Opens.LockedKey, session_options.specs.{OptionValues.OptionValues, declared.rules.Rules.Rules}, sexp_keys.specs.Key.Key}
 use Rattle.key_commands.specs.{Events.{Event, IsUncalled}, Exchanges.{StoresKey, RewritesFile}, Files.Rewrites}
-use Rattle.key_commands.specs.KeyParts.{Tells, tells, ReadsFile, Replaces, Removes, KeepsNew, Protects, IsShort, HasOne, TellsKeyInfo, ListsGrips, ReadsListed, WritesInfo, WritesInfos, AsksKeyData, Unwraps, ReceivesKey, NamesKey, IsFree}
-use Rattle.key_commands.specs.{KeyParts.{LooksOver, WrapsKey}, Lines.{max_key_data, grip_text, IsNotice, of_passphrase, of_key_data, of_key}, Parts.{Part, Finds, Draws}}
+use Rattle.key_commands.specs.KeyActions.{Tells, tells, ReadsFile, Replaces, Removes, KeepsNew, Protects, IsShort, HasOne, TellsKeyInfo, ListsGrips, ReadsListed, WritesInfo, WritesInfos, AsksKeyData, Unwraps, ReceivesKey, NamesKey, IsFree}
+use Rattle.key_commands.specs.{KeyActions.{LooksOver, WrapsKey}, Lines.{max_key_data, grip_text, IsNotice, of_passphrase, of_key_data, of_key}, Actions.{Action, Finds, Draws}}
 use Rattle.key_commands.specs.Passphrases.{AsksSecret, PromptsOld, PromptsNew, ClientOld, ClientNew, LooksForNonce, TakesSeat, Locks, TriesPassphrase, TriesFound, ask_nonce, seat_for, put_key}
 use Rattle.agent_ask.specs.SessionPrompts as session
 use Rattle.session_client.specs.declared.code.Code.TheVariants as code
 use Rattle.key_commands.specs.Files as files
-use Rattle.key_commands.specs.KeyParts as parts
-use Rattle.agent_ask.specs.ClientParts as client
-use Rattle.agent_ask.specs.ConsentParts as consent
-use Rattle.agent_ask.specs.TurnParts as taken
-use Rattle.key_commands.specs.Parts as small
+use Rattle.key_commands.specs.KeyActions as actions
+use Rattle.agent_ask.specs.ClientActions as client
+use Rattle.agent_ask.specs.ConsentActions as consent
+use Rattle.agent_ask.specs.TurnActions as taken
+use Rattle.key_commands.specs.Actions as small
 use Rattle.key_commands.specs.Passphrases as passphrases
 
 -- a list, and what comes behind it
@@ -48,8 +48,8 @@ module _ (Is : Event → Type 0) where
   abbrev pub All : List Event → Type 0
   All events = AllByRecursion Is events
 
-  abbrev pub EachSo : {A : Type 0} → Part A → Type 0
-  EachSo part = Within part (Does All)
+  abbrev pub EachSo : {A : Type 0} → Action A → Type 0
+  EachSo action = Within action (Does All)
 
   each_join : {A B : Type 0} → Joins {A = A} {B = B} (Does All) (λ value. Does All) (Does All)
   each_join = does_join (each_append Is) (λ some each. each)
@@ -57,7 +57,7 @@ module _ (Is : Event → Type 0) where
   each_nothing : {A : Type 0} → OfNothing {A = A} (Does All)
   each_nothing = record { of = λ held result. tt }
 
-  pub each_bind : {A B : Type 0} {part : Part A} {next : A → Part B} → EachSo part → ((value : A) → EachSo (next value)) → EachSo (part >>= next)
+  pub each_bind : {A B : Type 0} {action : Action A} {next : A → Action B} → EachSo action → ((value : A) → EachSo (next value)) → EachSo (action >>= next)
   each_bind = bind each_join
 
   pub each_returned : {A : Type 0} (value : A) → EachSo (Returns value)
@@ -69,10 +69,10 @@ module _ (Is : Event → Type 0) where
   pub each_needed : {A : Type 0} (why : Code) (value : Option A) → EachSo (needed why value)
   each_needed = is_needed each_nothing
 
-  pub each_otherwise : {A : Type 0} (value : Option A) {other : Part A} → EachSo other → EachSo (or_else value other)
+  pub each_otherwise : {A : Type 0} (value : Option A) {other : Action A} → EachSo other → EachSo (or_else value other)
   each_otherwise = or_otherwise each_nothing
 
-  each_unless : (so : Bool) {other : Part (Unit {0})} → EachSo other → EachSo (unless so other)
+  each_unless : (so : Bool) {other : Action (Unit {0})} → EachSo other → EachSo (unless so other)
   each_unless = is_unless each_nothing
 
   pub each_wanted : (why : Code) (so : Bool) → EachSo (wanted why so)
@@ -114,11 +114,11 @@ module _ (Is : Event → Type 0) where
 
   looks_over_of : (id : Option (List ℕ)) → ((named : List ℕ) (turn : Turn) → Is (cache_turn (ask_nonce named) turn)) → (before : Option ℕ) (events : List Event) (result : Result (Option (List ℕ)) Refusal)
       (after : Option ℕ) → LooksOver id before events result after → All events
-  looks_over_of id turns before events result after parts.no_nonce = tt
-  looks_over_of id turns before events result after (parts.given can) = (turns _ _, tt)
-  looks_over_of id turns before events result after parts.empty = (turns _ _, tt)
-  looks_over_of id turns before events result after parts.stopping = (turns _ _, tt)
-  looks_over_of id turns before events result after parts.no_memory = (turns _ _, tt)
+  looks_over_of id turns before events result after actions.no_nonce = tt
+  looks_over_of id turns before events result after (actions.given can) = (turns _ _, tt)
+  looks_over_of id turns before events result after actions.empty = (turns _ _, tt)
+  looks_over_of id turns before events result after actions.stopping = (turns _ _, tt)
+  looks_over_of id turns before events result after actions.no_memory = (turns _ _, tt)
 
   pub looks_over : (id : Option (List ℕ)) → ((named : List ℕ) (turn : Turn) → Is (cache_turn (ask_nonce named) turn)) → EachSo (LooksOver id)
   looks_over id turns = record { of = looks_over_of id turns }
@@ -172,25 +172,25 @@ module _ (Is : Event → Type 0) where
     draws count = record { of = draws_of count }
 
     reads_file_of : (grip : Grip) (before : Option ℕ) (events : List Event) (result : Result _ Refusal) (after : Option ℕ) → ReadsFile grip before events result after → All events
-    reads_file_of grip before events result after (parts.is_key is says) = one _ tt
-    reads_file_of grip before events result after (parts.faulty is says) = one _ tt
-    reads_file_of grip before events result after (parts.no_memory is) = (still _ tt, one _ tt)
-    reads_file_of grip before events result after (parts.unread is) = one _ tt
+    reads_file_of grip before events result after (actions.is_key is says) = one _ tt
+    reads_file_of grip before events result after (actions.faulty is says) = one _ tt
+    reads_file_of grip before events result after (actions.no_memory is) = (still _ tt, one _ tt)
+    reads_file_of grip before events result after (actions.unread is) = one _ tt
 
     pub reads_file : (grip : Grip) → EachSo (ReadsFile grip)
     reads_file grip = record { of = reads_file_of grip }
 
     reads_listed_of : (grip : Grip) (before : Option ℕ) (events : List Event) (result : Result (Option Key) Refusal) (after : Option ℕ) → ReadsListed grip before events result after → All events
-    reads_listed_of grip before events result after (parts.is_key is says) = one _ tt
-    reads_listed_of grip before events result after (parts.faulty is says) = one _ tt
-    reads_listed_of grip before events result after parts.absent = one _ tt
-    reads_listed_of grip before events result after (parts.no_memory is) = (still _ tt, one _ tt)
-    reads_listed_of grip before events result after (parts.unread other is) = one _ tt
+    reads_listed_of grip before events result after (actions.is_key is says) = one _ tt
+    reads_listed_of grip before events result after (actions.faulty is says) = one _ tt
+    reads_listed_of grip before events result after actions.absent = one _ tt
+    reads_listed_of grip before events result after (actions.no_memory is) = (still _ tt, one _ tt)
+    reads_listed_of grip before events result after (actions.unread other is) = one _ tt
 
     lists_of : (before : Option ℕ) (events : List Event) (result : Result (List Grip) Refusal) (after : Option ℕ) → ListsGrips before events result after → All events
-    lists_of before events result after (parts.listed is) = one _ tt
-    lists_of before events result after parts.faulted = one _ tt
-    lists_of before events result after parts.no_memory = one _ tt
+    lists_of before events result after (actions.listed is) = one _ tt
+    lists_of before events result after actions.faulted = one _ tt
+    lists_of before events result after actions.no_memory = one _ tt
 
     pub lists : EachSo ListsGrips
     lists = record { of = lists_of }
@@ -203,12 +203,12 @@ module _ (Is : Event → Type 0) where
 
     protects_of : (key : Key) (pass salt iv : List ℕ) (count : ℕ) (before : Option ℕ) (events : List Event) (result : Result (List ℕ) Refusal) (after : Option ℕ)
         → Protects key pass salt iv count before events result after → All events
-    protects_of key pass salt iv count before events result after parts.made = tt
-    protects_of key pass salt iv count before events result after parts.no_memory = one _ tt
+    protects_of key pass salt iv count before events result after actions.made = tt
+    protects_of key pass salt iv count before events result after actions.no_memory = one _ tt
 
     is_short_of : (key : Key) (before : Option ℕ) (events : List Event) (result : Result (Unit {0}) Refusal) (after : Option ℕ) → IsShort key before events result after → All events
-    is_short_of key before events result after (parts.short few) = tt
-    is_short_of key before events result after (parts.long many) = tt
+    is_short_of key before events result after (actions.short few) = tt
+    is_short_of key before events result after (actions.long many) = tt
 
     pub is_short : (key : Key) → EachSo (IsShort key)
     is_short key = record { of = is_short_of key }
@@ -220,27 +220,27 @@ module _ (Is : Event → Type 0) where
     rewrites_of file list before events result after (files.no_memory extended) = one _ tt
 
     names_key_of : (key : Key) (before : Option ℕ) (events : List Event) (result : Result Grip Refusal) (after : Option ℕ) → NamesKey key before events result after → All events
-    names_key_of key before events result after (parts.named is) = tt
-    names_key_of key before events result after parts.no_memory = one _ tt
+    names_key_of key before events result after (actions.named is) = tt
+    names_key_of key before events result after actions.no_memory = one _ tt
 
     pub names_key : (key : Key) → EachSo (NamesKey key)
     names_key key = record { of = names_key_of key }
 
     wraps_key_of : (wrap : List ℕ) (key : Key) (before : Option ℕ) (events : List Event) (result : Result (List ℕ) Refusal) (after : Option ℕ) → WrapsKey wrap key before events result after → All events
-    wraps_key_of wrap key before events result after parts.is_wrapped = tt
-    wraps_key_of wrap key before events result after parts.no_memory = one _ tt
+    wraps_key_of wrap key before events result after actions.is_wrapped = tt
+    wraps_key_of wrap key before events result after actions.no_memory = one _ tt
 
     pub wraps_key : (wrap : List ℕ) (key : Key) → EachSo (WrapsKey wrap key)
     wraps_key wrap key = record { of = wraps_key_of wrap key }
 
     asks_key_data_of : (before : Option ℕ) (events : List Event) (result : Result (List ℕ) Refusal) (after : Option ℕ) → AsksKeyData before events result after → All events
-    asks_key_data_of before events result after (parts.asked inquires) = inquires_of (codes "KEYDATA") max_key_data before events result before inquires
-    asks_key_data_of before events result after (parts.no_memory at_end) = (still _ tt, one _ tt)
+    asks_key_data_of before events result after (actions.asked inquires) = inquires_of (codes "KEYDATA") max_key_data before events result before inquires
+    asks_key_data_of before events result after (actions.no_memory at_end) = (still _ tt, one _ tt)
 
     unwraps_of : (wrap wrapped : List ℕ) (before : Option ℕ) (events : List Event) (result : Result Key Refusal) (after : Option ℕ) → Unwraps wrap wrapped before events result after → All events
-    unwraps_of wrap wrapped before events result after (parts.is_key says) = tt
-    unwraps_of wrap wrapped before events result after (parts.refused says) = tt
-    unwraps_of wrap wrapped before events result after parts.no_memory = one _ tt
+    unwraps_of wrap wrapped before events result after (actions.is_key says) = tt
+    unwraps_of wrap wrapped before events result after (actions.refused says) = tt
+    unwraps_of wrap wrapped before events result after actions.no_memory = one _ tt
 
     pub receives_key : (wrap : List ℕ) → EachSo (ReceivesKey wrap)
     receives_key wrap = each_bind (record { of = writes_of (limit_line max_key_data) of_key_data }) (λ told_so. each_bind (record { of = asks_key_data_of }) (λ wrapped. record { of = unwraps_of wrap wrapped }))
@@ -271,12 +271,12 @@ module _ (Is : Event → Type 0) where
     tries_found locked (Some pass) = record { of = tries_of locked pass }
 
     replaces_of : (grip : Grip) (file : List ℕ) (before : Option ℕ) (events : List Event) (result : Result (Unit {0}) Refusal) (after : Option ℕ) → Replaces grip file before events result after → All events
-    replaces_of grip file before events result after parts.done = one _ tt
-    replaces_of grip file before events result after (parts.not_done is) = one _ tt
+    replaces_of grip file before events result after actions.done = one _ tt
+    replaces_of grip file before events result after (actions.not_done is) = one _ tt
 
     removes_of : (grip : Grip) (before : Option ℕ) (events : List Event) (result : Result (Unit {0}) Refusal) (after : Option ℕ) → Removes grip before events result after → All events
-    removes_of grip before events result after parts.done = one _ tt
-    removes_of grip before events result after (parts.not_done is) = one _ tt
+    removes_of grip before events result after actions.done = one _ tt
+    removes_of grip before events result after (actions.not_done is) = one _ tt
 
     pub removes : (grip : Grip) → EachSo (Removes grip)
     removes grip = record { of = removes_of grip }
@@ -358,7 +358,7 @@ module _ (Is : Event → Type 0) where
         pub agrees_to : EachSo (AgreesTo session_lines rules options question)
         agrees_to = record { of = agrees_of }
 
-  -- ---- what follows a request's parts
+  -- ---- what follows a request's actions
 
   module _ (gives_back : (number : ℕ) (turn : Turn) → Is (cache_turn (Close number None) turn)) where
     -- a ticket that is held then is given back

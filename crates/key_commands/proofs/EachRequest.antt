@@ -1,19 +1,19 @@
 -- Requests on keys each of whose events is so, where each event but a read request and a call of the trust file is so.
 use Rattle.std.{proofs.Common.{◌≡◌, ◌∙◌, ℕ, Bool, true, false, List, ◌++◌, Option, Some, None, Result, Ok, Err, []}, specs.Prelude.⊤}
-use Rattle.agent_ask.specs.{PortCalls.{Prompt, Trust}, SessionEvents.{Received, Sent, CacheTurn, Port, cache_turn}, ConsentParts.{AgreesTo, PromptsConsent}, PartExchanges.{AnyReply, AnyExchange}, Parts.◌>>=◌, PinParts.PromptsPin}
+use Rattle.agent_ask.specs.{PortCalls.{Prompt, Trust}, SessionEvents.{Received, Sent, CacheTurn, Port, cache_turn}, ConsentActions.{AgreesTo, PromptsConsent}, ActionExchanges.{AnyReply, AnyExchange}, Actions.◌>>=◌, PinActions.PromptsPin}
 use Rattle.agent_ask.{specs.declared.{ask.Asked.Asked, consent.Agreed.Agreed, spec.{AskPlan.AskPlan, PromptSpec.PromptSpec}}, proofs.Within.{Within, OfNothing, Does, does_join, weaker, bind, or_otherwise}}
 use Rattle.{assuan_server.specs.Clients.session_lines, cache_policy.specs.{Turns.Turn, declared.{mark.MarkStep.{MarkStep, TheVariants.Peek}, mode.Mode.TheVariants.Normal}}, session_client.specs.declared.refusal.Refusal.Refusal}
 use Rattle.{session_client.specs.declared.{refusal.Refusal.TheVariants.Agent, client_error.Gone.Gone}, agent_ports.specs.declared.grip.Grip.Grip, secret_file.specs.Opens.LockedKey}
 use Rattle.{session_options.specs.{OptionValues.{OptionValues, EnvWords, words_of}, declared.{options.PinMode.PinMode, rules.Rules.Rules}}, sexp_keys.specs.Key.Key}
-use Rattle.key_commands.specs.{Parts.Part, Events.Event}
+use Rattle.key_commands.specs.{Actions.Action, Events.Event}
 use Rattle.key_commands.specs.Exchanges.{KeyExchange, HaveKeyReplies, KeyInfoReplies, ListKeysReplies, KeyWrapReplies, ImportKeyReplies, ExportKeyReplies, PasswdReplies, VerifyReplies, DeleteKeyReplies, KeyReplies, wrap_key, FoundOrNew}
-use Rattle.key_commands.specs.{Exchanges.{RenewsPassphrase, ChangesOpened}, Lines.{IsNotice, grip_text}, KeyParts.Consents, Passphrases.{PromptsOld, PromptsNew, UncachedOld, OpensLocked, old_by, verified_by, new_by}}
+use Rattle.key_commands.specs.{Exchanges.{RenewsPassphrase, ChangesOpened}, Lines.{IsNotice, grip_text}, KeyActions.Consents, Passphrases.{PromptsOld, PromptsNew, UncachedOld, OpensLocked, old_by, verified_by, new_by}}
 use Rattle.key_commands.specs.declared.{request.KeyRequest.KeyRequest, went.KeyWent.KeyWent, keywrap_key.WrapKeys.WrapKeys}
 use Rattle.key_commands.proofs.EachEvent.{IsStill, All, each_append, each_shown, each_answer, EachSo, each_bind, each_returned, each_refused, each_needed, each_otherwise, each_wanted, each_looks, each_seats, each_changes, looks_nonce}
 use Rattle.key_commands.proofs.EachEvent.{looks_over, takes_seat, each_closes, finds, draws, reads_file, lists, told, is_short, names_key, wraps_key, receives_key, is_free, has_one, locks, tries_found, removes, tells_info, writes_infos}
 use Rattle.key_commands.proofs.EachEvent.{client_old, rewrites_file, stores_key, client_new}
-use Rattle.agent_ask.specs.ConsentParts as consent
-use Rattle.agent_ask.specs.PartExchanges as exchange
+use Rattle.agent_ask.specs.ConsentActions as consent
+use Rattle.agent_ask.specs.ActionExchanges as exchange
 use Rattle.session_client.specs.declared.code.Code.TheVariants as code
 use Rattle.session_options.specs.declared.options.PinMode.TheVariants as mode
 use Rattle.key_commands.specs.Passphrases as passphrases
@@ -87,13 +87,13 @@ each_carries Is every = record {
 }
 
 module _ {env : EnvWords} {Is : Event → Type 0} {So : List Event → Type 0} (law : Carries env Is So) where
-  abbrev Here : {A : Type 0} → Part A → Type 0
-  Here part = Within part (Does So)
+  abbrev Here : {A : Type 0} → Action A → Type 0
+  Here action = Within action (Does So)
 
-  pub so : {A : Type 0} {part : Part A} → EachSo Is part → Here part
+  pub so : {A : Type 0} {action : Action A} → EachSo Is action → Here action
   so = weaker (record { of = λ before events result after each. law.each events each })
 
-  pub then : {A B : Type 0} {part : Part A} {next : A → Part B} → Here part → ((value : A) → Here (next value)) → Here (part >>= next)
+  pub then : {A B : Type 0} {action : Action A} {next : A → Action B} → Here action → ((value : A) → Here (next value)) → Here (action >>= next)
   then = bind (does_join law.behind (λ some one. one))
 
   pub nothing : {A : Type 0} → OfNothing {A = A} (Does So)
@@ -193,12 +193,12 @@ module _ {env : EnvWords} {Is : Event → Type 0} {So : List Event → Type 0} (
 
   -- all that is done for one, where its answer is so
   module _ (said : (text : List ℕ) → Is (Sent text)) where
-    pub whole : {S W : Type 0} {refusal_text : Refusal → Option (List ℕ)} {went_after : Option Gone → W} {parts : Part (AnyReply S W)} {before after : S} {events : List Event} {went : W} → Here parts
-        → AnyExchange refusal_text went_after parts before events after went → So events
-    whole parts (exchange.answered events held reply does closes) =
-        law.behind events _ (parts.of None events (Ok reply) held does) (law.each _ (each_answer Is (λ number. law.turns _) said (Some reply.text) closes))
-    whole {refusal_text} parts (exchange.refused events held why does closes) =
-        law.behind events _ (parts.of None events (Err why) held does) (law.each _ (each_answer Is (λ number. law.turns _) said (refusal_text why) closes))
+    pub whole : {S W : Type 0} {refusal_text : Refusal → Option (List ℕ)} {went_after : Option Gone → W} {actions : Action (AnyReply S W)} {before after : S} {events : List Event} {went : W} → Here actions
+        → AnyExchange refusal_text went_after actions before events after went → So events
+    whole actions (exchange.answered events held reply does closes) =
+        law.behind events _ (actions.of None events (Ok reply) held does) (law.each _ (each_answer Is (λ number. law.turns _) said (Some reply.text) closes))
+    whole {refusal_text} actions (exchange.refused events held why does closes) =
+        law.behind events _ (actions.of None events (Err why) held does) (law.each _ (each_answer Is (λ number. law.turns _) said (refusal_text why) closes))
 
     pub key_whole : (rules : Rules) (options : OptionValues) → options.env ≡ env → (wraps : WrapKeys) (asked : KeyRequest) {events : List Event} {after : WrapKeys} {went : KeyWent} → KeyExchange rules options wraps asked events after went → So events
     key_whole rules options same wraps asked = whole (key_replies rules options same wraps asked)

@@ -1,9 +1,9 @@
 -- Keys that are listed.
 use Rattle.std.proofs.{Common.{◌≡◌, ◌⊎◌, ◌≤◌, ◌<◌, ◌+◌, ℕ, true, false, List, [], ◌∷◌, length, drop, get_or, map, Option, Some, Result, Ok, Err, inl, inr, refl, ap, sym, ◌∙◌, subst, add-one}, Math.Seq.drop-cons, lemmas.List.drop_all}
-use Rattle.{agent_ask.{specs.{Events.Call, PortCalls.{Read, DoesKeys}, Parts.{returns, refuses}}, proofs.PartsDone.{part_then, part_stops}}, agent_ports.specs.{KeyFiles.KeyFiles, declared.{grip.Grip.Grip, keys.KeyRead.KeyRead}}}
+use Rattle.{agent_ask.{specs.{Events.Call, PortCalls.{Read, DoesKeys}, Actions.{returns, refuses}}, proofs.ActionsDone.{action_then, action_stops}}, agent_ports.specs.{KeyFiles.KeyFiles, declared.{grip.Grip.Grip, keys.KeyRead.KeyRead}}}
 use Rattle.{session_client.specs.declared.{code.Code.TheVariants.NoSecKey, refusal.Refusal.{Refusal, TheVariants.Agent}}, cache_policy.specs.{declared.mark.MarkStep.MarkStep, Turns.Turn}, sexp_keys.specs.declared.fault.KeyFault.KeyFault}
 use Rattle.sexp_keys.specs.declared.fault.KeyFault.TheVariants.{InvSexp, BadSecKey, Shadowed, NotSupported, NoMemory}
-use Rattle.key_commands.specs.{Files.FileSays, KeyParts.{file_in, ReadsListed, faulty, no_memory, HasOne, TellsListed, WritesInfos}, Parts.Finds, Partial.DoesKeyPart, States.KeyState, Steps.{DoesKeyCalls, unlisted}}
+use Rattle.key_commands.specs.{Files.FileSays, KeyActions.{file_in, ReadsListed, faulty, no_memory, HasOne, TellsListed, WritesInfos}, Actions.Finds, Partial.DoesKeyAction, States.KeyState, Steps.{DoesKeyCalls, unlisted}}
 use Rattle.key_commands.proofs.Doing.{one_call, one_call_of_memory, calls_then, calls_stop, no_calls}
 
 -- a listed key's file was read, and has this fault
@@ -56,18 +56,18 @@ module _ {D P : Type 0} {turned : D → MarkStep → Turn → D → Type 0} {pro
   module _ (grip : Grip) (within : i < length grips) where
     -- the client was told of the key there, and then of the later ones
     pub tells_on : {held mid after : Option ℕ} {start between now : KeyState turned prompted} {result : Result (Unit {0}) Refusal}
-        → DoesKeyPart turned prompted (TellsListed (get_or grips i grip)) held start (Ok tt) mid between
-        → DoesKeyPart turned prompted (WritesInfos (drop (i + 1) grips)) mid between result after now → DoesKeyPart turned prompted (WritesInfos (drop i grips)) held start result after now
+        → DoesKeyAction turned prompted (TellsListed (get_or grips i grip)) held start (Ok tt) mid between
+        → DoesKeyAction turned prompted (WritesInfos (drop (i + 1) grips)) mid between result after now → DoesKeyAction turned prompted (WritesInfos (drop i grips)) held start result after now
     tells_on {held} {after} {start} {now} {result} one later =
-        subst (λ (left : List Grip). DoesKeyPart turned prompted (WritesInfos left) held start result after now) (sym (next_key grips i grip within)) (part_then one later)
+        subst (λ (left : List Grip). DoesKeyAction turned prompted (WritesInfos left) held start result after now) (sym (next_key grips i grip within)) (action_then one later)
 
     -- it couldn't be
-    pub tells_in_vain : {held after : Option ℕ} {start now : KeyState turned prompted} {why : Refusal} → DoesKeyPart turned prompted (TellsListed (get_or grips i grip)) held start (Err why) after now
-        → DoesKeyPart turned prompted (WritesInfos (drop i grips)) held start (Err why) after now
+    pub tells_in_vain : {held after : Option ℕ} {start now : KeyState turned prompted} {why : Refusal} → DoesKeyAction turned prompted (TellsListed (get_or grips i grip)) held start (Err why) after now
+        → DoesKeyAction turned prompted (WritesInfos (drop i grips)) held start (Err why) after now
     tells_in_vain {held} {after} {start} {now} {why} one =
-        subst (λ (left : List Grip). DoesKeyPart turned prompted (WritesInfos left) held start (Err why) after now) (sym (next_key grips i grip within)) (part_stops one)
+        subst (λ (left : List Grip). DoesKeyAction turned prompted (WritesInfos left) held start (Err why) after now) (sym (next_key grips i grip within)) (action_stops one)
 
   -- no key is left
-  pub tells_none : {held : Option ℕ} {now : KeyState turned prompted} → length grips ≤ i → DoesKeyPart turned prompted (WritesInfos []) held now (Ok tt) held now
-      → DoesKeyPart turned prompted (WritesInfos (drop i grips)) held now (Ok tt) held now
-  tells_none {held} {now} past returns_so = subst (λ (left : List Grip). DoesKeyPart turned prompted (WritesInfos left) held now (Ok tt) held now) (sym (drop_all i grips past)) returns_so
+  pub tells_none : {held : Option ℕ} {now : KeyState turned prompted} → length grips ≤ i → DoesKeyAction turned prompted (WritesInfos []) held now (Ok tt) held now
+      → DoesKeyAction turned prompted (WritesInfos (drop i grips)) held now (Ok tt) held now
+  tells_none {held} {now} past returns_so = subst (λ (left : List Grip). DoesKeyAction turned prompted (WritesInfos left) held now (Ok tt) held now) (sym (drop_all i grips past)) returns_so

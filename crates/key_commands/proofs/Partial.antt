@@ -1,9 +1,9 @@
--- Parts that have nothing to do with some ends of a session, with these beside.
+-- Actions that have nothing to do with some ends of a session, with these beside.
 use Rattle.std.proofs.Common.{ℕ, Option, Result}
-use Rattle.{agent_ask.{specs.{Doing.{DoesCall, called, out_of_memory}, Events.{Call, PromptEvent}, PortCalls.{PortCall, Prompt}, PartStates.{part_state, DoesPart, DoesPrompts, prompts, NoTurn}}, proofs.{PartsDone.part_in, Replying.carries_in}}, agent_ports.specs.KeyFiles.KeyFiles}
+use Rattle.{agent_ask.{specs.{Doing.{DoesCall, called, out_of_memory}, Events.{Call, PromptEvent}, PortCalls.{PortCall, Prompt}, ActionStates.{action_state, DoesAction, DoesPrompts, prompts, NoTurn}}, proofs.{ActionsDone.action_in, Replying.carries_in}}, agent_ports.specs.KeyFiles.KeyFiles}
 use Rattle.{agent_ports.specs.Sides.Side, assuan_server.specs.{Clients.connection_views, Connections.Connection}, cache_policy.specs.{declared.mark.MarkStep.MarkStep, Turns.Turn}, session_client.specs.declared.refusal.Refusal.Refusal}
-use Rattle.key_commands.specs.{Exchanges.KeyReply, KeyEnds.{KeyEnds, DoesAtKeys, prompt, keys, dice, no_memory}, Parts.Part}
-use Rattle.key_commands.specs.{Partial.{DoesKeyPart, NoCall, DoesBesideKeys, prompt as prompt_beside, no_memory as no_memory_beside, LeavesKeys, DoesAtPrompter, DoesAtDesk, DoesAtClient}, Replies.CarriesOut, States.{KeyState, key_state}}
+use Rattle.key_commands.specs.{Exchanges.KeyReply, KeyEnds.{KeyEnds, DoesAtKeys, prompt, keys, dice, no_memory}, Actions.Action}
+use Rattle.key_commands.specs.{Partial.{DoesKeyAction, NoCall, DoesBesideKeys, prompt as prompt_beside, no_memory as no_memory_beside, LeavesKeys, DoesAtPrompter, DoesAtDesk, DoesAtClient}, Replies.CarriesOut, States.{KeyState, key_state}}
 use Rattle.key_commands.specs.declared.{reply.Reply.Reply, keywrap_key.WrapKeys.WrapKeys}
 
 module _ {P : Type 0} {prompted : P → Call → P → Type 0} where
@@ -33,60 +33,60 @@ module _ {P : Type 0} {prompted : P → Call → P → Type 0} where
   none_at_keys prompter before after what no_memory = no_memory
 
 module _ {D P : Type 0} {turned : D → MarkStep → Turn → D → Type 0} {prompted : P → Call → P → Type 0} where
-  module _ {A : Type 0} {part : Part A} {result : Result A Refusal} {conn conn_now : Connection} where
+  module _ {A : Type 0} {action : Action A} {result : Result A Refusal} {conn conn_now : Connection} where
     -- one without a desk
-    pub beside_prompter : {held : Option ℕ} {desk : D} {prompter prompter_now : P} → DoesAtPrompter part prompted held conn prompter result conn_now prompter_now
-        → LeavesKeys turned prompted part held conn desk prompter result held conn_now desk prompter_now
+    pub beside_prompter : {held : Option ℕ} {desk : D} {prompter prompter_now : P} → DoesAtPrompter action prompted held conn prompter result conn_now prompter_now
+        → LeavesKeys turned prompted action held conn desk prompter result held conn_now desk prompter_now
     beside_prompter {desk} done =
-        part_in connection_views NoTurn (DoesBesideKeys prompted) turned (DoesBesideKeys prompted) (λ none. desk) (λ same. same) (λ before after step turn never. absurd never) (λ before after what does. does) done
+        action_in connection_views NoTurn (DoesBesideKeys prompted) turned (DoesBesideKeys prompted) (λ none. desk) (λ same. same) (λ before after step turn never. absurd never) (λ before after what does. does) done
 
     -- one at which the prompter is the only port
     pub beside_prompts : {before after : Option ℕ} {desk desk_now : D} {prompter prompter_now : P}
-        → DoesPart connection_views turned (DoesPrompts prompted) part before (part_state connection_views turned (DoesPrompts prompted) conn desk prompter) result after
-        (part_state connection_views turned (DoesPrompts prompted) conn_now desk_now prompter_now)
-        → LeavesKeys turned prompted part before conn desk prompter result after conn_now desk_now prompter_now
+        → DoesAction connection_views turned (DoesPrompts prompted) action before (action_state connection_views turned (DoesPrompts prompted) conn desk prompter) result after
+        (action_state connection_views turned (DoesPrompts prompted) conn_now desk_now prompter_now)
+        → LeavesKeys turned prompted action before conn desk prompter result after conn_now desk_now prompter_now
     beside_prompts done =
-        part_in connection_views turned (DoesPrompts prompted) turned (DoesBesideKeys prompted) (λ same. same) (λ same. same) (λ before after step turn does. does) prompts_beside done
+        action_in connection_views turned (DoesPrompts prompted) turned (DoesBesideKeys prompted) (λ same. same) (λ same. same) (λ before after step turn does. does) prompts_beside done
 
     -- one without a prompter
-    pub beside_desk : {before after : Option ℕ} {desk desk_now : D} {prompter : P} → DoesAtDesk part turned before conn desk result after conn_now desk_now
-        → LeavesKeys turned prompted part before conn desk prompter result after conn_now desk_now prompter
+    pub beside_desk : {before after : Option ℕ} {desk desk_now : D} {prompter : P} → DoesAtDesk action turned before conn desk result after conn_now desk_now
+        → LeavesKeys turned prompted action before conn desk prompter result after conn_now desk_now prompter
     beside_desk {prompter} done =
-        part_in connection_views turned (DoesBesideKeys NoCall) turned (DoesBesideKeys prompted) (λ same. same) (λ none. prompter) (λ before after step turn does. does) (none_beside prompter) done
+        action_in connection_views turned (DoesBesideKeys NoCall) turned (DoesBesideKeys prompted) (λ same. same) (λ none. prompter) (λ before after step turn does. does) (none_beside prompter) done
 
     -- one with the client alone
-    pub beside_memory : {held : Option ℕ} {desk : D} {prompter : P} → DoesAtClient part conn result conn_now → LeavesKeys turned prompted part held conn desk prompter result held conn_now desk prompter
+    pub beside_memory : {held : Option ℕ} {desk : D} {prompter : P} → DoesAtClient action conn result conn_now → LeavesKeys turned prompted action held conn desk prompter result held conn_now desk prompter
     beside_memory {held} {desk} {prompter} done =
-        part_in connection_views NoTurn (DoesBesideKeys NoCall) turned (DoesBesideKeys prompted) (λ none. desk) (λ none. prompter) (λ before after step turn never. absurd never) (none_beside prompter) (done held)
+        action_in connection_views NoTurn (DoesBesideKeys NoCall) turned (DoesBesideKeys prompted) (λ none. desk) (λ none. prompter) (λ before after step turn never. absurd never) (none_beside prompter) (done held)
 
     -- one without the keys and the dice
     pub beside_keys : {before after : Option ℕ} {desk desk_now : D} {prompter prompter_now : P} {files : KeyFiles} {side : Side}
-        → LeavesKeys turned prompted part before conn desk prompter result after conn_now desk_now prompter_now
-        → DoesKeyPart turned prompted part before (key_state turned prompted conn desk prompter files side) result after (key_state turned prompted conn_now desk_now prompter_now files side)
+        → LeavesKeys turned prompted action before conn desk prompter result after conn_now desk_now prompter_now
+        → DoesKeyAction turned prompted action before (key_state turned prompted conn desk prompter files side) result after (key_state turned prompted conn_now desk_now prompter_now files side)
     beside_keys {files} {side} done =
-        part_in connection_views turned (DoesBesideKeys prompted) turned (DoesAtKeys prompted) (λ same. same) (λ prompter. record { prompter = prompter; keys = files; dice = side }) (λ before after step turn does. does)
+        action_in connection_views turned (DoesBesideKeys prompted) turned (DoesAtKeys prompted) (λ same. same) (λ prompter. record { prompter = prompter; keys = files; dice = side }) (λ before after step turn does. does)
         (keys_beside files side) done
 
-  -- a part of which no prompter is called, with one beside
-  pub with_prompter : {A : Type 0} {part : Part A} {result : Result A Refusal} {before after : Option ℕ} {start now : KeyState turned NoCall} {prompter : P} → DoesKeyPart turned NoCall part before start result after now
-      → DoesKeyPart turned prompted part before (key_state turned prompted start.conn start.desk prompter start.ends.keys start.ends.dice) result after
+  -- an action of which no prompter is called, with one beside
+  pub with_prompter : {A : Type 0} {action : Action A} {result : Result A Refusal} {before after : Option ℕ} {start now : KeyState turned NoCall} {prompter : P} → DoesKeyAction turned NoCall action before start result after now
+      → DoesKeyAction turned prompted action before (key_state turned prompted start.conn start.desk prompter start.ends.keys start.ends.dice) result after
       (key_state turned prompted now.conn now.desk prompter now.ends.keys now.ends.dice)
   with_prompter {prompter} done =
-      part_in connection_views turned (DoesAtKeys NoCall) turned (DoesAtKeys prompted) (λ same. same) (λ none. record { prompter = prompter; keys = none.keys; dice = none.dice }) (λ before after step turn does. does)
+      action_in connection_views turned (DoesAtKeys NoCall) turned (DoesAtKeys prompted) (λ same. same) (λ none. record { prompter = prompter; keys = none.keys; dice = none.dice }) (λ before after step turn does. does)
       (none_at_keys prompter) done
 
   -- all of a request but its reply, of which no prompter is called
-  module _ {part : Part KeyReply} {before after : WrapKeys} {held : Option ℕ} {answer : Result Reply Refusal} where
-    pub carries_beside : {start now : KeyState turned NoCall} {prompter : P} → CarriesOut turned NoCall part before start answer after held now
-        → CarriesOut turned prompted part before (key_state turned prompted start.conn start.desk prompter start.ends.keys start.ends.dice) answer after held
+  module _ {action : Action KeyReply} {before after : WrapKeys} {held : Option ℕ} {answer : Result Reply Refusal} where
+    pub carries_beside : {start now : KeyState turned NoCall} {prompter : P} → CarriesOut turned NoCall action before start answer after held now
+        → CarriesOut turned prompted action before (key_state turned prompted start.conn start.desk prompter start.ends.keys start.ends.dice) answer after held
         (key_state turned prompted now.conn now.desk prompter now.ends.keys now.ends.dice)
     carries_beside {prompter} done =
         carries_in turned (DoesAtKeys NoCall) turned (DoesAtKeys prompted) (λ same. same) (λ none. record { prompter = prompter; keys = none.keys; dice = none.dice }) (λ before after step turn does. does)
         (none_at_keys prompter) done
 
     -- nor is a turn taken
-    pub carries_beside_desk : {start now : KeyState NoTurn NoCall} {desk : D} {prompter : P} → CarriesOut NoTurn NoCall part before start answer after held now
-        → CarriesOut turned prompted part before (key_state turned prompted start.conn desk prompter start.ends.keys start.ends.dice) answer after held
+    pub carries_beside_desk : {start now : KeyState NoTurn NoCall} {desk : D} {prompter : P} → CarriesOut NoTurn NoCall action before start answer after held now
+        → CarriesOut turned prompted action before (key_state turned prompted start.conn desk prompter start.ends.keys start.ends.dice) answer after held
         (key_state turned prompted now.conn desk prompter now.ends.keys now.ends.dice)
     carries_beside_desk {desk} {prompter} done =
         carries_in NoTurn (DoesAtKeys NoCall) turned (DoesAtKeys prompted) (λ none. desk) (λ none. record { prompter = prompter; keys = none.keys; dice = none.dice }) (λ before after step turn never. absurd never)

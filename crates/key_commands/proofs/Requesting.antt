@@ -1,9 +1,9 @@
 -- Requests for whose reply all was done, new passphrases that are kept, and clear keys, which need no passphrase.
 use Rattle.std.proofs.Common.{◌≡◌, ℕ, Bool, true, false, List, [], Option, Some, None, Result, Ok, is_some, refl}
-use Rattle.{agent_ask.{specs.{Events.Call, PartReplies.comes_to, Parts.returns, PartStates.{still, one}, Seats.GivesTicket, TurnParts.{Changes, Closes}}, proofs.PartsDone.ticket_given}, agent_ports.specs.declared.grip.Grip.Grip}
+use Rattle.{agent_ask.{specs.{Events.Call, ActionReplies.comes_to, Actions.returns, ActionStates.{still, one}, Seats.GivesTicket, TurnActions.{Changes, Closes}}, proofs.ActionsDone.ticket_given}, agent_ports.specs.declared.grip.Grip.Grip}
 use Rattle.{cache_policy.specs.{declared.mark.MarkStep.MarkStep, Turns.Turn}, session_client.specs.declared.{refusal.Refusal.Refusal, client_error.Gone.Gone}, session_options.specs.{OptionValues.OptionValues, declared.rules.Rules.Rules}}
 use Rattle.{sexp_keys.specs.Key.Key, assuan_server.specs.Written.ok}
-use Rattle.key_commands.specs.{Exchanges.{KeyReply, key_reply}, KeyParts.KeepsNew, Parts.{Part, key_went_after, key_gone}, Passphrases.{put_key, old_by, verified_by}, Replies.CarriesOut, Partial.DoesKeyPart, States.KeyState}
+use Rattle.key_commands.specs.{Exchanges.{KeyReply, key_reply}, KeyActions.KeepsNew, Actions.{Action, key_went_after, key_gone}, Passphrases.{put_key, old_by, verified_by}, Replies.CarriesOut, Partial.DoesKeyAction, States.KeyState}
 use Rattle.key_commands.specs.{Steps.{TakesTurn, TakesTurns}, declared.keywrap_key.WrapKeys.WrapKeys}
 use Rattle.key_commands.specs.declared.reply.Reply.TheVariants as replies
 
@@ -13,8 +13,8 @@ gone_as_it_went None = refl
 gone_as_it_went (Some how) = refl
 
 -- a request whose reply is OK alone
-pub replies_ok : {D P : Type 0} {turned : D → MarkStep → Turn → D → Type 0} {prompted : P → Call → P → Type 0} {part : Part KeyReply} {before after : WrapKeys} {held : Option ℕ}
-    {start now : KeyState turned prompted} → DoesKeyPart turned prompted part None start (Ok (key_reply after ok)) held now → CarriesOut turned prompted part before start (Ok replies.Ok) after held now
+pub replies_ok : {D P : Type 0} {turned : D → MarkStep → Turn → D → Type 0} {prompted : P → Call → P → Type 0} {action : Action KeyReply} {before after : WrapKeys} {held : Option ℕ}
+    {start now : KeyState turned prompted} → DoesKeyAction turned prompted action None start (Ok (key_reply after ok)) held now → CarriesOut turned prompted action before start (Ok replies.Ok) after held now
 replies_ok carried = comes_to {answer = replies.Ok} (λ text is. rw is carried)
 
 module _ {D : Type 0} {turned : D → MarkStep → Turn → D → Type 0} (grip : Grip) (pass : List ℕ) {desk : D} where

@@ -27,9 +27,9 @@ padding_true count few = and_from _ _ (lt-ltb (length (replicate count 0)) 8 (rw
 
 -- the expression is read at the front of the bytes
 reads_at_front : (bytes expression : List ℕ) (zeros : ℕ) (tree : Sexp) → bytes ≡ expression ++ replicate zeros 0 → IsReadable expression tree → ReadsCanonical bytes (Ok (tree, length expression))
-reads_at_front bytes expression zeros tree parts read = (
-  omega (arith, ap length parts, length-append expression (replicate zeros 0)),
-  subst (λ (text : List ℕ). IsReadable text tree) (sym (ap (take (length expression)) parts ∙ take-append_seam expression (replicate zeros 0))) read,
+reads_at_front bytes expression zeros tree actions read = (
+  omega (arith, ap length actions, length-append expression (replicate zeros 0)),
+  subst (λ (text : List ℕ). IsReadable text tree) (sym (ap (take (length expression)) actions ∙ take-append_seam expression (replicate zeros 0))) read,
 )
 
 -- how the reader answers, by what it says of these bytes

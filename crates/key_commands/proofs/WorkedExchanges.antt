@@ -1,7 +1,7 @@
 -- A row of each request on keys that prompts nobody: what is done and written for it.
 use Rattle.std.{specs.Prelude.{◌≡◌, ◌≤◌, ◌==◌, not, ℕ, true, false, List, [], ◌∷◌, ◌++◌, length, take, drop, replicate, codes, Some, None, Ok, refl}, proofs.Common.{sym, subst}}
-use Rattle.agent_ask.specs.{ClientParts.{written, given as sent}, PortCalls.{Listed, Replaced, Removed}, SessionEvents.{Sent, Inquiry, cache_turn}, PartExchanges.{answered, refused}, Parts.{goes_on, stops, returns, refuses, wanted}}
-use Rattle.{agent_ask.specs.TurnParts.{given, empty, peeked, unheld, done}, agent_ports.specs.declared.{grip.Grip.Grip, keys.{KeyDone.TheVariants.Done as IsDone, KeyRead.{KeyRead, TheVariants.{Found, Absent}}, KeyNames.KeyNames}}}
+use Rattle.agent_ask.specs.{ClientActions.{written, given as sent}, PortCalls.{Listed, Replaced, Removed}, SessionEvents.{Sent, Inquiry, cache_turn}, ActionExchanges.{answered, refused}, Actions.{goes_on, stops, returns, refuses, wanted}}
+use Rattle.{agent_ask.specs.TurnActions.{given, empty, peeked, unheld, done}, agent_ports.specs.declared.{grip.Grip.Grip, keys.{KeyDone.TheVariants.Done as IsDone, KeyRead.{KeyRead, TheVariants.{Found, Absent}}, KeyNames.KeyNames}}}
 use Rattle.{assuan_server.specs.{Inquiries.Data, Written.{failed, ok, limit_line, IsDataAnswer}}, session_client.specs.declared.{code.Code.TheVariants.{NoSecKey, Parameter, General, FileExists, BadPass}, refusal.Refusal.TheVariants.Agent}}
 use Rattle.{session_client.specs.Asking.Asked, cache_policy.specs.declared.{grant.Grant.Grant, mark.{MarkStep.TheVariants.{Peek, Put, Clear}, Way.TheVariants.Quiet}, mode.Mode.TheVariants.{Normal, Nonce}, life.Life.TheVariants.Default}}
 use Rattle.{cache_policy.specs.{declared.secret.TheConstants.MAX_SECRET_LEN, Turns.{Given, Empty, Held, Done, FitsStep}}, assuan_escape.specs.Escapes.hex_text, secret_file.specs.Opens.{LockedKey, IsLocked, OpensTo}}
@@ -9,8 +9,8 @@ use Rattle.{secret_file.specs.Protects.{ocb_protection, protected_file}, session
 use Rattle.sexp_keys.specs.{Key.Key, Lists.{key_list_of, grip_of}, declared.algorithm.Algorithm.Algorithm}
 use Rattle.key_commands.specs.{Wrapping.{wrapped_key, WrappedSays}, Events.{Event, called, read, drew, not_drawn}}
 use Rattle.key_commands.specs.Exchanges.{KeyExchange, key_reply, with_wrap_key, HaveKeyReplies, KeyInfoReplies, ListKeysReplies, KeyWrapReplies, ImportKeyReplies, ExportKeyReplies, PasswdReplies, RewritesFile, DeleteKeyReplies}
-use Rattle.key_commands.specs.{Files.{FileSays, canonical_file}, KeyParts.{is_key, file_in, grips_in, tells, short, made, done as replaced, listed, named, asked, is_wrapped, ReadsListed, LooksOver, Unwraps, Removes}}
-use Rattle.key_commands.specs.{Lines.{info_line, grip_text, nonce_line, max_key_data}, Parts.{found, absent, drawn, faulted}, Passphrases.{ask_nonce, ask_key, put_key, is_locked, opens, OpensLocked, ClientOld, ClientNew}}
+use Rattle.key_commands.specs.{Files.{FileSays, canonical_file}, KeyActions.{is_key, file_in, grips_in, tells, short, made, done as replaced, listed, named, asked, is_wrapped, ReadsListed, LooksOver, Unwraps, Removes}}
+use Rattle.key_commands.specs.{Lines.{info_line, grip_text, nonce_line, max_key_data}, Actions.{found, absent, drawn, faulted}, Passphrases.{ask_nonce, ask_key, put_key, is_locked, opens, OpensLocked, ClientOld, ClientNew}}
 use Rattle.key_commands.specs.declared.{request.{Direction.TheVariants.Import, KeyRequest.TheVariants.{HaveKey, KeyInfo, ListKeys, KeyWrap, ImportKey, ExportKey, Passwd, DeleteKey}}, wrapping.TheConstants.MAX_LIST_LEN}
 use Rattle.key_commands.specs.declared.{went.KeyWent.TheVariants.On, keywrap_key.WrapKeys.WrapKeys}
 use Rattle.session_options.specs.declared.options.PinMode.TheVariants as mode

@@ -1,7 +1,7 @@
 -- A row of each request on keys that prompts the user: what is done and written for it, in order.
 use Rattle.std.{specs.Prelude.{◌≡◌, ◌≤◌, ◌++◌, ℕ, true, false, List, [], ◌∷◌, length, take, drop, codes, Some, None, Ok, refl}, proofs.Common.arith}
-use Rattle.agent_ask.specs.{ClientParts.{written, given as sent}, Events.{Call, Start, GetPin, Confirm, Shut}, PortCalls.{Replaced, Removed}, PartExchanges.{answered, refused}, Parts.{goes_on, stops, returns}, Plans.{IsSpec, text}}
-use Rattle.agent_ask.specs.{Prompts.{MeetsCheck, typed, Tries, IsTry, Repeats}, SessionEvents.{Sent, Inquiry, cache_turn}, Tests.test_of, TurnParts.{Asks, Seats, done, unheld, closed}, declared.prompter.Outcome.TheVariants.Pin}
+use Rattle.agent_ask.specs.{ClientActions.{written, given as sent}, Events.{Call, Start, GetPin, Confirm, Shut}, PortCalls.{Replaced, Removed}, ActionExchanges.{answered, refused}, Actions.{goes_on, stops, returns}, Plans.{IsSpec, text}}
+use Rattle.agent_ask.specs.{Prompts.{MeetsCheck, typed, Tries, IsTry, Repeats}, SessionEvents.{Sent, Inquiry, cache_turn}, Tests.test_of, TurnActions.{Asks, Seats, done, unheld, closed}, declared.prompter.Outcome.TheVariants.Pin}
 use Rattle.{agent_ask.{specs.declared.{spec.PromptSpec.PromptSpec, test.Tested.TheVariants.{Yes, No}}, proofs.WorkedPrompts.{shown_by, prompts, asks_consent, first_try, second_try, third_try}}, agent_ports.specs.declared.grip.Grip.Grip}
 use Rattle.{agent_ports.specs.declared.keys.{KeyDone.TheVariants.Done as IsDone, KeyRead.{KeyRead, TheVariants.{Found, Absent}}}, assuan_escape.specs.Escapes.hex_text, assuan_server.specs.{Clients.session_lines, Inquiries.Data}}
 use Rattle.{assuan_server.specs.Written.{ok, limit_line, failed, failed_at_pinentry, IsDataAnswer}, cache_policy.specs.{Turns.{Given, Open, Done, FitsStep}, declared.{grant.Grant.Grant, life.Life.TheVariants.Default}}}
@@ -9,11 +9,11 @@ use Rattle.{cache_policy.specs.declared.{mark.MarkStep.TheVariants.{Seat, Close,
 use Rattle.{secret_file.specs.Protects.{ocb_protection, protected_file}, session_client.specs.{Asking.Asked, declared.refusal.Refusal.TheVariants.{Agent, Pinentry}}, session_options.specs.OptionValues.OptionValues}
 use Rattle.{session_options.specs.declared.rules.Rules.Rules, sexp_canonical.specs.Tree.Tree, sexp_keys.specs.{Key.Key, Lists.{key_list_of, grip_of}, declared.algorithm.Algorithm.Algorithm}}
 use Rattle.key_commands.specs.{Events.{Event, called, read, drew}, Exchanges.{KeyExchange, key_reply, ImportKeyReplies, ExportKeyReplies, PasswdReplies, VerifyReplies, RewritesFile, DeleteKeyReplies}, Files.{FileSays, canonical_file}}
-use Rattle.key_commands.specs.KeyParts.{file_in, tells, short, made, named, asked, is_wrapped, ReadsFile, Unwraps, LooksOver, Replaces, Removes}
-use Rattle.key_commands.specs.{Lines.{grip_text, described, old_description, new_description, delete_description, field_text, nonce_line, max_key_data}, Parts.{found, absent, drawn}}
+use Rattle.key_commands.specs.KeyActions.{file_in, tells, short, made, named, asked, is_wrapped, ReadsFile, Unwraps, LooksOver, Replaces, Removes}
+use Rattle.key_commands.specs.{Lines.{grip_text, described, old_description, new_description, delete_description, field_text, nonce_line, max_key_data}, Actions.{found, absent, drawn}}
 use Rattle.key_commands.specs.{Passphrases.{ask_key, seat_for, is_locked, opens, OpensBy, OpensLocked, PromptsOld, PromptsNew}, Wrapping.{wrapped_key, WrappedSays}}
 use Rattle.key_commands.specs.declared.{request.KeyRequest.TheVariants.{ImportKey, ExportKey, Passwd, DeleteKey}, went.KeyWent.TheVariants.On, keywrap_key.WrapKeys.WrapKeys, wrapping.TheConstants.MAX_LIST_LEN}
-use Rattle.agent_ask.specs.ConsentParts as consent
+use Rattle.agent_ask.specs.ConsentActions as consent
 use Rattle.agent_ask.specs.declared.consent.Agreed.TheVariants as agreed
 use Rattle.agent_ask.specs.declared.prompter.Consent.TheVariants as consented
 use Rattle.agent_ask.specs.declared.prompter.Opened.TheVariants as opening

@@ -1,13 +1,13 @@
 -- Requests on keys and what is done for them, as the GnuPG manual has them ("Agent's Assuan protocol"). The codes, the texts and the order of
 -- what is done are this project's own. A row of each stands in proofs/WorkedExchanges, or where it prompts in proofs/WorkedPrompts.
 use Rattle.std.specs.Prelude.{◌++◌, ℕ, Bool, true, false, List, take, drop, Option, Some}
-use Rattle.{agent_ask.specs.{PartExchanges.{AnyReply, AnyExchange}, Parts.{◌>>=◌, Returns, Refuses, needed, wanted, or_else}, TurnParts.{Changes, Closes}}, agent_ports.specs.declared.grip.Grip.Grip}
+use Rattle.{agent_ask.specs.{ActionExchanges.{AnyReply, AnyExchange}, Actions.{◌>>=◌, Returns, Refuses, needed, wanted, or_else}, TurnActions.{Changes, Closes}}, agent_ports.specs.declared.grip.Grip.Grip}
 use Rattle.{cache_policy.specs.declared.{life.Life.TheVariants.Default, mark.MarkStep.TheVariants.{Put, Clear}, mode.Mode.TheVariants.{Normal, Nonce}}, assuan_escape.specs.Escapes.hex_text, assuan_server.specs.Written.{refusal_line, ok}}
 use Rattle.{session_options.specs.{OptionValues.OptionValues, declared.rules.Rules.Rules}, sexp_keys.specs.Key.Key, session_client.specs.declared.refusal.Refusal.TheVariants.Agent}
-use Rattle.key_commands.specs.{Events.Event, Files.Rewrites, Lines.{grip_text, nonce_line}, Parts.{Part, Finds, Draws, key_went_after}, Passphrases.{OldPassphrase, NewPassphrase, VerifiesPassphrase, LooksForNonce}}
+use Rattle.key_commands.specs.{Events.Event, Files.Rewrites, Lines.{grip_text, nonce_line}, Actions.{Action, Finds, Draws, key_went_after}, Passphrases.{OldPassphrase, NewPassphrase, VerifiesPassphrase, LooksForNonce}}
 use Rattle.key_commands.specs.declared.request.{Direction.{Direction, TheVariants.{Import, Export}}, KeyRequest.{KeyRequest, TheVariants.{HaveKey, KeyInfo, ListKeys, KeyWrap, ImportKey, ExportKey, Passwd, DeleteKey, Bad}}}
 use Rattle.key_commands.specs.declared.{went.KeyWent.{KeyWent, TheVariants.On}, keywrap_key.WrapKeys.WrapKeys}
-use Rattle.key_commands.specs.KeyParts.{Tells, ReadsFile, Replaces, Removes, Protects, IsShort, KeepsNew, HasOne, TellsKeyInfo, ListsGrips, WritesInfos, ReceivesKey, NamesKey, IsFree, LooksOver, WrapsKey, Consents}
+use Rattle.key_commands.specs.KeyActions.{Tells, ReadsFile, Replaces, Removes, Protects, IsShort, KeepsNew, HasOne, TellsKeyInfo, ListsGrips, WritesInfos, ReceivesKey, NamesKey, IsFree, LooksOver, WrapsKey, Consents}
 use Rattle.session_client.specs.declared.code.Code.TheVariants as code
 
 -- what a request is answered where it isn't refused, the wrapping keys after it, and how the session goes on
@@ -30,7 +30,7 @@ with_wrap_key Export key wraps = record { import = wraps.import; export = Some k
 -- ---- IMPORT_KEY
 
 -- A key that came in is written to its file, protected by a passphrase, which is cached under a new nonce before.
-abbrev pub StoresKey : (count : ℕ) → Key → Grip → (pass : List ℕ) → Part (List ℕ)
+abbrev pub StoresKey : (count : ℕ) → Key → Grip → (pass : List ℕ) → Action (List ℕ)
 StoresKey count key grip pass = do
   -- a salt of 8 bytes, an initialization vector of 12, and a nonce of 12
   drawn ← Draws 32
@@ -42,7 +42,7 @@ StoresKey count key grip pass = do
 
 module _ (rules : Rules) (options : OptionValues) where
   -- the passphrase that protects a key that comes in: what is cached under the nonce, or else a new one
-  abbrev pub FoundOrNew : Option (List ℕ) → Grip → Part (List ℕ)
+  abbrev pub FoundOrNew : Option (List ℕ) → Grip → Action (List ℕ)
   FoundOrNew nonce grip = do
     found ← LooksOver nonce
     or_else found (NewPassphrase rules options grip)
@@ -50,13 +50,13 @@ module _ (rules : Rules) (options : OptionValues) where
   -- ---- PASSWD, once the key is open
 
   -- a new passphrase: what is cached under the nonce, or else as the client wants it
-  abbrev pub RenewsPassphrase : Grip → Option (List ℕ) → Part (List ℕ)
+  abbrev pub RenewsPassphrase : Grip → Option (List ℕ) → Action (List ℕ)
   RenewsPassphrase grip nonce = do
     found ← LooksForNonce nonce
     or_else found (NewPassphrase rules options grip)
 
   -- a clear key's file is protected by a passphrase, which is kept
-  unfoldable pub RewritesFile : Grip → (file : List ℕ) → Key → (pass : List ℕ) → Part (Unit {0})
+  unfoldable pub RewritesFile : Grip → (file : List ℕ) → Key → (pass : List ℕ) → Action (Unit {0})
   RewritesFile grip file key pass = do
     -- a salt of 8 bytes, and an initialization vector of 12
     drawn ← Draws 20
@@ -65,7 +65,7 @@ module _ (rules : Rules) (options : OptionValues) where
     replaced ← Replaces grip new
     KeepsNew grip pass
 
-  abbrev pub ChangesOpened : Grip → Option (List ℕ) → (file : List ℕ) → Key → Part (Unit {0})
+  abbrev pub ChangesOpened : Grip → Option (List ℕ) → (file : List ℕ) → Key → Action (Unit {0})
   ChangesOpened grip nonce file key = do
     short ← IsShort key
     pass ← RenewsPassphrase grip nonce
@@ -74,31 +74,31 @@ module _ (rules : Rules) (options : OptionValues) where
   -- ---- what is done for each request
 
   module _ (wraps : WrapKeys) where
-    unfoldable pub HaveKeyReplies : List Grip → Part KeyReply
+    unfoldable pub HaveKeyReplies : List Grip → Action KeyReply
     HaveKeyReplies grips = do
       one ← HasOne grips
       Returns (key_reply wraps ok)
 
-    unfoldable pub KeyInfoReplies : Grip → Part KeyReply
+    unfoldable pub KeyInfoReplies : Grip → Action KeyReply
     KeyInfoReplies grip = do
       file ← ReadsFile grip
       line ← TellsKeyInfo grip file.key
       Returns (key_reply wraps (line ++ ok))
 
-    unfoldable pub ListKeysReplies : Part KeyReply
+    unfoldable pub ListKeysReplies : Action KeyReply
     ListKeysReplies = do
       grips ← ListsGrips
       written ← WritesInfos grips
       Returns (key_reply wraps ok)
 
     -- the first request of a session for a direction draws its key
-    unfoldable pub KeyWrapReplies : Direction → Part KeyReply
+    unfoldable pub KeyWrapReplies : Direction → Action KeyReply
     KeyWrapReplies way = do
       key ← or_else (wrap_key way wraps) (Draws 16)
       text ← Tells key
       Returns (key_reply (with_wrap_key way key wraps) text)
 
-    unfoldable pub ImportKeyReplies : Bool → Option (List ℕ) → Part KeyReply
+    unfoldable pub ImportKeyReplies : Bool → Option (List ℕ) → Action KeyReply
     ImportKeyReplies force nonce = do
       wrap ← needed code.Parameter wraps.import
       key ← ReceivesKey wrap
@@ -108,7 +108,7 @@ module _ (rules : Rules) (options : OptionValues) where
       cache_nonce ← StoresKey options.s2k_count key grip pass
       Returns (key_reply wraps (nonce_line (hex_text cache_nonce) ++ ok))
 
-    unfoldable pub ExportKeyReplies : Grip → Option (List ℕ) → Part KeyReply
+    unfoldable pub ExportKeyReplies : Grip → Option (List ℕ) → Action KeyReply
     ExportKeyReplies grip nonce = do
       wrap ← needed code.Parameter wraps.export
       file ← ReadsFile grip
@@ -118,7 +118,7 @@ module _ (rules : Rules) (options : OptionValues) where
       text ← Tells wrapped
       Returns (key_reply wraps text)
 
-    unfoldable pub PasswdReplies : Grip → (nonce new_nonce : Option (List ℕ)) → Part KeyReply
+    unfoldable pub PasswdReplies : Grip → (nonce new_nonce : Option (List ℕ)) → Action KeyReply
     PasswdReplies grip nonce new_nonce = do
       file ← ReadsFile grip
       opened ← OldPassphrase rules options grip nonce file.key
@@ -126,14 +126,14 @@ module _ (rules : Rules) (options : OptionValues) where
       Returns (key_reply wraps ok)
 
     -- PASSWD --verify
-    unfoldable pub VerifyReplies : Grip → Part KeyReply
+    unfoldable pub VerifyReplies : Grip → Action KeyReply
     VerifyReplies grip = do
       file ← ReadsFile grip
       opened ← VerifiesPassphrase rules options grip file.key
       closed ← Closes opened.by
       Returns (key_reply wraps ok)
 
-    unfoldable pub DeleteKeyReplies : Bool → Grip → Part KeyReply
+    unfoldable pub DeleteKeyReplies : Bool → Grip → Action KeyReply
     DeleteKeyReplies force grip = do
       there ← Finds grip
       some ← wanted code.NoSecKey there
@@ -143,7 +143,7 @@ module _ (rules : Rules) (options : OptionValues) where
       Returns (key_reply wraps ok)
 
     -- what is done for a request, up to its reply
-    abbrev pub KeyReplies : KeyRequest → Part KeyReply
+    abbrev pub KeyReplies : KeyRequest → Action KeyReply
     KeyReplies (HaveKey grips) = HaveKeyReplies grips
     KeyReplies (KeyInfo grip) = KeyInfoReplies grip
     KeyReplies ListKeys = ListKeysReplies

@@ -3,7 +3,7 @@ pub mod Events
 pub mod Lines
 pub mod Faults
 pub mod Wrapping
-pub mod Parts
+pub mod Actions
 pub mod KeyEnds
 pub mod States
 pub mod Partial
@@ -11,6 +11,6 @@ pub mod Steps
 pub mod Files
 pub mod Passphrases
 pub mod Trials
-pub mod KeyParts
+pub mod KeyActions
 pub mod Exchanges
 pub mod Replies

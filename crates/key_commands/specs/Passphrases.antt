@@ -1,12 +1,12 @@
 -- How a request comes by the passphrase of a key, old or new (GnuPG manual, "Agent EXPORT", "Agent PASSWD"). Where it is looked for, in which order, and what
 -- is kept of it, is this project's own.
 use Rattle.std.specs.Prelude.{◌≡◌, ◌≢◌, ◌==◌, ℕ, Bool, true, false, List, [], ◌∷◌, length, codes, Option, Some, None, Result, Ok, Err, not, ⊤}
-use Rattle.agent_ask.specs.{ClientParts.AsksClient, PinParts.{PromptsPin, pin_refusal}, Plans.{IsSpec, plan_of, text}, declared.{ask.Asked.Asked, spec.PromptSpec.PromptSpec}, Parts.{◌>>=◌, Returns, Refuses, needed, wanted, or_else}}
-use Rattle.{agent_ask.specs.TurnParts.{Asks, Seats, Changes}, agent_ports.specs.declared.grip.Grip.Grip, assuan_server.specs.{Clients.session_lines, Written.limit_line}, cache_policy.specs.declared.life.Life.TheVariants.Default}
+use Rattle.agent_ask.specs.{ClientActions.AsksClient, PinActions.{PromptsPin, pin_refusal}, Plans.{IsSpec, plan_of, text}, declared.{ask.Asked.Asked, spec.PromptSpec.PromptSpec}, Actions.{◌>>=◌, Returns, Refuses, needed, wanted, or_else}}
+use Rattle.{agent_ask.specs.TurnActions.{Asks, Seats, Changes}, agent_ports.specs.declared.grip.Grip.Grip, assuan_server.specs.{Clients.session_lines, Written.limit_line}, cache_policy.specs.declared.life.Life.TheVariants.Default}
 use Rattle.cache_policy.specs.declared.{mark.{MarkStep.{MarkStep, TheVariants.{Ask, Seat, Put}}, Way.{Way, TheVariants.{Quiet, Prompt}}}, mode.Mode.TheVariants.{Normal, Nonce}, secret.TheConstants.MAX_SECRET_LEN}
 use Rattle.{secret_file.specs.{Answers.IsLockedFault, Opens.{LockedKey, IsLocked, OpensTo}}, session_options.specs.{OptionValues.OptionValues, declared.{options.PinMode.PinMode, rules.Rules.Rules}}, sexp_keys.specs.Key.Key}
 use Rattle.{sexp_keys.specs.declared.fault.KeyFault.KeyFault, session_client.specs.declared.refusal.Refusal.{Refusal, TheVariants.Agent}}
-use Rattle.key_commands.specs.{Events.{Event, out_of_memory}, Lines.{grip_text, described, old_description, new_description, field_text}, Parts.Part, Faults.fault_code, declared.opened.OpenedKey.OpenedKey}
+use Rattle.key_commands.specs.{Events.{Event, out_of_memory}, Lines.{grip_text, described, old_description, new_description, field_text}, Actions.Action, Faults.fault_code, declared.opened.OpenedKey.OpenedKey}
 use Rattle.agent_ask.specs.declared.ask.Asked.TheVariants as asked
 use Rattle.session_client.specs.declared.code.Code.TheVariants as code
 use Rattle.session_options.specs.declared.options.PinMode.TheVariants as mode
@@ -29,7 +29,7 @@ abbrev pub put_key : Grip → List ℕ → MarkStep
 put_key grip pass = Put (grip_text grip) Normal Default pass
 
 -- what is cached under a nonce, where there is one
-abbrev pub LooksForNonce : Option (List ℕ) → Part (Option (List ℕ))
+abbrev pub LooksForNonce : Option (List ℕ) → Action (Option (List ℕ))
 LooksForNonce None = Returns None
 LooksForNonce (Some nonce) = Asks (ask_nonce nonce)
 
@@ -39,7 +39,7 @@ way_of mode.Ask = Prompt
 way_of _ = Quiet
 
 -- a request has one ticket at most: it takes the seat unless it has one
-abbrev pub TakesSeat : Grip → Part (Unit {0})
+abbrev pub TakesSeat : Grip → Action (Unit {0})
 TakesSeat grip None = Seats (seat_for grip) None
 TakesSeat grip (Some ticket) = Returns tt (Some ticket)
 
@@ -65,16 +65,16 @@ pub data TriesPassphrase (locked : LockedKey) (pass : List ℕ) (held : Option �
   no_memory : TriesPassphrase locked pass held (out_of_memory ∷ []) (Err (Agent code.NoMemory)) held
 
 -- one that was found is tried, where one was
-abbrev pub TriesFound : LockedKey → Option (List ℕ) → Part (Option OpenedKey)
+abbrev pub TriesFound : LockedKey → Option (List ℕ) → Action (Option OpenedKey)
 TriesFound locked None = Returns None
 TriesFound locked (Some pass) = TriesPassphrase locked pass
 
 -- the client is asked for a passphrase by this word. It is told first how many bytes are taken.
-abbrev pub AsksSecret : (word : List ℕ) → Part (List ℕ)
+abbrev pub AsksSecret : (word : List ℕ) → Action (List ℕ)
 AsksSecret word = AsksClient session_lines (limit_line MAX_SECRET_LEN) word MAX_SECRET_LEN
 
 -- the client itself gives a new passphrase, which isn't empty
-unfoldable pub ClientNew : Part (List ℕ)
+unfoldable pub ClientNew : Action (List ℕ)
 ClientNew = do
   pass ← AsksSecret (codes "NEW_PASSPHRASE")
   some ← wanted code.BadPass (not (length pass == 0))
@@ -93,7 +93,7 @@ module _ (rules : Rules) (options : OptionValues) (grip : Grip) where
         → PromptsOld locked (Some ticket) shown (Err why) (Some ticket)
 
   -- the client itself gives the passphrase, and it is kept
-  unfoldable pub ClientOld : LockedKey → Part OpenedKey
+  unfoldable pub ClientOld : LockedKey → Action OpenedKey
   ClientOld locked = do
     pass ← AsksSecret (codes "PASSPHRASE")
     tried ← TriesPassphrase locked pass
@@ -102,7 +102,7 @@ module _ (rules : Rules) (options : OptionValues) (grip : Grip) where
     Returns opened
 
   -- the passphrase comes from no cache: as the client wants it
-  abbrev pub UncachedOld : PinMode → LockedKey → Part OpenedKey
+  abbrev pub UncachedOld : PinMode → LockedKey → Action OpenedKey
   UncachedOld mode.Ask locked = do
     seated ← TakesSeat grip
     PromptsOld locked
@@ -111,7 +111,7 @@ module _ (rules : Rules) (options : OptionValues) (grip : Grip) where
   UncachedOld mode.Loopback locked = ClientOld locked
 
   -- what is cached under the key opens it, or else it is opened as the client wants it
-  abbrev pub CachedOld : LockedKey → Part OpenedKey
+  abbrev pub CachedOld : LockedKey → Action OpenedKey
   CachedOld locked = do
     cached ← Asks (ask_key grip (way_of options.mode))
     second ← TriesFound locked cached
@@ -119,30 +119,30 @@ module _ (rules : Rules) (options : OptionValues) (grip : Grip) where
 
   -- A locked key is opened by what is cached under the nonce, or else under the key, or else as the client wants it. What is cached and doesn't
   -- open it is passed over.
-  unfoldable pub OpensLocked : Option (List ℕ) → LockedKey → Part OpenedKey
+  unfoldable pub OpensLocked : Option (List ℕ) → LockedKey → Action OpenedKey
   OpensLocked nonce locked = do
     by_nonce ← LooksForNonce nonce
     first ← TriesFound locked by_nonce
     or_else first (CachedOld locked)
 
-  abbrev pub old_by : Option (List ℕ) → Key → Bool → Part OpenedKey
+  abbrev pub old_by : Option (List ℕ) → Key → Bool → Action OpenedKey
   old_by id key true = Returns (record { key = key; by = None })
   old_by id key false = do
     locked ← Locks key
     OpensLocked id locked
 
   -- The old passphrase of a key. A clear one needs none.
-  abbrev pub OldPassphrase : Option (List ℕ) → Key → Part OpenedKey
+  abbrev pub OldPassphrase : Option (List ℕ) → Key → Action OpenedKey
   OldPassphrase nonce key = old_by nonce key key.is_clear
 
-  abbrev pub verified_by : Key → Bool → Part OpenedKey
+  abbrev pub verified_by : Key → Bool → Action OpenedKey
   verified_by key true = Returns (record { key = key; by = None })
   verified_by key false = do
     locked ← Locks key
     UncachedOld options.mode locked
 
   -- The passphrase of a key is asked for and tried, whatever is cached. A clear one has none.
-  abbrev pub VerifiesPassphrase : Key → Part OpenedKey
+  abbrev pub VerifiesPassphrase : Key → Action OpenedKey
   VerifiesPassphrase key = verified_by key key.is_clear
 
   -- ---- a new passphrase
@@ -158,7 +158,7 @@ module _ (rules : Rules) (options : OptionValues) (grip : Grip) where
         → PromptsPin session_lines spec (plan_of rules options (text []) true 1) (λ pin. ⊤) shown answer → answer ≢ asked.NoMemory → pin_refusal answer ≡ Some why
         → PromptsNew (Some ticket) shown (Err why) (Some ticket)
 
-  abbrev pub new_by : PinMode → Part (List ℕ)
+  abbrev pub new_by : PinMode → Action (List ℕ)
   new_by mode.Ask = do
     seated ← TakesSeat grip
     PromptsNew
@@ -167,5 +167,5 @@ module _ (rules : Rules) (options : OptionValues) (grip : Grip) where
   new_by mode.Loopback = ClientNew
 
   -- a new passphrase for a key, as the client wants it
-  abbrev pub NewPassphrase : Part (List ℕ)
+  abbrev pub NewPassphrase : Action (List ℕ)
   NewPassphrase = new_by options.mode

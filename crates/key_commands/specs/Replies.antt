@@ -1,8 +1,8 @@
 -- Private: what is written for a request, once all else is done for it.
 use Rattle.std.specs.Prelude.{◌≡◌, ◌++◌, ℕ, List, Option, Result}
-use Rattle.{agent_ask.specs.{Events.Call, PartReplies.{RespondsBy, CarriesBy}}, assuan_server.specs.{Clients.connection_views, Connections.Connection, Written.{refusal_line, ok, IsDataAnswer}}}
+use Rattle.{agent_ask.specs.{Events.Call, ActionReplies.{RespondsBy, CarriesBy}}, assuan_server.specs.{Clients.connection_views, Connections.Connection, Written.{refusal_line, ok, IsDataAnswer}}}
 use Rattle.{cache_policy.specs.{declared.mark.MarkStep.MarkStep, Turns.Turn}, session_client.specs.declared.refusal.Refusal.Refusal}
-use Rattle.key_commands.specs.{Exchanges.KeyReply, KeyEnds.DoesAtKeys, Parts.{Part, key_went_after}, States.KeyState, declared.{reply.Reply.Reply, went.KeyWent.{KeyWent, TheVariants.On}, keywrap_key.WrapKeys.WrapKeys}}
+use Rattle.key_commands.specs.{Exchanges.KeyReply, KeyEnds.DoesAtKeys, Actions.{Action, key_went_after}, States.KeyState, declared.{reply.Reply.Reply, went.KeyWent.{KeyWent, TheVariants.On}, keywrap_key.WrapKeys.WrapKeys}}
 use Rattle.key_commands.specs.declared.reply.Reply.TheVariants as replies
 
 -- the text of a reply
@@ -21,6 +21,6 @@ abbrev pub RespondsTo : Connection → Result Reply Refusal → KeyWent → Conn
 RespondsTo = RespondsBy connection_views IsReply key_goes_on refusal_line key_went_after
 
 -- all was done for a request but its reply, whatever text that is written by
-abbrev pub CarriesOut : {D P : Type 0} (turned : D → MarkStep → Turn → D → Type 0) (prompted : P → Call → P → Type 0) → Part KeyReply → WrapKeys → KeyState turned prompted
+abbrev pub CarriesOut : {D P : Type 0} (turned : D → MarkStep → Turn → D → Type 0) (prompted : P → Call → P → Type 0) → Action KeyReply → WrapKeys → KeyState turned prompted
     → Result Reply Refusal → WrapKeys → Option ℕ → KeyState turned prompted → Type 0
 CarriesOut turned prompted = CarriesBy connection_views IsReply key_goes_on turned (DoesAtKeys prompted)

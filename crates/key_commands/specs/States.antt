@@ -2,7 +2,7 @@
 use Rattle.std.specs.Prelude.{List}
 use Rattle.{agent_ask.specs.{Answering.AnswersBy, Events.Call, PortCalls.world_with, States.AnyState, Worlds.AnyWorld}, agent_ports.specs.{KeyFiles.KeyFiles, Sides.Side}, assuan_server.specs.Clients.{connection_views, session_lines}}
 use Rattle.{assuan_server.specs.Connections.Connection, cache_policy.specs.{declared.mark.MarkStep.MarkStep, Turns.Turn}}
-use Rattle.key_commands.specs.{Events.Event, KeyEnds.DoesAtKeys, Parts.{key_went_after, key_gone}, declared.{went.KeyWent.KeyWent, keywrap_key.WrapKeys.WrapKeys}}
+use Rattle.key_commands.specs.{Events.Event, KeyEnds.DoesAtKeys, Actions.{key_went_after, key_gone}, declared.{went.KeyWent.KeyWent, keywrap_key.WrapKeys.WrapKeys}}
 
 module _ {D P : Type 0} (turned : D → MarkStep → Turn → D → Type 0) (prompted : P → Call → P → Type 0) where
   -- a desk, and a prompter, keys and dice, that show their calls so

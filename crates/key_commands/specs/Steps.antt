@@ -1,9 +1,9 @@
 -- Private: what the steps of a request know.
 use Rattle.std.specs.{Prelude.{◌≡◌, ℕ, ◌==◌, ◌&&◌, nat_lt, Bool, List, [], ◌∷◌, length, Option, Some, None, Result, Ok, Err}, List.list_all}
-use Rattle.{agent_ask.specs.{PortCalls.{KeyCall, Draw, Dice, DoesKeys, DoesDraw}, PartStates.{gone_in, DoesTurn, DoesTurns}, SessionEvents.Port}, agent_ports.specs.{KeyFiles.KeyFiles, Sides.Side, declared.keys.KeyDone.KeyDone}}
+use Rattle.{agent_ask.specs.{PortCalls.{KeyCall, Draw, Dice, DoesKeys, DoesDraw}, ActionStates.{gone_in, DoesTurn, DoesTurns}, SessionEvents.Port}, agent_ports.specs.{KeyFiles.KeyFiles, Sides.Side, declared.keys.KeyDone.KeyDone}}
 use Rattle.{agent_ports.specs.declared.keys.KeyDone.TheVariants.Done, session_client.specs.declared.{code.Code.Code, refusal.Refusal.{Refusal, TheVariants.{Agent, Client}}}, assuan_server.specs.declared.inquiry.Inquired.Inquired}
 use Rattle.{cache_policy.specs.{declared.mark.MarkStep.MarkStep, Turns.Turn}, sexp_keys.specs.{Key.Key, declared.fault.KeyFault.KeyFault}}
-use Rattle.key_commands.specs.{Events.{Event, called, out_of_memory}, KeyParts.change_fault, Parts.Part}
+use Rattle.key_commands.specs.{Events.{Event, called, out_of_memory}, KeyActions.change_fault, Actions.Action}
 use Rattle.session_client.specs.declared.code.Code.TheVariants as code
 use Rattle.assuan_server.specs.declared.inquiry.Inquired.TheVariants as inquired
 use Rattle.session_client.specs.declared.client_error.Gone.TheVariants as gone
@@ -14,17 +14,17 @@ use Rattle.sexp_keys.specs.declared.fault.KeyFault.TheVariants as fault
 abbrev pub are_padding : List ℕ → Bool
 are_padding bytes = nat_lt (length bytes) 8 && list_all (λ byte. byte == 0) bytes
 
--- a part of a request on keys that is one turn at the desk, and one that is one turn at most
-abbrev pub TakesTurn : {D : Type 0} (turned : D → MarkStep → Turn → D → Type 0) {A : Type 0} → Part A → Option ℕ → D → Result A Refusal → Option ℕ → D → Type 0
-TakesTurn turned part = DoesTurn turned part
+-- an action of a request on keys that is one turn at the desk, and one that is one turn at most
+abbrev pub TakesTurn : {D : Type 0} (turned : D → MarkStep → Turn → D → Type 0) {A : Type 0} → Action A → Option ℕ → D → Result A Refusal → Option ℕ → D → Type 0
+TakesTurn turned action = DoesTurn turned action
 
-abbrev pub TakesTurns : {D : Type 0} (turned : D → MarkStep → Turn → D → Type 0) {A : Type 0} → Part A → Option ℕ → D → Result A Refusal → Option ℕ → D → Type 0
-TakesTurns turned part = DoesTurns turned part
+abbrev pub TakesTurns : {D : Type 0} (turned : D → MarkStep → Turn → D → Type 0) {A : Type 0} → Action A → Option ℕ → D → Result A Refusal → Option ℕ → D → Type 0
+TakesTurns turned action = DoesTurns turned action
 
--- a part in which nothing is done, but that there may be no memory, whatever ticket is held
-pub data DoesAlone {A : Type 0} (part : Part A) (result : Result A Refusal) : Type 0 where
-  nothing : ((held : Option ℕ) → part held [] result held) → gone_in result ≡ None → DoesAlone part result
-  memory : ((held : Option ℕ) → part held (out_of_memory ∷ []) result held) → gone_in result ≡ None → DoesAlone part result
+-- an action in which nothing is done, but that there may be no memory, whatever ticket is held
+pub data DoesAlone {A : Type 0} (action : Action A) (result : Result A Refusal) : Type 0 where
+  nothing : ((held : Option ℕ) → action held [] result held) → gone_in result ≡ None → DoesAlone action result
+  memory : ((held : Option ℕ) → action held (out_of_memory ∷ []) result held) → gone_in result ≡ None → DoesAlone action result
 
 -- calls of the keys, one after another, by which memory may be wanted
 pub data KeysLead : KeyFiles → List Event → KeyFiles → Type 0 where
@@ -32,24 +32,24 @@ pub data KeysLead : KeyFiles → List Event → KeyFiles → Type 0 where
   calls : {before mid after : KeyFiles} {call : KeyCall} {events : List Event} → DoesKeys before call mid → KeysLead mid events after → KeysLead before (called call ∷ events) after
   wants_memory : {before after : KeyFiles} {events : List Event} → KeysLead before events after → KeysLead before (out_of_memory ∷ events) after
 
--- a part in which the keys alone are called, whatever ticket is held
-pub record DoesKeyCalls {A : Type 0} (part : Part A) (before : KeyFiles) (result : Result A Refusal) (after : KeyFiles) : Type 0 where
+-- an action in which the keys alone are called, whatever ticket is held
+pub record DoesKeyCalls {A : Type 0} (action : Action A) (before : KeyFiles) (result : Result A Refusal) (after : KeyFiles) : Type 0 where
   pub events : List Event
   pub lead : KeysLead before events after
-  pub does : (held : Option ℕ) → part held events result held
+  pub does : (held : Option ℕ) → action held events result held
   pub on : gone_in result ≡ None
 
--- a part that is one draw of random bytes, whatever ticket is held
-pub record DoesDrawing {A : Type 0} (part : Part A) (before : Side) (result : Result A Refusal) (after : Side) : Type 0 where
+-- an action that is one draw of random bytes, whatever ticket is held
+pub record DoesDrawing {A : Type 0} (action : Action A) (before : Side) (result : Result A Refusal) (after : Side) : Type 0 where
   pub draw : Draw
   pub draws : DoesDraw before draw after
-  pub does : (held : Option ℕ) → part held (Port (Dice draw) ∷ []) result held
+  pub does : (held : Option ℕ) → action held (Port (Dice draw) ∷ []) result held
   pub on : gone_in result ≡ None
 
 -- one draw at most
-pub data DoesDrawings {A : Type 0} (part : Part A) (before : Side) (result : Result A Refusal) : Side → Type 0 where
-  no_draw : ((held : Option ℕ) → part held [] result held) → gone_in result ≡ None → DoesDrawings part before result before
-  one_draw : {after : Side} → DoesDrawing part before result after → DoesDrawings part before result after
+pub data DoesDrawings {A : Type 0} (action : Action A) (before : Side) (result : Result A Refusal) : Side → Type 0 where
+  no_draw : ((held : Option ℕ) → action held [] result held) → gone_in result ≡ None → DoesDrawings action before result before
+  one_draw : {after : Side} → DoesDrawing action before result after → DoesDrawings action before result after
 
 -- a change of a key's file was done, or is refused by this answer
 abbrev pub IsChanged : KeyDone → Result (Unit {0}) Refusal → Type 0

@@ -1,5 +1,5 @@
 //! The key whose passphrase is wanted, with the rules and the options by which it is asked for: the
-//! arguments that all parts of such a request share. Plain borrows. Begin with `Asking`; `old.rt`,
+//! arguments that all actions of such a request share. Plain borrows. Begin with `Asking`; `old.rt`,
 //! `new.rt` and `prompting.rt` use it.
 
 ghost use Rattle.std.specs.Prelude.{◌≡◌};

@@ -1,10 +1,10 @@
-//! The user's consent, as a part (action) of a request: DELETE_KEY asks for it unless `--force` is
+//! The user's consent, as an action of a request: DELETE_KEY asks for it unless `--force` is
 //! given. It takes the seat (lock: the right to prompt) at the desk (cache handle), and calls the
-//! prompter and the client. Begin with `consent`; it is `Consents` (`specs/KeyParts`).
+//! prompter and the client. Begin with `consent`; it is `Consents` (`specs/KeyActions`).
 
 ghost use Rattle.std.specs.Prelude.{◌≡◌, None};
 ghost use Rattle.{agent_ask.specs.Seats.IsReady, assuan_server.specs.Connections.IsOpen};
-ghost use Rattle.key_commands.specs.{KeyParts.Consents, Partial.LeavesKeys};
+ghost use Rattle.key_commands.specs.{KeyActions.Consents, Partial.LeavesKeys};
 
 use crate::asking::Asking;
 use crate::texts::{delete_description, described};

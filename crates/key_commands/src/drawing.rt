@@ -1,9 +1,9 @@
-//! Draws of random bytes, as parts (actions) of a request. They call the dice alone; what was drawn
+//! Draws of random bytes, as actions of a request. They call the dice alone; what was drawn
 //! is overwritten when it is dropped. Begin with `draw` and `Drawn`; a draw is `Draws`
-//! (`specs/Parts`).
+//! (`specs/Actions`).
 
 ghost use Rattle.std.specs.Prelude.{◌≡◌, replicate};
-ghost use Rattle.key_commands.specs.{Parts.Draws, Steps.DoesDrawing};
+ghost use Rattle.key_commands.specs.{Actions.Draws, Steps.DoesDrawing};
 
 use agent_ports::Dice;
 use assuan_server::Code;

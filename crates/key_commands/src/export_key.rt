@@ -5,7 +5,7 @@
 ghost use Rattle.std.specs.Prelude.{◌≡◌, None};
 ghost use Rattle.{agent_ask.specs.Seats.IsReady, agent_ports.specs.Sides.Side};
 ghost use Rattle.assuan_server.specs.Connections.{IsOpen};
-ghost use Rattle.key_commands.specs.{Exchanges.ExportKeyReplies, KeyParts.WrapsKey};
+ghost use Rattle.key_commands.specs.{Exchanges.ExportKeyReplies, KeyActions.WrapsKey};
 ghost use Rattle.key_commands.specs.{Replies.CarriesOut, States.key_state, Steps.DoesAlone};
 ghost use Rattle.key_commands.specs.Trials.{IsUsable};
 

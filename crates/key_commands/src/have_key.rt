@@ -1,7 +1,7 @@
 //! HAVEKEY: which keys there are. It calls the keys. Begin with `has_one`, which is `HasOne`
-//! (`specs/KeyParts`).
+//! (`specs/KeyActions`).
 
-ghost use Rattle.key_commands.specs.{KeyParts.HasOne, Steps.DoesKeyCalls};
+ghost use Rattle.key_commands.specs.{KeyActions.HasOne, Steps.DoesKeyCalls};
 
 use crate::grips::Grips;
 use crate::key_calls::has_file;

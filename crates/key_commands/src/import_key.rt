@@ -9,7 +9,7 @@ ghost use Rattle.assuan_server.specs.Connections.{Connection, IsOpen};
 ghost use Rattle.{assuan_escape.specs.Escapes.hex_text, sexp_keys.specs.Lists.key_list_of};
 ghost use Rattle.key_commands.specs.Lines.{nonce_line};
 ghost use Rattle.key_commands.specs.Exchanges.{FoundOrNew, ImportKeyReplies, StoresKey};
-ghost use Rattle.key_commands.specs.{Partial.{DoesKeyPart, NoCall, LeavesKeys}, Replies.CarriesOut};
+ghost use Rattle.key_commands.specs.{Partial.{DoesKeyAction, NoCall, LeavesKeys}, Replies.CarriesOut};
 ghost use Rattle.key_commands.specs.{States.key_state, Trials.IsUsable};
 ghost use Rattle.key_commands.specs.declared.wrapping.TheConstants.{MAX_LIST_LEN};
 
@@ -115,7 +115,7 @@ fn store_key<D: Desk, K: Keys, R: Dice>(
     requires usable { IsUsable key.now }
     requires short { length (key_list_of key.now) ≤ MAX_LIST_LEN }
     requires out { (D.at desk.old).out ≡ held.old }
-    ensures stores { (conn : Connection) → IsOpen conn → DoesKeyPart D.turned NoCall
+    ensures stores { (conn : Connection) → IsOpen conn → DoesKeyAction D.turned NoCall
         (StoresKey asking.now.options.now.s2k_count key.now asking.now.grip.now pass.now) held.old
         (key_state D.turned NoCall conn desk.old tt (K.keys keys.old) (R.draws dice.old)) result
         held.new (key_state D.turned NoCall conn desk.new tt (K.keys keys.new) (R.draws dice.new)) }

@@ -1,12 +1,12 @@
-//! What the client is told and asked, as parts (actions) of a request: the status INQUIRE_MAXLEN
+//! What the client is told and asked, as actions of a request: the status INQUIRE_MAXLEN
 //! and an inquiry (Assuan manual, "server responses"). It works on the connection alone. Begin with
 //! `ask_client`; its events are `AsksSecret` (`specs/Passphrases`).
 
 ghost use Rattle.std.specs.Prelude.{[]};
 ghost use Rattle.{assuan_line.specs.Lines.IsLine, assuan_server.specs.Clients.connection_views};
 ghost use Rattle.assuan_server.specs.{Connections.IsOpen, Inquiries.inquire_text};
-ghost use Rattle.{assuan_server.specs.Written.limit_line, agent_ask.specs.ClientParts.Writes};
-ghost use Rattle.agent_ask.specs.PartStates.{DoesWithClient};
+ghost use Rattle.{assuan_server.specs.Written.limit_line, agent_ask.specs.ClientActions.Writes};
+ghost use Rattle.agent_ask.specs.ActionStates.{DoesWithClient};
 ghost use Rattle.key_commands.specs.Passphrases.{AsksSecret};
 
 use agent_ports::Link;

@@ -1,13 +1,13 @@
-//! Calls of the keys, as parts (actions) of a request: a file is looked for, read, replaced or
+//! Calls of the keys, as actions of a request: a file is looked for, read, replaced or
 //! removed. What is read of a file is overwritten when it is dropped. Begin with `read_file` and
-//! `replace_file`; the parts are `ReadsFile` and `Replaces` (`specs/KeyParts`).
+//! `replace_file`; the actions are `ReadsFile` and `Replaces` (`specs/KeyActions`).
 
 ghost use Rattle.std.specs.Prelude.{◌≡◌, ◌≤◌, length, Ok, Err, IfOk, IfErr};
 ghost use Rattle.agent_ports.specs.declared.keys.TheConstants.{MAX_KEY_FILE_LEN};
 ghost use Rattle.secret_file.specs.Opens.{FitsFile};
 ghost use Rattle.key_commands.specs.Files.{IsSomeKey};
-ghost use Rattle.key_commands.specs.KeyParts.{ReadsFile, ReadsListed, Replaces, Removes};
-ghost use Rattle.key_commands.specs.{KeyParts.ListsGrips, Parts.Finds};
+ghost use Rattle.key_commands.specs.KeyActions.{ReadsFile, ReadsListed, Replaces, Removes};
+ghost use Rattle.key_commands.specs.{KeyActions.ListsGrips, Actions.Finds};
 ghost use Rattle.key_commands.specs.Steps.{DoesKeyCalls, IsChanged, unlisted};
 
 use crate::faults::fault_code;

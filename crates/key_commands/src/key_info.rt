@@ -5,14 +5,14 @@
 ghost use Rattle.std.specs.Prelude.{◌≡◌, false, None, Some};
 ghost use Rattle.{agent_ports.specs.Sides.Side, assuan_server.specs.Clients.connection_views};
 ghost use Rattle.assuan_server.specs.Connections.{Connection, IsOpen};
-ghost use Rattle.agent_ask.specs.{ClientParts.Writes, PartStates.DoesWithClient};
+ghost use Rattle.agent_ask.specs.{ClientActions.Writes, ActionStates.DoesWithClient};
 ghost use Rattle.session_options.specs.OptionValues.{OptionValues};
 ghost use Rattle.session_options.specs.declared.rules.Rules.{Rules as TheRules};
 ghost use Rattle.assuan_text.specs.LineEnds.{has_lf};
 ghost use Rattle.key_commands.specs.Exchanges.{KeyInfoReplies, ListKeysReplies};
-ghost use Rattle.key_commands.specs.KeyParts.{TellsListed, WritesInfo, WritesInfos};
+ghost use Rattle.key_commands.specs.KeyActions.{TellsListed, WritesInfo, WritesInfos};
 ghost use Rattle.key_commands.specs.Lines.{info_line, info_text};
-ghost use Rattle.key_commands.specs.{Partial.{DoesKeyPart, NoCall, DoesAtDesk}, Replies.CarriesOut};
+ghost use Rattle.key_commands.specs.{Partial.{DoesKeyAction, NoCall, DoesAtDesk}, Replies.CarriesOut};
 ghost use Rattle.key_commands.specs.{States.key_state, declared.keywrap_key.WrapKeys.WrapKeys};
 
 use crate::key_calls::{list_grips, read_file, read_listed};
@@ -84,7 +84,7 @@ pub(crate) fn write_infos<L: Link, D: Desk, K: Keys>(
 ) -> Result<(), Refusal>
     requires open { IsOpen conn.old }
     requires out { (D.at desk.old).out ≡ held.now }
-    ensures writes { (dice : Side) → DoesKeyPart D.turned NoCall (WritesInfos grips.now) held.now
+    ensures writes { (dice : Side) → DoesKeyAction D.turned NoCall (WritesInfos grips.now) held.now
         (key_state D.turned NoCall conn.old desk.old tt (K.keys keys.old) dice) result held.now
         (key_state D.turned NoCall conn.new desk.new tt (K.keys keys.new) dice) }
     ensures out { (D.at desk.new).out ≡ held.now }
@@ -106,7 +106,7 @@ fn tell_listed<L: Link, D: Desk, K: Keys>(
 ) -> Result<(), Refusal>
     requires open { IsOpen conn.old }
     requires out { (D.at desk.old).out ≡ held.now }
-    ensures tells { (dice : Side) → DoesKeyPart D.turned NoCall (TellsListed grip.now) held.now
+    ensures tells { (dice : Side) → DoesKeyAction D.turned NoCall (TellsListed grip.now) held.now
         (key_state D.turned NoCall conn.old desk.old tt (K.keys keys.old) dice) result held.now
         (key_state D.turned NoCall conn.new desk.new tt (K.keys keys.new) dice) }
     ensures out { (D.at desk.new).out ≡ held.now }

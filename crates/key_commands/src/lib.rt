@@ -2,7 +2,7 @@
 //! code, and carried out and answered over any link, any desk, any prompter, any keys and any dice.
 //!
 //! Begin with [`read_key`] and [`run_key`]. A line's request is exactly its definition; it is done
-//! part by part as its exchange says, each part once the one before it came to a value, and leaves
+//! action by action as its exchange says, each action once the one before it came to a value, and leaves
 //! no ticket out and no prompt open. [`WrapKeys`] are what a session keeps for it. Definitions
 //! begin in `specs/Requests` and `specs/Exchanges`.
 #![tactic(auto)]

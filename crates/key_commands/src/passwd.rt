@@ -9,7 +9,7 @@ ghost use Rattle.assuan_server.specs.Connections.{Connection, IsOpen};
 ghost use Rattle.sexp_keys.specs.Lists.{key_list_of};
 ghost use Rattle.key_commands.specs.Exchanges.{VerifyReplies, PasswdReplies, ChangesOpened};
 ghost use Rattle.key_commands.specs.{Exchanges.RewritesFile, Files.IsSomeKey};
-ghost use Rattle.key_commands.specs.{Partial.{DoesKeyPart, NoCall}, Replies.CarriesOut};
+ghost use Rattle.key_commands.specs.{Partial.{DoesKeyAction, NoCall}, Replies.CarriesOut};
 ghost use Rattle.key_commands.specs.{States.key_state, Trials.IsUsable};
 ghost use Rattle.key_commands.specs.declared.keywrap_key.WrapKeys.{WrapKeys as Wraps};
 ghost use Rattle.key_commands.specs.declared.wrapping.TheConstants.{MAX_LIST_LEN};
@@ -112,7 +112,7 @@ fn change_opened<L: Link, D: Desk, P: Prompter, K: Keys, R: Dice>(
     requires usable { IsUsable key.now }
     requires open { IsOpen conn.old }
     requires ready { IsReady (D.at desk.old) (P.at prompter.old) held.old }
-    ensures does { DoesKeyPart D.turned P.prompted
+    ensures does { DoesKeyAction D.turned P.prompted
         (ChangesOpened asking.now.rules.now asking.now.options.now asking.now.grip.now nonce
         file.now key.now) held.old (key_state D.turned P.prompted conn.old desk.old prompter.old
         (K.keys keys.old) (R.draws dice.old)) result held.new
@@ -141,7 +141,7 @@ fn rewrite_file<D: Desk, K: Keys, R: Dice>(
     requires short { length (key_list_of key.now) ≤ MAX_LIST_LEN }
     requires out { (D.at desk.old).out ≡ held.old }
     ensures does { (conn : Connection) → IsOpen conn
-        → DoesKeyPart D.turned NoCall (RewritesFile asking.now.rules.now
+        → DoesKeyAction D.turned NoCall (RewritesFile asking.now.rules.now
         asking.now.options.now asking.now.grip.now file.now key.now pass.now) held.old
         (key_state D.turned NoCall conn desk.old tt (K.keys keys.old) (R.draws dice.old)) result
         held.new (key_state D.turned NoCall conn desk.new tt (K.keys keys.new) (R.draws dice.new)) }

@@ -1,4 +1,4 @@
-//! Prompts for the passphrase of a key, as parts (actions) of a request that holds a ticket
+//! Prompts for the passphrase of a key, as actions of a request that holds a ticket
 //! (permit). They call the prompter and the client. Begin with `prompt_old` and `prompt_new`, whose
 //! events are `PromptsOld` and `PromptsNew` (`specs/Passphrases`).
 

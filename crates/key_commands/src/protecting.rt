@@ -1,13 +1,13 @@
 //! A clear key's new file, and the passphrase that opens it (GnuPG's agent/keyformat.txt). It
 //! computes; only the keeping of a passphrase takes a turn at the desk (cache handle). Begin with
-//! `protected_key`; it is `Protects`, and the keeping `KeepsNew` (`specs/KeyParts`).
+//! `protected_key`; it is `Protects`, and the keeping `KeepsNew` (`specs/KeyActions`).
 
 ghost use Rattle.std.specs.Prelude.{◌≡◌, ◌≤◌, length, take, drop, IfOk, OnOk};
 ghost use Rattle.agent_ports.specs.declared.keys.TheConstants.{MAX_KEY_FILE_LEN};
 ghost use Rattle.session_options.specs.Counts.{IsS2kCount};
 ghost use Rattle.{sexp_canonical.specs.Spelling.{most_depth, depth}, sexp_keys.specs.Key.key_tree};
 ghost use Rattle.sexp_keys.specs.Lists.{key_list_of};
-ghost use Rattle.key_commands.specs.{Files.IsSomeList, KeyParts.{IsShort, Protects, KeepsNew}};
+ghost use Rattle.key_commands.specs.{Files.IsSomeList, KeyActions.{IsShort, Protects, KeepsNew}};
 ghost use Rattle.key_commands.specs.{Steps.{DoesAlone, TakesTurns}, Trials.IsUsable};
 ghost use Rattle.key_commands.specs.declared.wrapping.TheConstants.{MAX_LIST_LEN};
 

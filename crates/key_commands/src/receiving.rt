@@ -1,12 +1,12 @@
 //! A key that comes in: it is received from the client, and named, and there has to be room for it.
 //! It works on the connection, asks the keys and the desk (cache handle), and changes no file.
-//! Begin with `receive_key`; `specs/KeyParts` defines each part (action), as `ReceivesKey` and
+//! Begin with `receive_key`; `specs/KeyActions` defines each action, as `ReceivesKey` and
 //! `IsFree`.
 
 ghost use Rattle.std.specs.Prelude.{◌≡◌, ◌≤◌, length, IfOk};
 ghost use Rattle.{assuan_server.specs.Connections.IsOpen, sexp_keys.specs.Lists.key_list_of};
-ghost use Rattle.key_commands.specs.KeyParts.{AsksKeyData, ReceivesKey, Unwraps, NamesKey, IsFree};
-ghost use Rattle.key_commands.specs.{KeyParts.LooksOver, Partial.DoesAtClient};
+ghost use Rattle.key_commands.specs.KeyActions.{AsksKeyData, ReceivesKey, Unwraps, NamesKey, IsFree};
+ghost use Rattle.key_commands.specs.{KeyActions.LooksOver, Partial.DoesAtClient};
 ghost use Rattle.key_commands.specs.Steps.{DoesAlone, DoesKeyCalls, TakesTurns, key_data_of};
 ghost use Rattle.key_commands.specs.{Trials.IsUsable, declared.wrapping.TheConstants.MAX_LIST_LEN};
 

@@ -4,7 +4,7 @@
 
 ghost use Rattle.std.specs.Prelude.{◌≡◌, ℕ, List};
 ghost use Rattle.{assuan_server.specs.Written.WritesText, session_client.specs.Refusals.gone_by};
-ghost use Rattle.key_commands.specs.{Parts.key_went_after, Replies.{IsReply, RespondsTo}};
+ghost use Rattle.key_commands.specs.{Actions.key_went_after, Replies.{IsReply, RespondsTo}};
 
 use crate::drawing::Drawn;
 use crate::texts::StatusLine;

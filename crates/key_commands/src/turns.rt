@@ -1,6 +1,6 @@
-//! Turns at the desk (cache handle), as parts (actions) of a request: a key's passphrase is looked
+//! Turns at the desk (cache handle), as actions of a request: a key's passphrase is looked
 //! at, kept or cleared, and the seat (lock: the right to prompt) taken. Nothing but the desk is
-//! called. Begin with `keep_pass`; the parts are `TakesTurn` and `TakesTurns` (`specs/Steps`).
+//! called. Begin with `keep_pass`; the actions are `TakesTurn` and `TakesTurns` (`specs/Steps`).
 
 ghost use Rattle.std.specs.Prelude.{◌≡◌};
 ghost use Rattle.assuan_escape.specs.Escapes.{hex_text};
@@ -8,7 +8,7 @@ ghost use Rattle.cache_policy.specs.declared.life.Life.TheVariants.{Default};
 ghost use Rattle.cache_policy.specs.declared.mark.MarkStep.TheVariants.{Put, Clear};
 ghost use Rattle.cache_policy.specs.declared.mode.Mode.TheVariants.{Normal, Nonce};
 ghost use Rattle.cache_policy.specs.Turns.{asked_step, closes};
-ghost use Rattle.agent_ask.specs.TurnParts.{Changes, Peeks};
+ghost use Rattle.agent_ask.specs.TurnActions.{Changes, Peeks};
 ghost use Rattle.key_commands.specs.{Passphrases.{TakesSeat, put_key}, Lines.grip_text};
 ghost use Rattle.key_commands.specs.Steps.{TakesTurn, TakesTurns};
 

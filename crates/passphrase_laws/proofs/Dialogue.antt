@@ -4,7 +4,7 @@ use Rattle.std.proofs.Common.{◌≡◌, ℕ, ◌≤◌, Bool, false, List, [], 
 use Rattle.std.proofs.lemmas.Bool.{false≢true}
 use Rattle.std.proofs.lemmas.List.Concat.{flat_map-append}
 use Rattle.agent_ask.specs.SessionEvents.{Sent, said_last}
-use Rattle.agent_commands.specs.Parts.{CacheEvent}
+use Rattle.agent_commands.specs.Actions.{CacheEvent}
 use Rattle.agent_ports.specs.Sides.{followed_by}
 use Rattle.assuan_client.specs.Connections.{Connection}
 use Rattle.assuan_client.specs.Skipping.{nothing}

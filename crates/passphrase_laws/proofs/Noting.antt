@@ -4,19 +4,19 @@ use Rattle.std.specs.Prelude.{⊤}
 use Rattle.std.proofs.Common.{◌≢◌, ℕ, zero, suc, Bool, true, false, List, [], ◌∷◌, ◌++◌, Option, Some, None, Result, Ok, Err, refl, sym, subst, append_assoc}
 use Rattle.agent_ask.specs.Events.{PromptEvent, Called, Notified, OutOfMemory, Shut}
 use Rattle.agent_ask.specs.PortCalls.{Prompt}
-use Rattle.agent_ask.specs.Parts.{◌>>=◌, Follows, goes_on, stops, Returns, returns, Refuses, refuses, needed, or_else}
-use Rattle.agent_ask.specs.PinParts.{PromptsPin}
+use Rattle.agent_ask.specs.Actions.{◌>>=◌, Follows, goes_on, stops, Returns, returns, Refuses, refuses, needed, or_else}
+use Rattle.agent_ask.specs.PinActions.{PromptsPin}
 use Rattle.agent_ask.specs.Prompts.{AsksBefore, Opens, Tries, IsTry, Repeats, repeated}
 use Rattle.agent_ask.specs.SessionEvents.{Port}
 use Rattle.agent_ask.specs.SessionPrompts.{AnyInSession, note}
 use Rattle.agent_ask.specs.SessionPrompts as session
 use Rattle.agent_ask.specs.Tests.{PinTest}
-use Rattle.agent_ask.specs.TurnParts.{Asks, Seats, Closes}
-use Rattle.agent_ask.specs.TurnParts as turning
+use Rattle.agent_ask.specs.TurnActions.{Asks, Seats, Closes}
+use Rattle.agent_ask.specs.TurnActions as turning
 use Rattle.agent_ask.specs.declared.ask.Asked.{Asked}
 use Rattle.agent_ask.specs.declared.spec.AskPlan.{AskPlan}
 use Rattle.agent_ask.specs.declared.spec.PromptSpec.{PromptSpec}
-use Rattle.agent_commands.specs.Parts.{CacheEvent, CachePart}
+use Rattle.agent_commands.specs.Actions.{CacheEvent, CacheAction}
 use Rattle.agent_commands.specs.Passphrases.{Passphrase, passphrase_by, as_wanted, WithoutPrompt, ByUser, ByCache, LooksFor, WantsPrompt, Prompts, PromptsAny, Uncached}
 use Rattle.agent_commands.specs.Passphrases as passphrases
 use Rattle.agent_commands.specs.Requests.{GetFields}
@@ -147,14 +147,14 @@ pin_notes {shown = shown} prompts =
 -- ---- parts
 
 -- in the events of this part the client is told nothing
-pub record Still {A : Type 0} (part : CachePart A) : Type 0 where
+pub record Still {A : Type 0} (part : CacheAction A) : Type 0 where
   pub of : (before : Option ℕ) (events : List CacheEvent) (result : Result A Refusal) (after : Option ℕ) → part before events result after → Silent events
 
 -- or at most that
-pub record Noted {A : Type 0} (part : CachePart A) : Type 0 where
+pub record Noted {A : Type 0} (part : CacheAction A) : Type 0 where
   pub of : (before : Option ℕ) (events : List CacheEvent) (result : Result A Refusal) (after : Option ℕ) → part before events result after → HasNotes events
 
-quiet_notes : {A : Type 0} {part : CachePart A} → Still part → Noted part
+quiet_notes : {A : Type 0} {part : CacheAction A} → Still part → Noted part
 quiet_notes still = record { of = λ before events result after does. silent_notes (still.of before events result after does) }
 
 asks_of : (change : MarkStep) (before : Option ℕ) (events : List CacheEvent) (result : Result (Option (List ℕ)) Refusal) (after : Option ℕ) → Asks change before events result after → Silent events
@@ -197,15 +197,15 @@ module _ {A : Type 0} where
   is_needed code None = refused (Agent code)
   is_needed code (Some value) = returned value
 
-  or_still : (value : Option A) {other : CachePart A} → Still other → Still (or_else value other)
+  or_still : (value : Option A) {other : CacheAction A} → Still other → Still (or_else value other)
   or_still None other = other
   or_still (Some value) other = returned value
 
-  or_noted : (value : Option A) {other : CachePart A} → Noted other → Noted (or_else value other)
+  or_noted : (value : Option A) {other : CacheAction A} → Noted other → Noted (or_else value other)
   or_noted None other = other
   or_noted (Some value) other = quiet_notes (returned value)
 
-module _ {A B : Type 0} {part : CachePart A} {next : A → CachePart B} where
+module _ {A B : Type 0} {part : CacheAction A} {next : A → CacheAction B} where
   still_of : Still part → ((value : A) → Still (next value)) → (before : Option ℕ) (events : List CacheEvent) (result : Result B Refusal) (after : Option ℕ) → Follows part next before events result after
       → Silent events
   still_of still each before events result after (goes_on {first} {events = later} {value} {mid} does more) =

@@ -2,13 +2,13 @@
 use Rattle.std.specs.List.{AllByRecursion}
 use Rattle.std.specs.Prelude.{if◌then◌else◌}
 use Rattle.std.proofs.Common.{◌≡◌, ℕ, Bool, true, false, List, [], ◌∷◌, ◌++◌, codes, refl, ap, subst, ◌∙◌}
-use Rattle.agent_ask.specs.PartExchanges.{AnyExchange, answered, refused}
-use Rattle.agent_ask.specs.Parts.{returns, refuses}
-use Rattle.agent_ask.specs.TurnParts as turn
+use Rattle.agent_ask.specs.ActionExchanges.{AnyExchange, answered, refused}
+use Rattle.agent_ask.specs.Actions.{returns, refuses}
+use Rattle.agent_ask.specs.TurnActions as turn
 use Rattle.agent_commands.specs.Endings.{went_after}
 use Rattle.agent_commands.specs.Exchanges.{CacheExchange, option_replies}
 use Rattle.command_table.specs.Commands.{command_named}
-use Rattle.agent_commands.specs.Parts.{CacheEvent}
+use Rattle.agent_commands.specs.Actions.{CacheEvent}
 use Rattle.agent_commands.specs.Requests.{request_of}
 use Rattle.agent_commands.specs.declared.request.CacheCommand.{CacheCommand}
 use Rattle.agent_commands.specs.declared.request.Request.{Request}

@@ -2,7 +2,7 @@
 use Rattle.std.specs.List.{AllByRecursion}
 use Rattle.std.proofs.Common.{◌≡◌, ◌≢◌, ◌≤◌, ℕ, true, List, ◌++◌, length, Option, Some, None, Ok, subst}
 use Rattle.agent_commands.specs.Exchanges.{LineExchange, CacheExchange}
-use Rattle.agent_commands.specs.Parts.{CacheEvent}
+use Rattle.agent_commands.specs.Actions.{CacheEvent}
 use Rattle.agent_commands.specs.Requests.{GetFields, get_passphrase, request_of}
 use Rattle.agent_commands.specs.declared.request.Request.{Request}
 use Rattle.agent_commands.specs.declared.request.Request.TheVariants.{Cache}

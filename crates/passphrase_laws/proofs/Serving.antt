@@ -9,7 +9,7 @@ use Rattle.agent_ask.specs.SessionEvents as event
 use Rattle.agent_ask.specs.Worlds.{Does, Outside}
 use Rattle.agent_ask.specs.Worlds as does
 use Rattle.agent_commands.specs.Exchanges.{LineExchange}
-use Rattle.agent_commands.specs.Parts.{CacheEvent}
+use Rattle.agent_commands.specs.Actions.{CacheEvent}
 use Rattle.agent_commands.specs.Requests.{request_of}
 use Rattle.agent_commands.specs.Talks.{Session, Talk}
 use Rattle.agent_commands.specs.Talks as talks

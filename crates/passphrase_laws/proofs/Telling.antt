@@ -1,13 +1,13 @@
 -- What an exchange of a request for a passphrase tells the client last.
 use Rattle.std.proofs.Common.{◌≡◌, ℕ, Bool, true, List, ◌++◌, Option, Some, None, Ok, Err, refl, ap, sym, subst, append-nil}
-use Rattle.agent_ask.specs.PartExchanges.{AnyExchange, answered, refused}
-use Rattle.agent_ask.specs.Parts.{goes_on, stops, Returns, returns}
+use Rattle.agent_ask.specs.ActionExchanges.{AnyExchange, answered, refused}
+use Rattle.agent_ask.specs.Actions.{goes_on, stops, Returns, returns}
 use Rattle.agent_ask.specs.SessionEvents.{said_last}
-use Rattle.agent_ask.specs.TurnParts.{Closes}
+use Rattle.agent_ask.specs.TurnActions.{Closes}
 use Rattle.agent_commands.specs.Answers.{IsPassphrase}
 use Rattle.agent_commands.specs.Endings.{went_after}
 use Rattle.agent_commands.specs.Exchanges.{CacheReply, GetReplies, TellsPassphrase, tells}
-use Rattle.agent_commands.specs.Parts.{CacheEvent}
+use Rattle.agent_commands.specs.Actions.{CacheEvent}
 use Rattle.agent_commands.specs.Passphrases.{Passphrase}
 use Rattle.agent_commands.specs.Requests.{GetFields}
 use Rattle.agent_commands.specs.declared.went.Went.{Went}

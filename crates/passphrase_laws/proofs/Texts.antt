@@ -5,7 +5,7 @@ use Rattle.std.proofs.lemmas.List.Concat.{flat_map-append}
 use Rattle.agent_ask.specs.SessionEvents.{Received, Sent, Cut, Inquiry, CacheTurn, Port}
 use Rattle.agent_ask.specs.SessionPrompts.{note}
 use Rattle.agent_commands.specs.Events.{Inquired}
-use Rattle.agent_commands.specs.Parts.{CacheEvent}
+use Rattle.agent_commands.specs.Actions.{CacheEvent}
 use Rattle.assuan_server.specs.Inquiries.{inquire_text}
 use Rattle.assuan_text.specs.LineEnds.{line_of}
 use Rattle.session_client.specs.Asking.{Asked, NotAsked}

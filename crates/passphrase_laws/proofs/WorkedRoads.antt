@@ -2,13 +2,13 @@
 use Rattle.std.specs.List.{AllByRecursion}
 use Rattle.std.proofs.Common.{◌≡◌, ◌<◌, ℕ, true, List, [], ◌∷◌, ◌++◌, codes, All, None, refl, sym, subst, arith}
 use Rattle.std.proofs.lemmas.List.Elements.{All-cons, All-nil}
-use Rattle.agent_ask.specs.PartExchanges.{answered}
-use Rattle.agent_ask.specs.Parts.{goes_on, returns}
+use Rattle.agent_ask.specs.ActionExchanges.{answered}
+use Rattle.agent_ask.specs.Actions.{goes_on, returns}
 use Rattle.agent_ask.specs.Answering as answering
 use Rattle.agent_ask.specs.SessionEvents.{Received, Sent, cache_turn}
-use Rattle.agent_ask.specs.TurnParts as turn
+use Rattle.agent_ask.specs.TurnActions as turn
 use Rattle.agent_commands.specs.Exchanges.{CacheExchange, LineExchange, reply, tells}
-use Rattle.agent_commands.specs.Parts.{CacheEvent}
+use Rattle.agent_commands.specs.Actions.{CacheEvent}
 use Rattle.agent_commands.specs.Passphrases.{ask}
 use Rattle.agent_commands.specs.Requests.{get_passphrase}
 use Rattle.agent_commands.specs.Talks.{Session}

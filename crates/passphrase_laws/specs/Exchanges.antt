@@ -3,9 +3,9 @@ use Rattle.std.specs.List.{AllByRecursion, flat_map}
 use Rattle.std.specs.Prelude.{◌≡◌, ℕ, Bool, true, false, List, [], ◌∷◌, ◌++◌, Option, Some, None, Result, Ok, Err, ⊤}
 use Rattle.agent_ask.specs.SessionEvents.{Sent, Cut, Inquiry, CacheTurn, Port, said_last}
 use Rattle.agent_ask.specs.SessionPrompts.{note}
-use Rattle.agent_ask.specs.TurnParts.{Closes}
+use Rattle.agent_ask.specs.TurnActions.{Closes}
 use Rattle.agent_commands.specs.Events.{Inquired}
-use Rattle.agent_commands.specs.Parts.{CacheEvent}
+use Rattle.agent_commands.specs.Actions.{CacheEvent}
 use Rattle.agent_commands.specs.Passphrases.{Passphrase}
 use Rattle.agent_commands.specs.Requests.{GetFields}
 use Rattle.assuan_client.specs.Answers.{success_of}

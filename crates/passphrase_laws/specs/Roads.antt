@@ -2,7 +2,7 @@
 -- "server responses").
 use Rattle.std.specs.Prelude.{◌≡◌, ◌<◌, ◌^◌, ℕ, Bool, List, [], ◌∷◌, ◌++◌, decimal, Some, None, Result, Ok, Err, ⊤}
 use Rattle.agent_ask.specs.SessionEvents.{Cut, Inquiry}
-use Rattle.agent_commands.specs.Parts.{CacheEvent}
+use Rattle.agent_commands.specs.Actions.{CacheEvent}
 use Rattle.agent_commands.specs.Requests.{GetFields}
 use Rattle.assuan_server.specs.Errors.{error_text, error_number}
 use Rattle.assuan_server.specs.Written.{greeting, ok, refusal_line}

@@ -5,7 +5,7 @@ use Rattle.std.specs.Prelude.{◌≡◌, ℕ, true, List, [], ◌∷◌, ◌++�
 use Rattle.agent_ask.specs.Plans.{text}
 use Rattle.agent_ask.specs.SessionEvents.{Received, Sent}
 use Rattle.agent_commands.specs.Exchanges.{LineExchange}
-use Rattle.agent_commands.specs.Parts.{CacheEvent}
+use Rattle.agent_commands.specs.Actions.{CacheEvent}
 use Rattle.agent_commands.specs.Requests.{GetFields, request_of}
 use Rattle.agent_commands.specs.declared.request.CacheCommand.TheVariants.{SetOption}
 use Rattle.agent_commands.specs.declared.request.Request.TheVariants.{Cache}

@@ -2,7 +2,7 @@
 //! client's reader. Nothing runs. Definitions are in `specs/Exchanges`.
 
 ghost use Rattle.agent_commands.specs.Exchanges.{LineExchange};
-ghost use Rattle.agent_commands.specs.Parts.{CacheEvent};
+ghost use Rattle.agent_commands.specs.Actions.{CacheEvent};
 ghost use Rattle.agent_commands.specs.Requests.{GetFields, get_passphrase, request_of};
 ghost use Rattle.agent_commands.specs.declared.request.Request.TheVariants.{Cache};
 ghost use Rattle.agent_commands.specs.declared.went.Went.{Went};

@@ -3,7 +3,7 @@
 //! `a_task_is_told_what_its_request_came_to`; definitions are in `specs/Roads`.
 
 ghost use Rattle.agent_commands.specs.Exchanges.{LineExchange};
-ghost use Rattle.agent_commands.specs.Parts.{CacheEvent};
+ghost use Rattle.agent_commands.specs.Actions.{CacheEvent};
 ghost use Rattle.agent_commands.specs.Requests.{GetFields, get_passphrase, request_of};
 ghost use Rattle.agent_commands.specs.declared.request.Request.TheVariants.{Cache};
 ghost use Rattle.agent_commands.specs.declared.went.Went.{Went};

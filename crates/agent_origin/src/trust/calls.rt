@@ -1,10 +1,10 @@
-//! The calls of the trust file, as parts (actions) of a request: it is read, and put in place anew.
+//! The calls of the trust file, as actions of a request: it is read, and put in place anew.
 //! Nothing but the file is called. Begin with `trusted_now` and `store_unsaid`; these are
 //! `TrustedNow` and `StoresUnsaid` (`specs/TrustExchanges`).
 
 ghost use Rattle.std.specs.Prelude.{◌≡◌, IfOk, IfErr};
 ghost use Rattle.agent_origin.specs.TrustExchanges.{Stores, StoresUnsaid, TrustedNow};
-ghost use Rattle.agent_origin.specs.{TrustParts.{ReadsFile, Replaces}, TrustStates.DoesAtFile};
+ghost use Rattle.agent_origin.specs.{TrustActions.{ReadsFile, Replaces}, TrustStates.DoesAtFile};
 
 use super::TrustPurpose;
 use agent_ports::{Grip, TrustDone, TrustFile, TrustRead};

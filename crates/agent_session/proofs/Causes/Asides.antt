@@ -28,8 +28,8 @@ not_true true is = absurd (cc is)
 pub comments_aside : (names : List (List ℕ)) → list_all (λ name. not (has_lf name)) names ≡ true → AreAsides (comments names)
 comments_aside [] each = none
 comments_aside (name ∷ more) each =
-    let parts = and_parts (not (has_lf name)) (list_all (λ name. not (has_lf name)) more) each in
-    one_more (of_comment (not_true (has_lf name) parts.0)) (comments_aside more parts.1)
+    let actions = and_parts (not (has_lf name)) (list_all (λ name. not (has_lf name)) more) each in
+    one_more (of_comment (not_true (has_lf name) actions.0)) (comments_aside more actions.1)
 
 -- ---- status lines
 
@@ -43,7 +43,7 @@ either_short : (flag : Bool) (xs ys : List ℕ) → has_lf xs ≡ false → has_
 either_short true xs ys short others = short
 either_short false xs ys short others = others
 
--- the first parts of what is known of a key
+-- the first actions of what is known of a key
 abbrev grip_told : Grip → List ℕ
 grip_told grip = hex_text grip.0 ++ codes " D - - "
 

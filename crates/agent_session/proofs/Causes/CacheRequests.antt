@@ -1,21 +1,21 @@
 -- Requests on the cache and on the session, each of whose refusals has its cause.
 use Rattle.std.proofs.Common.{◌≡◌, ℕ, Bool, true, false, List, [], ◌++◌, codes, Option, Some, None, Result, Ok, refl, sym, subst, inl}
-use Rattle.{arrayvec.specs.ArrayVec.ArrayVec, agent_ask.specs.{SessionEvents.said_last, PortCalls.PortCall, Parts.{◌>>=◌, Returns}, Plans.plan_of}, assuan_server.specs.{Clients.session_lines, Written.{refusal_line, limit_line}}}
+use Rattle.{arrayvec.specs.ArrayVec.ArrayVec, agent_ask.specs.{SessionEvents.said_last, PortCalls.PortCall, Actions.{◌>>=◌, Returns}, Plans.plan_of}, assuan_server.specs.{Clients.session_lines, Written.{refusal_line, limit_line}}}
 use Rattle.session_client.specs.{Asking.gone_of, Refusals.gone_by, declared.{code.Code.Code, refusal.Refusal.{Refusal, TheVariants.{Agent, Pinentry, Client}}, client_error.ClientError.ClientError}}
 use Rattle.{cache_policy.specs.{Turns.{closes, Empty}, declared.{mark.MarkStep.MarkStep, secret.TheConstants.MAX_SECRET_LEN}}, session_options.specs.{OptionValues.{OptionValues, applied}, declared.options.OptionAnswer.OptionAnswer}}
 use Rattle.{session_options.specs.declared.{options.PinMode.PinMode, rules.Rules.Rules}, agent_commands.specs.{Answers.IsInfo, Endings.went_after, Events.EventWith}}
-use Rattle.agent_commands.specs.{Exchanges.{CacheExchange, CacheReply, CacheReplies, TellsPassphrase, TellsInfo, option_replies, ChangeReplies, confirms_by, is_quiet, tells}, Parts.{CachePart, AsksPassphrase}}
+use Rattle.agent_commands.specs.{Exchanges.{CacheExchange, CacheReply, CacheReplies, TellsPassphrase, TellsInfo, option_replies, ChangeReplies, confirms_by, is_quiet, tells}, Actions.{CacheAction, AsksPassphrase}}
 use Rattle.agent_commands.specs.{Passphrases.{ask, ask_or_open, LooksFor, WantsPrompt, ByCache, ByClient, Uncached, WithoutPrompt, PromptsAny, ByUser, as_wanted, passphrase_by}, Requests.{GetFields, get_passphrase}}
 use Rattle.agent_commands.specs.declared.{request.{CacheCommand.CacheCommand, Info.{Info, TheVariants.{Version, Pid, S2kCount, Listed}}, Request.{Request, TheVariants.{Cache, Key, Bad}}, Texts.Texts}, went.Went.Went}
 use Rattle.agent_origin.specs.declared.session_state.SessionState.{SessionState}
 use Rattle.agent_session.specs.Causes.{AsksAny, wanted, StandIn, IsCaused, IsRefusedBy, IsSaid, said, by_client, by_mode, no_id, empty, option, preset, confirmation, none_given, HasNoEntry, IsUnprompted, IsMalformed, IsUnsupported}
 use Rattle.agent_session.{specs.Causes.{without_id, passphrase}, proofs.Causes.{Asides.secret_limit, Explained.{Explained, replied, failed, silent, after_these, IsLast}}}
 use Rattle.agent_session.proofs.Causes.Explaining.{Caused, CausedRefusal, ClientSays, cut, client_said, Comes, IsExplained, Explains, Anything, bind, whatever, returned, refused, or_otherwise, is_wanted, interrupts, looks, seats, changes}
-use Rattle.agent_session.proofs.Causes.{Explaining.closes_explained, KeyParts.{Either, prompt_silent, refused_any, agrees}, KeyRequests.{if_needed, or_else_explained}}
+use Rattle.agent_session.proofs.Causes.{Explaining.closes_explained, KeyActions.{Either, prompt_silent, refused_any, agrees}, KeyRequests.{if_needed, or_else_explained}}
 use Rattle.agent_session.proofs.{Causes.Replying.{IsReply, reply_ok, reply_closing, reply_help, reply_cache, reply_passphrase}, Standing.{has_first, stand_left, stand_right}}
-use Rattle.agent_ask.specs.ClientParts as client
-use Rattle.agent_ask.specs.PartExchanges as exchange
-use Rattle.agent_ask.specs.TurnParts as taken
+use Rattle.agent_ask.specs.ClientActions as client
+use Rattle.agent_ask.specs.ActionExchanges as exchange
+use Rattle.agent_ask.specs.TurnActions as taken
 use Rattle.assuan_server.specs.declared.errors.Origin.TheVariants as origin
 use Rattle.session_client.specs.declared.code.Code.TheVariants as code
 use Rattle.session_client.specs.declared.client_error.Gone.TheVariants as gone
@@ -40,11 +40,11 @@ module _ (rules : Rules) (kept : SessionState) (whole : List (EventWith PortCall
   Here = Explained whole (IsCaused whole rules kept request)
 
   -- what is done so comes to a good value, or to a refusal that has its cause
-  abbrev ExplainsHere : {A : Type 0} → CachePart A → (A → Type 0) → Type 0
-  ExplainsHere part Good = Explains whole (IsCaused whole rules kept request) part Good
+  abbrev ExplainsHere : {A : Type 0} → CacheAction A → (A → Type 0) → Type 0
+  ExplainsHere action Good = Explains whole (IsCaused whole rules kept request) action Good
 
-  -- a part, and then what follows whatever it came to
-  then : {A B : Type 0} {part : CachePart A} {next : A → CachePart B} {Good : B → Type 0} → ExplainsHere part Anything → ((value : A) → ExplainsHere (next value) Good) → ExplainsHere (part >>= next) Good
+  -- an action, and then what follows whatever it came to
+  then : {A B : Type 0} {action : CacheAction A} {next : A → CacheAction B} {Good : B → Type 0} → ExplainsHere action Anything → ((value : A) → ExplainsHere (next value) Good) → ExplainsHere (action >>= next) Good
   then first next = bind first (λ value any. next value)
 
   done : {A : Type 0} (value : A) → ExplainsHere (Returns value) Anything
@@ -190,17 +190,17 @@ module _ (rules : Rules) (kept : SessionState) (whole : List (EventWith PortCall
   refusal_explained (Pinentry why) caused = failed [] why origin.Pinentry tt caused tt
   refusal_explained (Client why) says = client_explained why says
 
-  -- the parts of a request are done, its ticket is given back, and then this is written
-  pub in_exchange : {A : Type 0} {part : CachePart A} {Good : A → Type 0} → ExplainsHere part Good → {events back last : List (EventWith PortCall)} {result : Result A Refusal} {held : Option ℕ} {went : Went}
-      → part None events result held → taken.Closes None held back (Ok tt) None → (IsExplained whole (IsCaused whole rules kept request) Good result → Here last went) → StandIn (events ++ (back ++ last)) whole
+  -- the actions of a request are done, its ticket is given back, and then this is written
+  pub in_exchange : {A : Type 0} {action : CacheAction A} {Good : A → Type 0} → ExplainsHere action Good → {events back last : List (EventWith PortCall)} {result : Result A Refusal} {held : Option ℕ} {went : Went}
+      → action None events result held → taken.Closes None held back (Ok tt) None → (IsExplained whole (IsCaused whole rules kept request) Good result → Here last went) → StandIn (events ++ (back ++ last)) whole
       → Here (events ++ (back ++ last)) went
   in_exchange {Good} explains {events} {back} {last} {result} {held} does closes ends stands =
       let first : Comes whole (IsCaused whole rules kept request) Good events result = explains None events result held does (stand_left events _ stands) in
       let close : Comes whole (IsCaused whole rules kept request) Anything back (Ok tt) = closes_explained None held back (Ok tt) None closes (stand_left back last (stand_right events _ stands)) in
       after_these _ _ events first.silent (after_these _ _ back close.silent (ends first.explained))
 
-  exchange_explained : {part : CachePart CacheReply} → ExplainsHere part Answers → {events : List (EventWith PortCall)} {after : OptionValues} {went : Went}
-      → exchange.AnyExchange refusal_line went_after part kept.options events after went → StandIn events whole → Here events went
+  exchange_explained : {action : CacheAction CacheReply} → ExplainsHere action Answers → {events : List (EventWith PortCall)} {after : OptionValues} {went : Went}
+      → exchange.AnyExchange refusal_line went_after action kept.options events after went → StandIn events whole → Here events went
   exchange_explained explains (exchange.answered events held reply does closes) stands = in_exchange explains does closes (λ good. replied [] reply.text tt good.0 good.1) stands
   exchange_explained explains (exchange.refused events held why does closes) stands = in_exchange explains does closes (λ caused. refusal_explained why caused) stands
 

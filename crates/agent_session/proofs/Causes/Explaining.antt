@@ -1,11 +1,11 @@
--- Parts of a request on keys each of whose refusals has its cause among the events of the request.
+-- Actions of a request on keys each of whose refusals has its cause among the events of the request.
 use Rattle.std.{specs.{List.AllByRecursion, Prelude.{⊤, ◌<◌, ◌^◌}}, proofs.Common.{◌≡◌, ℕ, Bool, true, false, List, ◌∷◌, Option, Some, None, Result, Ok, Err, refl}}
-use Rattle.agent_ask.specs.{PortCalls.{PortCall, Keys, Read, Dice, NotDrawn, NoMemory}, SessionEvents.{Port, cache_turn}, ClientParts.{Writes, Inquires, AsksClient}}
-use Rattle.agent_ask.{specs.{Parts.{◌>>=◌, Returns, returns, Refuses, refuses, needed, or_else, unless, wanted}, Interrupts.Interrupts, TurnParts.{Asks, Seats, Changes, Peeks, Closes}}, proofs.Within.Joins}
+use Rattle.agent_ask.specs.{PortCalls.{PortCall, Keys, Read, Dice, NotDrawn, NoMemory}, SessionEvents.{Port, cache_turn}, ClientActions.{Writes, Inquires, AsksClient}}
+use Rattle.agent_ask.{specs.{Actions.{◌>>=◌, Returns, returns, Refuses, refuses, needed, or_else, unless, wanted}, Interrupts.Interrupts, TurnActions.{Asks, Seats, Changes, Peeks, Closes}}, proofs.Within.Joins}
 use Rattle.{agent_ports.specs.declared.grip.Grip.Grip, session_client.specs.declared.{code.Code.Code, client_error.ClientError.ClientError, refusal.Refusal.{Refusal, TheVariants.{Agent, Pinentry, Client}}}}
 use Rattle.{assuan_server.specs.{Clients.session_lines, declared.errors.Origin.{Origin, TheVariants.{Agent as OfAgent, Pinentry as OfPinentry}}, Written.limit_line}, cache_policy.specs.declared.mode.Mode.TheVariants.Normal}
 use Rattle.{cache_policy.specs.{declared.{grant.Grant.Grant, mark.MarkStep.MarkStep}, Turns.{Turn, Refused, closes, Given, Empty, Open}}, session_options.specs.declared.rules.Rules.Rules, agent_commands.specs.Events.EventWith}
-use Rattle.{agent_commands.specs.declared.request.Request.Request, key_commands.{specs.{Parts.{Part, Finds, Draws}, Lines.grip_text}, proofs.EachEvent.each_append}, agent_origin.specs.declared.session_state.SessionState.SessionState}
+use Rattle.{agent_commands.specs.declared.request.Request.Request, key_commands.{specs.{Actions.{Action, Finds, Draws}, Lines.grip_text}, proofs.EachEvent.each_append}, agent_origin.specs.declared.session_state.SessionState.SessionState}
 use Rattle.agent_session.{specs.{Causes.{Has, StandIn, IsCaused, IsSaid, said, IsSent, sent, IsUnread, IsDrawn, one, turned, by_stop, GivesNone, none_given}, Completeness.{AnswersNothing, IsStatus}}, proofs.Causes.Asides.limit_status}
 use Rattle.agent_session.proofs.Standing.{has_first, has_second, stand_left, stand_right}
 use Rattle.agent_ports.specs.declared.keys.KeyRead.TheVariants as key_read
@@ -14,9 +14,9 @@ use Rattle.session_client.specs.declared.client_error.Gone.TheVariants as gone
 use Rattle.session_client.specs.declared.client_error.ClientError.TheVariants as client_error
 use Rattle.agent_ask.proofs.Within as within
 use Rattle.agent_ask.specs.Interrupts as turns
-use Rattle.agent_ask.specs.TurnParts as taken
-use Rattle.agent_ask.specs.ClientParts as client_parts
-use Rattle.key_commands.specs.Parts as parts
+use Rattle.agent_ask.specs.TurnActions as taken
+use Rattle.agent_ask.specs.ClientActions as client_actions
+use Rattle.key_commands.specs.Actions as actions
 
 -- whatever value
 abbrev pub Anything : {A : Type 0} → A → Type 0
@@ -47,15 +47,15 @@ module _ (whole : List (EventWith PortCall)) (Causes : Code → Origin → Type 
     pub silent : AllByRecursion AnswersNothing events
     pub explained : IsExplained Good result
 
-  -- a part each of whose outcomes is so
-  abbrev pub ExplainLaw : {A : Type 0} → (A → Type 0) → Part A
+  -- an action each of whose outcomes is so
+  abbrev pub ExplainLaw : {A : Type 0} → (A → Type 0) → Action A
   ExplainLaw Good before events result after = StandIn events whole → Comes Good events result
 
-  abbrev pub Explains : {A : Type 0} → Part A → (A → Type 0) → Type 0
-  Explains {A} part Good = (before : Option ℕ) (events : List (EventWith PortCall)) (result : Result A Refusal) (after : Option ℕ) → part before events result after → ExplainLaw Good before events result after
+  abbrev pub Explains : {A : Type 0} → Action A → (A → Type 0) → Type 0
+  Explains {A} action Good = (before : Option ℕ) (events : List (EventWith PortCall)) (result : Result A Refusal) (after : Option ℕ) → action before events result after → ExplainLaw Good before events result after
 
 module _ {whole : List (EventWith PortCall)} {Causes : Code → Origin → Type 0} where
-  -- a part, and then what follows on its value
+  -- an action, and then what follows on its value
   explained_join : {A B : Type 0} {First : A → Type 0} {Good : B → Type 0} → Joins (ExplainLaw whole Causes First) (λ value before events result after. First value → ExplainLaw whole Causes Good before events result after)
       (ExplainLaw whole Causes Good)
   explained_join {First} {Good} = record {
@@ -66,12 +66,12 @@ module _ {whole : List (EventWith PortCall)} {Causes : Code → Origin → Type 
     alone = λ {before} {after} {events} {why} first stands. let one : Comes whole Causes First events (Err why) = first stands in record { silent = one.silent; explained = one.explained };
   }
 
-  pub bind : {A B : Type 0} {part : Part A} {next : A → Part B} {First : A → Type 0} {Good : B → Type 0} → Explains whole Causes part First → ((value : A) → First value → Explains whole Causes (next value) Good)
-      → Explains whole Causes (part >>= next) Good
+  pub bind : {A B : Type 0} {action : Action A} {next : A → Action B} {First : A → Type 0} {Good : B → Type 0} → Explains whole Causes action First → ((value : A) → First value → Explains whole Causes (next value) Good)
+      → Explains whole Causes (action >>= next) Good
   bind first then = (within.bind explained_join (record { of = first }) (λ value. record { of = λ before events result after does good. then value good before events result after does })).of
 
-  -- a part whatever value it comes to
-  pub whatever : {A : Type 0} {part : Part A} (Good : A → Type 0) → Explains whole Causes part Good → Explains whole Causes part Anything
+  -- an action whatever value it comes to
+  pub whatever : {A : Type 0} {action : Action A} (Good : A → Type 0) → Explains whole Causes action Good → Explains whole Causes action Anything
   whatever Good explains before events result after does stands =
       let comes : Comes whole Causes Good events result = explains before events result after does stands in
       record { silent = comes.silent; explained = any_value whole Causes Good result comes.explained }
@@ -87,11 +87,11 @@ module _ {whole : List (EventWith PortCall)} {Causes : Code → Origin → Type 
     is_needed why None caused good = refused (Agent why) (caused refl)
     is_needed why (Some value) caused good = returned value (good value refl)
 
-    pub or_otherwise : (value : Option A) (other : Part A) → ((some : A) → value ≡ Some some → Good some) → (value ≡ None → Explains whole Causes other Good) → Explains whole Causes (or_else value other) Good
+    pub or_otherwise : (value : Option A) (other : Action A) → ((some : A) → value ≡ Some some → Good some) → (value ≡ None → Explains whole Causes other Good) → Explains whole Causes (or_else value other) Good
     or_otherwise None other good explains = explains refl
     or_otherwise (Some value) other good explains = returned value (good value refl)
 
-  pub is_unless : (so : Bool) (other : Part (Unit {0})) → (so ≡ false → Explains whole Causes other Anything) → Explains whole Causes (unless so other) Anything
+  pub is_unless : (so : Bool) (other : Action (Unit {0})) → (so ≡ false → Explains whole Causes other Anything) → Explains whole Causes (unless so other) Anything
   is_unless true other explains = returned Anything tt tt
   is_unless false other explains = explains refl
 
@@ -153,13 +153,13 @@ module _ (rules : Rules) (kept : SessionState) (request : Request) (whole : List
 
   module _ (text : List ℕ) (status : IsStatus text) where
     pub writes : Explains whole (IsCaused whole rules kept request) (Writes text) Anything
-    writes before events result after client_parts.written stands = record { silent = (status, tt); explained = tt }
-    writes before events result after (client_parts.cut unsent is) stands = record { silent = (tt, tt); explained = cut }
+    writes before events result after client_actions.written stands = record { silent = (status, tt); explained = tt }
+    writes before events result after (client_actions.cut unsent is) stands = record { silent = (tt, tt); explained = cut }
 
   module _ (word : List ℕ) (limit : ℕ) where
     pub inquires : Explains whole (IsCaused whole rules kept request) (Inquires session_lines word limit) (IsSent whole word limit)
-    inquires before events result after (client_parts.given is) stands = record { silent = (tt, tt); explained = sent is (has_first stands) }
-    inquires before events result after (client_parts.not_given is) stands = record { silent = (tt, tt); explained = client_said (said is (has_first stands)) }
+    inquires before events result after (client_actions.given is) stands = record { silent = (tt, tt); explained = sent is (has_first stands) }
+    inquires before events result after (client_actions.not_given is) stands = record { silent = (tt, tt); explained = client_said (said is (has_first stands)) }
 
     pub asks_client : limit < 2 ^ 64 → Explains whole (IsCaused whole rules kept request) (AsksClient session_lines (limit_line limit) word limit) (IsSent whole word limit)
     asks_client small = bind (writes (limit_line limit) (limit_status limit small)) (λ told good. inquires)
@@ -173,12 +173,12 @@ module _ (rules : Rules) (kept : SessionState) (request : Request) (whole : List
 
   module _ (grip : Grip) where
     pub finds : Explains whole (IsCaused whole rules kept request) (Finds grip) (IsFound grip)
-    finds before events result after (parts.found {file}) stands = record { silent = (tt, tt); explained = (file, has_first stands) }
-    finds before events result after parts.absent stands = record { silent = (tt, tt); explained = has_first stands }
-    finds before events result after parts.faulted stands = record { silent = (tt, tt); explained = one _ tt (has_first stands) }
-    finds before events result after parts.no_memory stands = record { silent = (tt, tt); explained = one _ tt (has_first stands) }
+    finds before events result after (actions.found {file}) stands = record { silent = (tt, tt); explained = (file, has_first stands) }
+    finds before events result after actions.absent stands = record { silent = (tt, tt); explained = has_first stands }
+    finds before events result after actions.faulted stands = record { silent = (tt, tt); explained = one _ tt (has_first stands) }
+    finds before events result after actions.no_memory stands = record { silent = (tt, tt); explained = one _ tt (has_first stands) }
 
   module _ (count : ℕ) where
     pub draws : Explains whole (IsCaused whole rules kept request) (Draws count) (IsDrawn whole count)
-    draws before events result after (parts.drawn long) stands = record { silent = (tt, tt); explained = record { long = long; has = has_first stands } }
-    draws before events result after parts.faulted stands = record { silent = (tt, tt); explained = one (Port (Dice (NotDrawn count))) tt (has_first stands) }
+    draws before events result after (actions.drawn long) stands = record { silent = (tt, tt); explained = record { long = long; has = has_first stands } }
+    draws before events result after actions.faulted stands = record { silent = (tt, tt); explained = one (Port (Dice (NotDrawn count))) tt (has_first stands) }

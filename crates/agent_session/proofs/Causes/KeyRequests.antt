@@ -1,31 +1,31 @@
 -- Requests on keys, each of whose refusals has its cause.
 use Rattle.std.proofs.Common.{◌≡◌, ◌≢◌, ◌==◌, ℕ, Bool, true, false, List, [], ◌∷◌, ◌++◌, length, codes, Option, Some, None, Result, Ok, Err, refl, sym, ap, ◌∙◌, subst, append_assoc, append-nil, inl, inr, arith}
 use Rattle.std.{proofs.lemmas.{Bool.Decides.nat_tests, List.{map-append, nil_from_length}}, specs.Prelude.{⊤, not, map, take, drop}}
-use Rattle.{agent_ask.specs.{PortCalls.{PortCall, Keys, Read, Replaced}, SessionEvents.{Port, cache_turn}, Parts.{Returns, needed, or_else, wanted}}, agent_ports.specs.declared.{grip.Grip.Grip, keys.KeyRead.KeyRead}}
+use Rattle.{agent_ask.specs.{PortCalls.{PortCall, Keys, Read, Replaced}, SessionEvents.{Port, cache_turn}, Actions.{Returns, needed, or_else, wanted}}, agent_ports.specs.declared.{grip.Grip.Grip, keys.KeyRead.KeyRead}}
 use Rattle.{session_client.specs.declared.{code.Code.Code, refusal.Refusal.{Refusal, TheVariants.Agent}}, assuan_server.specs.{declared.errors.Origin.TheVariants.Agent as OfAgent, Written.limit_line}}
 use Rattle.{cache_policy.specs.{Turns.{Refused, Empty, Stopping}, declared.secret.TheConstants.MAX_SECRET_LEN}, secret_file.specs.{Opens.LockedKey, Protects.{ocb_protection, protected_file}}, session_options.specs.OptionValues.OptionValues}
 use Rattle.{session_options.specs.declared.{options.PinMode.PinMode, rules.Rules.Rules}, sexp_keys.specs.{Key.Key, Lists.grip_of}, agent_commands.specs.{Events.EventWith, declared.request.Request.Request}}
 use Rattle.key_commands.specs.Lines.{max_key_data}
 use Rattle.key_commands.specs.Exchanges.{KeyReply, HaveKeyReplies, KeyInfoReplies, ListKeysReplies, KeyWrapReplies, ImportKeyReplies, ExportKeyReplies, PasswdReplies, VerifyReplies, DeleteKeyReplies, KeyReplies, wrap_key, StoresKey}
 use Rattle.key_commands.specs.{Exchanges.{FoundOrNew, RenewsPassphrase, RewritesFile, ChangesOpened}, Files.Rewrites}
-use Rattle.key_commands.specs.KeyParts.{Tells, tells, Protects, IsShort, HasOne as HasOneKey, TellsKeyInfo, ListsGrips, ReadsListed, WritesInfo, TellsListed, WritesInfos, AsksKeyData, Unwraps, ReceivesKey, NamesKey, IsFree, LooksOver}
-use Rattle.key_commands.specs.{KeyParts.{WrapsKey, Consents}, Parts.{Part, read_fault}, Passphrases.{ClientOld, UncachedOld, OpensLocked, OldPassphrase, VerifiesPassphrase, ClientNew, NewPassphrase, ask_key, way_of}, Wrapping.WrappedSays}
+use Rattle.key_commands.specs.KeyActions.{Tells, tells, Protects, IsShort, HasOne as HasOneKey, TellsKeyInfo, ListsGrips, ReadsListed, WritesInfo, TellsListed, WritesInfos, AsksKeyData, Unwraps, ReceivesKey, NamesKey, IsFree, LooksOver}
+use Rattle.key_commands.specs.{KeyActions.{WrapsKey, Consents}, Actions.{Action, read_fault}, Passphrases.{ClientOld, UncachedOld, OpensLocked, OldPassphrase, VerifiesPassphrase, ClientNew, NewPassphrase, ask_key, way_of}, Wrapping.WrappedSays}
 use Rattle.{key_commands.specs.declared.request.KeyRequest.KeyRequest, agent_origin.specs.declared.session_state.SessionState.SessionState}
 use Rattle.agent_session.specs.Causes.{Has, here, StandIn, IsCaused, IsSent, AreUnread, LacksKeys, on_keys, IsRefusedBy, one, IsRead, IsReadOf, IsDrawn, IsListOf, protected, IsReadLocked, OpensRead, Unlocks, exports, NamesOld, of_export}
 use Rattle.agent_session.specs.Causes.{of_change, ComesBy, AsksAny, of_new, of_import, new_plan, is_clear, key_data, KeyDataSays, data_says, faulty, long, long_file, by_mode, deletion, stays, empty, no_import, no_export, there, GivesNone}
 use Rattle.agent_session.specs.{Causes.{none_given, GivesNoneFor, ByNonce, HasNoEntry, exported, changed, verified, imported, renewed, IsUnprompted}, Completeness.IsStatus}
 use Rattle.agent_session.proofs.Causes.Explaining.{Caused, Comes, Explains, Anything, IsFound, bind, whatever, returned, refused, is_needed, or_otherwise, is_wanted, seats, changes, peeks, closes_explained, writes, inquires, asks_client}
 use Rattle.agent_session.proofs.Causes.{Explaining.{finds, draws, out_of_memory_first, out_of_memory_second, looks}, Asides.{info_status, limit_status}, Faulty.first_fault_said}
-use Rattle.agent_session.proofs.Causes.KeyParts.{Either, fault_caused, looks_for_nonce, takes_seat, keeps_new, locks, tries, tries_found, prompts_old, prompts_new, agrees, reads_file, removes, replaces, OpensHere, comes_of, comes_by_nonce}
-use Rattle.agent_session.proofs.{Causes.{KeyParts.{FoundByNonce, nonce_none, none_opens, nonce_none_opens}, Replying.{IsReply, reply_ok, reply_status, reply_nonce, reply_keys}}, Standing.{has_first, has_in, has_right}}
+use Rattle.agent_session.proofs.Causes.KeyActions.{Either, fault_caused, looks_for_nonce, takes_seat, keeps_new, locks, tries, tries_found, prompts_old, prompts_new, agrees, reads_file, removes, replaces, OpensHere, comes_of, comes_by_nonce}
+use Rattle.agent_session.proofs.{Causes.{KeyActions.{FoundByNonce, nonce_none, none_opens, nonce_none_opens}, Replying.{IsReply, reply_ok, reply_status, reply_nonce, reply_keys}}, Standing.{has_first, has_in, has_right}}
 use Rattle.agent_ports.specs.declared.keys.KeyDone.TheVariants as key_done
 use Rattle.agent_ports.specs.declared.keys.KeyRead.TheVariants as key_read
 use Rattle.session_client.specs.declared.code.Code.TheVariants as code
 use Rattle.session_options.specs.declared.options.PinMode.TheVariants as mode
 use Rattle.key_commands.specs.Files as files
-use Rattle.key_commands.specs.KeyParts as parts
-use Rattle.agent_ask.specs.Parts as chain
-use Rattle.key_commands.specs.Parts as small
+use Rattle.key_commands.specs.KeyActions as actions
+use Rattle.agent_ask.specs.Actions as chain
+use Rattle.key_commands.specs.Actions as small
 use Rattle.key_commands.specs.Wrapping as wrapping
 use Rattle.key_commands.specs.declared.request.KeyRequest.TheVariants as on
 use Rattle.agent_session.specs.Causes as causes
@@ -43,7 +43,7 @@ module _ (rules : Rules) (kept : SessionState) (request : Request) (whole : List
   abbrev Opens : Grip → Key → Type 0
   Opens = OpensHere rules kept request whole
 
-  -- ---- parts that only want memory
+  -- ---- actions that only want memory
 
   told : (bytes : List ℕ) → ExplainsHere (Tells bytes) IsReply
   told bytes before events result after (tells answer) stands = record { silent = tt; explained = reply_keys answer }
@@ -53,16 +53,16 @@ module _ (rules : Rules) (kept : SessionState) (request : Request) (whole : List
     IsProtected list = list ≡ protected_file key (ocb_protection key pass salt iv count None) None
 
     protects : ExplainsHere (Protects key pass salt iv count) IsProtected
-    protects before events result after parts.made stands = record { silent = tt; explained = refl }
-    protects before events result after parts.no_memory stands = record { silent = (tt, tt); explained = out_of_memory_first rules kept request whole stands }
+    protects before events result after actions.made stands = record { silent = tt; explained = refl }
+    protects before events result after actions.no_memory stands = record { silent = (tt, tt); explained = out_of_memory_first rules kept request whole stands }
 
   names_key : (key : Key) → ExplainsHere (NamesKey key) (λ grip. grip.0 ≡ grip_of key)
-  names_key key before events result after (parts.named is) stands = record { silent = tt; explained = is }
-  names_key key before events result after parts.no_memory stands = record { silent = (tt, tt); explained = out_of_memory_first rules kept request whole stands }
+  names_key key before events result after (actions.named is) stands = record { silent = tt; explained = is }
+  names_key key before events result after actions.no_memory stands = record { silent = (tt, tt); explained = out_of_memory_first rules kept request whole stands }
 
   wraps_key : (wrap : List ℕ) (key : Key) → ExplainsHere (WrapsKey wrap key) Anything
-  wraps_key wrap key before events result after parts.is_wrapped stands = record { silent = tt; explained = tt }
-  wraps_key wrap key before events result after parts.no_memory stands = record { silent = (tt, tt); explained = out_of_memory_first rules kept request whole stands }
+  wraps_key wrap key before events result after actions.is_wrapped stands = record { silent = tt; explained = tt }
+  wraps_key wrap key before events result after actions.no_memory stands = record { silent = (tt, tt); explained = out_of_memory_first rules kept request whole stands }
 
   -- nothing was found under a nonce, or something
   abbrev Overlooked : Option (List ℕ) → Option (List ℕ) → Type 0
@@ -70,11 +70,11 @@ module _ (rules : Rules) (kept : SessionState) (request : Request) (whole : List
   Overlooked id (Some pass) = ⊤
 
   looks_over : (nonce : Option (List ℕ)) → ExplainsHere (LooksOver nonce) (Overlooked nonce)
-  looks_over id before events result after parts.no_nonce stands = record { silent = tt; explained = tt }
-  looks_over id before events result after (parts.given can) stands = record { silent = (tt, tt); explained = tt }
-  looks_over id before events result after parts.empty stands = record { silent = (tt, tt); explained = none_given Empty tt (has_first stands) }
-  looks_over id before events result after parts.stopping stands = record { silent = (tt, tt); explained = none_given Stopping tt (has_first stands) }
-  looks_over id before events result after parts.no_memory stands = record { silent = (tt, tt); explained = one (cache_turn _ Refused) refl (has_first stands) }
+  looks_over id before events result after actions.no_nonce stands = record { silent = tt; explained = tt }
+  looks_over id before events result after (actions.given can) stands = record { silent = (tt, tt); explained = tt }
+  looks_over id before events result after actions.empty stands = record { silent = (tt, tt); explained = none_given Empty tt (has_first stands) }
+  looks_over id before events result after actions.stopping stands = record { silent = (tt, tt); explained = none_given Stopping tt (has_first stands) }
+  looks_over id before events result after actions.no_memory stands = record { silent = (tt, tt); explained = one (cache_turn _ Refused) refl (has_first stands) }
 
   -- ---- what is known of keys
 
@@ -82,9 +82,9 @@ module _ (rules : Rules) (kept : SessionState) (request : Request) (whole : List
   tells_info grip key = bind (peeks rules kept request whole grip) (λ cached any. returned IsStatus _ (info_status grip cached key.is_clear))
 
   lists : ExplainsHere ListsGrips Anything
-  lists before events result after (parts.listed is) stands = record { silent = (tt, tt); explained = tt }
-  lists before events result after parts.faulted stands = record { silent = (tt, tt); explained = one _ tt (has_first stands) }
-  lists before events result after parts.no_memory stands = record { silent = (tt, tt); explained = one _ tt (has_first stands) }
+  lists before events result after (actions.listed is) stands = record { silent = (tt, tt); explained = tt }
+  lists before events result after actions.faulted stands = record { silent = (tt, tt); explained = one _ tt (has_first stands) }
+  lists before events result after actions.no_memory stands = record { silent = (tt, tt); explained = one _ tt (has_first stands) }
 
   unlisted_caused : (grip : Grip) (answer : KeyRead) {why : Code} {more : List (EventWith PortCall)} → answer ≢ key_read.Absent → read_fault answer ≡ Some why
       → StandIn (Port (Keys (Read grip answer)) ∷ more) whole → CausedHere why
@@ -94,11 +94,11 @@ module _ (rules : Rules) (kept : SessionState) (request : Request) (whole : List
   unlisted_caused grip key_read.NoMemory other is stands = let same : code.NoMemory ≡ _ = cc in subst CausedHere same (one _ tt (has_first stands))
 
   reads_listed : (grip : Grip) → ExplainsHere (ReadsListed grip) Anything
-  reads_listed grip before events result after (parts.is_key is says) stands = record { silent = (tt, tt); explained = tt }
-  reads_listed grip before events result after (parts.faulty is says) stands = record { silent = (tt, tt); explained = tt }
-  reads_listed grip before events result after parts.absent stands = record { silent = (tt, tt); explained = tt }
-  reads_listed grip before events result after (parts.no_memory is) stands = record { silent = (tt, (tt, tt)); explained = out_of_memory_second rules kept request whole stands }
-  reads_listed grip before events result after (parts.unread {answer} other is) stands = record { silent = (tt, tt); explained = unlisted_caused grip answer other is stands }
+  reads_listed grip before events result after (actions.is_key is says) stands = record { silent = (tt, tt); explained = tt }
+  reads_listed grip before events result after (actions.faulty is says) stands = record { silent = (tt, tt); explained = tt }
+  reads_listed grip before events result after actions.absent stands = record { silent = (tt, tt); explained = tt }
+  reads_listed grip before events result after (actions.no_memory is) stands = record { silent = (tt, (tt, tt)); explained = out_of_memory_second rules kept request whole stands }
+  reads_listed grip before events result after (actions.unread {answer} other is) stands = record { silent = (tt, tt); explained = unlisted_caused grip answer other is stands }
 
   writes_info : (grip : Grip) (key : Option Key) → ExplainsHere (WritesInfo grip key) Anything
   writes_info grip None = returned Anything tt tt
@@ -137,8 +137,8 @@ module _ (rules : Rules) (kept : SessionState) (request : Request) (whole : List
   -- ---- wrapped keys
 
   asks_key_data : ExplainsHere AsksKeyData (IsSent whole (codes "KEYDATA") max_key_data)
-  asks_key_data before events result after (parts.asked does) stands = inquires rules kept request whole (codes "KEYDATA") max_key_data before events result before does stands
-  asks_key_data before events result after (parts.no_memory at_end) stands = record { silent = (tt, (tt, tt)); explained = out_of_memory_second rules kept request whole stands }
+  asks_key_data before events result after (actions.asked does) stands = inquires rules kept request whole (codes "KEYDATA") max_key_data before events result before does stands
+  asks_key_data before events result after (actions.no_memory at_end) stands = record { silent = (tt, (tt, tt)); explained = out_of_memory_second rules kept request whole stands }
 
   module _ (wrap wrapped : List ℕ) (drawn : kept.wraps.import ≡ Some wrap) (sent : IsSent whole (codes "KEYDATA") max_key_data wrapped) where
     wrapped_caused : {why : Code} → WrappedSays wrap wrapped (Err why) → CausedHere why
@@ -151,9 +151,9 @@ module _ (rules : Rules) (kept : SessionState) (request : Request) (whole : List
     wrapped_caused (wrapping.checked are (wrapping.long padded is clear much)) = faulty (key_data (data_says drawn sent (wrapping.checked are (wrapping.long padded is clear much))))
 
     unwraps : ExplainsHere (Unwraps wrap wrapped) (λ key. KeyDataSays whole rules kept request (Ok key))
-    unwraps before events result after (parts.is_key says) stands = record { silent = tt; explained = data_says drawn sent says }
-    unwraps before events result after (parts.refused says) stands = record { silent = tt; explained = wrapped_caused says }
-    unwraps before events result after parts.no_memory stands = record { silent = (tt, tt); explained = out_of_memory_first rules kept request whole stands }
+    unwraps before events result after (actions.is_key says) stands = record { silent = tt; explained = data_says drawn sent says }
+    unwraps before events result after (actions.refused says) stands = record { silent = tt; explained = wrapped_caused says }
+    unwraps before events result after actions.no_memory stands = record { silent = (tt, tt); explained = out_of_memory_first rules kept request whole stands }
 
   receives_key : (wrap : List ℕ) → kept.wraps.import ≡ Some wrap → ExplainsHere (ReceivesKey wrap) (λ key. KeyDataSays whole rules kept request (Ok key))
   receives_key wrap drawn =
@@ -175,7 +175,7 @@ module _ (rules : Rules) (kept : SessionState) (request : Request) (whole : List
     if_needed why None otherwise caused = refused Good (Agent why) (caused otherwise)
     if_needed why (Some value) good caused = returned Good value good
 
-    pub or_else_explained : (value : Option A) (other : Part A) → Either rules kept request whole Good Else value → (Else → ExplainsHere other Good) → ExplainsHere (or_else value other) Good
+    pub or_else_explained : (value : Option A) (other : Action A) → Either rules kept request whole Good Else value → (Else → ExplainsHere other Good) → ExplainsHere (or_else value other) Good
     or_else_explained None other otherwise explains = explains otherwise
     or_else_explained (Some value) other good explains = returned Good value good
 
@@ -284,8 +284,8 @@ module _ (rules : Rules) (kept : SessionState) (request : Request) (whole : List
 
     module _ (key : Key) (opens : OpensRead whole rules kept.options request grip key) where
       is_short : Explains whole (IsCaused whole rules kept request) (IsShort key) Anything
-      is_short before events result after (parts.short few) stands = record { silent = tt; explained = tt }
-      is_short before events result after (parts.long many) stands = record { silent = tt; explained = long asked opens many }
+      is_short before events result after (actions.short few) stands = record { silent = tt; explained = tt }
+      is_short before events result after (actions.long many) stands = record { silent = tt; explained = long asked opens many }
 
       module _ (file : List ℕ) (is_read : IsReadOf whole grip file) (pass : List ℕ) where
         module _ (list : List ℕ) (is_list : IsListOf whole key pass kept.options.s2k_count list) where

@@ -2,7 +2,7 @@
 use Rattle.std.{proofs.Common.{◌≡◌, ◌⊎◌, ℕ, Bool, true, List, ◌∷◌, Some, Result, Ok, Err, refl, sym, subst, inl, inr}, specs.Prelude.⊤}
 use Rattle.agent_ask.specs.{Callers.{SaysNote, unheard_of}, Consents.{AsksConsent, ConsentBefore, agreed_of}, Events.{Call, GetPin, Confirm, Called, Notified, OutOfMemory, PromptEvent}, PortCalls.{PortCall, Prompt}, Prompters.is_failed}
 use Rattle.agent_ask.specs.{Prompts.{AsksPin, AsksBefore, Tries, repeated, repeat_text}, SessionEvents.Port, Tests.PinTest, SessionPrompts.{AnyInSession, note}, declared.{ask.Asked.Asked, caller.Heard.Heard, consent.Agreed.Agreed}}
-use Rattle.{agent_ask.specs.{declared.{prompter.Consent.Consent, spec.{AskPlan.AskPlan, PromptSpec.PromptSpec}}, PinParts.PromptsPin}, assuan_server.specs.Clients.session_lines, session_client.specs.Asking.{said_by, without_data}}
+use Rattle.{agent_ask.specs.{declared.{prompter.Consent.Consent, spec.{AskPlan.AskPlan, PromptSpec.PromptSpec}}, PinActions.PromptsPin}, assuan_server.specs.Clients.session_lines, session_client.specs.Asking.{said_by, without_data}}
 use Rattle.{session_client.specs.declared.client_error.ClientError.ClientError, agent_commands.specs.Events.{EventWith, Inquired}}
 use Rattle.agent_session.{specs.Causes.{Has, here, later, HasPrompt, StandIn, is_cancelled, is_timed_out, is_disagreed, is_broken}, proofs.Standing.{has_left, has_right}}
 use Rattle.agent_ask.specs.Consents as consents

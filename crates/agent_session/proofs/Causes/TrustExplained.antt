@@ -2,20 +2,20 @@
 use Rattle.std.specs.{List.AllByRecursion, Option.option_map, Prelude.{⊤, IfSome}}
 use Rattle.std.proofs.Common.{◌≡◌, ◌<◌, ℕ, Bool, true, false, List, [], ◌∷◌, ◌++◌, length, Option, Some, None, Result, Ok, Err, refl, sym, ap, subst, append_assoc, inl, inr}
 use Rattle.agent_ask.specs.{Callers.unheard_of, Events.PromptEvent, PortCalls.NoMemory, SessionEvents.{Port, cache_turn, said_last}, TrustCalls.{Read, Replaced}, SessionPrompts.AnyInSession, declared.caller.Heard.Heard}
-use Rattle.{agent_ask.specs.{declared.consent.Agreed.Agreed, Interrupts.Interrupts, ConsentParts.{consent_refusal, AgreesTo}, TurnParts.{Seats, Closes}}, assuan_server.specs.{Written.ok, Clients.session_lines}}
+use Rattle.{agent_ask.specs.{declared.consent.Agreed.Agreed, Interrupts.Interrupts, ConsentActions.{consent_refusal, AgreesTo}, TurnActions.{Seats, Closes}}, assuan_server.specs.{Written.ok, Clients.session_lines}}
 use Rattle.{assuan_server.specs.declared.errors.Origin.{Origin, TheVariants.{Agent, Pinentry}}, agent_commands.specs.{Endings.went_after, declared.{request.Request.Request, went.Went.Went}}, agent_ports.specs.declared.grip.Grip.Grip}
 use Rattle.{arrayvec.specs.ArrayVec.ArrayVec, session_client.specs.{Refusals.{refusal_code, gone_by}, declared.{code.Code.Code, refusal.Refusal.{Refusal, TheVariants.Client}, client_error.ClientError.ClientError}, Fields.in_form}}
 use Rattle.{session_client.specs.Asking.gone_of, cache_policy.specs.{Turns.{Turn, Refused, closes}, declared.mark.MarkStep.{MarkStep, TheVariants.Seat}}, assuan_text.specs.{Options.arguments_of, Words.{rest_of, words}}}
-use Rattle.{key_commands.specs.{Events.Event, Requests.{grip, first_grip}, Parts.{Part, refusal_events}}, session_options.specs.declared.{options.PinMode.PinMode, rules.Rules.Rules}, trust_list.specs.Trust.{trust, with_entry}}
+use Rattle.{key_commands.specs.{Events.Event, Requests.{grip, first_grip}, Actions.{Action, refusal_events}}, session_options.specs.declared.{options.PinMode.PinMode, rules.Rules.Rules}, trust_list.specs.Trust.{trust, with_entry}}
 use Rattle.trust_list.specs.declared.TheConstants.{MAX_TRUST_FILE_LEN}
 use Rattle.agent_origin.specs.TrustExchanges.{flag_of, trust_question, fingerprint_question, unless_said, TrustedNow, Stores, StoresUnsaid, Consented, asked_in, Marked, Carried, TrustExchange}
-use Rattle.agent_origin.specs.{TrustParts.{ReadsFile, AddsEntry, Replaces, trust_called}, TrustRequests.{purpose, owner, mark_trusted_of, trust_asked_by, trust_or_bad, trust_request_by, trust_request_of, trust_command}}
+use Rattle.agent_origin.specs.{TrustActions.{ReadsFile, AddsEntry, Replaces, trust_called}, TrustRequests.{purpose, owner, mark_trusted_of, trust_asked_by, trust_or_bad, trust_request_by, trust_request_of, trust_command}}
 use Rattle.{agent_origin.specs.declared.{session_state.SessionState.SessionState, trust.request.{TrustPurpose.TrustPurpose, TrustRequest.{TrustRequest, TheVariants.{IsTrusted, MarkTrusted, Bad}}}}, command_table.specs.Commands.command_in}
 use Rattle.command_table.specs.declared.commands.{Command.Command, TrustCommandName.TrustCommandName}
 use Rattle.agent_session.specs.{Causes.{StandIn, IsSaid, one, called_trust, turned}, Completeness.AnswersNothing}
 use Rattle.agent_session.specs.DoorCauses.{IsReadTrust, read_trust, IsReadAgain, read_again, IsMarked, IsTrustCaused, by_mode, by_client, by_stop, unsaid, denied, denied_mark, inquired, too_long, error, loopback}
 use Rattle.agent_session.proofs.Causes.{Explained.{Explained, replied, failed, silent, after_these}, Explaining.{Anything, ClientSays, cut, client_said, CausedRefusal, IsExplained, Comes, Explains, bind, returned, refused}}
-use Rattle.agent_session.proofs.{Causes.{KeyParts.{has_call, heard_caused, prompt_silent}, Prompted.{ConsentShows, HasHeard, consent_shows}, Replying.reply_ok}, Standing.{has_first, has_in, stand_all, stand_left}}
+use Rattle.agent_session.proofs.{Causes.{KeyActions.{has_call, heard_caused, prompt_silent}, Prompted.{ConsentShows, HasHeard, consent_shows}, Replying.reply_ok}, Standing.{has_first, has_in, stand_all, stand_left}}
 use Rattle.agent_session.proofs.Decisions.TrustTold.{Told, told}
 use Rattle.agent_ask.specs.declared.caller.Heard.TheVariants as heard_as
 use Rattle.agent_ask.specs.declared.consent.Agreed.TheVariants as agreed
@@ -29,17 +29,17 @@ use Rattle.session_client.specs.declared.refusal.Refusal.TheVariants as refusals
 use Rattle.session_client.specs.declared.client_error.Gone.TheVariants as gone
 use Rattle.session_client.specs.declared.client_error.ClientError.TheVariants as client_error
 use Rattle.session_options.specs.declared.options.PinMode.TheVariants as mode
-use Rattle.agent_ask.specs.ConsentParts as consent
-use Rattle.agent_ask.specs.Parts as chain
-use Rattle.agent_ask.specs.TurnParts as taken
-use Rattle.agent_origin.specs.TrustParts as parts
+use Rattle.agent_ask.specs.ConsentActions as consent
+use Rattle.agent_ask.specs.Actions as chain
+use Rattle.agent_ask.specs.TurnActions as taken
+use Rattle.agent_origin.specs.TrustActions as actions
 use Rattle.command_table.specs.declared.commands.Command.TheVariants as at_table
 use Rattle.command_table.specs.declared.commands.TrustCommandName.TheVariants as name
 use Rattle.agent_session.specs.Causes as causes
 use Rattle.agent_session.proofs.Causes.Prompted as prompted
 use Rattle.agent_session.proofs.Decisions.TrustTold as telling
 
--- `other` is a request of any session, of which nothing is said. A part is done within some of the events of the whole exchange.
+-- `other` is a request of any session, of which nothing is said. An action is done within some of the events of the whole exchange.
 module _ (rules : Rules) (kept : SessionState) (other : Request) (request : TrustRequest) (whole within : List Event) (lift : (events : List Event) → StandIn events within → StandIn events whole) where
   abbrev Caused : Code → Origin → Type 0
   Caused = IsTrustCaused whole request kept.options
@@ -47,10 +47,10 @@ module _ (rules : Rules) (kept : SessionState) (other : Request) (request : Trus
   abbrev ComesHere : {A : Type 0} → (A → Type 0) → List Event → Result A Refusal → Type 0
   ComesHere = Comes within Caused
 
-  abbrev ExplainsHere : {A : Type 0} → Part A → (A → Type 0) → Type 0
+  abbrev ExplainsHere : {A : Type 0} → Action A → (A → Type 0) → Type 0
   ExplainsHere = Explains within Caused
 
-  is_unless : (said : Option Bool) (otherwise : Part (Unit {0})) → (said ≡ Some false → Caused code.NotTrusted Agent) → (said ≡ None → ExplainsHere otherwise Anything)
+  is_unless : (said : Option Bool) (otherwise : Action (Unit {0})) → (said ≡ Some false → Caused code.NotTrusted Agent) → (said ≡ None → ExplainsHere otherwise Anything)
       → ExplainsHere (unless_said said otherwise) Anything
   is_unless (Some true) otherwise denies explains = returned Anything tt tt
   is_unless (Some false) otherwise denies explains = refused Anything (refusals.Agent code.NotTrusted) (denies refl)
@@ -108,25 +108,25 @@ module _ (rules : Rules) (kept : SessionState) (other : Request) (request : Trus
   -- ---- the trust file
 
   reads_file : ExplainsHere ReadsFile (IsReadTrust within)
-  reads_file before events result after (parts.has_read is) stands = record { silent = (tt, tt); explained = read_trust is (has_first stands) }
-  reads_file before events result after parts.faulted stands = record { silent = (tt, tt); explained = called_trust (Read read.Failed) tt (has_first (lift _ stands)) }
-  reads_file before events result after parts.no_memory stands = record { silent = (tt, tt); explained = one (trust_called (Read read.NoMemory)) tt (has_first (lift _ stands)) }
+  reads_file before events result after (actions.has_read is) stands = record { silent = (tt, tt); explained = read_trust is (has_first stands) }
+  reads_file before events result after actions.faulted stands = record { silent = (tt, tt); explained = called_trust (Read read.Failed) tt (has_first (lift _ stands)) }
+  reads_file before events result after actions.no_memory stands = record { silent = (tt, tt); explained = one (trust_called (Read read.NoMemory)) tt (has_first (lift _ stands)) }
 
   lift_read : {file : List ℕ} → IsReadTrust within file → IsReadTrust whole file
   lift_read (read_trust is has) = read_trust is (has_in (lift within (stand_all within)) has)
 
   module _ (file : List ℕ) where
     replaces_of : (before : Option ℕ) (events : List Event) (result : Result (Unit {0}) Refusal) (after : Option ℕ) → Replaces file before events result after → StandIn events within → ComesHere Anything events result
-    replaces_of before events result after parts.replaced stands = record { silent = (tt, tt); explained = tt }
-    replaces_of before events result after parts.faulted stands = record { silent = (tt, tt); explained = called_trust (Replaced file done.Failed) tt (has_first (lift _ stands)) }
-    replaces_of before events result after parts.no_memory stands = record { silent = (tt, tt); explained = one (trust_called (Replaced file done.NoMemory)) tt (has_first (lift _ stands)) }
+    replaces_of before events result after actions.replaced stands = record { silent = (tt, tt); explained = tt }
+    replaces_of before events result after actions.faulted stands = record { silent = (tt, tt); explained = called_trust (Replaced file done.Failed) tt (has_first (lift _ stands)) }
+    replaces_of before events result after actions.no_memory stands = record { silent = (tt, tt); explained = one (trust_called (Replaced file done.NoMemory)) tt (has_first (lift _ stands)) }
 
     module _ (fingerprint : Grip) (flag : ℕ) (too_much : MAX_TRUST_FILE_LEN < length (with_entry file fingerprint.0 flag) → Caused code.TooMuch Agent) where
       adds_of : (before : Option ℕ) (events : List Event) (result : Result (List ℕ) Refusal) (after : Option ℕ) → AddsEntry file fingerprint flag before events result after → StandIn events within
           → ComesHere Anything events result
-      adds_of before events result after (parts.added fits) stands = record { silent = tt; explained = tt }
-      adds_of before events result after (parts.too_long long) stands = record { silent = tt; explained = too_much long }
-      adds_of before events result after parts.no_memory stands = record { silent = (tt, tt); explained = one (Port NoMemory) tt (has_first (lift _ stands)) }
+      adds_of before events result after (actions.added fits) stands = record { silent = tt; explained = tt }
+      adds_of before events result after (actions.too_long long) stands = record { silent = tt; explained = too_much long }
+      adds_of before events result after actions.no_memory stands = record { silent = (tt, tt); explained = one (Port NoMemory) tt (has_first (lift _ stands)) }
 
   -- ---- whole requests
 
@@ -236,7 +236,7 @@ module _ (rules : Rules) (kept : SessionState) (other : Request) (request : Trus
     unfolding Marked
     marked_of before events result after (chain.stops does) stands =
         let comes = reads_file rules kept other request whole whole (λ events so. so) before events _ after does stands in record { silent = comes.silent; explained = comes.explained }
-    marked_of before events result after (chain.goes_on {value = file} (parts.has_read is) does) stands =
+    marked_of before events result after (chain.goes_on {value = file} (actions.has_read is) does) stands =
         let behind = behind_first stands in
         let lift : (some : List Event) → StandIn some behind.rest → StandIn some whole =
         λ some stands_so. subst (λ w. StandIn some w) (sym behind.is) (record { before = behind.first ∷ stands_so.before; after = stands_so.after; is = ap (λ e. behind.first ∷ e) stands_so.is }) in

@@ -1,9 +1,9 @@
 -- Requests on the cache and on the session: their work, and what ends them.
 use Rattle.std.proofs.Common.{◌≡◌, ℕ, Bool, true, false, List, [], Option, Some, None, Result, Ok, Err, refl, sym, ap, subst}
-use Rattle.{agent_ask.{specs.{PartExchanges.AnyExchange, Parts.{◌>>=◌, goes_on, stops, Returns, returns, or_else}, TurnParts.Closes}, proofs.Within.values_so}, assuan_server.specs.Written.{refusal_line, ok}}
+use Rattle.{agent_ask.{specs.{ActionExchanges.AnyExchange, Actions.{◌>>=◌, goes_on, stops, Returns, returns, or_else}, TurnActions.Closes}, proofs.Within.values_so}, assuan_server.specs.Written.{refusal_line, ok}}
 use Rattle.{cache_policy.specs.declared.mode.Mode.TheVariants.User, session_client.specs.{Refusals.gone_by, declared.{refusal.Refusal.{Refusal, TheVariants.{Agent, Client}}, client_error.Gone.Gone}}}
 use Rattle.{session_options.specs.{OptionValues.{OptionValues, applied}, declared.{options.{OptionAnswer.OptionAnswer, PinMode.PinMode}, rules.Rules.Rules}}, agent_commands.specs.{Answers.IsInfo, Endings.{went_after, end_of}}}
-use Rattle.agent_commands.specs.{Exchanges.{CacheExchange, CacheReply, CacheReplies, TellsPassphrase, TellsInfo, option_replies, reply}, Parts.CachePart, Passphrases.{Prompts, passphrase_by, as_wanted}, Requests.GetFields}
+use Rattle.agent_commands.specs.{Exchanges.{CacheExchange, CacheReply, CacheReplies, TellsPassphrase, TellsInfo, option_replies, reply}, Actions.CacheAction, Passphrases.{Prompts, passphrase_by, as_wanted}, Requests.GetFields}
 use Rattle.agent_commands.specs.declared.request.CacheCommand.{CacheCommand, TheVariants.{Nop, Reset, Bye, Help, SetOption, GetInfo, GetPassphrase, PresetPassphrase, ClearPassphrase, GetConfirmation, ReloadAgent, KillAgent, SetKeyDesc}}
 use Rattle.agent_commands.specs.declared.{request.{Info.{Info, TheVariants.{Version, Pid, S2kCount, Listed}}, Request.{Request, TheVariants.{Cache, Key, Bad}}, Texts.Texts}, went.Went.{Went, TheVariants.End}}
 use Rattle.key_commands.specs.{Events.Event, Lines.of_passphrase}
@@ -11,8 +11,8 @@ use Rattle.agent_session.specs.{Causes.IsSaid, Completeness.EndsInOk, Refusals.{
 use Rattle.agent_session.proofs.Courses.CacheWorks.{FitsCache, wants_prompt, changes, by_cache, without_prompt, prompts_any, confirmed, presets, tells_info}
 use Rattle.agent_session.proofs.Courses.Courses.{AnyNonce, Ends, ends_with, EndsSo, working_ends, ends_working, bind_ends, made, closed, RepliesOk, ok_returns, ok_refuses, ok_then, reply_ends_in_ok, ok_course, err_course, ends_said}
 use Rattle.agent_session.proofs.{Courses.{Courses.{gone_only, said_before, answer_heard}, Works.{works, WorksSo, bind, returned, refuses_by}}, Causes.Replying.{IsReply, reply_ok, reply_closing, reply_help, reply_cache, reply_passphrase}}
-use Rattle.agent_ask.specs.PartExchanges as exchange
-use Rattle.agent_ask.specs.TurnParts as taken
+use Rattle.agent_ask.specs.ActionExchanges as exchange
+use Rattle.agent_ask.specs.TurnActions as taken
 use Rattle.session_client.specs.declared.code.Code.TheVariants as code
 use Rattle.session_client.specs.declared.client_error.ClientError.TheVariants as client_error
 use Rattle.session_options.specs.declared.options.OptionAnswer.TheVariants as option_answer
@@ -23,7 +23,7 @@ module _ (request : Request) where
   abbrev Fits : Event → Type 0
   Fits = IsAllowed request AnyNonce
 
-  abbrev Here : {A : Type 0} → CachePart A → Type 0
+  abbrev Here : {A : Type 0} → CacheAction A → Type 0
   Here = WorksSo Fits
 
   fits : FitsCache Fits
@@ -100,7 +100,7 @@ info_reply rules Pid is = reply_cache is
 info_reply rules S2kCount is = reply_cache is
 info_reply rules Listed is = subst IsReply (sym is) reply_ok
 
-abbrev ReplyOk : CachePart CacheReply → Type 0
+abbrev ReplyOk : CacheAction CacheReply → Type 0
 ReplyOk = RepliesOk (λ reply. reply.text)
 
 module _ (rules : Rules) (options : OptionValues) where
@@ -118,7 +118,7 @@ module _ (rules : Rules) (options : OptionValues) where
   option_ok option_answer.Parameter after = ok_refuses _
   option_ok option_answer.NotSupported after = ok_refuses _
 
-  done_ok : {A : Type 0} {part : CachePart A} {values : OptionValues} → ReplyOk (part >>= λ value. Returns (reply values ok))
+  done_ok : {A : Type 0} {action : CacheAction A} {values : OptionValues} → ReplyOk (action >>= λ value. Returns (reply values ok))
   done_ok = ok_then (λ value. ok_returns _ (reply_ends_in_ok reply_ok))
 
   replies_ok : (command : CacheCommand) → ReplyOk (CacheReplies rules options command)
@@ -138,27 +138,27 @@ module _ (rules : Rules) (options : OptionValues) where
 
 -- ---- exchanges
 
-module _ (request : Request) {part : CachePart CacheReply} (ends : EndsSo request part) where
-  part_course : {before after : OptionValues} {events : List Event} {went : Went} → ReplyOk part → AnyExchange refusal_line went_after part before events after went → CourseBy request AnyNonce events
-  part_course oks (exchange.answered some held given_reply does closes_so) = ok_course request (oks.of None some (Ok given_reply) held does) (ends.of _ _ _ _ does) closes_so
-  part_course oks (exchange.refused some held why does closes_so) = err_course request (ends.of _ _ _ _ does) closes_so
+module _ (request : Request) {action : CacheAction CacheReply} (ends : EndsSo request action) where
+  action_course : {before after : OptionValues} {events : List Event} {went : Went} → ReplyOk action → AnyExchange refusal_line went_after action before events after went → CourseBy request AnyNonce events
+  action_course oks (exchange.answered some held given_reply does closes_so) = ok_course request (oks.of None some (Ok given_reply) held does) (ends.of _ _ _ _ does) closes_so
+  action_course oks (exchange.refused some held why does closes_so) = err_course request (ends.of _ _ _ _ does) closes_so
 
-  part_gone : {before after : OptionValues} {events : List Event} {went : Went} {how : Gone} → AnyExchange refusal_line went_after part before events after went → IsSaid events (client_error.Gone how) → went ≡ End (end_of how)
-  part_gone (exchange.answered some held given_reply does closes_so) says_so =
+  action_gone : {before after : OptionValues} {events : List Event} {went : Went} {how : Gone} → AnyExchange refusal_line went_after action before events after went → IsSaid events (client_error.Gone how) → went ≡ End (end_of how)
+  action_gone (exchange.answered some held given_reply does closes_so) says_so =
       absurd (cc (gone_only (ends_said request (ends.of _ _ _ _ does) (said_before some _ (answer_heard (Some given_reply.text) closes_so) says_so))))
-  part_gone {how} (exchange.refused some held why does closes_so) says_so =
+  action_gone {how} (exchange.refused some held why does closes_so) says_so =
       let same : Err why ≡ Err (Client (client_error.Gone how)) = gone_only (ends_said request (ends.of _ _ _ _ does) (said_before some _ (answer_heard (refusal_line why) closes_so) says_so)) in
       let refusal : why ≡ Client (client_error.Gone how) = cc same in
       ap (λ w. went_after (gone_by w)) refusal
 
 module _ (rules : Rules) (before after : OptionValues) (events : List Event) (went : Went) where
   pub cache_course : (request : Request) → CacheExchange rules before request events after went → CourseBy request AnyNonce events
-  cache_course (Cache command) exchanged = part_course (Cache command) (replies (Cache command) rules before command refl) (replies_ok rules before command) exchanged
-  cache_course (Bad why) exchanged = part_course (Bad why) (ends_working (Bad why) (refuses_by (IsAllowed (Bad why) AnyNonce) (Agent why))) (ok_refuses _) exchanged
+  cache_course (Cache command) exchanged = action_course (Cache command) (replies (Cache command) rules before command refl) (replies_ok rules before command) exchanged
+  cache_course (Bad why) exchanged = action_course (Bad why) (ends_working (Bad why) (refuses_by (IsAllowed (Bad why) AnyNonce) (Agent why))) (ok_refuses _) exchanged
   cache_course (Key line) never = absurd never
 
   -- a client that is gone ends its session
   pub cache_gone : (request : Request) {how : Gone} → CacheExchange rules before request events after went → IsSaid events (client_error.Gone how) → went ≡ End (end_of how)
-  cache_gone (Cache command) exchanged says = part_gone (Cache command) (replies (Cache command) rules before command refl) exchanged says
-  cache_gone (Bad why) exchanged says = part_gone (Bad why) (ends_working (Bad why) (refuses_by (IsAllowed (Bad why) AnyNonce) (Agent why))) exchanged says
+  cache_gone (Cache command) exchanged says = action_gone (Cache command) (replies (Cache command) rules before command refl) exchanged says
+  cache_gone (Bad why) exchanged says = action_gone (Bad why) (ends_working (Bad why) (refuses_by (IsAllowed (Bad why) AnyNonce) (Agent why))) exchanged says
   cache_gone (Key line) never says = absurd never

@@ -1,15 +1,15 @@
 -- In a request on the cache a prompt is opened before the prompter is called, and once; and so in each exchange of a session.
 use Rattle.std.proofs.Common.{ℕ, Bool, true, false, List, Option, Some, None, Result, Ok, Err, refl}
-use Rattle.{arrayvec.specs.ArrayVec.ArrayVec, agent_ask.specs.{PortCalls.PortCall, PartExchanges.AnyExchange, Parts.{◌>>=◌, Returns}, TurnParts.Changes}}
+use Rattle.{arrayvec.specs.ArrayVec.ArrayVec, agent_ask.specs.{PortCalls.PortCall, ActionExchanges.AnyExchange, Actions.{◌>>=◌, Returns}, TurnActions.Changes}}
 use Rattle.agent_origin.{proofs.EachCache.{wants_prompt, without_prompt, by_cache, presets, tells_passphrase, tells_info, option_so}, specs.{SessionExchanges.{RequestExchange, cache, keys}, declared.session_state.SessionState.SessionState}}
 use Rattle.{cache_policy.specs.declared.mark.MarkStep.MarkStep, assuan_server.specs.Written.refusal_line, session_client.specs.declared.refusal.Refusal.{Refusal, TheVariants.Agent}}
 use Rattle.{session_options.specs.{OptionValues.{OptionValues, applied}, declared.{options.PinMode.PinMode, rules.Rules.Rules}}, agent_commands.specs.{Endings.went_after, Events.EventWith}}
-use Rattle.agent_commands.specs.{Exchanges.{CacheExchange, CacheReply, CacheReplies, confirms_by}, Parts.CachePart, Passphrases.{WithoutPrompt, PromptsAny, Prompts, passphrase_by, as_wanted}, Requests.GetFields}
+use Rattle.agent_commands.specs.{Exchanges.{CacheExchange, CacheReply, CacheReplies, confirms_by}, Actions.CacheAction, Passphrases.{WithoutPrompt, PromptsAny, Prompts, passphrase_by, as_wanted}, Requests.GetFields}
 use Rattle.agent_commands.specs.declared.request.CacheCommand.{CacheCommand, TheVariants.{Nop, Reset, Bye, Help, SetOption, GetInfo, GetPassphrase, PresetPassphrase, ClearPassphrase, GetConfirmation, ReloadAgent, KillAgent, SetKeyDesc}}
 use Rattle.{agent_commands.specs.declared.{request.{Request.{Request, TheVariants.{Cache, Key, Bad}}, Texts.Texts}, went.Went.Went}, key_commands.specs.Events.IsUncalled}
 use Rattle.key_commands.proofs.EachEvent.{still_uncalled, agrees_to, each_shown, each_bind, each_returned, each_refused, each_otherwise, each_seats, each_changes, each_closes}
 use Rattle.agent_session.{specs.Refusals.{IsUnopening, OpensFirst}, proofs.Courses.{Opens.{Unopening, UnopeningSo, answer_unopening, OpensSo, still_unopening, then_unopening, calls_nobody, behind_opens}, KeyCourses.key_opens}}
-use Rattle.agent_ask.specs.PartExchanges as exchange
+use Rattle.agent_ask.specs.ActionExchanges as exchange
 use Rattle.session_client.specs.declared.code.Code.TheVariants as code
 use Rattle.session_options.specs.declared.options.PinMode.TheVariants as mode
 use Rattle.agent_commands.specs.Passphrases as passphrases
@@ -68,13 +68,13 @@ module _ (rules : Rules) (options : OptionValues) where
   replies ReloadAgent = changes _
   replies KillAgent = changes _
 
-part_opens : {part : CachePart CacheReply} → OpensSo part → {before after : OptionValues} {events : List (EventWith PortCall)} {went : Went} → AnyExchange refusal_line went_after part before events after went → OpensFirst events
-part_opens opens (exchange.answered events held reply does closes_so) = then_unopening events _ (opens.of None events (Ok reply) held does) (answer_unopening (Some reply.text) closes_so)
-part_opens opens (exchange.refused events held why does closes_so) = then_unopening events _ (opens.of None events (Err why) held does) (answer_unopening (refusal_line why) closes_so)
+action_opens : {action : CacheAction CacheReply} → OpensSo action → {before after : OptionValues} {events : List (EventWith PortCall)} {went : Went} → AnyExchange refusal_line went_after action before events after went → OpensFirst events
+action_opens opens (exchange.answered events held reply does closes_so) = then_unopening events _ (opens.of None events (Ok reply) held does) (answer_unopening (Some reply.text) closes_so)
+action_opens opens (exchange.refused events held why does closes_so) = then_unopening events _ (opens.of None events (Err why) held does) (answer_unopening (refusal_line why) closes_so)
 
 cache_opens : (rules : Rules) (before after : OptionValues) (request : Request) (events : List (EventWith PortCall)) (went : Went) → CacheExchange rules before request events after went → OpensFirst events
-cache_opens rules before after (Cache command) events went exchanged = part_opens (replies rules before command) exchanged
-cache_opens rules before after (Bad why) events went exchanged = part_opens (calls_nobody (each_refused IsUncalled (Agent why))) exchanged
+cache_opens rules before after (Cache command) events went exchanged = action_opens (replies rules before command) exchanged
+cache_opens rules before after (Bad why) events went exchanged = action_opens (calls_nobody (each_refused IsUncalled (Agent why))) exchanged
 cache_opens rules before after (Key line) events went never = absurd never
 
 pub request_opens : {rules : Rules} {kept now : SessionState} (request : Request) {events : List (EventWith PortCall)} {went : Went} → RequestExchange rules kept request events now went → OpensFirst events

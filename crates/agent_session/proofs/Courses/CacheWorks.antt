@@ -1,9 +1,9 @@
--- Parts of requests on the cache that are work of the one form, where each of their events is fit.
+-- Actions of requests on the cache that are work of the one form, where each of their events is fit.
 use Rattle.std.proofs.Common.{◌≡◌, ℕ, Bool, List, [], codes, Option, Some, None, Result, refl}
-use Rattle.{arrayvec.specs.ArrayVec.ArrayVec, agent_ask.specs.{Events.PromptEvent, PortCalls.Prompt, SessionEvents.{Sent, Cut, Inquiry, Port, cache_turn}, SessionPrompts.note, TurnParts.Changes}, cache_policy.specs.Turns.{Turn, closes}}
+use Rattle.{arrayvec.specs.ArrayVec.ArrayVec, agent_ask.specs.{Events.PromptEvent, PortCalls.Prompt, SessionEvents.{Sent, Cut, Inquiry, Port, cache_turn}, SessionPrompts.note, TurnActions.Changes}, cache_policy.specs.Turns.{Turn, closes}}
 use Rattle.cache_policy.specs.declared.{life.Life.{Life, TheVariants.Default}, mark.MarkStep.{MarkStep, TheVariants.{Seat, Put}}, mode.Mode.TheVariants.User, secret.TheConstants.MAX_SECRET_LEN}
 use Rattle.{session_client.specs.declared.refusal.Refusal.{Refusal, TheVariants.Agent}, session_options.specs.{OptionValues.OptionValues, declared.{options.PinMode.PinMode, rules.Rules.Rules}}}
-use Rattle.agent_commands.specs.{Exchanges.{TellsInfo, put, confirms_by, Presets}, Parts.{CachePart, AsksPassphrase}, Passphrases.{LooksFor, WantsPrompt, KeepsUnder, ByCache, Uncached, WithoutPrompt, PromptsAny, ask, ask_or_open}}
+use Rattle.agent_commands.specs.{Exchanges.{TellsInfo, put, confirms_by, Presets}, Actions.{CacheAction, AsksPassphrase}, Passphrases.{LooksFor, WantsPrompt, KeepsUnder, ByCache, Uncached, WithoutPrompt, PromptsAny, ask, ask_or_open}}
 use Rattle.{agent_commands.specs.declared.request.{Info.Info, Texts.Texts}, assuan_server.specs.Written.limit_line, key_commands.specs.Events.Event}
 use Rattle.agent_session.proofs.Courses.{PromptWorks.{pin_works, pin_comes, agrees_to}, Works.{WorksTo, works, WorksSo, keeps_works, bind, returned, refuses_by, is_needed, or_otherwise, is_wanted, turns_of}}
 use Rattle.session_client.specs.declared.code.Code.TheVariants as code
@@ -12,7 +12,7 @@ use Rattle.agent_commands.specs.Exchanges as exchanges
 use Rattle.agent_commands.specs.Passphrases as passphrases
 use Rattle.agent_session.proofs.Courses.Works as work
 
--- each event of such a part is fit, but that a passphrase is put
+-- each event of such an action is fit, but that a passphrase is put
 pub record FitsCache (Fits : Event → Type 0) : Type 0 where
   pub cut : (text : List ℕ) → Fits (Cut text)
   pub limits : Fits (Sent (limit_line MAX_SECRET_LEN))
@@ -24,7 +24,7 @@ pub record FitsCache (Fits : Event → Type 0) : Type 0 where
   pub seats : (turn : Turn) → Fits (cache_turn (Seat None None) turn)
 
 module _ {Fits : Event → Type 0} (fits : FitsCache Fits) where
-  abbrev Here : {A : Type 0} → CachePart A → Type 0
+  abbrev Here : {A : Type 0} → CacheAction A → Type 0
   Here = WorksSo Fits
 
   asks_passphrase : Here AsksPassphrase

@@ -1,14 +1,14 @@
--- How a request ends, once its work is done: what its last part does, and the course that this makes of its exchange. So a client that is gone ends it.
+-- How a request ends, once its work is done: what its last action does, and the course that this makes of its exchange. So a client that is gone ends it.
 use Rattle.std.{specs.{List.AllByRecursion, Option.option_map, Prelude.⊤}, proofs.Common.{◌≡◌, ℕ, List, [], ◌∷◌, ◌++◌, Option, Some, None, Result, Ok, Err, refl, sym, ap, ◌∙◌, subst, append_assoc, append-nil, inl, inr, ◌⊎◌}}
-use Rattle.agent_ask.specs.{PortCalls.{Prompt, Keys, NoMemory, Replaced, Removed}, Interrupts.Interrupts, Parts.{◌>>=◌, Returns, Refuses}, SessionEvents.{Received, Sent, Cut, Inquiry, CacheTurn, Port, cache_turn, said_last}}
-use Rattle.{agent_ask.{specs.TurnParts.Closes, proofs.Within.{Within, Joins, weaker, bind, returned_so, refused_so, Yields, yields_then}}, agent_ports.specs.declared.grip.Grip.Grip, assuan_server.specs.Written.{failed, refusal_line}}
+use Rattle.agent_ask.specs.{PortCalls.{Prompt, Keys, NoMemory, Replaced, Removed}, Interrupts.Interrupts, Actions.{◌>>=◌, Returns, Refuses}, SessionEvents.{Received, Sent, Cut, Inquiry, CacheTurn, Port, cache_turn, said_last}}
+use Rattle.{agent_ask.{specs.TurnActions.Closes, proofs.Within.{Within, Joins, weaker, bind, returned_so, refused_so, Yields, yields_then}}, agent_ports.specs.declared.grip.Grip.Grip, assuan_server.specs.Written.{failed, refusal_line}}
 use Rattle.{cache_policy.specs.{Turns.{Turn, Done}, declared.{mark.MarkStep.TheVariants.{Close, Clear}, mode.Mode.TheVariants.Normal}}, session_client.specs.{Refusals.refusal_code, declared.{code.Code.Code, refusal.Refusal.Refusal}}}
 use Rattle.{session_client.specs.declared.{refusal.Refusal.TheVariants.{Agent, Pinentry, Client}, client_error.{Gone.Gone, ClientError.ClientError}}, agent_commands.specs.declared.request.Request.Request, key_commands.specs.Events.Event}
-use Rattle.key_commands.{specs.{Lines.grip_text, Parts.Part, Passphrases.put_key}, proofs.EachEvent.{each_append, each_answer}}
+use Rattle.key_commands.{specs.{Lines.grip_text, Actions.Action, Passphrases.put_key}, proofs.EachEvent.{each_append, each_answer}}
 use Rattle.agent_session.specs.{Causes.{here, later, IsSaid, said as says_so}, Completeness.{EndsInOk, error, done}}
 use Rattle.agent_session.{specs.Refusals.{refuses, shuts, IsAllowed, IsWork, AreWork, IsLast, said, gone, GivesBack, no_ticket, with_ticket, settled, interrupted, IsEnd, CourseBy}, proofs.Causes.Explained.has_split}
 use Rattle.agent_session.proofs.{Causes.Replying.{IsReply, begins}, Standing.each_has, Courses.Works.{unsaid, unheard_by, lost_goes, GoesOn, WorkEnd, no_more, refused, lost, forgot, WorksTo, ok_works, err_works, WorkLaw, WorksSo}}
-use Rattle.agent_ask.specs.TurnParts as taken
+use Rattle.agent_ask.specs.TurnActions as taken
 use Rattle.agent_ports.specs.declared.keys.KeyDone.TheVariants as key_done
 use Rattle.assuan_server.specs.declared.errors.Origin.TheVariants as origin
 use Rattle.session_client.specs.declared.code.Code.TheVariants as code
@@ -50,7 +50,7 @@ said_before events more each says = elim (said_split events more says) [ inl bef
 pub answer_heard : {held : Option ℕ} {back : List Event} (line : Option (List ℕ)) → Closes None held back (Ok tt) None → AllByRecursion IsHeard (back ++ said_last line)
 answer_heard = each_answer IsHeard (λ number turn. refl) (λ text. refl)
 
--- it is by the last event of a part's work, and by none before it
+-- it is by the last event of an action's work, and by none before it
 shut_heard : (event : Event) → AllByRecursion IsHeard (shuts event)
 shut_heard (Port (Prompt event)) = (refl, tt)
 shut_heard _ = tt
@@ -63,7 +63,7 @@ refused_heard (Sent text) is = refl
 refused_heard (CacheTurn taken) is = refl
 refused_heard (Port what) is = refl
 
--- what a part comes to, whose client said so: that, unless it was too much, and there was no memory for it
+-- what an action comes to, whose client said so: that, unless it was too much, and there was no memory for it
 abbrev pub ComesTo : {A : Type 0} → ClientError → Result A Refusal → Type 0
 ComesTo why result = (result ≡ Err (Client why)) ⊎ ((why ≡ client_error.TooMuch) × (result ≡ Err (Agent code.NoMemory)))
 
@@ -131,15 +131,15 @@ module _ (request : Request) where
   pub ends_with : {A : Type 0} {events : List Event} {result : Result A Refusal} {held : Option ℕ} → RequestEnd events result held → Ends events result held
   ends_with {events} end = record { work = []; last = events; is = refl; each = tt; end = end }
 
-  -- ---- parts
+  -- ---- actions
 
-  abbrev pub EndsLaw : {A : Type 0} → Part A
+  abbrev pub EndsLaw : {A : Type 0} → Action A
   EndsLaw before events result after = Ends events result after
 
-  abbrev pub EndsSo : {A : Type 0} → Part A → Type 0
-  EndsSo part = Within part EndsLaw
+  abbrev pub EndsSo : {A : Type 0} → Action A → Type 0
+  EndsSo action = Within action EndsLaw
 
-  pub ends_working : {A : Type 0} {part : Part A} → WorksSo (IsAllowed request AnyNonce) part → EndsSo part
+  pub ends_working : {A : Type 0} {action : Action A} → WorksSo (IsAllowed request AnyNonce) action → EndsSo action
   ends_working = weaker (record { of = λ before events result after does. working_ends does })
 
   behind : {A : Type 0} {events : List Event} {result : Result A Refusal} {held : Option ℕ} (first : List Event) → AllByRecursion Fine first → Ends events result held → Ends (first ++ events) result held
@@ -158,7 +158,7 @@ module _ (request : Request) where
     alone = λ work. working_ends (err_works (IsAllowed request AnyNonce) work);
   }
 
-  pub bind_ends : {A B : Type 0} {part : Part A} {next : A → Part B} → WorksSo (IsAllowed request AnyNonce) part → ((value : A) → EndsSo (next value)) → EndsSo (part >>= next)
+  pub bind_ends : {A B : Type 0} {action : Action A} {next : A → Action B} → WorksSo (IsAllowed request AnyNonce) action → ((value : A) → EndsSo (next value)) → EndsSo (action >>= next)
   bind_ends = bind work_joins
 
   -- a value is made of what a request ends with
@@ -178,12 +178,12 @@ module _ (request : Request) where
   err_end (unput why) = unput why
   err_end (uncleared why) = uncleared why
 
-  -- by a part that does nothing but to make one
-  abbrev pub MakesLaw : {A : Type 0} → Part A
+  -- by an action that does nothing but to make one
+  abbrev pub MakesLaw : {A : Type 0} → Action A
   MakesLaw {A} before events result after = (value : A) × (result ≡ Ok value) × (events ≡ []) × (after ≡ before)
 
-  abbrev pub Makes : {A : Type 0} → Part A → Type 0
-  Makes part = Within part MakesLaw
+  abbrev pub Makes : {A : Type 0} → Action A → Type 0
+  Makes action = Within action MakesLaw
 
   pub makes : {A : Type 0} (value : A) → Makes (Returns value)
   makes value = returned_so value (λ held. (value, refl, refl, refl))
@@ -200,7 +200,7 @@ module _ (request : Request) where
     alone = λ ends. record { work = ends.work; last = ends.last; is = ends.is; each = ends.each; end = err_end ends.end };
   }
 
-  pub made : {A B : Type 0} {part : Part A} {next : A → Part B} → EndsSo part → ((value : A) → Makes (next value)) → EndsSo (part >>= next)
+  pub made : {A B : Type 0} {action : Action A} {next : A → Action B} → EndsSo action → ((value : A) → Makes (next value)) → EndsSo (action >>= next)
   made = bind made_joins
 
   -- ---- courses
@@ -269,8 +269,8 @@ module _ {R : Type 0} (text_of : R → List ℕ) where
   abbrev pub IsOk : R → Type 0
   IsOk reply = EndsInOk (text_of reply)
 
-  abbrev pub RepliesOk : Part R → Type 0
-  RepliesOk part = Within part (Yields IsOk)
+  abbrev pub RepliesOk : Action R → Type 0
+  RepliesOk action = Within action (Yields IsOk)
 
 module _ {R : Type 0} {text_of : R → List ℕ} where
   pub ok_returns : (value : R) → EndsInOk (text_of value) → RepliesOk text_of (Returns value)
@@ -279,5 +279,5 @@ module _ {R : Type 0} {text_of : R → List ℕ} where
   pub ok_refuses : (why : Refusal) → RepliesOk text_of (Refuses why)
   ok_refuses why = refused_so why (λ held. tt)
 
-  pub ok_then : {A : Type 0} {part : Part A} {next : A → Part R} → ((value : A) → RepliesOk text_of (next value)) → RepliesOk text_of (part >>= next)
+  pub ok_then : {A : Type 0} {action : Action A} {next : A → Action R} → ((value : A) → RepliesOk text_of (next value)) → RepliesOk text_of (action >>= next)
   ok_then = yields_then (IsOk text_of)

@@ -1,23 +1,23 @@
 -- What an IMPORT_KEY hands to the cache, in its order.
 use Rattle.std.{specs.Prelude.drop, proofs.Common.{◌≡◌, ◌⊎◌, ℕ, Bool, List, [], ◌∷◌, ◌++◌, length, inl, inr, Option, Some, None, Result, Ok, Err, refl, sym, ap, ◌∙◌, subst, append_assoc}}
-use Rattle.agent_ask.{specs.{PortCalls.{PortCall, Replaced}, SessionEvents.{Sent, CacheTurn, cache_turn, said_last}, Parts.{◌>>=◌, goes_on, stops}, TurnParts.Closes}, proofs.Within.{Within, Does, does_join, bind}}
+use Rattle.agent_ask.{specs.{PortCalls.{PortCall, Replaced}, SessionEvents.{Sent, CacheTurn, cache_turn, said_last}, Actions.{◌>>=◌, goes_on, stops}, TurnActions.Closes}, proofs.Within.{Within, Does, does_join, bind}}
 use Rattle.{agent_ports.specs.declared.{grip.Grip.Grip, keys.KeyDone.KeyDone}, assuan_escape.specs.Escapes.hex_text, cache_policy.specs.{Turns.Turn, declared.{life.Life.Life, mark.MarkStep.{MarkStep, TheVariants.{Close, Put}}}}}
 use Rattle.{cache_policy.specs.declared.mode.Mode.TheVariants.Nonce, session_client.specs.declared.{code.Code.Code, refusal.Refusal.{Refusal, TheVariants.Agent}}, session_options.specs.OptionValues.OptionValues}
 use Rattle.{session_options.specs.declared.{options.PinMode.PinMode, rules.Rules.Rules}, sexp_keys.specs.Key.Key, agent_commands.specs.{Events.EventWith, declared.request.Request.{Request, TheVariants.{Cache, Key as OnKeys, Bad}}}}
-use Rattle.{agent_commands.specs.declared.went.Went.Went, key_commands.specs.{Events.{drew, called}, Exchanges.{KeyExchange, ImportKeyReplies, StoresKey, FoundOrNew}, KeyParts.change_fault, Parts.{Part, refusal_events}}}
+use Rattle.{agent_commands.specs.declared.went.Went.Went, key_commands.specs.{Events.{drew, called}, Exchanges.{KeyExchange, ImportKeyReplies, StoresKey, FoundOrNew}, KeyActions.change_fault, Actions.{Action, refusal_events}}}
 use Rattle.key_commands.specs.{Passphrases.put_key, declared.{request.KeyRequest.KeyRequest, went.KeyWent.KeyWent, keywrap_key.WrapKeys.WrapKeys}}
 use Rattle.key_commands.proofs.EachEvent.{each_answer, each_returned, each_append, EachSo, each_bind, each_refused, each_needed, each_otherwise, receives_key, names_key, is_free, looks_over, takes_seat, prompts_new, client_new}
 use Rattle.{assuan_server.specs.Written.refusal_line, agent_origin.specs.{SessionExchanges.{RequestExchange, cache, keys}, declared.session_state.SessionState.SessionState}}
 use Rattle.agent_session.specs.{Causes.{Has, here, later, on_keys}, Imports.{HandsNothing, HandNothing, put_nonce, KeepsPass, put, given_back, ImportCourse, not_drawn, not_put, not_replaced, replaced}}
-use Rattle.agent_session.{specs.OwnPassphrases.{puts, IsNonceOf, nonce_of}, proofs.{Causes.Explained.has_split, Own.{OwnKeys.still_quiet, OwnParts.kept_none}, Standing.{each_has, has_right}}}
+use Rattle.agent_session.{specs.OwnPassphrases.{puts, IsNonceOf, nonce_of}, proofs.{Causes.Explained.has_split, Own.{OwnKeys.still_quiet, OwnActions.kept_none}, Standing.{each_has, has_right}}}
 use Rattle.agent_ports.specs.declared.keys.KeyDone.TheVariants as key_done
 use Rattle.session_client.specs.declared.code.Code.TheVariants as code
 use Rattle.session_options.specs.declared.options.PinMode.TheVariants as mode
-use Rattle.agent_ask.specs.PartExchanges as part_exchanges
-use Rattle.key_commands.specs.KeyParts as parts
-use Rattle.agent_ask.specs.Parts as chain
-use Rattle.agent_ask.specs.TurnParts as turning
-use Rattle.key_commands.specs.Parts as small
+use Rattle.agent_ask.specs.ActionExchanges as action_exchanges
+use Rattle.key_commands.specs.KeyActions as actions
+use Rattle.agent_ask.specs.Actions as chain
+use Rattle.agent_ask.specs.TurnActions as turning
+use Rattle.key_commands.specs.Actions as small
 use Rattle.key_commands.specs.Passphrases as passphrases
 use Rattle.key_commands.specs.declared.request.KeyRequest.TheVariants as on
 
@@ -89,14 +89,14 @@ course_before last each (not_replaced early late drawn pass file grip answer not
 course_before last each (replaced early late drawn pass file turn nothing long keeps behind) =
     subst ImportCourse (sym (append_assoc early _ last)) (replaced early (late ++ last) drawn pass file turn nothing long keeps (each_append HandsNothing late last behind each))
 
-abbrev IsImport : {A : Type 0} → Part A → Type 0
-IsImport part = Within part (Does ImportCourse)
+abbrev IsImport : {A : Type 0} → Action A → Type 0
+IsImport action = Within action (Does ImportCourse)
 
-module _ {A B : Type 0} {part : Part A} {next : A → Part B} where
-  quiet_then : EachSo HandsNothing part → ((value : A) → IsImport (next value)) → IsImport (part >>= next)
+module _ {A B : Type 0} {action : Action A} {next : A → Action B} where
+  quiet_then : EachSo HandsNothing action → ((value : A) → IsImport (next value)) → IsImport (action >>= next)
   quiet_then = bind (does_join (λ some later nothing course. course_behind some nothing course) (λ some nothing. not_drawn nothing))
 
-  then_quiet : IsImport part → ((value : A) → EachSo HandsNothing (next value)) → IsImport (part >>= next)
+  then_quiet : IsImport action → ((value : A) → EachSo HandsNothing (next value)) → IsImport (action >>= next)
   then_quiet = bind (does_join (λ some later course nothing. course_before later nothing course) (λ some course. course))
 
 -- ---- the key is stored
@@ -107,17 +107,17 @@ undone answer is done = let never : None ≡ Some _ = sym (ap change_fault done)
 stores_of : (count : ℕ) (key : Key) (grip : Grip) (pass : List ℕ) (before : Option ℕ) (events : List (EventWith PortCall)) (result : Result _ Refusal) (after : Option ℕ) → StoresKey count key grip pass before events result after
     → ImportCourse events
 stores_of count key grip pass before events result after (stops small.faulted) = not_drawn (tt, tt)
-stores_of count key grip pass before events result after (goes_on (small.drawn long) (stops parts.no_memory)) = not_drawn (tt, (tt, tt))
-stores_of count key grip pass before events result after (goes_on (small.drawn long) (goes_on parts.made (stops (turning.interrupted can why)))) = not_put [] [] _ _ tt long why tt
-stores_of count key grip pass before events result after (goes_on (small.drawn long) (goes_on parts.made (goes_on (turning.done can) (stops (parts.not_done {answer} is))))) =
+stores_of count key grip pass before events result after (goes_on (small.drawn long) (stops actions.no_memory)) = not_drawn (tt, (tt, tt))
+stores_of count key grip pass before events result after (goes_on (small.drawn long) (goes_on actions.made (stops (turning.interrupted can why)))) = not_put [] [] _ _ tt long why tt
+stores_of count key grip pass before events result after (goes_on (small.drawn long) (goes_on actions.made (goes_on (turning.done can) (stops (actions.not_done {answer} is))))) =
     not_replaced [] [] _ _ _ _ _ tt long (undone answer is) tt
-stores_of count key grip pass None events result after (goes_on (small.drawn long) (goes_on parts.made (goes_on (turning.done can) (goes_on parts.done (stops (turning.interrupted can_too why)))))) =
+stores_of count key grip pass None events result after (goes_on (small.drawn long) (goes_on actions.made (goes_on (turning.done can) (goes_on actions.done (stops (turning.interrupted can_too why)))))) =
     replaced [] [] _ _ _ _ tt long put tt
-stores_of count key grip pass None events result after (goes_on (small.drawn long) (goes_on parts.made (goes_on (turning.done can) (goes_on parts.done (goes_on (turning.done can_too) chain.returns))))) =
+stores_of count key grip pass None events result after (goes_on (small.drawn long) (goes_on actions.made (goes_on (turning.done can) (goes_on actions.done (goes_on (turning.done can_too) chain.returns))))) =
     replaced [] [] _ _ _ _ tt long put tt
-stores_of count key grip pass (Some number) events result after (goes_on (small.drawn long) (goes_on parts.made (goes_on (turning.done can) (goes_on parts.done (goes_on (turning.closed turn can_too) chain.returns))))) =
+stores_of count key grip pass (Some number) events result after (goes_on (small.drawn long) (goes_on actions.made (goes_on (turning.done can) (goes_on actions.done (goes_on (turning.closed turn can_too) chain.returns))))) =
     replaced [] [] _ _ _ _ tt long given_back tt
-stores_of count key grip pass (Some number) events result after (goes_on (small.drawn long) (goes_on parts.made (goes_on (turning.done can) (goes_on parts.done (stops never))))) = elim never [ ]
+stores_of count key grip pass (Some number) events result after (goes_on (small.drawn long) (goes_on actions.made (goes_on (turning.done can) (goes_on actions.done (stops never))))) = elim never [ ]
 
 -- ---- before
 
@@ -144,9 +144,9 @@ module _ (rules : Rules) (options : OptionValues) (wraps : WrapKeys) where
 
   pub import_exchange : (force : Bool) (nonce : Option (List ℕ)) {events : List (EventWith PortCall)} {after : WrapKeys} {went : KeyWent} → KeyExchange rules options wraps (on.ImportKey force nonce) events after went
       → ImportCourse events
-  import_exchange force nonce (part_exchanges.answered events held reply {back} does closes) =
+  import_exchange force nonce (action_exchanges.answered events held reply {back} does closes) =
       course_before (back ++ Sent reply.text ∷ []) (answer_nothing (Some reply.text) closes) ((import_so force nonce).of None events (Ok reply) held does)
-  import_exchange force nonce (part_exchanges.refused events held why {back} does closes) =
+  import_exchange force nonce (action_exchanges.refused events held why {back} does closes) =
       course_before (back ++ refusal_events why) (answer_nothing (refusal_line why) closes) ((import_so force nonce).of None events (Err why) held does)
 
 pub some_key : {one other : KeyRequest} → Some one ≡ Some other → one ≡ other

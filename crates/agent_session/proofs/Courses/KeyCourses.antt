@@ -1,13 +1,13 @@
 -- Requests on keys: their work, and what is done once a ticket was given back or a key's file changed.
 use Rattle.std.{proofs.Common.{◌≡◌, ℕ, Bool, true, false, List, ◌∷◌, ◌++◌, Option, Some, None, Result, Ok, Err, refl, ap, []}, specs.Prelude.{not, drop}}
-use Rattle.agent_ask.specs.{PortCalls.{Keys, Replaced, Removed, Listed, Draw, Dice}, Parts.{◌>>=◌, goes_on, stops, Returns, returns}, SessionEvents.Port, TurnParts.{Changes, Closes}}
+use Rattle.agent_ask.specs.{PortCalls.{Keys, Replaced, Removed, Listed, Draw, Dice}, Actions.{◌>>=◌, goes_on, stops, Returns, returns}, SessionEvents.Port, TurnActions.{Changes, Closes}}
 use Rattle.{agent_ask.proofs.Within.{Within, Yields, yields_then, returned_so, refused_so, values_so}, agent_ports.specs.declared.{grip.Grip.Grip, keys.{KeyDone.KeyDone, KeyRead.KeyRead, KeyNames.KeyNames}}}
 use Rattle.{assuan_server.specs.Written.{refusal_line, ok}, session_client.specs.{declared.{code.Code.Code, refusal.Refusal.{Refusal, TheVariants.{Agent, Client}}, client_error.Gone.Gone}, Refusals.gone_by}, cache_policy.specs.Turns.closes}
 use Rattle.{cache_policy.specs.declared.{mark.MarkStep.{MarkStep, TheVariants.Clear}, mode.Mode.TheVariants.{Normal, Nonce}}, session_options.specs.{OptionValues.OptionValues, declared.rules.Rules.Rules}, sexp_keys.specs.Key.Key}
 use Rattle.{agent_commands.specs.declared.request.Request.Request, key_commands.specs.Events.{Event, IsUncalled, read, called}}
 use Rattle.key_commands.specs.Exchanges.{KeyReply, KeyExchange, HaveKeyReplies, KeyInfoReplies, ListKeysReplies, KeyWrapReplies, ImportKeyReplies, ExportKeyReplies, PasswdReplies, VerifyReplies, DeleteKeyReplies, KeyReplies, wrap_key}
-use Rattle.key_commands.specs.{Exchanges.{StoresKey, RewritesFile, ChangesOpened}, KeyParts.{Tells, tells, Replaces, Removes, KeepsNew, TellsKeyInfo, ReceivesKey, IsFree, WrapsKey}}
-use Rattle.key_commands.specs.{Lines.{grip_text, info_line, of_passphrase, of_key_data, of_key}, Parts.{Part, key_went_after}, declared.{request.KeyRequest.KeyRequest, went.KeyWent.KeyWent, keywrap_key.WrapKeys.WrapKeys}}
+use Rattle.key_commands.specs.{Exchanges.{StoresKey, RewritesFile, ChangesOpened}, KeyActions.{Tells, tells, Replaces, Removes, KeepsNew, TellsKeyInfo, ReceivesKey, IsFree, WrapsKey}}
+use Rattle.key_commands.specs.{Lines.{grip_text, info_line, of_passphrase, of_key_data, of_key}, Actions.{Action, key_went_after}, declared.{request.KeyRequest.KeyRequest, went.KeyWent.KeyWent, keywrap_key.WrapKeys.WrapKeys}}
 use Rattle.{key_commands.proofs.{EachEvent.{each_bind, each_returned, each_needed, each_wanted, each_closes, each_changes, still_uncalled}, EachRequest.{IsPlain, plain_replies}}, assuan_escape.specs.Escapes.hex_text}
 use Rattle.agent_session.specs.{Causes.{on_keys, IsSaid}, Completeness.EndsInOk, Refusals.{IsAllowed, IsWorkStep, CourseBy, IsUnopening, OpensFirst}, OwnPassphrases.{MayStore, directly, imported, under_export, under_change}}
 use Rattle.agent_session.proofs.Causes.{Asides.{info_status, nonce_status, status_aside}, Replying.{ends_in_ok, reply_keys}}
@@ -16,12 +16,12 @@ use Rattle.agent_session.proofs.Courses.{Courses.{ends_said, gone_only, said_bef
 use Rattle.agent_session.proofs.Courses.Works.{WorksTo, works, WorksSo, Keeps, keeps_works, bind, returned, refuses_by, is_needed, or_otherwise, is_wanted, turns_of}
 use Rattle.agent_session.proofs.Courses.Opens.{OpensSo, calls_nobody, before_opens, before_prompts, behind_opens, prompts_opens, otherwise_prompts, agrees_opens, old_by_prompts, verified_prompts, new_by_prompts, both_of, still_unopening}
 use Rattle.agent_session.proofs.Courses.Opens.{then_unopening, answer_unopening}
-use Rattle.agent_ask.specs.TurnParts as taken
+use Rattle.agent_ask.specs.TurnActions as taken
 use Rattle.session_client.specs.declared.code.Code.TheVariants as code
 use Rattle.session_client.specs.declared.client_error.ClientError.TheVariants as client_error
-use Rattle.agent_ask.specs.PartExchanges as part_exchanges
+use Rattle.agent_ask.specs.ActionExchanges as action_exchanges
 use Rattle.key_commands.specs.Exchanges as exchange
-use Rattle.key_commands.specs.KeyParts as parts
+use Rattle.key_commands.specs.KeyActions as actions
 use Rattle.key_commands.specs.declared.request.KeyRequest.TheVariants as on
 use Rattle.key_commands.specs.declared.went.KeyWent.TheVariants as key_went
 use Rattle.agent_session.specs.Completeness as completeness
@@ -45,11 +45,11 @@ module _ (request : Request) where
   abbrev Fits : Event → Type 0
   Fits = IsAllowed request AnyNonce
 
-  abbrev Here : {A : Type 0} → Part A → Type 0
+  abbrev Here : {A : Type 0} → Action A → Type 0
   Here = WorksSo Fits
 
-  -- it is a part of the request's work
-  so : {A : Type 0} {part : Part A} → Keeps Fits part → Here part
+  -- it is an action of the request's work
+  so : {A : Type 0} {action : Action A} → Keeps Fits action → Here action
   so keeps = keeps_works Fits keeps
 
   -- a step that gives no ticket back, and is the request's work
@@ -72,7 +72,7 @@ module _ (request : Request) where
     infos = of_key;
   }
 
-  reads_file : (grip : Grip) → Here (parts.ReadsFile grip)
+  reads_file : (grip : Grip) → Here (actions.ReadsFile grip)
   reads_file grip = so (work.reads_file Fits tt (λ answer. tt))
 
   -- ---- keys that come in
@@ -88,15 +88,15 @@ module _ (request : Request) where
   -- ---- files that are changed
 
   module _ (grip : Grip) (file pass : List ℕ) where
-    not_done : {A : Type 0} (answer : KeyDone) {why : Code} → parts.change_fault answer ≡ Some why → WorksTo Fits {A = A} (Port (Keys (Replaced grip file answer)) ∷ []) (Err (Agent why))
+    not_done : {A : Type 0} (answer : KeyDone) {why : Code} → actions.change_fault answer ≡ Some why → WorksTo Fits {A = A} (Port (Keys (Replaced grip file answer)) ∷ []) (Err (Agent why))
     not_done answer is = work.not_replaced Fits tt answer (λ given other. other) is
 
     replaces_so_of : (before : Option ℕ) (events : List Event) (result : Result (Unit {0}) Refusal) (after : Option ℕ) → (Replaces grip file >>= λ replaced. KeepsNew grip pass) before events result after
         → Ends request events result after
-    replaces_so_of None _ _ _ (goes_on parts.done (taken.done can)) = ends_with request put
-    replaces_so_of None _ _ _ (goes_on parts.done (taken.interrupted can why)) = ends_with request (unput why)
-    replaces_so_of (Some number) _ _ _ (goes_on parts.done (taken.closed turn can)) = ends_with request (kept turn)
-    replaces_so_of before _ _ _ (stops (parts.not_done {answer} is)) = working_ends request (not_done answer is)
+    replaces_so_of None _ _ _ (goes_on actions.done (taken.done can)) = ends_with request put
+    replaces_so_of None _ _ _ (goes_on actions.done (taken.interrupted can why)) = ends_with request (unput why)
+    replaces_so_of (Some number) _ _ _ (goes_on actions.done (taken.closed turn can)) = ends_with request (kept turn)
+    replaces_so_of before _ _ _ (stops (actions.not_done {answer} is)) = working_ends request (not_done answer is)
 
     ends_replacing : EndsSo request (Replaces grip file >>= λ replaced. KeepsNew grip pass)
     ends_replacing = record { of = replaces_so_of }
@@ -104,20 +104,20 @@ module _ (request : Request) where
     -- and then a value
     stores_so_of : {A : Type 0} {value : A} (before : Option ℕ) (events : List Event) (result : Result A Refusal) (after : Option ℕ)
         → (Replaces grip file >>= λ replaced. (KeepsNew grip pass >>= λ kept. Returns value)) before events result after → Ends request events result after
-    stores_so_of None _ _ _ (goes_on parts.done (goes_on (taken.done can) returns)) = ends_with request put
-    stores_so_of None _ _ _ (goes_on parts.done (stops (taken.interrupted can why))) = ends_with request (unput why)
-    stores_so_of (Some number) _ _ _ (goes_on parts.done (goes_on (taken.closed turn can) returns)) = ends_with request (kept turn)
-    stores_so_of (Some number) _ _ _ (goes_on parts.done (stops never)) = elim never [ ]
-    stores_so_of before _ _ _ (stops (parts.not_done {answer} is)) = working_ends request (not_done answer is)
+    stores_so_of None _ _ _ (goes_on actions.done (goes_on (taken.done can) returns)) = ends_with request put
+    stores_so_of None _ _ _ (goes_on actions.done (stops (taken.interrupted can why))) = ends_with request (unput why)
+    stores_so_of (Some number) _ _ _ (goes_on actions.done (goes_on (taken.closed turn can) returns)) = ends_with request (kept turn)
+    stores_so_of (Some number) _ _ _ (goes_on actions.done (stops never)) = elim never [ ]
+    stores_so_of before _ _ _ (stops (actions.not_done {answer} is)) = working_ends request (not_done answer is)
 
     ends_storing : {A : Type 0} (value : A) → EndsSo request (Replaces grip file >>= λ replaced. (KeepsNew grip pass >>= λ kept. Returns value))
     ends_storing value = record { of = stores_so_of }
 
   removes_so_of : {A : Type 0} {grip : Grip} {value : A} (before : Option ℕ) (events : List Event) (result : Result A Refusal) (after : Option ℕ)
       → (Removes grip >>= λ removed. (Changes (Clear (grip_text grip) Normal) >>= λ cleared. Returns value)) before events result after → Ends request events result after
-  removes_so_of _ _ _ _ (goes_on parts.done (goes_on (taken.done can) returns)) = ends_with request cleared
-  removes_so_of _ _ _ _ (goes_on parts.done (stops (taken.interrupted can why))) = ends_with request (uncleared why)
-  removes_so_of {grip} _ _ _ _ (stops (parts.not_done {answer} is)) =
+  removes_so_of _ _ _ _ (goes_on actions.done (goes_on (taken.done can) returns)) = ends_with request cleared
+  removes_so_of _ _ _ _ (goes_on actions.done (stops (taken.interrupted can why))) = ends_with request (uncleared why)
+  removes_so_of {grip} _ _ _ _ (stops (actions.not_done {answer} is)) =
       working_ends request (work.unchanged Fits tt answer (λ given. Port (Keys (Removed grip given))) (λ given other. other) (λ given. refl) (λ given. refl) (λ given. refl) is)
 
   -- a ticket is given back
@@ -129,18 +129,18 @@ module _ (request : Request) where
 
   wraps_last_of : {keep : Option (List ℕ)} {wrap : List ℕ} {key : Key} {wraps : WrapKeys} (before : Option ℕ) (events : List Event) (result : Result KeyReply Refusal) (after : Option ℕ)
       → (Closes keep >>= λ closed. (WrapsKey wrap key >>= λ wrapped. (Tells wrapped >>= λ text. Returns (exchange.key_reply wraps text)))) before events result after → Ends request events result after
-  wraps_last_of _ _ _ _ (goes_on taken.unheld (goes_on parts.is_wrapped (goes_on (tells answers) returns))) = working_ends request (works Fits tt)
-  wraps_last_of _ _ _ _ (goes_on taken.unheld (stops parts.no_memory)) = working_ends request (work.no_memory Fits tt)
-  wraps_last_of _ _ _ _ (goes_on (taken.closed turn can) (goes_on parts.is_wrapped (goes_on (tells answers) returns))) = ends_with request (closed turn)
-  wraps_last_of _ _ _ _ (goes_on (taken.closed turn can) (stops parts.no_memory)) = ends_with request (unwrapped turn)
-  wraps_last_of _ _ _ _ (goes_on taken.unheld (goes_on parts.is_wrapped (stops never))) = elim never [ ]
-  wraps_last_of _ _ _ _ (goes_on (taken.closed turn can) (goes_on parts.is_wrapped (stops never))) = elim never [ ]
+  wraps_last_of _ _ _ _ (goes_on taken.unheld (goes_on actions.is_wrapped (goes_on (tells answers) returns))) = working_ends request (works Fits tt)
+  wraps_last_of _ _ _ _ (goes_on taken.unheld (stops actions.no_memory)) = working_ends request (work.no_memory Fits tt)
+  wraps_last_of _ _ _ _ (goes_on (taken.closed turn can) (goes_on actions.is_wrapped (goes_on (tells answers) returns))) = ends_with request (closed turn)
+  wraps_last_of _ _ _ _ (goes_on (taken.closed turn can) (stops actions.no_memory)) = ends_with request (unwrapped turn)
+  wraps_last_of _ _ _ _ (goes_on taken.unheld (goes_on actions.is_wrapped (stops never))) = elim never [ ]
+  wraps_last_of _ _ _ _ (goes_on (taken.closed turn can) (goes_on actions.is_wrapped (stops never))) = elim never [ ]
   wraps_last_of _ _ _ _ (stops never) = elim never [ ]
 
   -- ---- requests
 
   module _ (rules : Rules) (options : OptionValues) (wraps : WrapKeys) where
-    abbrev EndsHere : {A : Type 0} → Part A → Type 0
+    abbrev EndsHere : {A : Type 0} → Action A → Type 0
     EndsHere = EndsSo request
 
     rewrites_file : (grip : Grip) (file : List ℕ) (key : Key) (pass : List ℕ) → EndsHere (RewritesFile rules options grip file key pass)
@@ -181,10 +181,10 @@ module _ (request : Request) where
 abbrev pub IsGoodReply : KeyReply → Type 0
 IsGoodReply reply = EndsInOk reply.text × (reply.went ≡ key_went.On)
 
-abbrev pub ReplyOk : Part KeyReply → Type 0
-ReplyOk part = Within part (Yields IsGoodReply)
+abbrev pub ReplyOk : Action KeyReply → Type 0
+ReplyOk action = Within action (Yields IsGoodReply)
 
-ok_then : {A : Type 0} {part : Part A} {next : A → Part KeyReply} → ((value : A) → ReplyOk (next value)) → ReplyOk (part >>= next)
+ok_then : {A : Type 0} {action : Action A} {next : A → Action KeyReply} → ((value : A) → ReplyOk (next value)) → ReplyOk (action >>= next)
 ok_then = yields_then IsGoodReply
 
 ok_returns : {wraps : WrapKeys} {text : List ℕ} → EndsInOk text → ReplyOk (Returns (exchange.key_reply wraps text))
@@ -222,16 +222,16 @@ replies_ok rules options wraps (on.Bad why) = refused_so (Agent why) (λ held. t
 module _ (request : Request) (rules : Rules) (options : OptionValues) (wraps : WrapKeys) where
   module _ {asked : KeyRequest} (is : on_keys request ≡ Some asked) where
     pub key_course : {events : List Event} {after : WrapKeys} {went : KeyWent} → KeyExchange rules options wraps asked events after went → CourseBy request AnyNonce events
-    key_course (part_exchanges.answered some held reply does closes_so) =
+    key_course (action_exchanges.answered some held reply does closes_so) =
         ok_course request ((replies_ok rules options wraps asked).of None some (Ok reply) held does).0 ((replies request rules options wraps asked is).of _ _ _ _ does) closes_so
-    key_course (part_exchanges.refused some held why does closes_so) = err_course request ((replies request rules options wraps asked is).of _ _ _ _ does) closes_so
+    key_course (action_exchanges.refused some held why does closes_so) = err_course request ((replies request rules options wraps asked is).of _ _ _ _ does) closes_so
 
     -- a client that is gone ends its session
     pub key_gone : {events : List Event} {after : WrapKeys} {went : KeyWent} {how : Gone} → KeyExchange rules options wraps asked events after went → IsSaid events (client_error.Gone how) → went ≡ key_went.Gone how
-    key_gone (part_exchanges.answered some held reply does closes_so) says_so =
+    key_gone (action_exchanges.answered some held reply does closes_so) says_so =
         let ends = (replies request rules options wraps asked is).of _ _ _ _ does in
         absurd (cc (gone_only (ends_said request ends (said_before some _ (answer_heard (Some reply.text) closes_so) says_so))))
-    key_gone {how} (part_exchanges.refused some held why does closes_so) says_so =
+    key_gone {how} (action_exchanges.refused some held why does closes_so) says_so =
         let ends = (replies request rules options wraps asked is).of _ _ _ _ does in
         let same : Err why ≡ Err (Client (client_error.Gone how)) = gone_only (ends_said request ends (said_before some _ (answer_heard (refusal_line why) closes_so) says_so)) in
         let refusal : why ≡ Client (client_error.Gone how) = cc same in
@@ -263,5 +263,5 @@ module _ (rules : Rules) (options : OptionValues) (wraps : WrapKeys) where
   opens asked = calls_nobody (plain_replies IsUncalled still_uncalled (λ grip turn. tt) rules options wraps asked tt)
 
   pub key_opens : (asked : KeyRequest) {events : List Event} {after : WrapKeys} {went : KeyWent} → KeyExchange rules options wraps asked events after went → OpensFirst events
-  key_opens asked (part_exchanges.answered events held reply does closes) = then_unopening events _ ((opens asked).of None events (Ok reply) held does) (answer_unopening (Some reply.text) closes)
-  key_opens asked (part_exchanges.refused events held why does closes) = then_unopening events _ ((opens asked).of None events (Err why) held does) (answer_unopening (refusal_line why) closes)
+  key_opens asked (action_exchanges.answered events held reply does closes) = then_unopening events _ ((opens asked).of None events (Ok reply) held does) (answer_unopening (Some reply.text) closes)
+  key_opens asked (action_exchanges.refused events held why does closes) = then_unopening events _ ((opens asked).of None events (Err why) held does) (answer_unopening (refusal_line why) closes)

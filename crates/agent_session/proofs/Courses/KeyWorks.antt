@@ -1,9 +1,9 @@
--- Parts of requests on keys that are work of the one form, where each of their events is fit.
+-- Actions of requests on keys that are work of the one form, where each of their events is fit.
 use Rattle.std.{proofs.Common.{◌==◌, ℕ, Bool, true, false, List, [], ◌∷◌, length, codes, Option, Some, None, Result, Ok, refl}, specs.Prelude.not}
-use Rattle.{agent_ask.specs.{Events.PromptEvent, PortCalls.Prompt, Parts.{goes_on, stops, returns}, SessionEvents.{Sent, Cut, Inquiry, Port, cache_turn}, SessionPrompts.note}, agent_ports.specs.declared.grip.Grip.Grip}
+use Rattle.{agent_ask.specs.{Events.PromptEvent, PortCalls.Prompt, Actions.{goes_on, stops, returns}, SessionEvents.{Sent, Cut, Inquiry, Port, cache_turn}, SessionPrompts.note}, agent_ports.specs.declared.grip.Grip.Grip}
 use Rattle.{agent_ports.specs.declared.keys.KeyRead.KeyRead, cache_policy.specs.{Turns.Turn, declared.{mark.{MarkStep.TheVariants.{Peek, Seat}, Way.Way}, mode.Mode.TheVariants.Normal, secret.TheConstants.MAX_SECRET_LEN}}}
 use Rattle.{secret_file.specs.Opens.LockedKey, session_client.specs.declared.refusal.Refusal.{Refusal, TheVariants.Agent}, session_options.specs.{OptionValues.OptionValues, declared.{options.PinMode.PinMode, rules.Rules.Rules}}}
-use Rattle.{sexp_keys.specs.Key.Key, key_commands.specs.{Events.{Event, read, out_of_memory}, KeyParts.{Consents, HasOne, TellsKeyInfo, WritesInfo, WritesInfos}, Lines.{grip_text, info_line}, Parts.Part}}
+use Rattle.{sexp_keys.specs.Key.Key, key_commands.specs.{Events.{Event, read, out_of_memory}, KeyActions.{Consents, HasOne, TellsKeyInfo, WritesInfo, WritesInfos}, Lines.{grip_text, info_line}, Actions.Action}}
 use Rattle.{key_commands.specs.Passphrases.{AsksSecret, PromptsOld, PromptsNew, ClientOld, UncachedOld, OpensLocked, ClientNew, ask_nonce, ask_key, seat_for, put_key}, assuan_server.specs.Written.limit_line}
 use Rattle.agent_session.proofs.Courses.PromptWorks.{pin_works, pin_comes, agrees_to}
 use Rattle.agent_session.proofs.Courses.Works.{WorksTo, works, ok_works, err_works, behind_work, WorksSo, Keeps, keeps_works, bind, returned, refuses_by, is_needed, or_otherwise, is_unless, is_wanted, turns_of}
@@ -12,7 +12,7 @@ use Rattle.session_options.specs.declared.options.PinMode.TheVariants as mode
 use Rattle.key_commands.specs.Passphrases as passphrases
 use Rattle.agent_session.proofs.Courses.Works as work
 
--- each event of such a part is fit, but that a passphrase is put for a key
+-- each event of such an action is fit, but that a passphrase is put for a key
 pub record FitsKeys (Fits : Event → Type 0) : Type 0 where
   pub memory : Fits out_of_memory
   pub cut : (text : List ℕ) → Fits (Cut text)
@@ -28,11 +28,11 @@ pub record FitsKeys (Fits : Event → Type 0) : Type 0 where
   pub infos : (grip : Grip) (is_cached clear : Bool) → Fits (Sent (info_line grip is_cached clear))
 
 module _ {Fits : Event → Type 0} (fits : FitsKeys Fits) where
-  abbrev Here : {A : Type 0} → Part A → Type 0
+  abbrev Here : {A : Type 0} → Action A → Type 0
   Here = WorksSo Fits
 
   -- it is work
-  so : {A : Type 0} {part : Part A} → Keeps Fits part → Here part
+  so : {A : Type 0} {action : Action A} → Keeps Fits action → Here action
   so keeps = keeps_works Fits keeps
 
   asks_client : (word : List ℕ) → Here (AsksSecret word)

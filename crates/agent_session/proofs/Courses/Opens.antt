@@ -1,8 +1,8 @@
 -- In a request a prompt is opened before the prompter is called, and once.
 use Rattle.std.{specs.{List.AllByRecursion, Prelude.⊤}, proofs.Common.{◌≡◌, ℕ, Bool, true, false, List, ◌∷◌, ◌++◌, Option, Some, None, Result, Ok, Err, refl, subst, inl, inr, append-nil, []}}
-use Rattle.agent_ask.{specs.{PortCalls.{PortCall, Trust}, SessionEvents.{CacheTurn, Port, said_last}, Parts.{◌>>=◌, goes_on, stops, Returns, or_else}, TurnParts.Closes}, proofs.Within.{Within, Does, does_join, weaker, bind, or_otherwise}}
+use Rattle.agent_ask.{specs.{PortCalls.{PortCall, Trust}, SessionEvents.{CacheTurn, Port, said_last}, Actions.{◌>>=◌, goes_on, stops, Returns, or_else}, TurnActions.Closes}, proofs.Within.{Within, Does, does_join, weaker, bind, or_otherwise}}
 use Rattle.{agent_ports.specs.declared.grip.Grip.Grip, secret_file.specs.Opens.LockedKey, session_options.specs.{OptionValues.OptionValues, declared.{options.PinMode.PinMode, rules.Rules.Rules}}, sexp_keys.specs.Key.Key}
-use Rattle.{agent_commands.specs.Events.EventWith, key_commands.specs.{Events.IsUncalled, Exchanges.{KeyReply, RenewsPassphrase, ChangesOpened}, KeyParts.{IsShort, Consents}, Parts.Part}}
+use Rattle.{agent_commands.specs.Events.EventWith, key_commands.specs.{Events.IsUncalled, Exchanges.{KeyReply, RenewsPassphrase, ChangesOpened}, KeyActions.{IsShort, Consents}, Actions.Action}}
 use Rattle.key_commands.specs.{Passphrases.{PromptsOld, PromptsNew, UncachedOld, OpensLocked, OldPassphrase, LooksForNonce, TakesSeat}, declared.keywrap_key.WrapKeys.WrapKeys}
 use Rattle.key_commands.proofs.EachEvent.{each_append, IsStill, still_uncalled, agrees_to, each_answer, EachSo, each_returned, each_refused, each_looks, each_seats, looks_nonce, takes_seat, is_short, locks, tries_found, client_old}
 use Rattle.{key_commands.proofs.EachEvent.{rewrites_file, client_new, prompts_old, prompts_new}, assuan_server.specs.Written.ok, session_client.specs.declared.refusal.Refusal.{Refusal, TheVariants.Agent}}
@@ -10,9 +10,9 @@ use Rattle.agent_session.specs.Refusals.{IsUnopening, OpensFirst}
 use Rattle.session_client.specs.declared.code.Code.TheVariants as code
 use Rattle.session_options.specs.declared.options.PinMode.TheVariants as mode
 use Rattle.key_commands.specs.Exchanges as exchange
-use Rattle.key_commands.specs.KeyParts as parts
-use Rattle.agent_ask.specs.Parts as chain
-use Rattle.agent_ask.specs.TurnParts as taken
+use Rattle.key_commands.specs.KeyActions as actions
+use Rattle.agent_ask.specs.Actions as chain
+use Rattle.agent_ask.specs.TurnActions as taken
 use Rattle.key_commands.specs.Passphrases as passphrases
 
 abbrev pub Uncalled : List (EventWith PortCall) → Type 0
@@ -21,11 +21,11 @@ Uncalled events = AllByRecursion IsUncalled events
 abbrev pub Unopening : List (EventWith PortCall) → Type 0
 Unopening events = AllByRecursion IsUnopening events
 
-abbrev pub UncalledSo : {A : Type 0} → Part A → Type 0
-UncalledSo part = EachSo IsUncalled part
+abbrev pub UncalledSo : {A : Type 0} → Action A → Type 0
+UncalledSo action = EachSo IsUncalled action
 
-abbrev pub UnopeningSo : {A : Type 0} → Part A → Type 0
-UnopeningSo part = EachSo IsUnopening part
+abbrev pub UnopeningSo : {A : Type 0} → Action A → Type 0
+UnopeningSo action = EachSo IsUnopening action
 
 pub still_unopening : (event : EventWith PortCall) → IsStill event → IsUnopening event
 still_unopening (Port (Trust call)) still = absurd still
@@ -49,53 +49,53 @@ then_unopening (event ∷ first) more opens each = (elim (opens.0) [ inl uncalle
 pub uncalled_opens : (events : List (EventWith PortCall)) → Uncalled events → OpensFirst events
 uncalled_opens events each = subst OpensFirst (append-nil events) (uncalled_first events [] each tt)
 
--- ---- parts
+-- ---- actions
 
--- a part, by which the prompter is called only where it leaves a ticket out
-abbrev PromptLaw : {A : Type 0} → Part A
+-- an action, by which the prompter is called only where it leaves a ticket out
+abbrev PromptLaw : {A : Type 0} → Action A
 PromptLaw before events result after = OpensFirst events × (after ≡ None → Uncalled events)
 
-abbrev PromptsSo : {A : Type 0} → Part A → Type 0
-PromptsSo part = Within part PromptLaw
+abbrev PromptsSo : {A : Type 0} → Action A → Type 0
+PromptsSo action = Within action PromptLaw
 
 -- one from its first event on, whatever is behind
-abbrev pub OpensSo : {A : Type 0} → Part A → Type 0
-OpensSo part = Within part (Does OpensFirst)
+abbrev pub OpensSo : {A : Type 0} → Action A → Type 0
+OpensSo action = Within action (Does OpensFirst)
 
-uncalled_prompts : {A : Type 0} {part : Part A} → UncalledSo part → PromptsSo part
+uncalled_prompts : {A : Type 0} {action : Action A} → UncalledSo action → PromptsSo action
 uncalled_prompts = weaker (record { of = λ before events result after each. (uncalled_opens events each, λ none. each) })
 
-pub prompts_opens : {A : Type 0} {part : Part A} → PromptsSo part → OpensSo part
+pub prompts_opens : {A : Type 0} {action : Action A} → PromptsSo action → OpensSo action
 prompts_opens = weaker (record { of = λ before events result after prompts. prompts.0 })
 
-pub calls_nobody : {A : Type 0} {part : Part A} → UncalledSo part → OpensSo part
+pub calls_nobody : {A : Type 0} {action : Action A} → UncalledSo action → OpensSo action
 calls_nobody = weaker (record { of = λ before events result after each. uncalled_opens events each })
 
-unopening_part_opens : {A : Type 0} {part : Part A} → UnopeningSo part → OpensSo part
-unopening_part_opens = weaker (record { of = λ before events result after each. unopening_opens events each })
+unopening_action_opens : {A : Type 0} {action : Action A} → UnopeningSo action → OpensSo action
+unopening_action_opens = weaker (record { of = λ before events result after each. unopening_opens events each })
 
 -- behind one, which always holds a ticket
-seated_prompts : {A : Type 0} {part : Part A} → UnopeningSo part
-    → ((before : Option ℕ) (events : List (EventWith PortCall)) (result : Result A Refusal) (after : Option ℕ) → part before events result after → after ≡ None → ⊥) → PromptsSo part
+seated_prompts : {A : Type 0} {action : Action A} → UnopeningSo action
+    → ((before : Option ℕ) (events : List (EventWith PortCall)) (result : Result A Refusal) (after : Option ℕ) → action before events result after → after ≡ None → ⊥) → PromptsSo action
 seated_prompts each holds = record {
   of = λ before events result after does. (unopening_opens events (each.of before events result after does), λ none. absurd (holds before events result after does none));
 }
 
-module _ {A B : Type 0} {part : Part A} {next : A → Part B} where
-  pub before_opens : UncalledSo part → ((value : A) → OpensSo (next value)) → OpensSo (part >>= next)
+module _ {A B : Type 0} {action : Action A} {next : A → Action B} where
+  pub before_opens : UncalledSo action → ((value : A) → OpensSo (next value)) → OpensSo (action >>= next)
   before_opens = bind (does_join uncalled_first uncalled_opens)
 
-  pub before_prompts : UncalledSo part → ((value : A) → PromptsSo (next value)) → PromptsSo (part >>= next)
+  pub before_prompts : UncalledSo action → ((value : A) → PromptsSo (next value)) → PromptsSo (action >>= next)
   before_prompts = bind (record {
     then = λ some later each prompts. (uncalled_first some later each prompts.0, λ none. each_append IsUncalled some later each (prompts.1 none));
     alone = λ {before} {after} {events} each. (uncalled_opens events each, λ none. each);
   })
 
   -- nothing behind it opens another
-  pub behind_opens : OpensSo part → ((value : A) → UnopeningSo (next value)) → OpensSo (part >>= next)
+  pub behind_opens : OpensSo action → ((value : A) → UnopeningSo (next value)) → OpensSo (action >>= next)
   behind_opens = bind (does_join then_unopening (λ some opens. opens))
 
-pub otherwise_prompts : {A : Type 0} (value : Option A) {other : Part A} → PromptsSo other → PromptsSo (or_else value other)
+pub otherwise_prompts : {A : Type 0} (value : Option A) {other : Action A} → PromptsSo other → PromptsSo (or_else value other)
 otherwise_prompts = or_otherwise (record { of = λ held result. (tt, λ none. tt) })
 
 -- ---- prompts
@@ -146,12 +146,12 @@ module _ (rules : Rules) (options : OptionValues) (grip : Grip) where
 pub agrees_opens : (rules : Rules) (options : OptionValues) (grip : Grip) (way : PinMode) (force : Bool) → OpensSo (Consents rules (record options { mode = way }) force grip)
 agrees_opens rules options grip way true = calls_nobody (each_returned IsUncalled tt)
 agrees_opens rules options grip mode.Ask false =
-    before_opens (each_seats IsUncalled (λ turn. tt)) (λ seated_so. unopening_part_opens (agrees_to IsUnopening still_unopening (λ event. tt) rules (record options { mode = mode.Ask }) _))
+    before_opens (each_seats IsUncalled (λ turn. tt)) (λ seated_so. unopening_action_opens (agrees_to IsUnopening still_unopening (λ event. tt) rules (record options { mode = mode.Ask }) _))
 agrees_opens rules options grip mode.Cancel false = calls_nobody (each_refused IsUncalled (Agent code.Cancelled))
 agrees_opens rules options grip mode.Error false = calls_nobody (each_refused IsUncalled (Agent code.NoPinentry))
 agrees_opens rules options grip mode.Loopback false = calls_nobody (each_refused IsUncalled (Agent code.NoPinentry))
 
--- what follows the parts of a request
+-- what follows the actions of a request
 pub answer_unopening : {held : Option ℕ} {back : List (EventWith PortCall)} (line : Option (List ℕ)) → Closes None held back (Ok tt) None → Unopening (back ++ said_last line)
 answer_unopening = each_answer IsUnopening (λ number turn. refl) (λ text. tt)
 
@@ -161,29 +161,29 @@ abbrev IsHeld : Option ℕ → Type 0
 IsHeld None = ⊥
 IsHeld (Some number) = ⊤
 
--- a part of such a request, and one that keeps the ticket too
-abbrev SeatedLaw : {A : Type 0} → Part A
+-- an action of such a request, and one that keeps the ticket too
+abbrev SeatedLaw : {A : Type 0} → Action A
 SeatedLaw before events result after = IsHeld before → Unopening events
 
-abbrev StayLaw : {A : Type 0} → Part A
+abbrev StayLaw : {A : Type 0} → Action A
 StayLaw before events result after = IsHeld before → Unopening events × IsHeld after
 
-abbrev SeatedSo : {A : Type 0} → Part A → Type 0
-SeatedSo part = Within part SeatedLaw
+abbrev SeatedSo : {A : Type 0} → Action A → Type 0
+SeatedSo action = Within action SeatedLaw
 
-seated_so : {A : Type 0} {part : Part A} → UnopeningSo part → SeatedSo part
+seated_so : {A : Type 0} {action : Action A} → UnopeningSo action → SeatedSo action
 seated_so = weaker (record { of = λ before events result after each held. each })
 
-module _ {A B : Type 0} {part : Part A} {next : A → Part B} where
-  stays_then : Within part StayLaw → ((value : A) → SeatedSo (next value)) → SeatedSo (part >>= next)
+module _ {A B : Type 0} {action : Action A} {next : A → Action B} where
+  stays_then : Within action StayLaw → ((value : A) → SeatedSo (next value)) → SeatedSo (action >>= next)
   stays_then = bind (record { then = λ some later stays more held. let so = stays held in each_append IsUnopening some later so.0 (more so.1); alone = λ stays held. (stays held).0 })
 
-  seated_then : SeatedSo part → ((value : A) → UnopeningSo (next value)) → SeatedSo (part >>= next)
+  seated_then : SeatedSo action → ((value : A) → UnopeningSo (next value)) → SeatedSo (action >>= next)
   seated_then = bind (record { then = λ some later seated each held. each_append IsUnopening some later (seated held) each; alone = λ seated. seated })
 
 short_stays : (key : Key) (before : Option ℕ) (events : List (EventWith PortCall)) (result : Result (Unit {0}) Refusal) (after : Option ℕ) → IsShort key before events result after → StayLaw before events result after
-short_stays key _ _ _ _ (parts.short few) held = (tt, held)
-short_stays key _ _ _ _ (parts.long many) held = (tt, held)
+short_stays key _ _ _ _ (actions.short few) held = (tt, held)
+short_stays key _ _ _ _ (actions.long many) held = (tt, held)
 
 nonce_stays : (id : Option (List ℕ)) (before : Option ℕ) (events : List (EventWith PortCall)) (result : Result (Option (List ℕ)) Refusal) (after : Option ℕ) → LooksForNonce id before events result after
     → StayLaw before events result after

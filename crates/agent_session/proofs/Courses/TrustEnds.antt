@@ -1,16 +1,16 @@
 -- A call of the trust file that decides its request is the last thing that is done for it.
 use Rattle.std.{specs.List.AllByRecursion, proofs.Common.{◌≡◌, ◌∙◌, ℕ, List, [], ◌∷◌, ◌++◌, Option, Some, None, Result, Ok, Err, refl, sym, ap, subst, append_assoc}}
-use Rattle.agent_ask.{specs.{PortCalls.{Keys, Dice, NoMemory, Prompt, Trust}, SessionEvents.{Received, Sent, Cut, Inquiry, CacheTurn, Port, cache_turn, said_last}, TrustCalls.Read, TurnParts.Closes}, proofs.Within.{Within, weaker}}
+use Rattle.agent_ask.{specs.{PortCalls.{Keys, Dice, NoMemory, Prompt, Trust}, SessionEvents.{Received, Sent, Cut, Inquiry, CacheTurn, Port, cache_turn, said_last}, TrustCalls.Read, TurnActions.Closes}, proofs.Within.{Within, weaker}}
 use Rattle.{assuan_server.specs.Written.{ok, refusal_line}, agent_commands.specs.{Requests.request_of, declared.went.Went.Went}, agent_ports.specs.declared.trust.TrustRead.TrustRead, cache_policy.specs.Turns.Turn}
 use Rattle.{cache_policy.specs.declared.mark.MarkStep.TheVariants.Close, session_client.specs.declared.refusal.Refusal.Refusal, session_options.specs.{OptionValues.OptionValues, declared.rules.Rules.Rules}}
-use Rattle.agent_origin.specs.{DoorSessions.{AllowedExchange, DoorExchange}, TrustExchanges.{Carried, TrustExchange}, TrustParts.{ReadsFile, Replaces, file_in, trust_called}, declared.door.Door.Door}
+use Rattle.agent_origin.specs.{DoorSessions.{AllowedExchange, DoorExchange}, TrustExchanges.{Carried, TrustExchange}, TrustActions.{ReadsFile, Replaces, file_in, trust_called}, declared.door.Door.Door}
 use Rattle.agent_origin.{specs.declared.{session_state.SessionState.SessionState, trust.request.TrustRequest.TrustRequest}, proofs.{EachLine.each_request, EachTrust.{TrustLaws, carried_so, each_adds}}}
-use Rattle.key_commands.{specs.{Parts.{Part, refusal_events}, Events.Event}, proofs.{EachEvent.{IsStill, EachSo, each_append, each_seats, agrees_to}, EachRequest.{IsBesideTrust, still_beside}}}
+use Rattle.key_commands.{specs.{Actions.{Action, refusal_events}, Events.Event}, proofs.{EachEvent.{IsStill, EachSo, each_append, each_seats, agrees_to}, EachRequest.{IsBesideTrust, still_beside}}}
 use Rattle.agent_session.{specs.TrustCalls.{decided_line, IsLastLine, alone, given_back, EndsAtCalls}, proofs.Decisions.TrustTold.{Told, answered, refused, told}}
 use Rattle.agent_ports.specs.declared.trust.TrustRead.TheVariants as read
 use Rattle.agent_origin.specs.DoorSessions as doors
-use Rattle.agent_ask.specs.TurnParts as taken
-use Rattle.agent_origin.specs.TrustParts as parts
+use Rattle.agent_ask.specs.TurnActions as taken
+use Rattle.agent_origin.specs.TrustActions as actions
 
 -- ---- lists
 
@@ -55,7 +55,7 @@ last_ends {behind} [] event each is last others =
 last_ends (first ∷ work) event each is last others =
     ((λ text other_is. let never : None ≡ Some text = sym each.0 ∙ other_is in absurd (cc never)), last_ends work event each.1 is last others)
 
--- ---- parts
+-- ---- actions
 
 -- nothing, or the return of a ticket
 data NoBack : List Event → Type 0 where
@@ -66,12 +66,12 @@ data IsBack : List Event → Type 0 where
   returned : {ticket : ℕ} (turn : Turn) → IsBack (cache_turn (Close ticket None) turn ∷ [])
 
 module _ {R : Type 0} (line : R → Option (List ℕ)) where
-  -- the line by which a part is answered, where it is the last
+  -- the line by which an action is answered, where it is the last
   abbrev text_of : {A : Type 0} → Result A R → Option (List ℕ)
   text_of (Ok value) = Some ok
   text_of (Err why) = line why
 
-  -- by none of a part's events its request is decided, or by the last one but what stands behind it
+  -- by none of an action's events its request is decided, or by the last one but what stands behind it
   data Comes (Back : List Event → Type 0) {A : Type 0} : List Event → Result A R → Type 0 where
     goes : {events : List Event} {result : Result A R} → Undecided events → Comes Back events result
     decided : {text : List ℕ} {back : List Event} {result : Result A R} (work : List Event) (event : Event) → Undecided work → decided_line event ≡ Some text → Back back
@@ -81,15 +81,15 @@ abbrev Come : (List Event → Type 0) → {A : Type 0} → List Event → Result
 Come Back = Comes refusal_line Back
 
 module _ (Back : List Event → Type 0) (none_back : Back []) where
-  abbrev EndLaw : {A : Type 0} → Part A
+  abbrev EndLaw : {A : Type 0} → Action A
   EndLaw before events result after = Come Back events result
 
-  -- what a part comes to that others follow
+  -- what an action comes to that others follow
   abbrev StepsTo : {A : Type 0} → List Event → Result A Refusal → Type 0
   StepsTo events (Ok value) = Undecided events
   StepsTo {A} events (Err why) = Come Back {A = A} events (Err why)
 
-  abbrev StepLaw : {A : Type 0} → Part A
+  abbrev StepLaw : {A : Type 0} → Action A
   StepLaw before events result after = StepsTo events result
 
   prepend : {A : Type 0} (first : List Event) {more : List Event} {result : _} → Undecided first → Come Back {A = A} more result → Come Back {A = A} (first ++ more) result
@@ -105,7 +105,7 @@ module _ (Back : List Event → Type 0) (none_back : Back []) where
   undecided_step events (Ok value) each = each
   undecided_step events (Err why) each = goes each
 
-  steps : {A : Type 0} {part : Part A} → EachSo IsUndecided part → Within part StepLaw
+  steps : {A : Type 0} {action : Action A} → EachSo IsUndecided action → Within action StepLaw
   steps = weaker (record { of = λ before events result after each. undecided_step events result each })
 
   -- ---- the trust file
@@ -117,14 +117,14 @@ module _ (Back : List Event → Type 0) (none_back : Back []) where
   read_undecided read.NoMemory is = absurd (cc is)
 
   reads_of : (before : Option ℕ) (events : List Event) (result : Result (List ℕ) Refusal) (after : Option ℕ) → ReadsFile before events result after → StepsTo events result
-  reads_of _ _ _ _ (parts.has_read {answer} is) = (read_undecided answer is, tt)
-  reads_of _ _ _ _ parts.faulted = decided [] _ tt refl none_back refl
-  reads_of _ _ _ _ parts.no_memory = decided [] _ tt refl none_back refl
+  reads_of _ _ _ _ (actions.has_read {answer} is) = (read_undecided answer is, tt)
+  reads_of _ _ _ _ actions.faulted = decided [] _ tt refl none_back refl
+  reads_of _ _ _ _ actions.no_memory = decided [] _ tt refl none_back refl
 
   replaces_of : (file : List ℕ) (before : Option ℕ) (events : List Event) (result : Result (Unit {0}) Refusal) (after : Option ℕ) → Replaces file before events result after → Come Back events result
-  replaces_of file _ _ _ _ parts.replaced = decided [] _ tt refl none_back refl
-  replaces_of file _ _ _ _ parts.faulted = decided [] _ tt refl none_back refl
-  replaces_of file _ _ _ _ parts.no_memory = decided [] _ tt refl none_back refl
+  replaces_of file _ _ _ _ actions.replaced = decided [] _ tt refl none_back refl
+  replaces_of file _ _ _ _ actions.faulted = decided [] _ tt refl none_back refl
+  replaces_of file _ _ _ _ actions.no_memory = decided [] _ tt refl none_back refl
 
   end_laws : (options : OptionValues) → TrustLaws options (λ A. StepLaw) (λ A. EndLaw)
   end_laws options = record {

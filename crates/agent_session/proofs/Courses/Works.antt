@@ -1,19 +1,19 @@
 -- The one form of what is done for a request: each event goes on, but a last one by which the request is refused or its client is gone. It is so of nothing, of a
--- part and what follows on its value, and of the smallest parts of a request.
+-- action and what follows on its value, and of the smallest actions of a request.
 use Rattle.std.{specs.List.AllByRecursion, proofs.Common.{codes, ◌≡◌, ◌≢◌, ℕ, Bool, List, [], ◌∷◌, ◌++◌, Option, Some, None, Result, Ok, Err, refl, sym, ap, ◌∙◌, subst, append_assoc, append-nil}}
-use Rattle.agent_ask.specs.{ClientParts.{Writes, Inquires, AsksClient}, Events.{Called, Shut}, PortCalls.{Listed, Replaced, Dice, Draw, Prompt}, Interrupts.Interrupts, Parts.{◌>>=◌, Returns, Refuses, needed, or_else, unless, wanted}}
-use Rattle.{agent_ask.{specs.{SessionEvents.{Received, Sent, Cut, Inquiry, CacheTurn, Port, cache_turn}, TurnParts.{Asks, Seats, Changes, Peeks, Closes}}, proofs.Within.{Within, Joins, OfNothing}}, agent_ports.specs.declared.grip.Grip.Grip}
+use Rattle.agent_ask.specs.{ClientActions.{Writes, Inquires, AsksClient}, Events.{Called, Shut}, PortCalls.{Listed, Replaced, Dice, Draw, Prompt}, Interrupts.Interrupts, Actions.{◌>>=◌, Returns, Refuses, needed, or_else, unless, wanted}}
+use Rattle.{agent_ask.{specs.{SessionEvents.{Received, Sent, Cut, Inquiry, CacheTurn, Port, cache_turn}, TurnActions.{Asks, Seats, Changes, Peeks, Closes}}, proofs.Within.{Within, Joins, OfNothing}}, agent_ports.specs.declared.grip.Grip.Grip}
 use Rattle.{agent_ports.specs.declared.keys.{KeyDone.KeyDone, KeyNames.KeyNames, KeyRead.KeyRead}, assuan_server.specs.{Clients.session_lines, Inquiries.{Outcome, IsAtEnd}}, cache_policy.specs.Turns.{Turn, closes}}
 use Rattle.{cache_policy.specs.declared.{mark.MarkStep.{MarkStep, TheVariants.{Peek, Close}}, mode.Mode.Mode}, secret_file.specs.Opens.LockedKey, session_client.specs.{Asking.{Asked, said_by}, declared.code.Code.Code}}
 use Rattle.{session_client.specs.declared.{refusal.Refusal.{Refusal, TheVariants.{Agent, Client}}, client_error.ClientError.ClientError}, sexp_keys.specs.Key.Key, key_commands.specs.Lines.max_key_data}
 use Rattle.key_commands.specs.{Events.{Event, called, read, out_of_memory}, Files.Rewrites}
-use Rattle.key_commands.specs.KeyParts.{Tells, tells, ReadsFile, Replaces, KeepsNew, Protects, IsShort, ListsGrips, ReadsListed, AsksKeyData, Unwraps, NamesKey, LooksOver, WrapsKey, file_in, grips_in, change_fault}
-use Rattle.key_commands.{specs.{Parts.{Part, Finds, Draws, read_fault}, Passphrases.{LooksForNonce, TakesSeat, Locks, TriesPassphrase, TriesFound, ask_nonce, put_key, seat_for}}, proofs.EachEvent.each_append}
+use Rattle.key_commands.specs.KeyActions.{Tells, tells, ReadsFile, Replaces, KeepsNew, Protects, IsShort, ListsGrips, ReadsListed, AsksKeyData, Unwraps, NamesKey, LooksOver, WrapsKey, file_in, grips_in, change_fault}
+use Rattle.key_commands.{specs.{Actions.{Action, Finds, Draws, read_fault}, Passphrases.{LooksForNonce, TakesSeat, Locks, TriesPassphrase, TriesFound, ask_nonce, put_key, seat_for}}, proofs.EachEvent.each_append}
 use Rattle.agent_session.specs.Refusals.{turn_refuses, change_refuses, refuses, shuts}
-use Rattle.agent_ask.specs.ClientParts as client
+use Rattle.agent_ask.specs.ClientActions as client
 use Rattle.agent_ask.specs.Interrupts as turns
 use Rattle.agent_ask.proofs.Within as within
-use Rattle.agent_ask.specs.TurnParts as taken
+use Rattle.agent_ask.specs.TurnActions as taken
 use Rattle.agent_ports.specs.declared.keys.KeyDone.TheVariants as key_done
 use Rattle.agent_ports.specs.declared.keys.KeyNames.TheVariants as key_names
 use Rattle.agent_ports.specs.declared.keys.KeyRead.TheVariants as key_read
@@ -22,8 +22,8 @@ use Rattle.session_client.specs.declared.code.Code.TheVariants as code
 use Rattle.session_client.specs.declared.client_error.Gone.TheVariants as gone
 use Rattle.session_client.specs.declared.client_error.ClientError.TheVariants as client_error
 use Rattle.key_commands.specs.Files as files
-use Rattle.key_commands.specs.KeyParts as parts
-use Rattle.key_commands.specs.Parts as small
+use Rattle.key_commands.specs.KeyActions as actions
+use Rattle.key_commands.specs.Actions as small
 use Rattle.key_commands.specs.Passphrases as passphrases
 
 -- ---- single events
@@ -58,7 +58,7 @@ module _ (Fits : Event → Type 0) where
   abbrev pub GoesOn : Event → Type 0
   GoesOn event = Fits event × (refuses event ≡ None) × (unheard_by event ≡ None)
 
-  -- what a part ends with, by what it comes to
+  -- what an action ends with, by what it comes to
   pub data WorkEnd {A : Type 0} : List Event → Result A Refusal → Type 0 where
     no_more : {result : Result A Refusal} → WorkEnd [] result
     refused : {event : Event} {why : Code} → Fits event → refuses event ≡ Some why → WorkEnd (event ∷ shuts event) (Err (Agent why))
@@ -129,22 +129,22 @@ module _ (Fits : Event → Type 0) where
       last_fits (lost {last = behind} fits is each) = (fits, all_fit behind each)
       last_fits (forgot fits is memory) = (fits, (memory, tt))
 
-  -- ---- parts
+  -- ---- actions
 
-  abbrev pub WorkLaw : {A : Type 0} → Part A
+  abbrev pub WorkLaw : {A : Type 0} → Action A
   WorkLaw before events result after = WorksTo events result
 
-  abbrev pub WorksSo : {A : Type 0} → Part A → Type 0
-  WorksSo part = Within part WorkLaw
+  abbrev pub WorksSo : {A : Type 0} → Action A → Type 0
+  WorksSo action = Within action WorkLaw
 
   -- one that leaves the ticket, too
   abbrev pub LeavesTicket : {A : Type 0} → Option ℕ → List Event → Result A Refusal → Option ℕ → Type 0
   LeavesTicket before events result after = WorksTo events result × (after ≡ before)
 
-  abbrev pub Keeps : {A : Type 0} → Part A → Type 0
-  Keeps {A} part = (before : Option ℕ) (events : List Event) (result : Result A Refusal) (after : Option ℕ) → part before events result after → LeavesTicket before events result after
+  abbrev pub Keeps : {A : Type 0} → Action A → Type 0
+  Keeps {A} action = (before : Option ℕ) (events : List Event) (result : Result A Refusal) (after : Option ℕ) → action before events result after → LeavesTicket before events result after
 
-  pub keeps_works : {A : Type 0} {part : Part A} → Keeps part → WorksSo part
+  pub keeps_works : {A : Type 0} {action : Action A} → Keeps action → WorksSo action
   keeps_works keeps = record { of = λ before events result after does. (keeps before events result after does).0 }
 
   works_join : {A B : Type 0} → Joins {A = A} {B = B} WorkLaw (λ value. WorkLaw) WorkLaw
@@ -153,7 +153,7 @@ module _ (Fits : Event → Type 0) where
   works_nothing : {A : Type 0} → OfNothing {A = A} WorkLaw
   works_nothing = record { of = λ held result. works tt }
 
-  pub bind : {A B : Type 0} {part : Part A} {next : A → Part B} → WorksSo part → ((value : A) → WorksSo (next value)) → WorksSo (part >>= next)
+  pub bind : {A B : Type 0} {action : Action A} {next : A → Action B} → WorksSo action → ((value : A) → WorksSo (next value)) → WorksSo (action >>= next)
   bind = within.bind works_join
 
   pub returned : {A : Type 0} (value : A) → WorksSo (Returns value)
@@ -165,10 +165,10 @@ module _ (Fits : Event → Type 0) where
   pub is_needed : {A : Type 0} (why : Code) (value : Option A) → WorksSo (needed why value)
   is_needed = within.is_needed works_nothing
 
-  pub or_otherwise : {A : Type 0} (value : Option A) {other : Part A} → WorksSo other → WorksSo (or_else value other)
+  pub or_otherwise : {A : Type 0} (value : Option A) {other : Action A} → WorksSo other → WorksSo (or_else value other)
   or_otherwise = within.or_otherwise works_nothing
 
-  pub is_unless : (so : Bool) {other : Part (Unit {0})} → WorksSo other → WorksSo (unless so other)
+  pub is_unless : (so : Bool) {other : Action (Unit {0})} → WorksSo other → WorksSo (unless so other)
   is_unless = within.is_unless works_nothing
 
   pub is_wanted : (why : Code) (so : Bool) → WorksSo (wanted why so)
@@ -223,11 +223,11 @@ module _ (Fits : Event → Type 0) where
     looks_for_nonce (Some id) = asks (each id)
 
     pub looks_over : {id : Option (List ℕ)} → Keeps (LooksOver id)
-    looks_over _ _ _ _ parts.no_nonce = (works tt, refl)
-    looks_over _ _ _ _ (parts.given {nonce} can) = (goes_turn (each nonce) _ refl, refl)
-    looks_over _ _ _ _ (parts.empty {nonce}) = (goes_turn (each nonce) _ refl, refl)
-    looks_over _ _ _ _ (parts.stopping {nonce}) = (goes_turn (each nonce) _ refl, refl)
-    looks_over _ _ _ _ (parts.no_memory {nonce}) = (interrupted_turn (each nonce) turns.refused, refl)
+    looks_over _ _ _ _ actions.no_nonce = (works tt, refl)
+    looks_over _ _ _ _ (actions.given {nonce} can) = (goes_turn (each nonce) _ refl, refl)
+    looks_over _ _ _ _ (actions.empty {nonce}) = (goes_turn (each nonce) _ refl, refl)
+    looks_over _ _ _ _ (actions.stopping {nonce}) = (goes_turn (each nonce) _ refl, refl)
+    looks_over _ _ _ _ (actions.no_memory {nonce}) = (interrupted_turn (each nonce) turns.refused, refl)
 
   takes_seat_of : (grip : Grip) → Turns (seat_for grip) → (before : Option ℕ) (events : List Event) (result : Result (Unit {0}) Refusal) (after : Option ℕ) → TakesSeat grip before events result after → WorksTo events result
   takes_seat_of grip each None events result after does = (seats each).of None events result after does
@@ -283,8 +283,8 @@ module _ (Fits : Event → Type 0) where
     at_end_works _ at_end = absurd at_end
 
     pub asks_key_data : Keeps AsksKeyData
-    asks_key_data _ _ _ _ (parts.asked inquires_so) = ((inquires asked _ _ _ _ inquires_so).0, refl)
-    asks_key_data _ _ _ _ (parts.no_memory {outcome} at_end) = (at_end_works outcome at_end, refl)
+    asks_key_data _ _ _ _ (actions.asked inquires_so) = ((inquires asked _ _ _ _ inquires_so).0, refl)
+    asks_key_data _ _ _ _ (actions.no_memory {outcome} at_end) = (at_end_works outcome at_end, refl)
 
   -- ---- the keys and the dice
 
@@ -316,17 +316,17 @@ module _ (Fits : Event → Type 0) where
       unread key_read.NoMemory is = refused_by (reads _) is refl
 
       pub reads_file : Keeps (ReadsFile grip)
-      reads_file _ _ _ _ (parts.is_key {answer} is says) = (works (found_read answer is, tt), refl)
-      reads_file _ _ _ _ (parts.faulty {answer} is says) = (works (found_read answer is, tt), refl)
-      reads_file _ _ _ _ (parts.no_memory {answer} is) = (refused_second (found_read answer is) memory refl refl, refl)
-      reads_file _ _ _ _ (parts.unread {answer} is) = (unread answer is, refl)
+      reads_file _ _ _ _ (actions.is_key {answer} is says) = (works (found_read answer is, tt), refl)
+      reads_file _ _ _ _ (actions.faulty {answer} is says) = (works (found_read answer is, tt), refl)
+      reads_file _ _ _ _ (actions.no_memory {answer} is) = (refused_second (found_read answer is) memory refl refl, refl)
+      reads_file _ _ _ _ (actions.unread {answer} is) = (unread answer is, refl)
 
       pub reads_listed : Keeps (ReadsListed grip)
-      reads_listed _ _ _ _ (parts.is_key {answer} is says) = (works (found_read answer is, tt), refl)
-      reads_listed _ _ _ _ (parts.faulty {answer} is says) = (works (found_read answer is, tt), refl)
-      reads_listed _ _ _ _ parts.absent = (one_works (reads _) refl refl, refl)
-      reads_listed _ _ _ _ (parts.no_memory {answer} is) = (refused_second (found_read answer is) memory refl refl, refl)
-      reads_listed _ _ _ _ (parts.unread {answer} other is) = (unread answer is, refl)
+      reads_listed _ _ _ _ (actions.is_key {answer} is says) = (works (found_read answer is, tt), refl)
+      reads_listed _ _ _ _ (actions.faulty {answer} is says) = (works (found_read answer is, tt), refl)
+      reads_listed _ _ _ _ actions.absent = (one_works (reads _) refl refl, refl)
+      reads_listed _ _ _ _ (actions.no_memory {answer} is) = (refused_second (found_read answer is) memory refl refl, refl)
+      reads_listed _ _ _ _ (actions.unread {answer} other is) = (unread answer is, refl)
 
     listed_names : ((answer : KeyNames) → Fits (called (Listed answer))) → (answer : KeyNames) {grips : List Grip} → grips_in answer ≡ Some grips → GoesOn (called (Listed answer))
     listed_names names (key_names.Names grips) is = (names _, refl, refl)
@@ -334,9 +334,9 @@ module _ (Fits : Event → Type 0) where
     listed_names names key_names.NoMemory is = absurd (cc is)
 
     pub lists : ((answer : KeyNames) → Fits (called (Listed answer))) → Keeps ListsGrips
-    lists names _ _ _ _ (parts.listed {answer} is) = (works (listed_names names answer is, tt), refl)
-    lists names _ _ _ _ parts.faulted = (refused_by (names _) refl refl, refl)
-    lists names _ _ _ _ parts.no_memory = (refused_by (names _) refl refl, refl)
+    lists names _ _ _ _ (actions.listed {answer} is) = (works (listed_names names answer is, tt), refl)
+    lists names _ _ _ _ actions.faulted = (refused_by (names _) refl refl, refl)
+    lists names _ _ _ _ actions.no_memory = (refused_by (names _) refl refl, refl)
 
     -- a change that isn't done
     pub unchanged : {A : Type 0} (answer : KeyDone) {why : Code} (event : KeyDone → Event) → ((given : KeyDone) → given ≢ key_done.Done → Fits (event given))
@@ -352,21 +352,21 @@ module _ (Fits : Event → Type 0) where
     not_replaced answer fits is = unchanged answer _ fits (λ given. refl) (λ given. refl) (λ given. refl) is
 
     pub replaces : {grip : Grip} {file : List ℕ} → ((answer : KeyDone) → Fits (called (Replaced grip file answer))) → Keeps (Replaces grip file)
-    replaces fits _ _ _ _ parts.done = (one_works (fits _) refl refl, refl)
-    replaces fits _ _ _ _ (parts.not_done {answer} is) = (not_replaced answer (λ given other. fits given) is, refl)
+    replaces fits _ _ _ _ actions.done = (one_works (fits _) refl refl, refl)
+    replaces fits _ _ _ _ (actions.not_done {answer} is) = (not_replaced answer (λ given other. fits given) is, refl)
 
-    -- ---- parts that only want memory
+    -- ---- actions that only want memory
 
     pub told : {bytes : List ℕ} → Keeps (Tells bytes)
     told _ _ _ _ (tells is) = (works tt, refl)
 
     pub protects : {key : Key} {pass salt iv : List ℕ} {count : ℕ} → Keeps (Protects key pass salt iv count)
-    protects _ _ _ _ parts.made = (works tt, refl)
-    protects _ _ _ _ parts.no_memory = (no_memory, refl)
+    protects _ _ _ _ actions.made = (works tt, refl)
+    protects _ _ _ _ actions.no_memory = (no_memory, refl)
 
     pub is_short : {key : Key} → Keeps (IsShort key)
-    is_short _ _ _ _ (parts.short few) = (works tt, refl)
-    is_short _ _ _ _ (parts.long many) = (works tt, refl)
+    is_short _ _ _ _ (actions.short few) = (works tt, refl)
+    is_short _ _ _ _ (actions.long many) = (works tt, refl)
 
     pub rewrites : {file list : List ℕ} → Keeps (Rewrites file list)
     rewrites _ _ _ _ (files.canonical_file is) = (works tt, refl)
@@ -375,17 +375,17 @@ module _ (Fits : Event → Type 0) where
     rewrites _ _ _ _ (files.no_memory other) = (no_memory, refl)
 
     pub names_key : {key : Key} → Keeps (NamesKey key)
-    names_key _ _ _ _ (parts.named is) = (works tt, refl)
-    names_key _ _ _ _ parts.no_memory = (no_memory, refl)
+    names_key _ _ _ _ (actions.named is) = (works tt, refl)
+    names_key _ _ _ _ actions.no_memory = (no_memory, refl)
 
     pub wraps_key : {wrap : List ℕ} {key : Key} → Keeps (WrapsKey wrap key)
-    wraps_key _ _ _ _ parts.is_wrapped = (works tt, refl)
-    wraps_key _ _ _ _ parts.no_memory = (no_memory, refl)
+    wraps_key _ _ _ _ actions.is_wrapped = (works tt, refl)
+    wraps_key _ _ _ _ actions.no_memory = (no_memory, refl)
 
     pub unwraps : {wrap wrapped : List ℕ} → Keeps (Unwraps wrap wrapped)
-    unwraps _ _ _ _ (parts.is_key says) = (works tt, refl)
-    unwraps _ _ _ _ (parts.refused says) = (works tt, refl)
-    unwraps _ _ _ _ parts.no_memory = (no_memory, refl)
+    unwraps _ _ _ _ (actions.is_key says) = (works tt, refl)
+    unwraps _ _ _ _ (actions.refused says) = (works tt, refl)
+    unwraps _ _ _ _ actions.no_memory = (no_memory, refl)
 
     pub locks : {key : Key} → Keeps (Locks key)
     locks _ _ _ _ (passphrases.is_locked same locked) = (works tt, refl)

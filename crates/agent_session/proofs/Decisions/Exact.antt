@@ -1,12 +1,12 @@
 -- Each code is answered wherever its cause stands, in a session and at a door.
 use Rattle.std.{specs.{List.AllByRecursion, Prelude.{drop, map}}, proofs.Common.{◌≡◌, ◌⊎◌, ℕ, Bool, true, false, List, Option, Some, None, Result, refl, subst, inl, inr, ◌+◌, ◌<◌, ◌∷◌, ◌++◌, length, Ok, Err, arith, sym, ap, [], ◌∙◌}}
-use Rattle.agent_ask.specs.{Parts.{Follows, goes_on, stops, needed}, PartExchanges.{answered, refused}, PortCalls.{Keys, Read, Removed}, SessionEvents.{Sent, Port, said_last, Inquiry}, TurnParts.Closes}
+use Rattle.agent_ask.specs.{Actions.{Follows, goes_on, stops, needed}, ActionExchanges.{answered, refused}, PortCalls.{Keys, Read, Removed}, SessionEvents.{Sent, Port, said_last, Inquiry}, TurnActions.Closes}
 use Rattle.{agent_ports.specs.declared.grip.Grip.Grip, assuan_server.specs.{Written.{failed, refusal_line}, declared.errors.Origin.TheVariants.Agent as OfAgent}, cache_policy.specs.{Turns.closes, declared.mark.MarkStep.MarkStep}}
 use Rattle.{key_lines.specs.Canon.Canon, session_client.specs.{declared.{code.Code.Code, refusal.Refusal.{Refusal, TheVariants.Agent}, client_error.ClientError.ClientError}, Refusals.refusal_code}}
 use Rattle.{session_options.specs.{OptionValues.OptionValues, declared.{rules.Rules.Rules, options.OptionAnswer.OptionAnswer}}, sexp_keys.specs.{Key.Key, declared.fault.KeyFault.KeyFault}, key_commands.specs.Events.Event}
 use Rattle.key_commands.specs.Exchanges.{KeyExchange, KeyReplies, HaveKeyReplies, KeyInfoReplies, ImportKeyReplies, ExportKeyReplies, PasswdReplies, VerifyReplies, DeleteKeyReplies, StoresKey, FoundOrNew, RewritesFile, ChangesOpened}
-use Rattle.key_commands.specs.{Exchanges.KeyReply, Parts.{Part, refusal_events}, Passphrases.{OldPassphrase, VerifiesPassphrase}, declared.{request.KeyRequest.KeyRequest, went.KeyWent.KeyWent, keywrap_key.WrapKeys.WrapKeys}}
-use Rattle.{key_commands.specs.{KeyParts.HasOne, Lines.max_key_data, Faults.fault_code, Files.FileSays, Requests.key_request_of}, arrayvec.specs.ArrayVec.ArrayVec, agent_commands.specs.Exchanges.CacheExchange}
+use Rattle.key_commands.specs.{Exchanges.KeyReply, Actions.{Action, refusal_events}, Passphrases.{OldPassphrase, VerifiesPassphrase}, declared.{request.KeyRequest.KeyRequest, went.KeyWent.KeyWent, keywrap_key.WrapKeys.WrapKeys}}
+use Rattle.{key_commands.specs.{KeyActions.HasOne, Lines.max_key_data, Faults.fault_code, Files.FileSays, Requests.key_request_of}, arrayvec.specs.ArrayVec.ArrayVec, agent_commands.specs.Exchanges.CacheExchange}
 use Rattle.{agent_commands.specs.{declared.{request.Request.{Request, TheVariants.{Cache, Key as OnKeys, Bad}}, went.Went.Went}, Requests.{request_of, request_by}}, agent_origin.specs.SessionExchanges.{RequestExchange, cache, keys}}
 use Rattle.agent_origin.specs.declared.{session_state.SessionState.SessionState, door.Door.Door, trust.request.{TrustPurpose.TrustPurpose, TrustRequest.{TrustRequest, TheVariants.MarkTrusted}}}
 use Rattle.agent_origin.specs.{DoorSessions.{AllowedExchange, DoorExchange, door_command}, TrustExchanges.{flag_of, Marked, TrustExchange}, TrustRequests.{trust_request_of, trust_command}, Doors.sets_terminal}
@@ -16,20 +16,20 @@ use Rattle.agent_session.specs.Completeness.{Remembers, HasError}
 use Rattle.agent_session.specs.Causes.{AreUnread, IsSaid, said, sent, IsRead, read, on_keys, IsRefusedBy, Judges, tells, unlocks, Unlocks, exports, changes, LacksKeys, later, IsOption, option, KeyDataSays, data_says, IsFaulty, protection}
 use Rattle.agent_session.specs.{Causes.{key_data, HasNoData, no_id, empty, no_import, no_export, there, here}, Exactly.{ExactCause, IsLong, long, long_file, ExactTrustCause, ExactCauseAtDoor, forbidden, on_trust, any}}
 use Rattle.agent_session.specs.DoorCauses.{IsReadTrust, read_trust, IsReadAgain, read_again, inquired, too_long}
-use Rattle.agent_session.proofs.Decisions.ExactParts.{Deciding, IsDecided, never_decided, NoneDue, NoneOwed, SaysTo, Heeds, bind, undue, is_needed, refuses_due, IsSaidAlone, free, said_alone, fits_keys, never_ok, error_said, said_error}
-use Rattle.agent_session.proofs.Decisions.ExactParts.{SaidDecides, answer_free, decided_before}
+use Rattle.agent_session.proofs.Decisions.ExactActions.{Deciding, IsDecided, never_decided, NoneDue, NoneOwed, SaysTo, Heeds, bind, undue, is_needed, refuses_due, IsSaidAlone, free, said_alone, fits_keys, never_ok, error_said, said_error}
+use Rattle.agent_session.proofs.Decisions.ExactActions.{SaidDecides, answer_free, decided_before}
 use Rattle.agent_session.proofs.Decisions.ExactReads.{SentRefuses, IsUnlockable, by_file, reads_file, locks, by_absence, IsLacking, finds, is_there, removes, by_import, receives_key, is_free, FileRefuses, faulty, owes, read_refuses}
 use Rattle.agent_session.proofs.Decisions.{ExactReads.{by_said, NoFault}, ExactCache.{option_due, cache_due, cache_answered, none_without, none_cached}, ExactLong.long_answered, ExactTrust.{ByLong, marked_long, due_trust, trust_answered}}
 use Rattle.agent_session.proofs.{Decisions.{TrustDenied.denial_is_said, TrustTold.{Told, told}}, Courses.KeyWorks.{looks_nonce, uncached_old, opens_locked, new_here, consents, tells_info}}
 use Rattle.agent_session.proofs.{Courses.{Works.{WorksSo, Keeps, keeps_works, returned, or_otherwise, turns_of}, KeyCourses.plain_works}, DoorAnswering.door_is_session, Standing.each_left}
-use Rattle.agent_ask.specs.Parts as chain
+use Rattle.agent_ask.specs.Actions as chain
 use Rattle.session_client.specs.declared.code.Code.TheVariants as code
 use Rattle.session_client.specs.declared.refusal.Refusal.TheVariants as refusals
 use Rattle.key_commands.specs.declared.request.KeyRequest.TheVariants as on
 use Rattle.agent_session.proofs.Courses.Works as work
 use Rattle.agent_ports.specs.declared.keys.KeyRead.TheVariants as key_read
-use Rattle.agent_ask.specs.TurnParts as turning
-use Rattle.key_commands.specs.Parts as small
+use Rattle.agent_ask.specs.TurnActions as turning
+use Rattle.key_commands.specs.Actions as small
 use Rattle.agent_ports.specs.declared.keys.KeyDone.TheVariants as key_done
 use Rattle.session_client.specs.declared.client_error.Gone.TheVariants as gone
 use Rattle.session_client.specs.declared.client_error.ClientError.TheVariants as client_error
@@ -72,16 +72,16 @@ absent_decides events wraps (on.DeleteKey grip force) (inl has) = inl (record { 
 absent_decides events wraps (on.DeleteKey grip force) (inr has) = inl (record { event = Port (Keys (Removed grip key_done.Absent)); has = has; decides = refl })
 absent_decides events wraps _ none = absurd none
 
--- ---- parts of several requests
+-- ---- actions of several requests
 
 module _ (deciding : Deciding) where
   abbrev Alone : Event → Type 0
   Alone = IsSaidAlone deciding
 
-  alone : {A : Type 0} {part : Part A} → WorksSo Alone part → Heeds deciding NoneDue part NoneOwed
-  alone parts_work = said_alone deciding NoneOwed parts_work
+  alone : {A : Type 0} {action : Action A} → WorksSo Alone action → Heeds deciding NoneDue action NoneOwed
+  alone actions_work = said_alone deciding NoneOwed actions_work
 
-  so : {A : Type 0} {part : Part A} → Keeps Alone part → WorksSo Alone part
+  so : {A : Type 0} {action : Action A} → Keeps Alone action → WorksSo Alone action
   so keeps = keeps_works Alone keeps
 
   -- such a turn of the cache decides nothing
@@ -128,7 +128,7 @@ module _ (deciding : Deciding) where
 
 module _ (one_canon : (file : List ℕ) (a b : Option (List ℕ)) → Canon file a → Canon file b → a ≡ b) (rules : Rules) (options : OptionValues) where
   -- a value that has to be there, and is, or isn't
-  module _ {A B : Type 0} (deciding : Deciding) (given : Code) (next : A → Part B) where
+  module _ {A B : Type 0} (deciding : Deciding) (given : Code) (next : A → Action B) where
     abbrev nought : Option A
     nought = None
 
@@ -242,7 +242,7 @@ refused_first (grip ∷ more) before events why after (stops small.no_memory) = 
 none_fewer : (grips : List Grip) {whole : List Event} → AreUnread whole grips → absents whole < length grips → ⊥
 none_fewer grips {whole} all fewer =
     let reads = map (λ grip. Port (Keys (Read grip key_read.Absent))) grips in
-    let parts_are : absents whole ≡ absents (all.before ++ (reads ++ all.after)) = ap absents all.is in
+    let actions_are : absents whole ≡ absents (all.before ++ (reads ++ all.after)) = ap absents all.is in
     let first = absents_append all.before (reads ++ all.after) in
     let second = absents_append reads all.after in
     let each = absents_all grips in

@@ -1,15 +1,15 @@
 -- Requests on the cache and on the session: what decides one is what it is refused by.
 use Rattle.std.{specs.List.AllByRecursion, proofs.Common.{◌≡◌, ◌⊎◌, ℕ, Bool, true, false, List, Option, Some, None, Result, refl, subst}}
-use Rattle.{agent_ask.specs.{PartExchanges.{AnyExchange, answered, refused}, SessionEvents.cache_turn}, assuan_server.specs.{Written.refusal_line, declared.errors.Origin.TheVariants.Agent as OfAgent}}
+use Rattle.{agent_ask.specs.{ActionExchanges.{AnyExchange, answered, refused}, SessionEvents.cache_turn}, assuan_server.specs.{Written.refusal_line, declared.errors.Origin.TheVariants.Agent as OfAgent}}
 use Rattle.{session_client.specs.declared.{code.Code.Code, refusal.Refusal.Refusal}, cache_policy.specs.{Turns.{Empty, closes}, declared.mark.MarkStep.MarkStep}, session_options.specs.OptionValues.{OptionValues, applied}}
 use Rattle.{session_options.specs.declared.{options.{OptionAnswer.{OptionAnswer, TheVariants.{Set, Unknown, Parameter, NotSupported}}, PinMode.PinMode}, rules.Rules.Rules}, agent_commands.specs.Endings.went_after}
-use Rattle.agent_commands.specs.{Exchanges.{CacheExchange, CacheReply, CacheReplies, ChangeReplies, TellsPassphrase, option_replies, is_quiet}, Parts.CachePart, Passphrases.{WithoutPrompt, as_wanted, passphrase_by, ask}}
+use Rattle.agent_commands.specs.{Exchanges.{CacheExchange, CacheReply, CacheReplies, ChangeReplies, TellsPassphrase, option_replies, is_quiet}, Actions.CacheAction, Passphrases.{WithoutPrompt, as_wanted, passphrase_by, ask}}
 use Rattle.agent_commands.specs.{Requests.{GetFields, get_passphrase}, declared.request.CacheCommand.CacheCommand}
 use Rattle.agent_commands.specs.declared.request.{CacheCommand.TheVariants.{Nop, Reset, Bye, Help, SetOption, GetInfo, GetPassphrase, PresetPassphrase, ClearPassphrase, GetConfirmation, ReloadAgent, KillAgent, SetKeyDesc}, Request.Request}
 use Rattle.{agent_commands.specs.declared.{request.{Request.TheVariants.{Cache, Key as OnKeys, Bad}, Texts.Texts}, went.Went.Went}, key_commands.specs.Events.Event}
 use Rattle.agent_session.{specs.{Causes.{Has, here, later}, Completeness.{HasError, Remembers}}, proofs.AtOnce.{LooksAlone, answers, interrupted, looked}}
 use Rattle.agent_session.proofs.Courses.{CacheWorks.{FitsCache, wants_prompt, changes, by_cache, without_prompt, prompts_any, confirmed, presets, tells_info}, Works.{WorksTo, works, WorksSo, returned, or_otherwise}}
-use Rattle.agent_session.proofs.Decisions.ExactParts.{Deciding, IsDecided, NoneDue, NoneOwed, Heeds, refuses_due, IsSaidAlone, free, said_alone, fits_cache, never_ok, error_said}
+use Rattle.agent_session.proofs.Decisions.ExactActions.{Deciding, IsDecided, NoneDue, NoneOwed, Heeds, refuses_due, IsSaidAlone, free, said_alone, fits_cache, never_ok, error_said}
 use Rattle.session_client.specs.declared.code.Code.TheVariants as code
 use Rattle.session_options.specs.declared.options.PinMode.TheVariants as mode
 use Rattle.agent_commands.specs.Exchanges as exchanges
@@ -32,8 +32,8 @@ module _ (deciding : Deciding) where
   abbrev Alone : Event → Type 0
   Alone = IsSaidAlone deciding
 
-  alone : {A : Type 0} {part : CachePart A} → WorksSo Alone part → Heeds deciding NoneDue part NoneOwed
-  alone parts_work = said_alone deciding NoneOwed parts_work
+  alone : {A : Type 0} {action : CacheAction A} → WorksSo Alone action → Heeds deciding NoneDue action NoneOwed
+  alone actions_work = said_alone deciding NoneOwed actions_work
 
   fits : FitsCache Alone
   fits = fits_cache deciding
@@ -89,8 +89,8 @@ module _ (deciding : Deciding) where
 
   -- ---- the answer
 
-  exchange_answered : {Due : Code → Type 0} {parts : CachePart CacheReply} → Heeds deciding Due parts NoneOwed → {before after : OptionValues} {events : List Event} {went : Went}
-      → AnyExchange refusal_line went_after parts before events after went → AllByRecursion Remembers events → (why : Code) → Due why ⊎ IsDecided deciding events why → HasError why OfAgent events
+  exchange_answered : {Due : Code → Type 0} {actions : CacheAction CacheReply} → Heeds deciding Due actions NoneOwed → {before after : OptionValues} {events : List Event} {went : Went}
+      → AnyExchange refusal_line went_after actions before events after went → AllByRecursion Remembers events → (why : Code) → Due why ⊎ IsDecided deciding events why → HasError why OfAgent events
   exchange_answered heeds (answered events held reply does closes_so) remembers why due = absurd (never_ok deciding heeds why (Some reply.text) closes_so remembers due does)
   exchange_answered heeds (refused events held refusal does closes_so) remembers why due = error_said deciding heeds why (refusal_line refusal) closes_so remembers due refl does
 

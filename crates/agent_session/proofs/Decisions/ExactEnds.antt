@@ -1,15 +1,15 @@
 -- A session that ends since a line was too long has told its client so.
 use Rattle.std.proofs.Common.{◌≡◌, ◌∙◌, ◌++◌, ℕ, List, Option, Some, None, Ok, refl, sym, ap}
-use Rattle.{agent_ask.specs.{SessionEvents.said_last, PartExchanges.{answered, refused}, Parts.goes_on}, agent_commands.specs.{Endings.went_after, Exchanges.{CacheExchange, CacheReply, CacheReplies, option_replies}}}
+use Rattle.{agent_ask.specs.{SessionEvents.said_last, ActionExchanges.{answered, refused}, Actions.goes_on}, agent_commands.specs.{Endings.went_after, Exchanges.{CacheExchange, CacheReply, CacheReplies, option_replies}}}
 use Rattle.agent_commands.specs.declared.request.CacheCommand.{CacheCommand, TheVariants.{Nop, Reset, Bye, Help, SetOption, GetInfo, GetPassphrase, PresetPassphrase, ClearPassphrase, GetConfirmation, ReloadAgent, KillAgent, SetKeyDesc}}
 use Rattle.{agent_commands.specs.declared.{request.Request.{Request, TheVariants.{Cache, Key as OnKeys, Bad}}, went.{SessionEnd.TheVariants.TooLong, Went.{Went, TheVariants.{On, End}}}}, assuan_server.specs.Written.refusal_line}
-use Rattle.{assuan_server.specs.declared.errors.Origin.TheVariants.Agent, key_commands.specs.{Events.Event, Exchanges.KeyExchange, Parts.key_went_after, declared.{request.KeyRequest.KeyRequest, went.KeyWent.KeyWent}}}
+use Rattle.{assuan_server.specs.declared.errors.Origin.TheVariants.Agent, key_commands.specs.{Events.Event, Exchanges.KeyExchange, Actions.key_went_after, declared.{request.KeyRequest.KeyRequest, went.KeyWent.KeyWent}}}
 use Rattle.{key_commands.specs.declared.keywrap_key.WrapKeys.WrapKeys, session_client.specs.{Refusals.gone_by, declared.{refusal.Refusal.Refusal, client_error.Gone.Gone}}, session_options.specs.OptionValues.{OptionValues, applied}}
 use Rattle.{session_options.specs.declared.{options.OptionAnswer.{OptionAnswer, TheVariants.{Set, Unknown, Parameter, NotSupported}}, rules.Rules.Rules}, agent_origin.specs.SessionExchanges.{RequestExchange, cache, keys, went_after_key}}
 use Rattle.agent_origin.specs.declared.session_state.SessionState.{SessionState}
 use Rattle.agent_session.{specs.{Causes.here, Completeness.HasError}, proofs.{Standing.has_right, Courses.KeyCourses.replies_ok}}
-use Rattle.agent_ask.specs.Parts as chain
-use Rattle.agent_ask.specs.PartExchanges as part_exchanges
+use Rattle.agent_ask.specs.Actions as chain
+use Rattle.agent_ask.specs.ActionExchanges as action_exchanges
 use Rattle.session_client.specs.declared.code.Code.TheVariants as code
 use Rattle.session_client.specs.declared.refusal.Refusal.TheVariants as refusals
 use Rattle.session_client.specs.declared.client_error.Gone.TheVariants as gone
@@ -72,11 +72,11 @@ same_end (Some how) = refl
 
 keys_told : (rules : Rules) (options : OptionValues) (wraps : WrapKeys) (asked : KeyRequest) {events : List Event} {after : WrapKeys} {went : KeyWent} → KeyExchange rules options wraps asked events after went
     → IsTold events (went_after_key went)
-keys_told rules options wraps asked (part_exchanges.answered events held reply does closes) is =
+keys_told rules options wraps asked (action_exchanges.answered events held reply does closes) is =
     let on : went_after_key reply.went ≡ On = ap went_after_key ((replies_ok rules options wraps asked).of None events (Ok reply) held does).1 in
     let never : On ≡ End TooLong = sym on ∙ is in
     absurd (cc never)
-keys_told rules options wraps asked (part_exchanges.refused events held why {back} does closes) is = refusal_told events back why (sym (same_end (gone_by why)) ∙ is)
+keys_told rules options wraps asked (action_exchanges.refused events held why {back} does closes) is = refusal_told events back why (sym (same_end (gone_by why)) ∙ is)
 
 pub end_told : {rules : Rules} {kept : SessionState} {request : Request} {events : List Event} {after : SessionState} {went : Went} → RequestExchange rules kept request events after went → IsTold events went
 end_told (cache exchange) is = cache_told _ _ _ _ _ _ exchange is

@@ -1,34 +1,34 @@
 -- PASSWD of a key whose list is too long is answered Bad secret key, and so is one whose new file is too long.
 use Rattle.std.{specs.{List.AllByRecursion, Prelude.⊤}, proofs.Common.{◌≡◌, ◌<◌, ◌∙◌, ℕ, Bool, true, false, List, [], ◌∷◌, ◌++◌, length, Option, Some, None, Result, Ok, Err, arith, refl, sym, ap, subst, inl, inr, ◌⊎◌}}
-use Rattle.agent_ask.specs.{Events.{PromptEvent, Called, OutOfMemory, GetPin}, PortCalls.{Prompt, Keys, Read, Dice, Drew}, Interrupts.Interrupts, Parts.{◌>>=◌, goes_on, stops, returns}, Prompts.{AsksPin, AsksBefore, Tries, IsTry, Repeats}}
-use Rattle.agent_ask.specs.{SessionEvents.{CacheTurn, Port, cache_turn, said_last}, SessionPrompts.AnyInSession, TurnParts.Closes, declared.{ask.Asked.Asked, prompter.Outcome.Outcome, spec.{AskPlan.AskPlan, PromptSpec.PromptSpec}}}
+use Rattle.agent_ask.specs.{Events.{PromptEvent, Called, OutOfMemory, GetPin}, PortCalls.{Prompt, Keys, Read, Dice, Drew}, Interrupts.Interrupts, Actions.{◌>>=◌, goes_on, stops, returns}, Prompts.{AsksPin, AsksBefore, Tries, IsTry, Repeats}}
+use Rattle.agent_ask.specs.{SessionEvents.{CacheTurn, Port, cache_turn, said_last}, SessionPrompts.AnyInSession, TurnActions.Closes, declared.{ask.Asked.Asked, prompter.Outcome.Outcome, spec.{AskPlan.AskPlan, PromptSpec.PromptSpec}}}
 use Rattle.{agent_ports.specs.declared.{grip.Grip.Grip, keys.KeyRead.KeyRead}, assuan_server.specs.{Clients.session_lines, Written.{failed, refusal_line}, declared.errors.Origin.TheVariants.Agent as OfAgent}}
 use Rattle.{cache_policy.specs.{Turns.{Turn, Given, Done}, declared.{mark.{MarkStep.{MarkStep, TheVariants.{Ask, Put}}, Way.TheVariants.Quiet}, mode.Mode.TheVariants.{Normal, Nonce}}}, key_lines.specs.Canon.Canon}
 use Rattle.{secret_file.specs.Opens.LockedKey, session_client.specs.declared.{code.Code.Code, refusal.Refusal.Refusal}, session_options.specs.{OptionValues.OptionValues, declared.{options.PinMode.PinMode, rules.Rules.Rules}}}
 use Rattle.{sexp_keys.specs.{Key.Key, Lists.key_list_of}, agent_commands.specs.declared.request.Request.Request, key_commands.specs.Events.Event}
-use Rattle.key_commands.specs.{Exchanges.{KeyReply, KeyExchange, PasswdReplies, RenewsPassphrase, RewritesFile, ChangesOpened}, Files.FileSays, KeyParts.{ReadsFile, file_in}, Lines.grip_text}
+use Rattle.key_commands.specs.{Exchanges.{KeyReply, KeyExchange, PasswdReplies, RenewsPassphrase, RewritesFile, ChangesOpened}, Files.FileSays, KeyActions.{ReadsFile, file_in}, Lines.grip_text}
 use Rattle.key_commands.specs.{Passphrases.{OpensBy, PromptsOld, ClientOld, UncachedOld, CachedOld, OpensLocked, OldPassphrase, TakesSeat, old_by, put_key}, declared.{wrapping.TheConstants.MAX_LIST_LEN, request.KeyRequest.KeyRequest}}
 use Rattle.{key_commands.{specs.declared.{went.KeyWent.KeyWent, keywrap_key.WrapKeys.WrapKeys}, proofs.EachEvent.each_append}, agent_origin.specs.declared.session_state.SessionState.SessionState}
 use Rattle.agent_session.specs.{Causes.{Has, here, IsRead, read, IsReadOf, read_of, IsDrawn, protected, OpensRead, of_change, on_keys, StandIn, changed, changes}, Completeness.{HasError, Remembers}}
 use Rattle.agent_session.{specs.Exactly.{OpensIt, IsOpened, clear, by_nonce, cached, typed, given, HasLongList, HasLongFile, IsLong, long, long_file}, proofs.Courses.ImportCourses.some_key}
 use Rattle.agent_session.proofs.Courses.{KeyWorks.{FitsKeys, looks_nonce, old_here, new_here}, Works.{WorksSo, bind, or_otherwise, each_fits}}
-use Rattle.agent_session.proofs.{Decisions.{ExactParts.{Deciding, IsDecided, IsFree, NoneOwed, SaysTo, answer_free, decided_before, said_error}, ExactReads.{by_file, reads_file, read_refuses, owes}}, Causes.KeyRequests.old_passphrase}
+use Rattle.agent_session.proofs.{Decisions.{ExactActions.{Deciding, IsDecided, IsFree, NoneOwed, SaysTo, answer_free, decided_before, said_error}, ExactReads.{by_file, reads_file, read_refuses, owes}}, Causes.KeyRequests.old_passphrase}
 use Rattle.agent_session.proofs.Standing.{each_left, each_right, each_has, has_first, stand_left, stand_right}
 use Rattle.agent_ask.specs.Interrupts as turns
-use Rattle.agent_ask.specs.Parts as chain
+use Rattle.agent_ask.specs.Actions as chain
 use Rattle.agent_ask.specs.Prompts as prompts
 use Rattle.agent_ask.specs.SessionPrompts as session
-use Rattle.agent_ask.specs.TurnParts as taken
+use Rattle.agent_ask.specs.TurnActions as taken
 use Rattle.agent_ask.specs.declared.ask.Asked.TheVariants as asked
 use Rattle.agent_ask.specs.declared.prompter.Outcome.TheVariants as outcome
 use Rattle.session_client.specs.declared.code.Code.TheVariants as code
 use Rattle.session_options.specs.declared.options.PinMode.TheVariants as mode
-use Rattle.agent_ask.specs.PartExchanges as part_exchanges
+use Rattle.agent_ask.specs.ActionExchanges as action_exchanges
 use Rattle.key_commands.specs.Files as files
-use Rattle.key_commands.specs.KeyParts as parts
-use Rattle.agent_ask.specs.ClientParts as client_parts
-use Rattle.key_commands.specs.Parts as small
-use Rattle.agent_ask.specs.PinParts as pin_parts
+use Rattle.key_commands.specs.KeyActions as actions
+use Rattle.agent_ask.specs.ClientActions as client_actions
+use Rattle.key_commands.specs.Actions as small
+use Rattle.agent_ask.specs.PinActions as pin_actions
 use Rattle.key_commands.specs.Passphrases as passphrases
 use Rattle.key_commands.specs.declared.request.KeyRequest.TheVariants as on
 use Rattle.agent_session.proofs.Courses.Works as work
@@ -120,8 +120,8 @@ module _ (Rule : List ℕ → Type 0) (plan : AskPlan) (no_check : plan.check �
       subst (AllByRecursion (VainPrompt Refused)) (sym asks.whole)
       (each_append (VainPrompt Refused) asks.before _ (before_vain asks.asks none (each_left Recalls asks.before _ (subst (AllByRecursion Recalls) asks.whole recalls))) (tt, tt))
 
-refused_none : (answer : Asked) {why : Refusal} → pin_parts.pin_refusal answer ≡ Some why → (pin : List ℕ) → answer ≡ asked.Pin pin → ⊥
-refused_none answer refusal pin is = let none : None ≡ Some _ = sym (ap pin_parts.pin_refusal is) ∙ refusal in cc none
+refused_none : (answer : Asked) {why : Refusal} → pin_actions.pin_refusal answer ≡ Some why → (pin : List ℕ) → answer ≡ asked.Pin pin → ⊥
+refused_none answer refusal pin is = let none : None ≡ Some _ = sym (ap pin_actions.pin_refusal is) ∙ refusal in cc none
 
 -- ---- a key that wasn't opened
 
@@ -153,14 +153,14 @@ module _ (rules : Rules) (options : OptionValues) (grip : Grip) (locked : Locked
 
   client_vain : (before : Option ℕ) (events : List Event) (why : Refusal) (after : Option ℕ) → ClientOld rules options grip locked before events (Err why) after → Vain events
   unfolding ClientOld
-  client_vain _ _ _ _ (stops (stops (client_parts.cut unsent is))) = (tt, tt)
-  client_vain _ _ _ _ (stops (goes_on client_parts.written (client_parts.not_given is))) = (tt, (tt, tt))
-  client_vain _ _ _ _ (goes_on (goes_on client_parts.written (client_parts.given is)) (stops passphrases.no_memory)) = (tt, (tt, (tt, tt)))
-  client_vain _ _ _ _ (goes_on (goes_on client_parts.written (client_parts.given is)) (goes_on (passphrases.stays closed) (stops chain.refuses))) = (tt, (tt, tt))
-  client_vain _ _ _ _ (goes_on (goes_on client_parts.written (client_parts.given is)) (goes_on (passphrases.stays closed) (goes_on never more))) = elim never [ ]
-  client_vain _ _ _ _ (goes_on (goes_on client_parts.written (client_parts.given is)) (goes_on (passphrases.opens to) (stops never))) = elim never [ ]
-  client_vain _ _ _ _ (goes_on (goes_on client_parts.written (client_parts.given is)) (goes_on (passphrases.opens to) (goes_on returns (stops (taken.interrupted can why))))) = (tt, (tt, interrupted_put _ why))
-  client_vain _ _ _ _ (goes_on (goes_on client_parts.written (client_parts.given is)) (goes_on (passphrases.opens to) (goes_on returns (goes_on (taken.done can) never)))) = elim never [ ]
+  client_vain _ _ _ _ (stops (stops (client_actions.cut unsent is))) = (tt, tt)
+  client_vain _ _ _ _ (stops (goes_on client_actions.written (client_actions.not_given is))) = (tt, (tt, tt))
+  client_vain _ _ _ _ (goes_on (goes_on client_actions.written (client_actions.given is)) (stops passphrases.no_memory)) = (tt, (tt, (tt, tt)))
+  client_vain _ _ _ _ (goes_on (goes_on client_actions.written (client_actions.given is)) (goes_on (passphrases.stays closed) (stops chain.refuses))) = (tt, (tt, tt))
+  client_vain _ _ _ _ (goes_on (goes_on client_actions.written (client_actions.given is)) (goes_on (passphrases.stays closed) (goes_on never more))) = elim never [ ]
+  client_vain _ _ _ _ (goes_on (goes_on client_actions.written (client_actions.given is)) (goes_on (passphrases.opens to) (stops never))) = elim never [ ]
+  client_vain _ _ _ _ (goes_on (goes_on client_actions.written (client_actions.given is)) (goes_on (passphrases.opens to) (goes_on returns (stops (taken.interrupted can why))))) = (tt, (tt, interrupted_put _ why))
+  client_vain _ _ _ _ (goes_on (goes_on client_actions.written (client_actions.given is)) (goes_on (passphrases.opens to) (goes_on returns (goes_on (taken.done can) never)))) = elim never [ ]
 
   uncached_vain : (way : PinMode) (before : Option ℕ) (events : List Event) (why : Refusal) (after : Option ℕ) → UncachedOld rules options grip way locked before events (Err why) after → AllByRecursion Remembers events
       → Vain events
@@ -197,10 +197,10 @@ module _ (rules : Rules) (options : OptionValues) (grip : Grip) (locked : Locked
   locked_vain (Some id) _ _ _ _ (goes_on (taken.opened can) (stops never)) remembers = elim never [ ]
 
 reads_vain : (Vain : List ℕ → Type 0) {grip : Grip} {before after : Option ℕ} {events : List Event} {result : _} → ReadsFile grip before events result after → AllByRecursion (IsVain Vain) events
-reads_vain Vain (parts.is_key is says) = (tt, tt)
-reads_vain Vain (parts.faulty is says) = (tt, tt)
-reads_vain Vain (parts.no_memory is) = (tt, (tt, tt))
-reads_vain Vain (parts.unread is) = (tt, tt)
+reads_vain Vain (actions.is_key is says) = (tt, tt)
+reads_vain Vain (actions.faulty is says) = (tt, tt)
+reads_vain Vain (actions.no_memory is) = (tt, (tt, tt))
+reads_vain Vain (actions.unread is) = (tt, tt)
 
 -- no passphrase among these events opens the key whose file was read
 record Unopened (whole : List Event) (grip : Grip) (events : List Event) : Type 1 where
@@ -273,7 +273,7 @@ IsDue key why = code.BadSecKey ≡ why
 abbrev ByRead : Deciding
 ByRead = by_file None IsDue
 
--- what stands behind the parts of a request
+-- what stands behind the actions of a request
 record Behind (more : List Event) : Type 1 where
   vain : (Vain : List ℕ → Type 0) → AllByRecursion (IsVain Vain) more
   free : AllByRecursion (IsFree ByRead) more
@@ -290,31 +290,31 @@ behind_of {held} {back} line closes = record {
 module _ (rules : Rules) (kept : SessionState) (grip : Grip) (new : Option (List ℕ)) (file : List ℕ) (key : Key) where
   changed_long : (before : Option ℕ) (events : List Event) (result : Result (Unit {0}) Refusal) (after : Option ℕ) → ChangesOpened rules kept.options grip new file key before events result after
       → MAX_LIST_LEN < length (key_list_of key) → SaysTo NoneOwed result code.BadSecKey
-  changed_long _ _ _ _ (stops (parts.long much)) many = refl
-  changed_long _ _ _ _ (goes_on (parts.short few) does) many = let no : ⊥ = omega (arith, few, many) in absurd no
+  changed_long _ _ _ _ (stops (actions.long much)) many = refl
+  changed_long _ _ _ _ (goes_on (actions.short few) does) many = let no : ⊥ = omega (arith, few, many) in absurd no
 
   module _ (whole : List Event) (request : Request) (read_so : IsReadOf whole grip file) (opens : OpensRead whole rules kept.options request grip key) (long : HasLongFile whole rules kept request grip) where
     rewrites_long : (pass : List ℕ) (before : Option ℕ) (events : List Event) (result : Result (Unit {0}) Refusal) (after : Option ℕ) → RewritesFile rules kept.options grip file key pass before events result after
         → StandIn events whole → AllByRecursion Remembers events → AllByRecursion IsUndrawn events ⊎ SaysTo NoneOwed result code.BadSecKey
     unfolding RewritesFile
     rewrites_long pass _ _ _ _ (stops small.faulted) stands_so remembers = inl (tt, tt)
-    rewrites_long pass _ _ _ _ (goes_on (small.drawn many) (stops parts.no_memory)) stands_so remembers = absurd (remembers.1.0 tt)
-    rewrites_long pass _ _ _ _ (goes_on (small.drawn many) (goes_on parts.made (stops (files.too_long new_file other with_list much)))) stands_so remembers = inr refl
-    rewrites_long pass _ _ _ _ (goes_on (small.drawn many) (goes_on parts.made (stops (files.no_memory other)))) stands_so remembers = absurd (remembers.1.0 tt)
-    rewrites_long pass _ _ _ _ (goes_on (small.drawn many) (goes_on parts.made (goes_on (files.canonical_file is) does))) stands_so remembers =
+    rewrites_long pass _ _ _ _ (goes_on (small.drawn many) (stops actions.no_memory)) stands_so remembers = absurd (remembers.1.0 tt)
+    rewrites_long pass _ _ _ _ (goes_on (small.drawn many) (goes_on actions.made (stops (files.too_long new_file other with_list much)))) stands_so remembers = inr refl
+    rewrites_long pass _ _ _ _ (goes_on (small.drawn many) (goes_on actions.made (stops (files.no_memory other)))) stands_so remembers = absurd (remembers.1.0 tt)
+    rewrites_long pass _ _ _ _ (goes_on (small.drawn many) (goes_on actions.made (goes_on (files.canonical_file is) does))) stands_so remembers =
         let other = (long file key pass _ read_so opens (protected (record { long = many; has = has_first stands_so }) refl)).0 in absurd (cc (is, other))
-    rewrites_long pass _ _ _ _ (goes_on (small.drawn many) (goes_on parts.made (goes_on (files.extended_file {new = new_file} other with_list few) does))) stands_so remembers =
+    rewrites_long pass _ _ _ _ (goes_on (small.drawn many) (goes_on actions.made (goes_on (files.extended_file {new = new_file} other with_list few) does))) stands_so remembers =
         let much = (long file key pass _ read_so opens (protected (record { long = many; has = has_first stands_so }) refl)).1 new_file with_list in
         let no : ⊥ = omega (arith, few, much) in absurd no
 
     changes_long : (before : Option ℕ) (events : List Event) (result : Result (Unit {0}) Refusal) (after : Option ℕ) → ChangesOpened rules kept.options grip new file key before events result after
         → StandIn events whole → AllByRecursion Remembers events → AllByRecursion IsUndrawn events ⊎ SaysTo NoneOwed result code.BadSecKey
-    changes_long _ _ _ _ (stops (parts.long much)) stands_so remembers = inl tt
-    changes_long _ _ _ _ (goes_on (parts.short few) (stops renews)) stands_so remembers = inl (each_fits IsUndrawn tt (renewed.of _ _ _ _ renews))
+    changes_long _ _ _ _ (stops (actions.long much)) stands_so remembers = inl tt
+    changes_long _ _ _ _ (goes_on (actions.short few) (stops renews)) stands_so remembers = inl (each_fits IsUndrawn tt (renewed.of _ _ _ _ renews))
       where
         renewed : WorksSo IsUndrawn (RenewsPassphrase rules kept.options grip new)
         renewed = bind IsUndrawn (looks_nonce undrawn_keys new) (λ found. or_otherwise IsUndrawn found (new_here undrawn_keys rules kept.options grip kept.options.mode))
-    changes_long _ _ _ _ (goes_on (parts.short few) (goes_on {first = some} {events = last} renews does)) stands_so remembers =
+    changes_long _ _ _ _ (goes_on (actions.short few) (goes_on {first = some} {events = last} renews does)) stands_so remembers =
         elim (rewrites_long _ _ _ _ _ does (stand_right some last stands_so) (each_right Remembers some last remembers)) [
           | inl undrawn ↦ inl (each_append IsUndrawn some last (each_fits IsUndrawn tt (renewed.of _ _ _ _ renews)) undrawn)
           | inr says ↦ inr says
@@ -370,14 +370,14 @@ module _ (one_canon : (file : List ℕ) (a b : Option (List ℕ)) → Canon file
   unfolding PasswdReplies
   passwd_long _ _ _ (stops does) is remembers opened long_so =
       unread_long does is remembers (opened_clear (unopened_all is (record { vain = λ pass. ⊥; each = reads_vain (λ pass. ⊥) does; never = λ pass opens none. none })) opened)
-  passwd_long _ _ _ (goes_on (parts.is_key {answer} {key} found says) (stops {first = second} does)) is remembers opened long_so =
+  passwd_long _ _ _ (goes_on (actions.is_key {answer} {key} found says) (stops {first = second} does)) is remembers opened long_so =
       let unopened = old_unopened rules kept.options grip whole key (is_read found says _ is) old key.is_clear _ _ _ _ does remembers.1 in
       let one = opened_clear (unopened_all {events = Port (Keys (Read grip answer)) ∷ second} is (record { vain = unopened.1.vain; each = (tt, unopened.1.each); never = unopened.1.never })) opened in
       let all_clear : key.is_clear ≡ true = one.all_clear key (is_read found says _ is) in
       absurd (cc (unopened.0, all_clear))
-  passwd_long _ _ _ (goes_on (parts.is_key {file} found says) (goes_on {value = opened_key} old_does (stops does))) is remembers opened long_so =
+  passwd_long _ _ _ (goes_on (actions.is_key {file} found says) (goes_on {value = opened_key} old_does (stops does))) is remembers opened long_so =
       changed_long rules kept grip new file opened_key.key _ _ _ _ does (long_so opened_key.key (opens_read found says _ is _ _ _ _ _ refl old_does))
-  passwd_long _ _ _ (goes_on (parts.is_key {file} found says) (goes_on {value = opened_key} old_does (goes_on does returns))) is remembers opened long_so =
+  passwd_long _ _ _ (goes_on (actions.is_key {file} found says) (goes_on {value = opened_key} old_does (goes_on does returns))) is remembers opened long_so =
       absurd (changed_long rules kept grip new file opened_key.key _ _ _ _ does (long_so opened_key.key (opens_read found says _ is _ _ _ _ _ refl old_does)))
 
   drawn_none : (events : List Event) {drawn : List ℕ} → whole ≡ events ++ more → AllByRecursion IsUndrawn events → IsDrawn whole 20 drawn → ⊥
@@ -387,9 +387,9 @@ module _ (one_canon : (file : List ℕ) (a b : Option (List ℕ)) → Canon file
       → whole ≡ events ++ more → AllByRecursion Remembers events → IsDrawn whole 20 drawn → HasLongFile whole rules kept request grip → SaysTo NoneOwed result code.BadSecKey
   unfolding PasswdReplies
   passwd_long_file _ _ _ _ (stops does) is remembers drawn long_so = absurd (drawn_none _ is (each_fits IsUndrawn tt (work.reads_file IsUndrawn tt (λ answer. tt) _ _ _ _ does).0) drawn)
-  passwd_long_file _ _ _ _ (goes_on (parts.is_key {answer} {key} found says) (stops {first = second} does)) is remembers drawn long_so =
+  passwd_long_file _ _ _ _ (goes_on (actions.is_key {answer} {key} found says) (stops {first = second} does)) is remembers drawn long_so =
       absurd (drawn_none (Port (Keys (Read grip answer)) ∷ second) is (tt, each_fits IsUndrawn tt ((old_here undrawn_keys rules kept.options grip (λ pass turn. tt) old key key.is_clear).of _ _ _ _ does)) drawn)
-  passwd_long_file _ _ _ _ (goes_on (parts.is_key {answer} {file} {key} found says) (goes_on {first = second} {events = third} {value = opened_key} old_does (stops does))) is remembers drawn long_so =
+  passwd_long_file _ _ _ _ (goes_on (actions.is_key {answer} {file} {key} found says) (goes_on {first = second} {events = third} {value = opened_key} old_does (stops does))) is remembers drawn long_so =
       let opens = opens_read found says _ is _ _ _ _ _ refl old_does in
       elim (changes_long rules kept grip new file opened_key.key whole request (read_of found (has_read found says _ is)) opens long_so _ _ _ _ does
       (stand_right second third (rest_stands found says _ is)) (each_right Remembers second third remembers.1)) [
@@ -397,7 +397,7 @@ module _ (one_canon : (file : List ℕ) (a b : Option (List ℕ)) → Canon file
             (tt, each_append IsUndrawn second third (each_fits IsUndrawn tt ((old_here undrawn_keys rules kept.options grip (λ pass turn. tt) old key key.is_clear).of _ _ _ _ old_does)) undrawn) drawn)
         | inr so ↦ so
       ]
-  passwd_long_file _ _ _ _ (goes_on (parts.is_key {answer} {file} {key} found says) (goes_on {first = second} {value = opened_key} old_does (goes_on {first = third} does returns))) is remembers drawn long_so =
+  passwd_long_file _ _ _ _ (goes_on (actions.is_key {answer} {file} {key} found says) (goes_on {first = second} {value = opened_key} old_does (goes_on {first = third} does returns))) is remembers drawn long_so =
       let opens = opens_read found says _ is _ _ _ _ _ refl old_does in
       elim (changes_long rules kept grip new file opened_key.key whole request (read_of found (has_read found says _ is)) opens long_so _ _ _ _ does
       (stand_left third [] (stand_right second (third ++ []) (rest_stands found says _ is))) (each_left Remembers third [] (each_right Remembers second (third ++ []) remembers.1))) [
@@ -420,9 +420,9 @@ module _ (one_canon : (file : List ℕ) (a b : Option (List ℕ)) → Canon file
     where
       run : {whole : List Event} {after : WrapKeys} {went : KeyWent} → KeyExchange rules kept.options kept.wraps (on.Passwd grip old new false) whole after went → AllByRecursion Remembers whole → IsOpened whole grip old
           → HasLongList whole rules kept request grip → HasError code.BadSecKey OfAgent whole
-      run (part_exchanges.answered some held reply {back} does closes) all opened_so list_so =
+      run (action_exchanges.answered some held reply {back} does closes) all opened_so list_so =
           absurd (passwd_long one_canon rules kept request grip old new is _ _ (behind_of (Some reply.text) closes) _ _ _ does refl (each_left Remembers some _ all) opened_so list_so)
-      run (part_exchanges.refused some held why {back} does closes) all opened_so list_so =
+      run (action_exchanges.refused some held why {back} does closes) all opened_so list_so =
           said_error some back (refusal_line why) code.BadSecKey (passwd_long one_canon rules kept request grip old new is _ _ (behind_of (refusal_line why) closes) _ _ _ does refl (each_left Remembers some _ all) opened_so list_so)
   long_answered {events = whole} {after} {went} same exchanged remembers (long_file {grip} {old} {new} is drawn file_long) =
       let asked_is : _ ≡ on.Passwd grip old new false = some_key (sym same ∙ is) in
@@ -430,7 +430,7 @@ module _ (one_canon : (file : List ℕ) (a b : Option (List ℕ)) → Canon file
     where
       run : {whole : List Event} {after : WrapKeys} {went : KeyWent} {bytes : List ℕ} → KeyExchange rules kept.options kept.wraps (on.Passwd grip old new false) whole after went → AllByRecursion Remembers whole
           → IsDrawn whole 20 bytes → HasLongFile whole rules kept request grip → HasError code.BadSecKey OfAgent whole
-      run (part_exchanges.answered some held reply {back} does closes) all drawn_so file_so =
+      run (action_exchanges.answered some held reply {back} does closes) all drawn_so file_so =
           absurd (passwd_long_file one_canon rules kept request grip old new is _ _ (behind_of (Some reply.text) closes) _ _ _ _ does refl (each_left Remembers some _ all) drawn_so file_so)
-      run (part_exchanges.refused some held why {back} does closes) all drawn_so file_so =
+      run (action_exchanges.refused some held why {back} does closes) all drawn_so file_so =
           said_error some back (refusal_line why) code.BadSecKey (passwd_long_file one_canon rules kept request grip old new is _ _ (behind_of (refusal_line why) closes) _ _ _ _ does refl (each_left Remembers some _ all) drawn_so file_so)

@@ -2,15 +2,15 @@
 use Rattle.std.{specs.{List.AllByRecursion, Prelude.not}, proofs.Common.{◌≡◌, ◌∙◌, ◌⊎◌, ℕ, Bool, true, false, List, codes, Option, Some, None, Result, Ok, Err, sym, ap, subst, inl, inr, []}}
 use Rattle.{agent_ports.specs.declared.{grip.Grip.Grip, keys.{KeyDone.KeyDone, KeyRead.KeyRead}}, assuan_server.specs.Written.{failed, refusal_line}, session_client.specs.declared.{code.Code.Code, refusal.Refusal.Refusal}}
 use Rattle.{session_client.specs.declared.refusal.Refusal.TheVariants.Agent, key_lines.specs.Canon.Canon, secret_file.specs.Answers.IsLockedFault, sexp_keys.specs.{Key.Key, declared.fault.KeyFault.KeyFault}}
-use Rattle.key_commands.specs.{Lines.max_key_data, Events.Event, Faults.fault_code, Files.FileSays, KeyParts.{ReadsFile, Removes, IsFree, AsksKeyData, Unwraps, ReceivesKey, file_in, change_fault}, Parts.{Finds, read_fault}}
-use Rattle.{key_commands.specs.{Passphrases.Locks, Wrapping.WrappedSays}, agent_ask.specs.Parts.{wanted, refuses, returns}}
+use Rattle.key_commands.specs.{Lines.max_key_data, Events.Event, Faults.fault_code, Files.FileSays, KeyActions.{ReadsFile, Removes, IsFree, AsksKeyData, Unwraps, ReceivesKey, file_in, change_fault}, Actions.{Finds, read_fault}}
+use Rattle.{key_commands.specs.{Passphrases.Locks, Wrapping.WrappedSays}, agent_ask.specs.Actions.{wanted, refuses, returns}}
 use Rattle.agent_session.{specs.Completeness.Remembers, proofs.Decisions.ExactFiles.{one_says, one_locked_fault, no_locked_fault, one_wrapped}}
-use Rattle.agent_session.proofs.Decisions.ExactParts.{Deciding, IsDecided, never_decided, NoneDue, NoneOwed, SaysTo, Heeds, bind, decided_only, inquires_of, IsSaidAlone, free, said_alone}
+use Rattle.agent_session.proofs.Decisions.ExactActions.{Deciding, IsDecided, never_decided, NoneDue, NoneOwed, SaysTo, Heeds, bind, decided_only, inquires_of, IsSaidAlone, free, said_alone}
 use Rattle.agent_ports.specs.declared.keys.KeyDone.TheVariants as key_done
 use Rattle.agent_ports.specs.declared.keys.KeyRead.TheVariants as key_read
 use Rattle.session_client.specs.declared.code.Code.TheVariants as code
-use Rattle.key_commands.specs.KeyParts as parts
-use Rattle.key_commands.specs.Parts as small
+use Rattle.key_commands.specs.KeyActions as actions
+use Rattle.key_commands.specs.Actions as small
 use Rattle.key_commands.specs.Passphrases as passphrases
 use Rattle.agent_session.proofs.Courses.Works as work
 
@@ -93,11 +93,11 @@ module _ (one_canon : (file : List ℕ) (a b : Option (List ℕ)) → Canon file
 
   pub reads_file : (grip : Grip) → Heeds (by_file wrap Owes) NoneDue (ReadsFile grip) (λ file why. Owes file.key why)
   reads_file grip before events result after does remembers why (inl due) = absurd due
-  reads_file grip before events result after (parts.is_key {answer} {file} {key} is says) remembers why (inr decided) = found_owed answer file key why is says (decided_only (by_file wrap Owes) decided)
-  reads_file grip before events result after (parts.faulty {answer} {file} {fault} is says) remembers why (inr decided) =
+  reads_file grip before events result after (actions.is_key {answer} {file} {key} is says) remembers why (inr decided) = found_owed answer file key why is says (decided_only (by_file wrap Owes) decided)
+  reads_file grip before events result after (actions.faulty {answer} {file} {fault} is says) remembers why (inr decided) =
       same_line (found_faulty answer file fault why is says (decided_only (by_file wrap Owes) decided))
-  reads_file grip before events result after (parts.no_memory is) remembers why (inr decided) = absurd (remembers.1.0 tt)
-  reads_file grip before events result after (parts.unread {answer} {code = given} is) remembers why (inr decided) = same_line (unread_so answer given why is (decided_only (by_file wrap Owes) decided))
+  reads_file grip before events result after (actions.no_memory is) remembers why (inr decided) = absurd (remembers.1.0 tt)
+  reads_file grip before events result after (actions.unread {answer} {code = given} is) remembers why (inr decided) = same_line (unread_so answer given why is (decided_only (by_file wrap Owes) decided))
 
 -- the fault of its protection is due
 module _ (deciding : Deciding) (key : Key) where
@@ -152,8 +152,8 @@ module _ (wrap : Option (List ℕ)) where
 
   pub removes : (grip : Grip) → Heeds (by_absence wrap) NoneDue (Removes grip) NoneOwed
   removes grip before events result after does remembers why (inl due) = absurd due
-  removes grip before events result after parts.done remembers why (inr decided) = decided_only ByAbsence decided
-  removes grip before events result after (parts.not_done {answer} {code = given} is) remembers why (inr decided) = same_line (unremoved answer given why is (decided_only ByAbsence decided))
+  removes grip before events result after actions.done remembers why (inr decided) = decided_only ByAbsence decided
+  removes grip before events result after (actions.not_done {answer} {code = given} is) remembers why (inr decided) = same_line (unremoved answer given why is (decided_only ByAbsence decided))
 
 -- ---- keys that come in
 
@@ -172,20 +172,20 @@ module _ (force : Bool) (wrap : List ℕ) where
   -- the bytes that were sent are due
   asks_key_data_of : (before : Option ℕ) (events : List Event) (result : Result (List ℕ) Refusal) (after : Option ℕ) → AsksKeyData before events result after → AllByRecursion Remembers events
       → (why : Code) → NoneDue why ⊎ IsDecided ByImport events why → SaysTo (λ bytes why. SentRefuses (Some wrap) bytes why) result why
-  asks_key_data_of before events (Ok bytes) after (parts.asked does) remembers why due = (inquires_of ByImport (codes "KEYDATA") max_key_data before events (Ok bytes) before does remembers why due).1
-  asks_key_data_of before events (Err refusal) after (parts.asked does) remembers why due = inquires_of ByImport (codes "KEYDATA") max_key_data before events (Err refusal) before does remembers why due
-  asks_key_data_of before events result after (parts.no_memory at_end) remembers why due = absurd (remembers.1.0 tt)
+  asks_key_data_of before events (Ok bytes) after (actions.asked does) remembers why due = (inquires_of ByImport (codes "KEYDATA") max_key_data before events (Ok bytes) before does remembers why due).1
+  asks_key_data_of before events (Err refusal) after (actions.asked does) remembers why due = inquires_of ByImport (codes "KEYDATA") max_key_data before events (Err refusal) before does remembers why due
+  asks_key_data_of before events result after (actions.no_memory at_end) remembers why due = absurd (remembers.1.0 tt)
 
   unwraps_of : (wrapped : List ℕ) (before : Option ℕ) (events : List Event) (result : Result Key Refusal) (after : Option ℕ) → Unwraps wrap wrapped before events result after → AllByRecursion Remembers events
       → (why : Code) → SentRefuses (Some wrap) wrapped why ⊎ IsDecided ByImport events why → SaysTo NoneOwed result why
-  unwraps_of wrapped before events result after (parts.is_key {key} says) remembers why (inl due) = let e : Ok key ≡ Err why = one_wrapped wrap wrapped (Ok key) (Err why) says due in cc e
-  unwraps_of wrapped before events result after (parts.is_key says) remembers why (inr decided) = never_decided ByImport [] tt decided
-  unwraps_of wrapped before events result after (parts.refused {code = given} says) remembers why (inl due) =
+  unwraps_of wrapped before events result after (actions.is_key {key} says) remembers why (inl due) = let e : Ok key ≡ Err why = one_wrapped wrap wrapped (Ok key) (Err why) says due in cc e
+  unwraps_of wrapped before events result after (actions.is_key says) remembers why (inr decided) = never_decided ByImport [] tt decided
+  unwraps_of wrapped before events result after (actions.refused {code = given} says) remembers why (inl due) =
       let e : Err given ≡ Err why = one_wrapped wrap wrapped (Err given) (Err why) says due in
       let same : given ≡ why = cc in
       same_line same
-  unwraps_of wrapped before events result after (parts.refused says) remembers why (inr decided) = absurd (never_decided ByImport [] tt decided)
-  unwraps_of wrapped before events result after parts.no_memory remembers why due = absurd (remembers.0 tt)
+  unwraps_of wrapped before events result after (actions.refused says) remembers why (inr decided) = absurd (never_decided ByImport [] tt decided)
+  unwraps_of wrapped before events result after actions.no_memory remembers why due = absurd (remembers.0 tt)
 
   pub receives_key : Heeds ByImport NoneDue (ReceivesKey wrap) NoneOwed
   receives_key =

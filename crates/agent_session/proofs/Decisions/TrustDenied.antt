@@ -1,18 +1,18 @@
 -- A request on the trust list is answered Not trusted wherever a read of the file says so.
 use Rattle.std.{specs.List.AllByRecursion, proofs.Common.{◌≡◌, ◌⊎◌, ◌∙◌, ℕ, Bool, true, false, List, [], ◌∷◌, ◌++◌, Option, Some, None, Result, Ok, Err, refl, sym, subst, inl, inr}}
-use Rattle.agent_ask.specs.{SessionEvents.said_last, TrustCalls.TrustCall, Parts.{◌>>=◌, Follows, Refuses}, ConsentParts.AgreesTo, TurnParts.Closes}
+use Rattle.agent_ask.specs.{SessionEvents.said_last, TrustCalls.TrustCall, Actions.{◌>>=◌, Follows, Refuses}, ConsentActions.AgreesTo, TurnActions.Closes}
 use Rattle.{agent_ask.proofs.Within.{Within, Joins, OfNothing, Does, weaker, bind, returned, refused, refused_so}, assuan_server.specs.{Written.{ok, failed, refusal_line}, declared.errors.Origin.TheVariants.Agent, Clients.session_lines}}
-use Rattle.{agent_commands.specs.declared.went.Went.Went, agent_ports.specs.declared.grip.Grip.Grip, session_client.specs.declared.refusal.Refusal.Refusal, key_commands.specs.{Events.{Event, out_of_memory}, Parts.Part}}
+use Rattle.{agent_commands.specs.declared.went.Went.Went, agent_ports.specs.declared.grip.Grip.Grip, session_client.specs.declared.refusal.Refusal.Refusal, key_commands.specs.{Events.{Event, out_of_memory}, Actions.Action}}
 use Rattle.{key_commands.proofs.{EachEvent.{EachSo, each_seats, agrees_to}, EachRequest.{IsBesideTrust, still_beside}}, session_options.specs.{OptionValues.OptionValues, declared.{options.PinMode.PinMode, rules.Rules.Rules}}}
 use Rattle.{trust_list.specs.Trust.trust, agent_origin.specs.TrustExchanges.{flag_of, trust_question, fingerprint_question, unless_said, TrustedNow, Stores, StoresUnsaid, Consented, asked_in, Marked, Carried, TrustExchange}}
-use Rattle.agent_origin.{specs.{TrustParts.{ReadsFile, Replaces, trust_called}, declared.trust.request.{TrustPurpose.TrustPurpose, TrustRequest.{TrustRequest, TheVariants.{IsTrusted, MarkTrusted}}}}, proofs.EachTrust.each_adds}
+use Rattle.agent_origin.{specs.{TrustActions.{ReadsFile, Replaces, trust_called}, declared.trust.request.{TrustPurpose.TrustPurpose, TrustRequest.{TrustRequest, TheVariants.{IsTrusted, MarkTrusted}}}}, proofs.EachTrust.each_adds}
 use Rattle.agent_session.{specs.{Causes.{Has, here, later}, Completeness.HasError, DoorCauses.{IsReadTrust, read_trust, IsAsked, IsNotTrusted, unsaid, denied, denied_mark}}, proofs.Standing.has_right}
 use Rattle.agent_session.proofs.Decisions.TrustTold.{Told, answered, refused as refused_then, told}
 use Rattle.session_client.specs.declared.code.Code.TheVariants as code
 use Rattle.session_options.specs.declared.options.PinMode.TheVariants as mode
-use Rattle.agent_ask.specs.Parts as chain
-use Rattle.agent_ask.specs.TurnParts as taken
-use Rattle.agent_origin.specs.TrustParts as parts
+use Rattle.agent_ask.specs.Actions as chain
+use Rattle.agent_ask.specs.TurnActions as taken
+use Rattle.agent_origin.specs.TrustActions as actions
 
 -- no call of the trust file is among events that are beside it
 pub none_called : (events : List Event) → AllByRecursion IsBesideTrust events → {call : TrustCall} → Has (trust_called call) events → ⊥
@@ -28,34 +28,34 @@ split (other ∷ first) more (later has) = elim (split first more has) [ inl bef
 split_read : (first more : List Event) {file : List ℕ} → IsReadTrust (first ++ more) file → IsReadTrust first file ⊎ IsReadTrust more file
 split_read first more (read_trust {answer} is has) = elim (split first more has) [ inl before ↦ inl (read_trust {answer = answer} is before) | inr behind ↦ inr (read_trust {answer = answer} is behind) ]
 
--- a part that comes to nothing else than Not trusted
+-- an action that comes to nothing else than Not trusted
 abbrev IsDenial : {A : Type 0} → Result A Refusal → Type 0
 IsDenial (Ok value) = ⊥
 IsDenial (Err why) = refusal_line why ≡ Some (failed code.NotTrusted)
 
-abbrev Denies : {A : Type 0} → Part A → Type 0
-Denies part = Within part (λ before events result after. IsDenial result)
+abbrev Denies : {A : Type 0} → Action A → Type 0
+Denies action = Within action (λ before events result after. IsDenial result)
 
 denies_refused : {A : Type 0} {why : Refusal} → refusal_line why ≡ Some (failed code.NotTrusted) → Denies (Refuses {A = A} why)
 denies_refused {why} is = refused_so why (λ held. is)
 
 -- this is what the read file says of the certificate
 module _ (fingerprint : Grip) (file : List ℕ) where
-  -- by no event of such a part the file is read that has these bytes
+  -- by no event of such an action the file is read that has these bytes
   abbrev Unread : List Event → Type 0
   Unread events = ¬ IsReadTrust events file
 
-  abbrev ReadsNot : {A : Type 0} → Part A → Type 0
-  ReadsNot part = Within part (Does Unread)
+  abbrev ReadsNot : {A : Type 0} → Action A → Type 0
+  ReadsNot action = Within action (Does Unread)
 
-  -- where it is read by a part, that is refused as Not trusted
-  abbrev HeedLaw : {A : Type 0} → Part A
+  -- where it is read by an action, that is refused as Not trusted
+  abbrev HeedLaw : {A : Type 0} → Action A
   HeedLaw before events result after = IsReadTrust events file → IsDenial result
 
-  abbrev Heeds : {A : Type 0} → Part A → Type 0
-  Heeds part = Within part HeedLaw
+  abbrev Heeds : {A : Type 0} → Action A → Type 0
+  Heeds action = Within action HeedLaw
 
-  by_never : {A : Type 0} {part : Part A} → ReadsNot part → Heeds part
+  by_never : {A : Type 0} {action : Action A} → ReadsNot action → Heeds action
   by_never = weaker (record { of = λ before events result after never is_read. absurd (never is_read) })
 
   none_read : Unread []
@@ -75,7 +75,7 @@ module _ (fingerprint : Grip) (file : List ℕ) where
   none_among [] each is_read = none_read is_read
   none_among (event ∷ more) each is_read = elim (split_read (event ∷ []) more is_read) [ inl before ↦ each.0 before | inr behind_it ↦ none_among more each.1 behind_it ]
 
-  each_unread : {A : Type 0} {part : Part A} → EachSo IsUnread part → ReadsNot part
+  each_unread : {A : Type 0} {action : Action A} → EachSo IsUnread action → ReadsNot action
   each_unread = weaker (record { of = λ before events result after each. none_among events each })
 
   beside_unread : (event : Event) → IsBesideTrust event → IsUnread event
@@ -85,27 +85,27 @@ module _ (fingerprint : Grip) (file : List ℕ) where
   agrees_never rules options question = each_unread (agrees_to IsUnread (λ event still. beside_unread event (still_beside event still)) (λ event. beside_unread _ tt) rules options question)
 
   replaces_of : (new : List ℕ) (before : Option ℕ) (events : List Event) (result : Result (Unit {0}) Refusal) (after : Option ℕ) → Replaces new before events result after → Unread events
-  replaces_of new _ _ _ _ parts.replaced (read_trust is (later has)) = elim has [ ]
-  replaces_of new _ _ _ _ parts.faulted (read_trust is (later has)) = elim has [ ]
-  replaces_of new _ _ _ _ parts.no_memory (read_trust is (later has)) = elim has [ ]
+  replaces_of new _ _ _ _ actions.replaced (read_trust is (later has)) = elim has [ ]
+  replaces_of new _ _ _ _ actions.faulted (read_trust is (later has)) = elim has [ ]
+  replaces_of new _ _ _ _ actions.no_memory (read_trust is (later has)) = elim has [ ]
 
-  -- a part that doesn't read, and then one that heeds what it reads
+  -- an action that doesn't read, and then one that heeds what it reads
   unread_joins : {A B : Type 0} → Joins {A = A} {B = B} (Does Unread) (λ value. HeedLaw) HeedLaw
   unread_joins = record {
     then = λ some more never heeds is_read. elim (split_read some more is_read) [ inl before ↦ absurd (never before) | inr behind_it ↦ heeds behind_it ];
     alone = λ never is_read. absurd (never is_read);
   }
 
-  behind : {A B : Type 0} {part : Part A} {next : A → Part B} → ReadsNot part → ((value : A) → Heeds (next value)) → Heeds (part >>= next)
+  behind : {A B : Type 0} {action : Action A} {next : A → Action B} → ReadsNot action → ((value : A) → Heeds (next value)) → Heeds (action >>= next)
   behind = bind unread_joins
 
   -- a read, by which the request is decided where the file says something
-  module _ (bad : ¬ (trust file fingerprint.0 ≡ Some true)) (otherwise : List ℕ → Part (Unit {0})) (heeds : (other : List ℕ) → Heeds (otherwise other))
+  module _ (bad : ¬ (trust file fingerprint.0 ≡ Some true)) (otherwise : List ℕ → Action (Unit {0})) (heeds : (other : List ℕ) → Heeds (otherwise other))
       (denies_too : trust file fingerprint.0 ≡ None → Denies (otherwise file)) where
-    abbrev Decided : List ℕ → Part (Unit {0})
+    abbrev Decided : List ℕ → Action (Unit {0})
     Decided other = unless_said (trust other fingerprint.0) (otherwise other)
 
-    unless_heeds : (said : Option Bool) (other : Part (Unit {0})) → Heeds other → Heeds (unless_said said other)
+    unless_heeds : (said : Option Bool) (other : Action (Unit {0})) → Heeds other → Heeds (unless_said said other)
     unless_heeds (Some true) other heeds_so = returned heeds_nothing tt
     unless_heeds (Some false) other heeds_so = refuses_heeds
     unless_heeds None other heeds_so = heeds_so
@@ -119,14 +119,14 @@ module _ (fingerprint : Grip) (file : List ℕ) where
     decides = record { of = decides_of }
       where
         decides_of : (before : Option ℕ) (events : List Event) (result : Result (Unit {0}) Refusal) (after : Option ℕ) → Follows ReadsFile Decided before events result after → IsReadTrust events file → IsDenial result
-        decides_of before _ result after (chain.goes_on {events = more} (parts.has_read {file = other} is) does) (read_trust found here) =
+        decides_of before _ result after (chain.goes_on {events = more} (actions.has_read {file = other} is) does) (read_trust found here) =
             let same : other ≡ file = cc in (unless_denies (trust file fingerprint.0) refl).of before more result after (subst (λ o. Decided o before more result after) same does)
-        decides_of before _ result after (chain.goes_on {events = more} (parts.has_read {file = other} is) does) (read_trust {answer} found (later has)) =
+        decides_of before _ result after (chain.goes_on {events = more} (actions.has_read {file = other} is) does) (read_trust {answer} found (later has)) =
             (unless_heeds (trust other fingerprint.0) (otherwise other) (heeds other)).of before more result after does (read_trust {answer = answer} found has)
-        decides_of _ _ _ _ (chain.stops parts.faulted) (read_trust found here) = absurd (cc found)
-        decides_of _ _ _ _ (chain.stops parts.faulted) (read_trust found (later has)) = elim has [ ]
-        decides_of _ _ _ _ (chain.stops parts.no_memory) (read_trust found here) = absurd (cc found)
-        decides_of _ _ _ _ (chain.stops parts.no_memory) (read_trust found (later has)) = elim has [ ]
+        decides_of _ _ _ _ (chain.stops actions.faulted) (read_trust found here) = absurd (cc found)
+        decides_of _ _ _ _ (chain.stops actions.faulted) (read_trust found (later has)) = elim has [ ]
+        decides_of _ _ _ _ (chain.stops actions.no_memory) (read_trust found here) = absurd (cc found)
+        decides_of _ _ _ _ (chain.stops actions.no_memory) (read_trust found (later has)) = elim has [ ]
 
   -- ---- whole requests
 

@@ -2,20 +2,20 @@
 use Rattle.std.proofs.Common.{◌≡◌, List, [], Some, None, Ok, Err, refl, ap, inl, inr}
 use Rattle.{agent_ask.proofs.Within.{Within, Joins, weaker}, assuan_server.specs.Written.{ok, refusal_line}, session_client.specs.{Refusals.gone_by, declared.{refusal.Refusal.TheVariants.Client, client_error.Gone.Gone}}}
 use Rattle.{session_options.specs.{OptionValues.OptionValues, declared.rules.Rules.Rules}, agent_commands.specs.{Endings.{went_after, end_of}, declared.went.Went.{Went, TheVariants.End}}, agent_origin.specs.TrustExchanges.TrustExchange}
-use Rattle.{agent_origin.{specs.declared.trust.request.TrustRequest.TrustRequest, proofs.EachTrust.{TrustLaws, carried_so, each_reads, each_adds, each_replaces}}, key_commands.specs.{Events.Event, Parts.Part}}
+use Rattle.{agent_origin.{specs.declared.trust.request.TrustRequest.TrustRequest, proofs.EachTrust.{TrustLaws, carried_so, each_reads, each_adds, each_replaces}}, key_commands.specs.{Events.Event, Actions.Action}}
 use Rattle.key_commands.proofs.EachEvent.{EachSo, each_seats}
 use Rattle.agent_session.{specs.Causes.IsSaid, proofs.{Courses.{Courses.{IsHeard, heard_so, said_split, said_before, works_said, gone_only, answer_heard}, PromptWorks.agrees_to}, Decisions.TrustTold.{Told, answered, refused, told}}}
 use Rattle.session_client.specs.declared.client_error.ClientError.TheVariants as client_error
 
--- a part that is refused so where the client is gone by one of its events
-abbrev GoneLaw : {A : Type 0} → Part A
+-- an action that is refused so where the client is gone by one of its events
+abbrev GoneLaw : {A : Type 0} → Action A
 GoneLaw before events result after = (how : Gone) → IsSaid events (client_error.Gone how) → result ≡ Err (Client (client_error.Gone how))
 
-abbrev GoneSo : {A : Type 0} → Part A → Type 0
-GoneSo part = Within part GoneLaw
+abbrev GoneSo : {A : Type 0} → Action A → Type 0
+GoneSo action = Within action GoneLaw
 
 -- by none of its events is it
-heard : {A : Type 0} {part : Part A} → EachSo IsHeard part → GoneSo part
+heard : {A : Type 0} {action : Action A} → EachSo IsHeard action → GoneSo action
 heard = weaker (record { of = λ before events result after each how says. absurd (heard_so events each says) })
 
 gone_joins : {A B : Type 0} → Joins {A = A} {B = B} GoneLaw (λ value. GoneLaw) GoneLaw

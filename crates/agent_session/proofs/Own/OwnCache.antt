@@ -1,11 +1,11 @@
 -- What requests on the cache hand to it is their own, and so is the passphrase that they are answered; and so of what each request of a session hands in.
 use Rattle.std.{specs.{List.AllByRecursion, Prelude.⊤}, proofs.Common.{◌≡◌, ℕ, Bool, true, false, List, ◌∷◌, ◌++◌, Option, Some, None, Result, Ok, Err, refl, sym, ◌∙◌, subst, append_assoc, append-nil, codes, []}}
-use Rattle.agent_ask.specs.{ClientParts.{Writes, Inquires}, ConsentParts.AgreesTo, PortCalls.PortCall, PartExchanges.AnyExchange, Parts.{◌>>=◌, Returns, Refuses, needed, or_else}, SessionEvents.{Sent, cache_turn, said_last}}
-use Rattle.{agent_ask.{specs.TurnParts.{Asks, Seats, Changes, Closes}, proofs.Within.{HoldsOf, Within, Joins, returned_so, refused_so}}, assuan_server.specs.{Clients.session_lines, Written.{refusal_line, limit_line}}}
+use Rattle.agent_ask.specs.{ClientActions.{Writes, Inquires}, ConsentActions.AgreesTo, PortCalls.PortCall, ActionExchanges.AnyExchange, Actions.{◌>>=◌, Returns, Refuses, needed, or_else}, SessionEvents.{Sent, cache_turn, said_last}}
+use Rattle.{agent_ask.{specs.TurnActions.{Asks, Seats, Changes, Closes}, proofs.Within.{HoldsOf, Within, Joins, returned_so, refused_so}}, assuan_server.specs.{Clients.session_lines, Written.{refusal_line, limit_line}}}
 use Rattle.cache_policy.specs.{Turns.{Given, FitsStep}, declared.{grant.Grant.Grant, life.Life.{Life, TheVariants.Default}, mark.MarkStep.{MarkStep, TheVariants.{Put, Seat}}, mode.Mode.TheVariants.User, secret.TheConstants.MAX_SECRET_LEN}}
 use Rattle.{session_client.specs.declared.refusal.Refusal.{Refusal, TheVariants.Agent}, session_options.specs.{OptionValues.{OptionValues, applied}, declared.options.OptionAnswer.OptionAnswer}}
 use Rattle.{session_options.specs.declared.{options.{OptionAnswer.TheVariants.{Set, Unknown, Parameter, NotSupported}, PinMode.PinMode}, rules.Rules.Rules}, agent_commands.specs.{Endings.went_after, Events.EventWith}}
-use Rattle.agent_commands.specs.{Exchanges.{CacheExchange, CacheReply, TellsPassphrase, TellsInfo, GivenOrAsked, Presets, CacheReplies, option_replies, confirms_by, put}, Parts.{CachePart, AsksPassphrase}}
+use Rattle.agent_commands.specs.{Exchanges.{CacheExchange, CacheReply, TellsPassphrase, TellsInfo, GivenOrAsked, Presets, CacheReplies, option_replies, confirms_by, put}, Actions.{CacheAction, AsksPassphrase}}
 use Rattle.agent_commands.specs.{Passphrases.{ask, ask_or_open, LooksFor, WantsPrompt, KeepsUnder, ByCache, ByClient, Uncached, WithoutPrompt, PromptsAny, ByUser, as_wanted, passphrase_by}, Requests.{GetFields, get_passphrase}}
 use Rattle.agent_commands.specs.declared.{request.{CacheCommand.CacheCommand, Info.Info, Request.{Request, TheVariants.{Cache, Key as OnKeys, Bad}}, Texts.Texts}, went.Went.Went}
 use Rattle.{key_commands.{proofs.EachEvent.{each_append, EachSo, each_bind, each_refused, each_seats, each_changes, each_wanted}, specs.Lines.of_passphrase}, agent_origin.specs.SessionExchanges.{RequestExchange, cache, keys}}
@@ -14,12 +14,12 @@ use Rattle.agent_session.specs.Causes.{Has, here, wanted, IsSent, sent, on_keys}
 use Rattle.agent_session.specs.OwnPassphrases.{IsPublic, done, closes, helps, tells, notice, IsAnswered, cached, unprompted, typed, SaysOwn, public, passphrase, SaysOwnAlone, for_get, for_preset, by_command, WantsTicket, by_id, unkept}
 use Rattle.agent_session.{specs.OwnPassphrases.{HasTicket, has_ticket, IsAccepted, any, HandsIn, StoresOwn, directly, under_get, under_preset}, proofs.Own.OwnFacts.{ticket_more, accepted_more, sent_more}}
 use Rattle.agent_session.proofs.Own.{OwnLines.{IsOpen, IsPlain, Open, Plain, each_first, each_second, shown_plain, refusal_plain, back_plain, open_are_own, said_last_own}, OwnKeys.{stand_last, key_own}}
-use Rattle.agent_session.proofs.{Own.OwnParts.{IsQuiet, Fit, Fact, AreOwn, own_then, quiet_are_own, whatever, Anything}, Causes.Prompted.has_prompt, Standing.{has_left, has_right}}
-use Rattle.agent_ask.specs.ClientParts as client
-use Rattle.agent_ask.specs.ConsentParts as consent
-use Rattle.agent_ask.specs.PartExchanges as exchange
+use Rattle.agent_session.proofs.{Own.OwnActions.{IsQuiet, Fit, Fact, AreOwn, own_then, quiet_are_own, whatever, Anything}, Causes.Prompted.has_prompt, Standing.{has_left, has_right}}
+use Rattle.agent_ask.specs.ClientActions as client
+use Rattle.agent_ask.specs.ConsentActions as consent
+use Rattle.agent_ask.specs.ActionExchanges as exchange
 use Rattle.agent_ask.proofs.Within as within
-use Rattle.agent_ask.specs.TurnParts as turning
+use Rattle.agent_ask.specs.TurnActions as turning
 use Rattle.cache_policy.specs.Turns as turns
 use Rattle.session_client.specs.declared.code.Code.TheVariants as code
 use Rattle.session_options.specs.declared.options.PinMode.TheVariants as mode
@@ -44,20 +44,20 @@ module _ (rules : Rules) where
     abbrev Mine : List (EventWith PortCall) → MarkStep → Type 0
     Mine = StoresOwn rules kept request
 
-    -- ---- parts
+    -- ---- actions
 
-    -- where this is so, what a part hands in is the request's own, and it writes no passphrase; and then that is so of what it comes to
-    abbrev Owns : {A : Type 0} → Fact → CachePart A → (A → Fact) → Type 0
-    Owns {A} Pre part Post = (prior : List (EventWith PortCall)) (before : Option ℕ) (events : List (EventWith PortCall)) (result : Result A Refusal) (after : Option ℕ) → part before events result after → Pre prior before
+    -- where this is so, what an action hands in is the request's own, and it writes no passphrase; and then that is so of what it comes to
+    abbrev Owns : {A : Type 0} → Fact → CacheAction A → (A → Fact) → Type 0
+    Owns {A} Pre action Post = (prior : List (EventWith PortCall)) (before : Option ℕ) (events : List (EventWith PortCall)) (result : Result A Refusal) (after : Option ℕ) → action before events result after → Pre prior before
         → AreOwn Mine prior events × Open rules events × HoldsOf (λ value. Post value (prior ++ events) after) result
 
     record Owned {A : Type 0} (Pre : Fact) (Post : A → Fact) (before : Option ℕ) (events : List (EventWith PortCall)) (result : Result A Refusal) (after : Option ℕ) : Type 0 where
       so : (prior : List (EventWith PortCall)) → Pre prior before → AreOwn Mine prior events × Open rules events × HoldsOf (λ value. Post value (prior ++ events) after) result
 
-    abbrev OwnUntold : {A : Type 0} → Fact → CachePart A → (A → Fact) → Type 0
-    OwnUntold Pre part Post = Within part (Owned Pre Post)
+    abbrev OwnUntold : {A : Type 0} → Fact → CacheAction A → (A → Fact) → Type 0
+    OwnUntold Pre action Post = Within action (Owned Pre Post)
 
-    owned : {A : Type 0} {Pre : Fact} {Post : A → Fact} {part : CachePart A} → Owns Pre part Post → OwnUntold Pre part Post
+    owned : {A : Type 0} {Pre : Fact} {Post : A → Fact} {action : CacheAction A} → Owns Pre action Post → OwnUntold Pre action Post
     owned owns = record { of = λ before events result after does. record { so = λ prior. owns prior before events result after does } }
 
     owned_join : {A B : Type 0} {Pre : Fact} {Mid : A → Fact} {Post : B → Fact} → Joins (Owned Pre Mid) (λ value. Owned (Mid value) Post) (Owned Pre Post)
@@ -71,8 +71,8 @@ module _ (rules : Rules) where
       alone = λ first. record { so = λ prior pre. let one = first.so prior pre in (one.0, one.1, tt) };
     }
 
-    bind : {A B : Type 0} {Pre : Fact} {Mid : A → Fact} {Post : B → Fact} {part : CachePart A} {next : A → CachePart B} → OwnUntold Pre part Mid → ((value : A) → OwnUntold (Mid value) (next value) Post)
-        → OwnUntold Pre (part >>= next) Post
+    bind : {A B : Type 0} {Pre : Fact} {Mid : A → Fact} {Post : B → Fact} {action : CacheAction A} {next : A → CacheAction B} → OwnUntold Pre action Mid → ((value : A) → OwnUntold (Mid value) (next value) Post)
+        → OwnUntold Pre (action >>= next) Post
     bind = within.bind owned_join
 
     module _ {A : Type 0} {Pre : Fact} {Post : A → Fact} where
@@ -85,7 +85,7 @@ module _ (rules : Rules) where
     plain_own : (prior events : List (EventWith PortCall)) → Plain rules events → AreOwn Mine prior events × Open rules events
     plain_own prior events each = (quiet_are_own Mine prior events (each_first IsQuiet (IsOpen rules) events each), each_second IsQuiet (IsOpen rules) events each)
 
-    plainly : {A : Type 0} {Pre : Fact} {part : CachePart A} → EachSo (IsPlain rules) part → OwnUntold Pre part (λ value. Anything)
+    plainly : {A : Type 0} {Pre : Fact} {action : CacheAction A} → EachSo (IsPlain rules) action → OwnUntold Pre action (λ value. Anything)
     plainly each = owned (λ prior before events result after does pre. let so = plain_own prior events (each.of before events result after does) in (so.0, so.1, whatever result tt))
 
     -- a turn that changes the cache
@@ -166,7 +166,7 @@ module _ (rules : Rules) where
       wants_prompt (Some id) same = owned (λ prior before events result after does pre.
           asks_of (ask_or_open id) (λ hands. elim hands [ ]) (λ prior grant has. unprompted same has) prior before events result after (λ ticket fits. by_id fields is_get same) does pre)
 
-      found_or : (found : Option (List ℕ)) {other : CachePart (List ℕ)} → OwnUntold Held other IsFound → OwnUntold (Known found) (or_else found other) IsFound
+      found_or : (found : Option (List ℕ)) {other : CacheAction (List ℕ)} → OwnUntold Held other IsFound → OwnUntold (Known found) (or_else found other) IsFound
       found_or None other = other
       found_or (Some secret) other = returned secret (λ prior held found. found)
 
@@ -288,8 +288,8 @@ module _ (rules : Rules) where
     abbrev AllOwn : List (EventWith PortCall) → Type 0
     AllOwn events = AreOwn Mine [] events × SaysOwnAlone rules kept.options request events
 
-    exchange_own : {part : CachePart CacheReply} {before after : OptionValues} {events : List (EventWith PortCall)} {went : Went} → OwnUntold Held part Says
-        → AnyExchange refusal_line went_after part before events after went → AllOwn events
+    exchange_own : {action : CacheAction CacheReply} {before after : OptionValues} {events : List (EventWith PortCall)} {went : Went} → OwnUntold Held action Says
+        → AnyExchange refusal_line went_after action before events after went → AllOwn events
     exchange_own own (exchange.answered events held reply {back} does closes_so) =
         let so = (own.of None events (Ok reply) held does).so [] (λ ticket is. absurd (cc is)) in
         let plain : Plain rules back = back_plain rules closes_so in

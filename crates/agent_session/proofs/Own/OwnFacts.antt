@@ -1,24 +1,24 @@
--- What was done for a request stays so, whatever is done then; and the parts of requests on keys by which nothing is handed to the cache and the ticket stays.
+-- What was done for a request stays so, whatever is done then; and the actions of requests on keys by which nothing is handed to the cache and the ticket stays.
 use Rattle.std.proofs.Common.{◌≡◌, ℕ, List, ◌++◌, codes, Option, Some, None, Ok, refl, ap, ◌∙◌, append_assoc}
-use Rattle.{agent_ask.specs.{PortCalls.PortCall, declared.{ask.Asked.Asked, spec.AskPlan.AskPlan}, ClientParts.Inquires, TurnParts.Asks}, cache_policy.specs.declared.mark.MarkStep.MarkStep, agent_ports.specs.declared.grip.Grip.Grip}
+use Rattle.{agent_ask.specs.{PortCalls.PortCall, declared.{ask.Asked.Asked, spec.AskPlan.AskPlan}, ClientActions.Inquires, TurnActions.Asks}, cache_policy.specs.declared.mark.MarkStep.MarkStep, agent_ports.specs.declared.grip.Grip.Grip}
 use Rattle.{secret_file.specs.Opens.{LockedKey, IsLocked}, sexp_keys.specs.{Key.Key, Lists.grip_of}, agent_commands.specs.{Events.EventWith, declared.request.Request.Request}, key_commands.specs.{Lines.max_key_data, Wrapping.WrappedSays}}
-use Rattle.{key_commands.specs.{KeyParts.{ReadsFile, LooksOver, AsksKeyData, Unwraps, NamesKey}, Parts.Draws, Passphrases.{LooksForNonce, Locks, TriesPassphrase, OpensBy, ask_nonce}}, assuan_server.specs.Clients.session_lines}
+use Rattle.{key_commands.specs.{KeyActions.{ReadsFile, LooksOver, AsksKeyData, Unwraps, NamesKey}, Actions.Draws, Passphrases.{LooksForNonce, Locks, TriesPassphrase, OpensBy, ask_nonce}}, assuan_server.specs.Clients.session_lines}
 use Rattle.{agent_origin.specs.declared.session_state.SessionState.SessionState, session_options.specs.{OptionValues.OptionValues, declared.rules.Rules.Rules}}
 use Rattle.agent_session.specs.Causes.{here, StandIn, HasPrompt, ComesBy, cached_by_nonce, cached_by_key, sent_by_client, typed_by_user, OpensRead, is_clear, opens, KeyDataSays, data_says, IsSent, sent, IsDrawn, IsRead, read, IsReadLocked}
-use Rattle.agent_session.{specs.OwnPassphrases.{IsAbout, named, brought, WantsTicket, by_id, by_key, by_seat, unkept, HasTicket, has_ticket, IsAccepted, any, opening, IsGivenNew, given, NamesNew}, proofs.Own.OwnParts.{Quiet, QuietWith}}
+use Rattle.agent_session.{specs.OwnPassphrases.{IsAbout, named, brought, WantsTicket, by_id, by_key, by_seat, unkept, HasTicket, has_ticket, IsAccepted, any, opening, IsGivenNew, given, NamesNew}, proofs.Own.OwnActions.{Quiet, QuietWith}}
 use Rattle.agent_session.proofs.Standing.{has_left, has_right}
-use Rattle.key_commands.specs.KeyParts as parts
-use Rattle.agent_ask.specs.Parts as chain
-use Rattle.agent_ask.specs.TurnParts as turning
-use Rattle.agent_ask.specs.ClientParts as client_parts
-use Rattle.key_commands.specs.Parts as small
+use Rattle.key_commands.specs.KeyActions as actions
+use Rattle.agent_ask.specs.Actions as chain
+use Rattle.agent_ask.specs.TurnActions as turning
+use Rattle.agent_ask.specs.ClientActions as client_actions
+use Rattle.key_commands.specs.Actions as small
 use Rattle.key_commands.specs.Passphrases as passphrases
 
-pub stand_more : {E : Type 0} {part whole : List E} (more : List E) → StandIn part whole → StandIn part (whole ++ more)
-stand_more {part} more stands = record {
+pub stand_more : {E : Type 0} {action whole : List E} (more : List E) → StandIn action whole → StandIn action (whole ++ more)
+stand_more {action} more stands = record {
   before = stands.before;
   after = stands.after ++ more;
-  is = ap (λ w. w ++ more) stands.is ∙ append_assoc stands.before (part ++ stands.after) more ∙ ap (λ x. stands.before ++ x) (append_assoc part stands.after more);
+  is = ap (λ w. w ++ more) stands.is ∙ append_assoc stands.before (action ++ stands.after) more ∙ ap (λ x. stands.before ++ x) (append_assoc action stands.after more);
 }
 
 pub sent_more : {prior : List (EventWith PortCall)} {word pass : List ℕ} {limit : ℕ} (more : List (EventWith PortCall)) → IsSent prior word limit pass → IsSent (prior ++ more) word limit pass
@@ -78,21 +78,21 @@ module _ {rules : Rules} {kept : SessionState} {request : Request} {prior : List
   pub given_more : {pass : List ℕ} → IsGivenNew rules kept request prior pass → IsGivenNew rules kept request (prior ++ more) pass
   given_more (given names has) = given names (has_left more has)
 
--- ---- quiet parts
+-- ---- quiet actions
 
 pub inquires_quiet : (word : List ℕ) (limit : ℕ) → QuietWith (Inquires session_lines word limit) (λ pass prior. IsSent prior word limit pass)
-inquires_quiet word limit prior before events result after (client_parts.given is) fits = ((tt, tt), refl, sent is (has_right prior here))
-inquires_quiet word limit prior before events result after (client_parts.not_given is) fits = ((tt, tt), refl, tt)
+inquires_quiet word limit prior before events result after (client_actions.given is) fits = ((tt, tt), refl, sent is (has_right prior here))
+inquires_quiet word limit prior before events result after (client_actions.not_given is) fits = ((tt, tt), refl, tt)
 
 pub draws_quiet : (count : ℕ) → QuietWith (Draws count) (λ bytes prior. IsDrawn prior count bytes)
 draws_quiet count prior before events result after (small.drawn long) fits = ((tt, tt), refl, record { long = long; has = has_right prior here })
 draws_quiet count prior before events result after small.faulted fits = ((tt, tt), refl, tt)
 
 pub reads_file_quiet : (grip : Grip) → QuietWith (ReadsFile grip) (λ file prior. IsRead prior grip (Ok file.key))
-reads_file_quiet grip prior before events result after (parts.is_key is says) fits = ((tt, tt), refl, read is says (has_right prior here))
-reads_file_quiet grip prior before events result after (parts.faulty is says) fits = ((tt, tt), refl, tt)
-reads_file_quiet grip prior before events result after (parts.no_memory is) fits = ((tt, (tt, tt)), refl, tt)
-reads_file_quiet grip prior before events result after (parts.unread is) fits = ((tt, tt), refl, tt)
+reads_file_quiet grip prior before events result after (actions.is_key is says) fits = ((tt, tt), refl, read is says (has_right prior here))
+reads_file_quiet grip prior before events result after (actions.faulty is says) fits = ((tt, tt), refl, tt)
+reads_file_quiet grip prior before events result after (actions.no_memory is) fits = ((tt, (tt, tt)), refl, tt)
+reads_file_quiet grip prior before events result after (actions.unread is) fits = ((tt, tt), refl, tt)
 
 pub locks_quiet : (key : Key) → QuietWith (Locks key) (λ locked prior. (locked.key ≡ key) × IsLocked locked)
 locks_quiet key prior before events result after (passphrases.is_locked same locked) fits = (tt, refl, (same, locked))
@@ -101,17 +101,17 @@ locks_quiet key prior before events result after passphrases.no_memory fits = ((
 
 -- a key that the client sends
 pub key_data_quiet : QuietWith AsksKeyData (λ bytes prior. IsSent prior (codes "KEYDATA") max_key_data bytes)
-key_data_quiet prior before events result after (parts.asked does) fits = inquires_quiet (codes "KEYDATA") max_key_data prior before events result before does fits
-key_data_quiet prior before events result after (parts.no_memory at_end) fits = ((tt, (tt, tt)), refl, tt)
+key_data_quiet prior before events result after (actions.asked does) fits = inquires_quiet (codes "KEYDATA") max_key_data prior before events result before does fits
+key_data_quiet prior before events result after (actions.no_memory at_end) fits = ((tt, (tt, tt)), refl, tt)
 
 pub unwraps_quiet : (wrap wrapped : List ℕ) → QuietWith (Unwraps wrap wrapped) (λ key prior. WrappedSays wrap wrapped (Ok key))
-unwraps_quiet wrap wrapped prior before events result after (parts.is_key says) fits = (tt, refl, says)
-unwraps_quiet wrap wrapped prior before events result after (parts.refused says) fits = (tt, refl, tt)
-unwraps_quiet wrap wrapped prior before events result after parts.no_memory fits = ((tt, tt), refl, tt)
+unwraps_quiet wrap wrapped prior before events result after (actions.is_key says) fits = (tt, refl, says)
+unwraps_quiet wrap wrapped prior before events result after (actions.refused says) fits = (tt, refl, tt)
+unwraps_quiet wrap wrapped prior before events result after actions.no_memory fits = ((tt, tt), refl, tt)
 
 pub names_quiet : (key : Key) → QuietWith (NamesKey key) (λ grip prior. grip.0 ≡ grip_of key)
-names_quiet key prior before events result after (parts.named is) fits = (tt, refl, is)
-names_quiet key prior before events result after parts.no_memory fits = ((tt, tt), refl, tt)
+names_quiet key prior before events result after (actions.named is) fits = (tt, refl, is)
+names_quiet key prior before events result after actions.no_memory fits = ((tt, tt), refl, tt)
 
 -- a passphrase that opens a key
 module _ (locked : LockedKey) (pass : List ℕ) where
@@ -134,11 +134,11 @@ module _ (rules : Rules) (kept : SessionState) (request : Request) where
   new_nonce_quiet (Some id) names prior before events result after (turning.interrupted can why) fits = (((λ hands. elim hands [ ]), tt), refl, tt)
 
   pub looks_over_quiet : (id : Option (List ℕ)) → ((nonce : List ℕ) → id ≡ Some nonce → NamesNew request nonce) → QuietWith (LooksOver id) FoundNew
-  looks_over_quiet id names prior before events result after parts.no_nonce fits = (tt, refl, tt)
-  looks_over_quiet id names prior before events result after (parts.given {nonce} can) fits = (((λ hands. elim hands [ ]), tt), refl, given (names nonce refl) (has_right prior here))
-  looks_over_quiet id names prior before events result after parts.empty fits = (((λ hands. elim hands [ ]), tt), refl, tt)
-  looks_over_quiet id names prior before events result after parts.stopping fits = (((λ hands. elim hands [ ]), tt), refl, tt)
-  looks_over_quiet id names prior before events result after parts.no_memory fits = (((λ hands. elim hands [ ]), tt), refl, tt)
+  looks_over_quiet id names prior before events result after actions.no_nonce fits = (tt, refl, tt)
+  looks_over_quiet id names prior before events result after (actions.given {nonce} can) fits = (((λ hands. elim hands [ ]), tt), refl, given (names nonce refl) (has_right prior here))
+  looks_over_quiet id names prior before events result after actions.empty fits = (((λ hands. elim hands [ ]), tt), refl, tt)
+  looks_over_quiet id names prior before events result after actions.stopping fits = (((λ hands. elim hands [ ]), tt), refl, tt)
+  looks_over_quiet id names prior before events result after actions.no_memory fits = (((λ hands. elim hands [ ]), tt), refl, tt)
 
 -- a question for what is cached, without a prompt, gives no ticket
 pub looks_for_nonce_quiet : (id : Option (List ℕ)) → Quiet (LooksForNonce id)

@@ -2,14 +2,14 @@
 -- one of a few.
 use Rattle.std.specs.{List.AllByRecursion, Prelude.{not, drop, ⊤}, Option.option_map}
 use Rattle.std.proofs.Common.{◌≡◌, ◌==◌, ℕ, Bool, true, false, List, [], ◌∷◌, ◌++◌, length, codes, Option, Some, None, Result, Ok, Err, refl, sym, ap, subst, append-nil, append_assoc}
-use Rattle.agent_ask.{specs.{PortCalls.PortCall, SessionEvents.{Sent, CacheTurn, cache_turn, said_last}, ClientParts.AsksClient, TurnParts.{Asks, Changes, Closes}, Parts.{needed, or_else, goes_on, returns}}, proofs.Within.HoldsOf}
+use Rattle.agent_ask.{specs.{PortCalls.PortCall, SessionEvents.{Sent, CacheTurn, cache_turn, said_last}, ClientActions.AsksClient, TurnActions.{Asks, Changes, Closes}, Actions.{needed, or_else, goes_on, returns}}, proofs.Within.HoldsOf}
 use Rattle.{assuan_server.specs.{Clients.session_lines, Written.{refusal_line, limit_line, failed}}, agent_ports.specs.declared.grip.Grip.Grip, assuan_escape.specs.Escapes.hex_text, cache_policy.specs.Turns.Open}
 use Rattle.{cache_policy.specs.declared.{life.Life.TheVariants.Default, mark.MarkStep.{MarkStep, TheVariants.{Close, Put}}, mode.Mode.TheVariants.Nonce, secret.TheConstants.MAX_SECRET_LEN}, secret_file.specs.Opens.{LockedKey, IsLocked}}
 use Rattle.{session_options.specs.declared.{options.PinMode.PinMode, rules.Rules.Rules}, sexp_keys.specs.Key.Key, agent_commands.specs.{Events.EventWith, declared.request.Request.{Request, TheVariants.{Cache, Bad, Key as OnKeys}}}}
 use Rattle.agent_commands.specs.declared.went.Went.{Went}
 use Rattle.key_commands.specs.Exchanges.{KeyExchange, KeyReplies, HaveKeyReplies, KeyInfoReplies, ListKeysReplies, KeyWrapReplies, DeleteKeyReplies, wrap_key, RewritesFile, ChangesOpened, StoresKey, FoundOrNew, ExportKeyReplies}
-use Rattle.key_commands.specs.{Exchanges.{PasswdReplies, VerifyReplies, ImportKeyReplies, KeyReply}, Lines.{max_key_data, IsNotice}, KeyParts.{KeepsNew, ReceivesKey, NamesKey, IsFree, Consents, tells, is_wrapped}}
-use Rattle.key_commands.specs.{Parts.{Part, refusal_events, Draws}, Passphrases.{OpensBy, PromptsOld, PromptsNew, ClientOld, UncachedOld, OpensLocked, ClientNew, TakesSeat, TriesFound, Locks, ask_key, put_key, way_of}}
+use Rattle.key_commands.specs.{Exchanges.{PasswdReplies, VerifyReplies, ImportKeyReplies, KeyReply}, Lines.{max_key_data, IsNotice}, KeyActions.{KeepsNew, ReceivesKey, NamesKey, IsFree, Consents, tells, is_wrapped}}
+use Rattle.key_commands.specs.{Actions.{Action, refusal_events, Draws}, Passphrases.{OpensBy, PromptsOld, PromptsNew, ClientOld, UncachedOld, OpensLocked, ClientNew, TakesSeat, TriesFound, Locks, ask_key, put_key, way_of}}
 use Rattle.key_commands.specs.{declared.{request.{Direction.Direction, KeyRequest.KeyRequest}, went.KeyWent.KeyWent, keywrap_key.WrapKeys.WrapKeys}, Events.Event}
 use Rattle.key_commands.proofs.EachEvent.{each_append, each_shown, IsStill, EachSo, each_bind, each_returned, each_refused, each_wanted, each_seats, each_changes, finds, draws, lists, told, removes, agrees_to}
 use Rattle.{key_commands.proofs.EachRequest.{IsKeyWork, each_carries, key_replies, plain_replies}, session_client.specs.{declared.{refusal.Refusal.{Refusal, TheVariants.{Agent, Pinentry, Client}}, code.Code.Code}, Refusals.refusal_code}}
@@ -18,14 +18,14 @@ use Rattle.agent_session.specs.Causes.{here, StandIn, on_keys, Unlocks, KeyDataS
 use Rattle.agent_session.specs.OwnPassphrases.{KeepsOld, exports, verifies, GivesBy, for_change, for_import, IsAbout, named, brought, by_command, of_key, NamesNew, brings, changes, WantsTicket, by_key, by_seat, HasTicket, has_ticket}
 use Rattle.agent_session.specs.OwnPassphrases.{IsAccepted, any, opening, IsGivenNew, StoresOwn, HandsIn, IsWrapKey, TellsOfKeys, TellsOfKeysAlone, nonce_of, imported}
 use Rattle.agent_session.proofs.Own.OwnFacts.{sent_more, key_data_more, drawn_more, read_more, locked_more, about_more, ticket_more, accepted_more, given_more, FoundNew, opens_more}
-use Rattle.agent_session.proofs.Own.OwnParts.{IsQuiet, kept_none, Fit, AreOwn, own_then, each_quiet, quiet_keeps, OwnSo, owns, own_bind, own_weaker, own_there, own_where, Stays, quiet_with, quietly, quiet_are_own, Anything, own_returned}
-use Rattle.agent_session.proofs.{Own.{OwnParts.{own_refused, own_needed, own_wanted}, OwnLines.{in_either, in_first, in_second}}, Causes.{Prompted.has_prompt, KeyRequests.old_passphrase}, AtOnce.FitsTurn}
+use Rattle.agent_session.proofs.Own.OwnActions.{IsQuiet, kept_none, Fit, AreOwn, own_then, each_quiet, quiet_keeps, OwnSo, owns, own_bind, own_weaker, own_there, own_where, Stays, quiet_with, quietly, quiet_are_own, Anything, own_returned}
+use Rattle.agent_session.proofs.{Own.{OwnActions.{own_refused, own_needed, own_wanted}, OwnLines.{in_either, in_first, in_second}}, Causes.{Prompted.has_prompt, KeyRequests.old_passphrase}, AtOnce.FitsTurn}
 use Rattle.agent_session.proofs.Standing.{has_right, each_left, each_right, has_first, stand_all, stand_left, stand_right}
 use Rattle.session_client.specs.declared.code.Code.TheVariants as code
 use Rattle.session_options.specs.declared.options.PinMode.TheVariants as mode
-use Rattle.agent_ask.specs.PartExchanges as part_exchanges
-use Rattle.agent_ask.specs.Parts as chain
-use Rattle.agent_ask.specs.TurnParts as turning
+use Rattle.agent_ask.specs.ActionExchanges as action_exchanges
+use Rattle.agent_ask.specs.Actions as chain
+use Rattle.agent_ask.specs.TurnActions as turning
 use Rattle.key_commands.specs.Passphrases as passphrases
 use Rattle.key_commands.specs.declared.request.KeyRequest.TheVariants as on
 use Rattle.agent_session.specs.Causes as causes
@@ -33,8 +33,8 @@ use Rattle.agent_session.specs.OwnPassphrases as whose
 use Rattle.agent_session.proofs.Own.OwnFacts as quiet
 use Rattle.agent_session.proofs.Courses.Works as work
 use Rattle.assuan_server.specs.declared.errors.Origin.TheVariants as origin
-use Rattle.key_commands.specs.KeyParts as key_parts
-use Rattle.key_commands.specs.Parts as parts
+use Rattle.key_commands.specs.KeyActions as key_actions
+use Rattle.key_commands.specs.Actions as actions
 
 -- ---- what stays so
 
@@ -85,7 +85,7 @@ module _ (rules : Rules) (kept : SessionState) (request : Request) where
   seat_of : {prior : List (EventWith PortCall)} {ticket : ℕ} → Seated prior (Some ticket) → HasTicket rules kept request prior ticket
   seat_of (seated has) = has
 
-  or_own : {A : Type 0} {Pre : List (EventWith PortCall) → Option ℕ → Type 0} {Post : A → List (EventWith PortCall) → Option ℕ → Type 0} {other : Part A} (value : Option A)
+  or_own : {A : Type 0} {Pre : List (EventWith PortCall) → Option ℕ → Type 0} {Post : A → List (EventWith PortCall) → Option ℕ → Type 0} {other : Action A} (value : Option A)
       → ((some : A) → value ≡ Some some → (prior : List (EventWith PortCall)) (held : Option ℕ) → Pre prior held → Post some prior held) → (value ≡ None → OwnSo Mine Pre other Post)
       → OwnSo Mine Pre (or_else value other) Post
   or_own None some other = other refl
@@ -489,9 +489,9 @@ module _ (rules : Rules) (kept : SessionState) (request : Request) where
 
   pub key_own : (asked : KeyRequest) → on_keys request ≡ Some asked → {events : List (EventWith PortCall)} {after : WrapKeys} {went : KeyWent} → KeyExchange rules kept.options kept.wraps asked events after went → Fit events
       → AreOwn Mine [] events
-  key_own asked is (part_exchanges.answered events held reply {back} does closes_so) fits =
+  key_own asked is (action_exchanges.answered events held reply {back} does closes_so) fits =
       ended_own events back (Sent reply.text ∷ []) (((replies asked is).of None events (Ok reply) held does).so [] (each_left FitsTurn events _ fits) refl).0 (back_quiet closes_so) (tt, tt)
-  key_own asked is (part_exchanges.refused events held why {back} does closes_so) fits =
+  key_own asked is (action_exchanges.refused events held why {back} does closes_so) fits =
       ended_own events back (refusal_events why) (((replies asked is).of None events (Err why) held does).so [] (each_left FitsTurn events _ fits) refl).0 (back_quiet closes_so) (refusal_quiet (refusal_line why))
 
 -- ---- what is written before the reply
@@ -511,7 +511,7 @@ back_noted (turning.closed turn can) = (tt, tt)
 -- ---- what was drawn
 
 drawn_by : {count : ℕ} {before after : Option ℕ} {more : List Event} {bytes : List ℕ} → Draws count before more (Ok bytes) after → IsDrawn more count bytes
-drawn_by (parts.drawn long) = record { long = long; has = here }
+drawn_by (actions.drawn long) = record { long = long; has = here }
 
 drawn_behind : (first : List Event) {more : List Event} {count : ℕ} {bytes : List ℕ} → IsDrawn more count bytes → IsDrawn (first ++ more) count bytes
 drawn_behind first drawn_so = record { long = drawn_so.long; has = has_right first drawn_so.has }
@@ -547,7 +547,7 @@ module _ (rules : Rules) (kept : SessionState) (request : Request) where
   reply_of (on.ImportKey force id) is _ _ _ (goes_on {first = a} wants (goes_on {first = b} receives (goes_on {first = c} names (goes_on {first = d} unused (goes_on {first = e} finds (goes_on {first = f} stores returns)))))) =
       let found = stored_nonce _ _ _ _ stores in
       rw found.2 (whose.drawn is (drawn_behind a (drawn_behind b (drawn_behind c (drawn_behind d (drawn_behind e (drawn_more _ found.1)))))))
-  reply_of (on.ExportKey grip id) asked _ _ _ (goes_on {first = a} {events = b} wants (goes_on {first = c} {events = d} (key_parts.is_key {key} found says) (goes_on {first = e} {events = f} {value = opened} does
+  reply_of (on.ExportKey grip id) asked _ _ _ (goes_on {first = a} {events = b} wants (goes_on {first = c} {events = d} (key_actions.is_key {key} found says) (goes_on {first = e} {events = f} {value = opened} does
       (goes_on closes (goes_on is_wrapped (goes_on (tells data_so) returns)))))) =
       let stands = stand_right a b (stand_all (a ++ b)) in
       let comes = old_passphrase rules kept request (a ++ b) grip (causes.exports asked) key.is_clear key id (λ nonce same. of_export (subst (λ n. on_keys request ≡ Some (on.ExportKey grip n)) same asked)) (causes.read found says (has_first stands))
@@ -599,10 +599,10 @@ module _ (rules : Rules) (kept : SessionState) (request : Request) where
 
   pub keys_told : (asked : KeyRequest) → on_keys request ≡ Some asked → {some : List Event} {after : WrapKeys} {went : KeyWent} → KeyExchange rules kept.options kept.wraps asked some after went
       → TellsOfKeysAlone rules kept request some
-  keys_told asked is (part_exchanges.answered some held reply {back} does closes) =
+  keys_told asked is (action_exchanges.answered some held reply {back} does closes) =
       subst (TellsOfKeysAlone rules kept request) (append_assoc some back (Sent reply.text ∷ []))
       (last_told (some ++ back) reply.text (each_append IsNoted some back (noted asked some (Ok reply) held does) (back_noted closes)) (more_told back (reply_of asked is some reply held does)))
-  keys_told asked is (part_exchanges.refused some held why {back} does closes) =
+  keys_told asked is (action_exchanges.refused some held why {back} does closes) =
       subst (TellsOfKeysAlone rules kept request) (append_assoc some back (said_last (refusal_line why)))
       (refusal_told (some ++ back) why (each_append IsNoted some back (noted asked some (Err why) held does) (back_noted closes)))
 

@@ -4,7 +4,7 @@ use Rattle.{arrayvec.specs.ArrayVec.ArrayVec, agent_ask.specs.{Answering.whole, 
 use Rattle.agent_commands.specs.{Requests.{GetFields, get_passphrase, request_of}, declared.{request.{CacheCommand.TheVariants.PresetPassphrase, Request.{Request, TheVariants.{Cache, Key as OnKeys}}}, went.Went.Went}}
 use Rattle.{agent_commands.specs.declared.went.Went.TheVariants.{On, End}, assuan_server.specs.{Written.{limit_line, failed, greeting}, Inquiries.TooLong, declared.errors.Origin.TheVariants.Agent}, agent_ports.specs.declared.grip.Grip.Grip}
 use Rattle.{agent_ports.specs.declared.keys.KeyRead.KeyRead, assuan_text.specs.LineEnds.line_of, cache_policy.specs.{Turns.{Empty, Given, FitsStep}, declared.{grant.Grant.Grant, life.Life.Life, secret.TheConstants.MAX_SECRET_LEN}}}
-use Rattle.key_commands.specs.{Events.{Event, called, read, drew}, Exchanges.{KeyExchange, KeyInfoReplies, PasswdReplies, RewritesFile}, Files.{FileSays, IsWithList}, KeyParts.file_in, Passphrases.{old_by, ask_nonce}}
+use Rattle.key_commands.specs.{Events.{Event, called, read, drew}, Exchanges.{KeyExchange, KeyInfoReplies, PasswdReplies, RewritesFile}, Files.{FileSays, IsWithList}, KeyActions.file_in, Passphrases.{old_by, ask_nonce}}
 use Rattle.{key_commands.specs.{Requests.key_request_of, declared.wrapping.TheConstants.MAX_LIST_LEN}, key_lines.specs.Canon.{Canon, is_canonical}, secret_file.specs.Protects.{ocb_protection, protected_file}}
 use Rattle.{session_client.specs.Asking.Asked, session_options.specs.declared.rules.Rules.Rules, sexp_canonical.specs.Spelling.most_bytes, sexp_keys.specs.{Key.Key, Lists.key_list_of}, agent_origin.specs.DoorSessions.DoorExchange}
 use Rattle.agent_origin.specs.{Doors.allowed, TrustRequests.{trust_request_of, trust_command}, SessionExchanges.{RequestExchange, cache, keys}, declared.{door.Door.Door, session_state.SessionState.SessionState}}
@@ -12,8 +12,8 @@ use Rattle.{agent_origin.specs.declared.trust.request.TrustRequest.TheVariants.B
 use Rattle.agent_session.specs.{Causes.{Has, here, later, LacksKeys, empty, IsRead, IsReadOf, read_of, OpensRead, opens, protected, said}, Completeness.{Remembers, HasError}}
 use Rattle.agent_session.{specs.Exactly.{on_trust, clear, long, long_file, HasLongList, HasLongFile, EndsTooLong, at_inquiry}, proofs.Decisions.{Exact.{cause_answered, door_cause}, ExactEnds.end_told, ExactFiles.one_says}}
 use Rattle.agent_session.proofs.{Causes.KeyExplained.exchange_caused, LongLines.{session_long, long_session}}
-use Rattle.agent_ask.specs.ClientParts as client
-use Rattle.agent_ask.specs.PartExchanges as exchanges
+use Rattle.agent_ask.specs.ClientActions as client
+use Rattle.agent_ask.specs.ActionExchanges as exchanges
 use Rattle.agent_commands.specs.Talks as talks
 use Rattle.agent_commands.specs.declared.went.SessionEnd.TheVariants as ends
 use Rattle.agent_ports.specs.declared.keys.KeyDone.TheVariants as key_done
@@ -21,10 +21,10 @@ use Rattle.agent_ports.specs.declared.keys.KeyRead.TheVariants as key_read
 use Rattle.assuan_line.specs.declared.reader.Took.TheVariants as took
 use Rattle.session_client.specs.declared.code.Code.TheVariants as code
 use Rattle.key_commands.specs.Files as files
-use Rattle.key_commands.specs.KeyParts as key_parts
-use Rattle.key_commands.specs.Parts as small
-use Rattle.agent_ask.specs.Parts as chain
-use Rattle.agent_ask.specs.TurnParts as turning
+use Rattle.key_commands.specs.KeyActions as key_actions
+use Rattle.key_commands.specs.Actions as small
+use Rattle.agent_ask.specs.Actions as chain
+use Rattle.agent_ask.specs.TurnActions as turning
 use Rattle.session_client.specs.declared.refusal.Refusal.TheVariants as refusals
 use Rattle.key_commands.specs.declared.request.KeyRequest.TheVariants as on
 use Rattle.key_commands.specs.declared.went.KeyWent.TheVariants as key_went
@@ -97,7 +97,7 @@ module _ (one_canon : (file : List ℕ) (a b : Option (List ℕ)) → Canon file
 
     lacks : KeyExchange rules kept.options kept.wraps (on.KeyInfo grip) lacking kept.wraps key_went.On
     unfolding KeyInfoReplies
-    lacks = exchanges.refused (read grip key_read.Absent ∷ []) None (refusals.Agent code.NoSecKey) (chain.stops (key_parts.unread refl)) turning.unheld
+    lacks = exchanges.refused (read grip key_read.Absent ∷ []) None (refusals.Agent code.NoSecKey) (chain.stops (key_actions.unread refl)) turning.unheld
 
     no_secret_key : HasError code.NoSecKey Agent lacking
     no_secret_key =
@@ -149,7 +149,7 @@ module _ (one_canon : (file : List ℕ) (a b : Option (List ℕ)) → Canon file
     unfolding PasswdReplies
     long_run =
         exchanges.refused (read grip answer ∷ []) None (refusals.Agent code.BadSecKey)
-        (chain.goes_on (key_parts.is_key found says) (chain.goes_on {first = []} (open_clear grip old key key.is_clear clear_one) (chain.stops (chain.stops (key_parts.long much))))) turning.unheld
+        (chain.goes_on (key_actions.is_key found says) (chain.goes_on {first = []} (open_clear grip old key key.is_clear clear_one) (chain.stops (chain.stops (key_actions.long much))))) turning.unheld
 
     same_answer : (other : KeyRead) → Has (read grip other) too_long_key → other ≡ answer
     same_answer other has = elim (one_of_two has) [ inl same ↦ cc same | inr same ↦ absurd (cc same) ]
@@ -176,13 +176,13 @@ module _ (one_canon : (file : List ℕ) (a b : Option (List ℕ)) → Canon file
     unfolding PasswdReplies RewritesFile
     long_file_run =
         exchanges.refused (read grip answer ∷ cache_turn (ask_nonce fresh) (Given entry) ∷ drew bytes ∷ []) None (refusals.Agent code.BadSecKey)
-        (chain.goes_on (key_parts.is_key found says)
+        (chain.goes_on (key_actions.is_key found says)
         (chain.goes_on {first = []} (open_clear grip old key key.is_clear clear_one)
         (chain.stops
-        (chain.goes_on {first = []} {value = tt} {mid = None} (key_parts.short within)
+        (chain.goes_on {first = []} {value = tt} {mid = None} (key_actions.short within)
         (chain.goes_on {first = cache_turn (ask_nonce fresh) (Given entry) ∷ []} (chain.goes_on (turning.given of_fresh) chain.returns)
         (chain.goes_on (small.drawn twenty)
-        (chain.goes_on key_parts.made
+        (chain.goes_on key_actions.made
         (chain.stops (files.too_long made_file extended with_list (much entry.entry.secret made_file with_list)))))))))) turning.unheld
 
     same_read : (other : KeyRead) → Has (read grip other) too_long_file → other ≡ answer

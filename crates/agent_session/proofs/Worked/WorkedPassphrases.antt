@@ -2,17 +2,17 @@
 use Rattle.std.{specs.Prelude.{⊤, take, drop}, proofs.Common.{◌≡◌, ◌≤◌, ℕ, false, true, List, ◌∷◌, ◌++◌, length, Some, None, Ok, Err, refl, sym, ap, subst, arith, codes, []}}
 use Rattle.{arrayvec.specs.ArrayVec.ArrayVec, agent_ask.specs.{Answering.whole, Events.{PromptEvent, Start, GetPin, Shut, Called}, PortCalls.{PortCall, Prompt, Replaced}, Plans.{IsSpec, plan_of}}}
 use Rattle.agent_ask.specs.{Prompts.{AsksPin, tried, quiet, good, accepted, same}, SessionEvents.{Received, Sent, Inquiry, Port, cache_turn}, Tests.test_of, SessionPrompts.AnyInSession, declared.spec.AskPlan.AskPlan}
-use Rattle.{agent_ask.specs.{declared.{spec.PromptSpec.PromptSpec, test.Tested.TheVariants.Yes}, Parts.{goes_on, stops, returns, wanted, or_else}}, agent_ports.specs.declared.grip.Grip.Grip, assuan_escape.specs.Escapes.hex_text}
+use Rattle.{agent_ask.specs.{declared.{spec.PromptSpec.PromptSpec, test.Tested.TheVariants.Yes}, Actions.{goes_on, stops, returns, wanted, or_else}}, agent_ports.specs.declared.grip.Grip.Grip, assuan_escape.specs.Escapes.hex_text}
 use Rattle.{assuan_server.specs.{Clients.session_lines, Inquiries.Data, Written.{failed, greeting, ok_text, limit_line, IsDataAnswer}, declared.errors.Origin.TheVariants.Agent as OfAgent}, assuan_text.specs.LineEnds.line_of}
 use Rattle.{cache_policy.specs.{Turns.{Given, Open, Done, Refused, FitsStep}, declared.{grant.Grant.Grant, life.Life.Life, mark.MarkStep.TheVariants.Close}}, secret_file.specs.Protects.{ocb_protection, protected_file}}
 use Rattle.{session_client.specs.{Asking.Asked, declared.refusal.Refusal.TheVariants.Agent}, session_options.specs.{OptionValues.OptionValues, declared.rules.Rules.Rules}, sexp_keys.specs.{Key.Key, Lists.grip_of}}
 use Rattle.agent_commands.specs.{Events.EventWith, Exchanges.{CacheExchange, Presets, put, reply}, Passphrases.{ask_or_open, ByUser, as_wanted}, Requests.{GetFields, get_passphrase, request_of}, Talks.{Session, greeted}}
 use Rattle.agent_commands.specs.declared.{request.{CacheCommand.TheVariants.PresetPassphrase, Request.{Request, TheVariants.{Cache, Key as OnKeys}}, Texts.Texts}, went.{SessionEnd.TheVariants.Ended, Went.TheVariants.On}}
-use Rattle.key_commands.specs.{Lines.max_key_data, Events.{drew, called}, Exchanges.{KeyExchange, KeyWrapReplies, ImportKeyReplies, key_reply, wrap_key, with_wrap_key}, Parts.Draws, Requests.key_request_of}
+use Rattle.key_commands.specs.{Lines.max_key_data, Events.{drew, called}, Exchanges.{KeyExchange, KeyWrapReplies, ImportKeyReplies, key_reply, wrap_key, with_wrap_key}, Actions.Draws, Requests.key_request_of}
 use Rattle.{key_commands.specs.{declared.{request.Direction.Direction, keywrap_key.WrapKeys.WrapKeys}, Passphrases.ask_nonce, Wrapping.WrappedSays}, agent_origin.specs.SessionExchanges.{SessionExchange, RequestExchange, cache, keys}}
 use Rattle.agent_origin.specs.declared.session_state.SessionState.{SessionState}
 use Rattle.agent_session.{specs.{Causes.{Has, here, later}, Imports.{put_nonce, ImportCourse}, OwnPassphrases.{SaysOwn, TellsOfKeys, StoresOwn, StoresOwnIn, keeps}}, proofs.Courses.ImportCourses.import_exchange}
-use Rattle.agent_session.proofs.{Causes.KeyExplained.exchange_goes_on, Own.{OwnCache.{cache_own, request_own}, OwnKeys.request_told, OwnParts.{Fit, own_at}}, OwnSessions.{exchange_own, session_own}}
+use Rattle.agent_session.proofs.{Causes.KeyExplained.exchange_goes_on, Own.{OwnCache.{cache_own, request_own}, OwnKeys.request_told, OwnActions.{Fit, own_at}}, OwnSessions.{exchange_own, session_own}}
 use Rattle.agent_ask.specs.SessionPrompts as under
 use Rattle.agent_ask.specs.declared.ask.Asked.TheVariants as asked
 use Rattle.agent_ask.specs.declared.prompter.Opened.TheVariants as opened
@@ -25,12 +25,12 @@ use Rattle.agent_commands.specs.Exchanges as exchanges
 use Rattle.agent_commands.specs.Passphrases as passphrases
 use Rattle.agent_commands.specs.Talks as talks
 use Rattle.key_commands.specs.declared.went.KeyWent.TheVariants as key_went
-use Rattle.key_commands.specs.KeyParts as parts
+use Rattle.key_commands.specs.KeyActions as actions
 use Rattle.agent_ask.specs.Interrupts as interrupts
-use Rattle.agent_ask.specs.TurnParts as turning
-use Rattle.agent_ask.specs.ClientParts as client_parts
-use Rattle.key_commands.specs.Parts as small
-use Rattle.agent_ask.specs.PartExchanges as part_exchange
+use Rattle.agent_ask.specs.TurnActions as turning
+use Rattle.agent_ask.specs.ClientActions as client_actions
+use Rattle.key_commands.specs.Actions as small
+use Rattle.agent_ask.specs.ActionExchanges as action_exchange
 use Rattle.key_commands.specs.declared.request.KeyRequest.TheVariants as on
 
 -- ---- a passphrase is typed, and kept
@@ -77,7 +77,7 @@ module _ (rules : Rules) (kept : SessionState) (id pin : List ℕ) (texts : Text
 
   asked_so : CacheExchange rules kept.options request events kept.options On
   asked_so =
-      part_exchange.answered (before_close ++ cache_turn (Close ticket (Some pin)) Done ∷ []) None (reply kept.options (line_of (ok_text (hex_text pin))))
+      action_exchange.answered (before_close ++ cache_turn (Close ticket (Some pin)) Done ∷ []) None (reply kept.options (line_of (ok_text (hex_text pin))))
       (goes_on (subst (λ m. as_wanted rules kept.options fields m texts None (before_close ++ cache_turn (Close ticket (Some pin)) Done ∷ []) (Ok pin) None) (sym mode_is) asked_by)
       (goes_on (exchanges.tells refl) returns)) turning.unheld
 
@@ -123,7 +123,7 @@ module _ (rules : Rules) (kept : SessionState) (allowed : rules.allow_preset ≡
   refused_exchange : SessionExchange rules kept line refused kept On
   refused_exchange =
       subst (λ r. RequestExchange rules kept r refused kept On) (sym says)
-      (cache (part_exchange.refused (cache_turn (put id life pass) Refused ∷ []) None (Agent code.NoMemory) (stops refused_so) turning.unheld))
+      (cache (action_exchange.refused (cache_turn (put id life pass) Refused ∷ []) None (Agent code.NoMemory) (stops refused_so) turning.unheld))
 
   refused_goes_on : On ≡ On
   refused_goes_on = exchange_goes_on rules kept line none_absent refused_exchange code.NoMemory OfAgent (later here) (λ is. cc is)
@@ -150,12 +150,12 @@ module _ (rules : Rules) (options : OptionValues) (wrap wrapped : List ℕ) (key
   import_fails : ImportKeyReplies rules options wraps true (Some nonce) None imports (Err (Agent code.General)) None
   unfolding ImportKeyReplies
   import_fails =
-      goes_on returns (goes_on (goes_on client_parts.written (goes_on (parts.asked (client_parts.given refl)) (parts.is_key says))) (goes_on (parts.named named) (goes_on returns
-      (goes_on (goes_on (parts.given of_nonce) returns) (stops (goes_on (small.drawn long) (goes_on parts.made (goes_on (turning.done tt) (stops (parts.not_done refl))))))))))
+      goes_on returns (goes_on (goes_on client_actions.written (goes_on (actions.asked (client_actions.given refl)) (actions.is_key says))) (goes_on (actions.named named) (goes_on returns
+      (goes_on (goes_on (actions.given of_nonce) returns) (stops (goes_on (small.drawn long) (goes_on actions.made (goes_on (turning.done tt) (stops (actions.not_done refl))))))))))
 
   -- the passphrase stays under the nonce, and nothing is kept for the key
   import_stores : ImportCourse (imports ++ Sent (failed code.General) ∷ [])
-  import_stores = import_exchange rules options wraps true (Some nonce) (part_exchange.refused imports None (Agent code.General) import_fails turning.unheld)
+  import_stores = import_exchange rules options wraps true (Some nonce) (action_exchange.refused imports None (Agent code.General) import_fails turning.unheld)
 
 -- ---- a wrapping key is drawn, and is told
 
@@ -166,10 +166,10 @@ module _ (rules : Rules) (kept : SessionState) (way : Direction) (line : ArrayVe
 
   draws : KeyWrapReplies rules kept.options kept.wraps way None (drew key ∷ []) (Ok (key_reply wraps_now text)) None
   unfolding KeyWrapReplies
-  draws = goes_on (subst (λ had. or_else had (Draws 16) None (drew key ∷ []) (Ok key) None) (sym fresh) (small.drawn long)) (goes_on (parts.tells shows) returns)
+  draws = goes_on (subst (λ had. or_else had (Draws 16) None (drew key ∷ []) (Ok key) None) (sym fresh) (small.drawn long)) (goes_on (actions.tells shows) returns)
 
   wrap_exchange : KeyExchange rules kept.options kept.wraps (on.KeyWrap way) (drew key ∷ Sent text ∷ []) wraps_now key_went.On
-  wrap_exchange = part_exchange.answered (drew key ∷ []) None (key_reply wraps_now text) draws turning.unheld
+  wrap_exchange = action_exchange.answered (drew key ∷ []) None (key_reply wraps_now text) draws turning.unheld
 
   -- it is all that is written for the request
   wrap_is_told : TellsOfKeys rules kept (OnKeys line) (drew key ∷ []) text

@@ -4,7 +4,7 @@ use Rattle.std.{specs.Prelude.if◌then◌else◌, proofs.Common.{◌≡◌, ℕ
 use Rattle.agent_ask.specs.{Prompts.{AsksPin, AsksBefore, Tries, IsTry, MeetsCheck}, SessionEvents.Sent, TrustCalls.Read, declared.spec.{AskPlan.AskPlan, PromptSpec.PromptSpec}, PortCalls.PortCall}
 use Rattle.{agent_ports.specs.declared.{grip.Grip.Grip, trust.TrustRead.TrustRead}, assuan_server.specs.Written.failed, cache_policy.specs.declared.mark.MarkStep.TheVariants.Close, secret_file.specs.Opens.LockedKey}
 use Rattle.{session_options.specs.{OptionValues.OptionValues, declared.rules.Rules.Rules}, agent_commands.specs.{Events.EventWith, Requests.{GetFields, get_passphrase}, declared.request.Request.{Request, TheVariants.Cache}}}
-use Rattle.{key_commands.specs.Passphrases.OpensBy, agent_origin.specs.{TrustParts.trust_called, declared.{session_state.SessionState.SessionState, trust.request.TrustRequest.TrustRequest}}}
+use Rattle.{key_commands.specs.Passphrases.OpensBy, agent_origin.specs.{TrustActions.trust_called, declared.{session_state.SessionState.SessionState, trust.request.TrustRequest.TrustRequest}}}
 use Rattle.agent_session.specs.{Causes.{later, on_keys, IsReadLocked, exports, changes, wanted, of_new, of_import, data_says, sent, said}, DoorCauses.{IsTooMuch, inquired, too_long, read_again, read_trust}}
 use Rattle.agent_session.specs.OwnPassphrases.{IsAccepted, any, opening, verifies, StoresOwn, accepted, changed, IsAbout, named, brought, IsNonceOf, nonce_of}
 use Rattle.agent_ask.specs.Prompts as prompts

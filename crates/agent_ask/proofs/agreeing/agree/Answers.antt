@@ -1,6 +1,6 @@
 use Rattle.std.{proofs.{Common.ap, lemmas.Result.err_from_is_err_and}, specs.Option.option_map}
 use Rattle.session_client.specs.declared.refusal.Refusal.TheVariants.{Client}
-use Rattle.agent_ask.{specs.{Callers.heard_of, Consents.agreed_of, declared.consent.Agreed.TheVariants.Heard}, proofs.{Clients.{unheard_is, left_noted}, ConsentParts.asked_question}}
+use Rattle.agent_ask.{specs.{Callers.heard_of, Consents.agreed_of, declared.consent.Agreed.TheVariants.Heard}, proofs.{Clients.{unheard_is, left_noted}, ConsentActions.asked_question}}
 use Rattle.agent_ask.proofs.agreeing.agree.Goals as goal
 
 pub returns-in_err-prompt_consent-clause-asked : goal.returns-in_err-prompt_consent-clause-asked

@@ -1,5 +1,5 @@
 use Rattle.std.proofs.lemmas.Result.{err_from_is_err_and}
-use Rattle.agent_ask.{specs.PartStates.{DoesPrompts, prompts}, proofs.{ConsentParts.agrees, PartsAtClient.part_prompted, PartsDone.{seated_in, unseated_in}}}
+use Rattle.agent_ask.{specs.ActionStates.{DoesPrompts, prompts}, proofs.{ConsentActions.agrees, ActionsAtClient.action_prompted, ActionsDone.{seated_in, unseated_in}}}
 use Rattle.agent_ask.proofs.agreeing.agree_by_mode.Goals as goal
 
 pub returns-in_err-seat_by_mode-clause-agrees : goal.returns-in_err-seat_by_mode-clause-agrees
@@ -13,5 +13,5 @@ returns-clause-agrees g c =
     rw c.requires.none
     (seated_in _ c.requires.open (rw c.mode.ensures at c.in_ok-seat_by_mode.ensures.seats)
     (rw (← c.ticket.ensures)
-    (part_prompted g.C.Client.views g.D.Desk.turned c.seat_by_mode.new.desk (DoesPrompts g.P.Prompter.prompted) (λ same. same) (λ before after event does. prompts does) asked.lead
+    (action_prompted g.C.Client.views g.D.Desk.turned c.seat_by_mode.new.desk (DoesPrompts g.P.Prompter.prompted) (λ same. same) (λ before after event does. prompts does) asked.lead
     (λ events in_session. agrees c.ticket.result.now c.agree.result asked.are in_session) c.agree.ensures.left)))

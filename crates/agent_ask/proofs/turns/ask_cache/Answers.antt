@@ -1,6 +1,6 @@
 use Rattle.std.proofs.Common.{◌≡◌, None}
 use Rattle.cache_policy.specs.Turns.{Given, Empty, Open, Stopping, Late, Refused}
-use Rattle.agent_ask.{specs.{Interrupts.{stopping, late, refused}, Seats.{found, none_found, prompt_opened, not_answered}}, proofs.PartsDone.wants_prompt}
+use Rattle.agent_ask.{specs.{Interrupts.{stopping, late, refused}, Seats.{found, none_found, prompt_opened, not_answered}}, proofs.ActionsDone.wants_prompt}
 use Rattle.agent_ask.proofs.turns.ask_cache.Goals as goal
 
 pub returns-in-Ok-Given-clause-turn : goal.returns-in-Ok-Given-clause-turn

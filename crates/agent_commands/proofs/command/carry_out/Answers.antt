@@ -1,5 +1,5 @@
 use Rattle.std.proofs.{Common.refl, lemmas.Result.err_from_is_err_and}
-use Rattle.agent_ask.{specs.{PartStates.DoesPrompts, Parts.{returns, goes_on}, PartReplies.{comes_to, stops_at}}, proofs.PartsDone.{part_then, part_stops, part_still}}
+use Rattle.agent_ask.{specs.{ActionStates.DoesPrompts, Actions.{returns, goes_on}, ActionReplies.{comes_to, stops_at}}, proofs.ActionsDone.{action_then, action_stops, action_still}}
 use Rattle.agent_commands.{specs.Exchanges.tells, proofs.{Asking.asks_nobody, Carrying.{beside_desk, carries_beside, replies_ok}}}
 use Rattle.agent_commands.proofs.command.carry_out.Goals as goal
 
@@ -13,19 +13,19 @@ pub returns-in_err-secret-in-GetPassphrase-clause-carries : goal.returns-in_err-
 returns-in_err-secret-in-GetPassphrase-clause-carries g c =
     let p = err_from_is_err_and c.from_residual.result c.from_residual.ensures.1 in
     rw (c.in-GetPassphrase.is, p.1, p.2)
-    (stops_at (part_stops (rw (c.in-GetPassphrase.is, c.requires.none) at c.in_err-secret-in-GetPassphrase.ensures.comes)))
+    (stops_at (action_stops (rw (c.in-GetPassphrase.is, c.requires.none) at c.in_err-secret-in-GetPassphrase.ensures.comes)))
 
 pub returns-in_ok-secret-in-GetPassphrase-clause-carries : goal.returns-in_ok-secret-in-GetPassphrase-clause-carries
 returns-in_ok-secret-in-GetPassphrase-clause-carries g c =
     let comes = rw (c.in-GetPassphrase.is, c.requires.none) at c.in_ok-secret-in-GetPassphrase.ensures.comes in
     rw c.in-GetPassphrase.is
-    (comes_to (λ text is. part_then comes (part_still comes.fits.0 refl (goes_on (tells is) returns))))
+    (comes_to (λ text is. action_then comes (action_still comes.fits.0 refl (goes_on (tells is) returns))))
 
 pub returns-in_err-preset-in-PresetPassphrase-clause-carries : goal.returns-in_err-preset-in-PresetPassphrase-clause-carries
 returns-in_err-preset-in-PresetPassphrase-clause-carries g c =
     let p = err_from_is_err_and c.from_residual-in_err-preset-in-PresetPassphrase.result c.from_residual-in_err-preset-in-PresetPassphrase.ensures.1 in
     rw (c.in-PresetPassphrase.is, c.requires.none, p.1, p.2)
-    (stops_at (part_stops (beside_desk g.D.Desk.turned g.P.Prompter.prompted c.args.prompter.now c.in_err-preset-in-PresetPassphrase.ensures.presets)))
+    (stops_at (action_stops (beside_desk g.D.Desk.turned g.P.Prompter.prompted c.args.prompter.now c.in_err-preset-in-PresetPassphrase.ensures.presets)))
 
 pub returns-in_ok-preset-in-PresetPassphrase-clause-carries : goal.returns-in_ok-preset-in-PresetPassphrase-clause-carries
 returns-in_ok-preset-in-PresetPassphrase-clause-carries g c =
@@ -37,7 +37,7 @@ pub returns-in_err-agree_by_mode-in-GetConfirmation-clause-carries : goal.return
 returns-in_err-agree_by_mode-in-GetConfirmation-clause-carries g c =
     let p = err_from_is_err_and c.from_residual-in_err-agree_by_mode-in-GetConfirmation.result c.from_residual-in_err-agree_by_mode-in-GetConfirmation.ensures.1 in
     rw (c.in-GetConfirmation.is, p.1, p.2)
-    (stops_at (part_stops (rw c.requires.none at c.in_err-agree_by_mode-in-GetConfirmation.ensures.agrees)))
+    (stops_at (action_stops (rw c.requires.none at c.in_err-agree_by_mode-in-GetConfirmation.ensures.agrees)))
 
 pub returns-in_ok-agree_by_mode-in-GetConfirmation-clause-carries : goal.returns-in_ok-agree_by_mode-in-GetConfirmation-clause-carries
 returns-in_ok-agree_by_mode-in-GetConfirmation-clause-carries g c =

@@ -1,5 +1,5 @@
 use Rattle.std.proofs.Common.{◌≡◌, ℕ, Bool, true, false, List, Option, Some, sym, ◌∙◌, refl}
-use Rattle.agent_ask.proofs.PartsDone.{part_turns}
+use Rattle.agent_ask.proofs.ActionsDone.{action_turns}
 use Rattle.agent_commands.{specs.{Exchanges.is_quiet, Requests.GetFields, declared.request.Texts.Texts}, proofs.Carrying.{beside_desk, asked_cache, wanted_else}}
 use Rattle.agent_commands.proofs.passphrase.get_passphrase.Goals.{in_default-texts-via-in-Some+else-not-no_ask, in_default-texts-via-in_default-texts}
 use Rattle.agent_commands.proofs.passphrase.get_passphrase.Goals as goal
@@ -37,4 +37,4 @@ returns-in_default-texts-clause-comes g c =
     (asked_cache c.args.rules.now c.args.options.now
     (fields c.in-GetPassphrase.plain c.in-GetPassphrase.check c.in-GetPassphrase.no_ask c.in-GetPassphrase.repeat c.in-GetPassphrase.quality c.in-GetPassphrase.id
     (c.in-GetPassphrase.texts)) c.in-GetPassphrase.no_ask c.in-GetPassphrase.texts quiets
-    (beside_desk g.D.Desk.turned g.P.Prompter.prompted c.args.prompter.now (part_turns c.requires.open c.by_cache.ensures.turn)))
+    (beside_desk g.D.Desk.turned g.P.Prompter.prompted c.args.prompter.now (action_turns c.requires.open c.by_cache.ensures.turn)))

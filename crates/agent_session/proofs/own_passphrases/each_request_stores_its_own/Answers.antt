@@ -1,6 +1,6 @@
 use Rattle.std.proofs.Common.{[]}
 use Rattle.agent_commands.specs.Requests.{request_of}
-use Rattle.agent_session.{specs.OwnPassphrases.StoresOwn, proofs.{AtOnce.all_fit, Own.{OwnCache.request_own, OwnParts.own_at}}}
+use Rattle.agent_session.{specs.OwnPassphrases.StoresOwn, proofs.{AtOnce.all_fit, Own.{OwnCache.request_own, OwnActions.own_at}}}
 use Rattle.agent_session.proofs.own_passphrases.each_request_stores_its_own.Goals as goal
 
 pub returns : goal.returns

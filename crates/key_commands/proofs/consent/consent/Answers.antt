@@ -1,11 +1,11 @@
 use Rattle.std.proofs.Common.{refl}
-use Rattle.agent_ask.{specs.Parts.returns, proofs.PartsDone.part_still}
+use Rattle.agent_ask.{specs.Actions.returns, proofs.ActionsDone.action_still}
 use Rattle.key_commands.proofs.Partial.{beside_prompts}
 use Rattle.key_commands.proofs.consent.consent.Goals as goal
 
 pub returns-then-force-clause-consents : goal.returns-then-force-clause-consents
 returns-then-force-clause-consents g c =
-    rw c.if-force.true (part_still c.requires.open refl returns)
+    rw c.if-force.true (action_still c.requires.open refl returns)
 
 pub returns-clause-consents : goal.returns-clause-consents
 returns-clause-consents g c =

@@ -1,6 +1,6 @@
 use Rattle.std.proofs.Common.{Result, drop}
 use Rattle.{agent_ports.specs.KeyFiles.KeyFiles, session_client.specs.declared.refusal.Refusal.Refusal}
-use Rattle.key_commands.{specs.{KeyParts.HasOne, Steps.DoesKeyCalls}, proofs.ListedKeys.grips_of}
+use Rattle.key_commands.{specs.{KeyActions.HasOne, Steps.DoesKeyCalls}, proofs.ListedKeys.grips_of}
 use Rattle.key_commands.proofs.have_key.has_one.Given as goal
 
 -- what is done for the grips that are left completes what is done for all

@@ -1,6 +1,6 @@
 use Rattle.std.proofs.Common.{refl}
 use Rattle.{agent_ask.specs.PortCalls.Read, agent_ports.specs.declared.keys.KeyRead.TheVariants.{Found, Absent, Failed, NoMemory}}
-use Rattle.key_commands.{specs.Parts.{found, absent, faulted, no_memory}, proofs.Doing.one_call}
+use Rattle.key_commands.{specs.Actions.{found, absent, faulted, no_memory}, proofs.Doing.one_call}
 use Rattle.key_commands.proofs.key_calls.has_file.Goals as goal
 
 pub returns-in-Found : goal.returns-in-Found

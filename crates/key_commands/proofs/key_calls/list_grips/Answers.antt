@@ -1,6 +1,6 @@
 use Rattle.std.proofs.Common.{refl}
 use Rattle.{agent_ask.specs.PortCalls.Listed, agent_ports.specs.declared.keys.KeyNames.TheVariants.{Names, Failed, NoMemory}}
-use Rattle.key_commands.{specs.KeyParts.{listed, faulted, no_memory}, proofs.Doing.one_call}
+use Rattle.key_commands.{specs.KeyActions.{listed, faulted, no_memory}, proofs.Doing.one_call}
 use Rattle.key_commands.proofs.key_calls.list_grips.Goals as goal
 
 pub returns-in-Names-clause-listed : goal.returns-in-Names-clause-listed

@@ -1,5 +1,5 @@
 use Rattle.agent_ask.specs.PortCalls.{Removed}
-use Rattle.key_commands.{specs.KeyParts.{done, not_done}, proofs.Doing.change_made}
+use Rattle.key_commands.{specs.KeyActions.{done, not_done}, proofs.Doing.change_made}
 use Rattle.key_commands.proofs.key_calls.remove_file.Goals as goal
 
 pub returns : goal.returns

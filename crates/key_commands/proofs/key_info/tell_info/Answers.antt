@@ -1,5 +1,5 @@
 use Rattle.std.proofs.lemmas.Result.{err_from_is_err_and}
-use Rattle.{agent_ask.proofs.PartsAtClient.{wrote, wrote_part}, assuan_server.proofs.Clients.said_so}
+use Rattle.{agent_ask.proofs.ActionsAtClient.{wrote, wrote_part}, assuan_server.proofs.Clients.said_so}
 use Rattle.key_commands.proofs.key_info.tell_info.Goals as goal
 
 pub returns-in_err-write : goal.returns-in_err-write

@@ -1,5 +1,5 @@
 use Rattle.std.proofs.{Common.{refl, None}, lemmas.Result.err_from_is_err_and}
-use Rattle.agent_ask.{specs.Parts.returns, proofs.PartsDone.part_still}
+use Rattle.agent_ask.{specs.Actions.returns, proofs.ActionsDone.action_still}
 use Rattle.key_commands.proofs.ListedKeys.{tells_on, tells_in_vain, tells_none}
 use Rattle.key_commands.proofs.key_info.write_infos.Goals as goal
 
@@ -22,4 +22,4 @@ pub returns-clause-writes : goal.returns-clause-writes
 returns-clause-writes g c = λ side.
     c.loop-grip.invariant.completes side _ _ _
     (tells_none c.args.grips.now c.loop-grip.grip-index c.loop-grip-test.false
-    (part_still c.loop-grip.invariant.going refl returns))
+    (action_still c.loop-grip.invariant.going refl returns))

@@ -1,5 +1,5 @@
 use Rattle.std.proofs.{Common.refl, lemmas.Result.err_from_is_err_and}
-use Rattle.agent_ask.{specs.Parts.{returns as is_returned, refuses}, proofs.PartsDone.{part_then, part_stops, part_turned, part_still, beside_client, open_after}}
+use Rattle.agent_ask.{specs.Actions.{returns as is_returned, refuses}, proofs.ActionsDone.{action_then, action_stops, action_turned, action_still, beside_client, open_after}}
 use Rattle.key_commands.{proofs.Doing.leaves_alone, specs.Passphrases.ClientOld}
 use Rattle.key_commands.proofs.old.open_by_client.Goals as goal
 
@@ -7,7 +7,7 @@ pub returns-in_err-pass-clause-does : goal.returns-in_err-pass-clause-does
 unfolding ClientOld
 returns-in_err-pass-clause-does g c =
     let p = err_from_is_err_and c.from_residual.result c.from_residual.ensures.1 in
-    rw (p.1, p.2) (part_stops (beside_client c.in_err-pass.ensures))
+    rw (p.1, p.2) (action_stops (beside_client c.in_err-pass.ensures))
 
 pub returns-in_err-opened-clause-does : goal.returns-in_err-opened-clause-does
 unfolding ClientOld
@@ -16,14 +16,14 @@ returns-in_err-opened-clause-does g c =
     let going = open_after c.in_ok-pass.ensures in
     let tried = rw c.copy.ensures at c.in_err-opened.ensures.tries in
     rw (p.1, p.2)
-    (part_then (beside_client c.in_ok-pass.ensures) (part_stops (leaves_alone going tried)))
+    (action_then (beside_client c.in_ok-pass.ensures) (action_stops (leaves_alone going tried)))
 
 pub returns-in_default-clause-does : goal.returns-in_default-clause-does
 unfolding ClientOld
 returns-in_default-clause-does g c =
     let going = open_after c.in_ok-pass.ensures in
     let tried = rw (c.copy.ensures, c.in_default.is) at c.in_ok-opened.ensures.tries in
-    part_then (beside_client c.in_ok-pass.ensures) (part_then (leaves_alone going tried) (part_stops (part_still going refl refuses)))
+    action_then (beside_client c.in_ok-pass.ensures) (action_then (leaves_alone going tried) (action_stops (action_still going refl refuses)))
 
 pub returns-in_err-keep_pass-clause-does : goal.returns-in_err-keep_pass-clause-does
 unfolding ClientOld
@@ -32,13 +32,13 @@ returns-in_err-keep_pass-clause-does g c =
     let going = open_after c.in_ok-pass.ensures in
     let tried = rw (c.copy.ensures, c.in-Some.is) at c.in_ok-opened.ensures.tries in
     rw (p.1, p.2)
-    (part_then (beside_client c.in_ok-pass.ensures) (part_then (leaves_alone going tried) (part_then (part_still going refl is_returned)
-    (part_stops (part_turned going c.in_err-keep_pass.ensures.turn)))))
+    (action_then (beside_client c.in_ok-pass.ensures) (action_then (leaves_alone going tried) (action_then (action_still going refl is_returned)
+    (action_stops (action_turned going c.in_err-keep_pass.ensures.turn)))))
 
 pub returns-clause-does : goal.returns-clause-does
 unfolding ClientOld
 returns-clause-does g c =
     let going = open_after c.in_ok-pass.ensures in
     let tried = rw (c.copy.ensures, c.in-Some.is) at c.in_ok-opened.ensures.tries in
-    part_then (beside_client c.in_ok-pass.ensures) (part_then (leaves_alone going tried) (part_then (part_still going refl is_returned)
-    (part_then (part_turned going c.in_ok-keep_pass.ensures.turn) (part_still going refl is_returned))))
+    action_then (beside_client c.in_ok-pass.ensures) (action_then (leaves_alone going tried) (action_then (action_still going refl is_returned)
+    (action_then (action_turned going c.in_ok-keep_pass.ensures.turn) (action_still going refl is_returned))))

@@ -1,5 +1,5 @@
 use Rattle.std.proofs.{Common.refl, lemmas.Result.err_from_is_err_and}
-use Rattle.agent_ask.{specs.Parts.returns as is_returned, proofs.PartsDone.{part_then, part_stops, part_still, part_turns}}
+use Rattle.agent_ask.{specs.Actions.returns as is_returned, proofs.ActionsDone.{action_then, action_stops, action_still, action_turns}}
 use Rattle.key_commands.{proofs.Doing.leaves_alone, specs.Passphrases.OpensLocked}
 use Rattle.key_commands.proofs.old.open_locked.Goals as goal
 
@@ -8,23 +8,23 @@ unfolding OpensLocked
 returns-in_err-found-clause-does g c =
     let p = err_from_is_err_and c.from_residual.result c.from_residual.ensures.1 in
     rw (p.1, p.2)
-    (part_stops (part_turns c.requires.open c.in_err-found.ensures.turn))
+    (action_stops (action_turns c.requires.open c.in_err-found.ensures.turn))
 
 pub returns-in_err-opened-clause-does : goal.returns-in_err-opened-clause-does
 unfolding OpensLocked
 returns-in_err-opened-clause-does g c =
     let p = err_from_is_err_and c.from_residual-in_err-opened.result c.from_residual-in_err-opened.ensures.1 in
     rw (p.1, p.2)
-    (part_then (part_turns c.requires.open c.in_ok-found.ensures.turn) (part_stops (leaves_alone c.requires.open c.in_err-opened.ensures.tries)))
+    (action_then (action_turns c.requires.open c.in_ok-found.ensures.turn) (action_stops (leaves_alone c.requires.open c.in_err-opened.ensures.tries)))
 
 pub returns-in-Some-clause-does : goal.returns-in-Some-clause-does
 unfolding OpensLocked
 returns-in-Some-clause-does g c =
     let tried = rw c.in-Some.is at c.in_ok-opened.ensures.tries in
-    part_then (part_turns c.requires.open c.in_ok-found.ensures.turn) (part_then (leaves_alone c.requires.open tried) (part_still c.requires.open refl is_returned))
+    action_then (action_turns c.requires.open c.in_ok-found.ensures.turn) (action_then (leaves_alone c.requires.open tried) (action_still c.requires.open refl is_returned))
 
 pub returns-in-None-clause-does : goal.returns-in-None-clause-does
 unfolding OpensLocked
 returns-in-None-clause-does g c =
     let tried = rw c.in-None.is at c.in_ok-opened.ensures.tries in
-    part_then (part_turns c.requires.open c.in_ok-found.ensures.turn) (part_then (leaves_alone c.requires.open tried) c.open_cached.ensures.does)
+    action_then (action_turns c.requires.open c.in_ok-found.ensures.turn) (action_then (leaves_alone c.requires.open tried) c.open_cached.ensures.does)

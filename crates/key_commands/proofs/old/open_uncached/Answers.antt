@@ -1,5 +1,5 @@
 use Rattle.std.proofs.Common.{refl, sym, ◌∙◌}
-use Rattle.agent_ask.{specs.Parts.refuses, proofs.PartsDone.part_still}
+use Rattle.agent_ask.{specs.Actions.refuses, proofs.ActionsDone.action_still}
 use Rattle.key_commands.proofs.Partial.{beside_desk}
 use Rattle.key_commands.proofs.old.open_uncached.Goals as goal
 
@@ -8,11 +8,11 @@ returns-in-Ask-clause-does g c = rw (sym c.mode.ensures ∙ c.in-Ask.is) c.open_
 
 pub returns-in-Cancel-clause-does : goal.returns-in-Cancel-clause-does
 returns-in-Cancel-clause-does g c =
-    rw (sym c.mode.ensures ∙ c.in-Cancel.is) (part_still c.requires.open refl refuses)
+    rw (sym c.mode.ensures ∙ c.in-Cancel.is) (action_still c.requires.open refl refuses)
 
 pub returns-in-Error-clause-does : goal.returns-in-Error-clause-does
 returns-in-Error-clause-does g c =
-    rw (sym c.mode.ensures ∙ c.in-Error.is) (part_still c.requires.open refl refuses)
+    rw (sym c.mode.ensures ∙ c.in-Error.is) (action_still c.requires.open refl refuses)
 
 pub returns-in-Loopback-clause-does : goal.returns-in-Loopback-clause-does
 returns-in-Loopback-clause-does g c =

@@ -1,6 +1,6 @@
 use Rattle.std.proofs.{Common.refl, lemmas.Result.err_from_is_err_and}
-use Rattle.agent_ask.{proofs.PartsDone.{part_then, part_stops, part_still}, specs.{Parts.returns as is_returned, PartReplies.stops_at}}
-use Rattle.key_commands.{proofs.{Partial.beside_keys, Doing.part_called, Requesting.replies_ok}, specs.Exchanges.PasswdReplies}
+use Rattle.agent_ask.{proofs.ActionsDone.{action_then, action_stops, action_still}, specs.{Actions.returns as is_returned, ActionReplies.stops_at}}
+use Rattle.key_commands.{proofs.{Partial.beside_keys, Doing.action_called, Requesting.replies_ok}, specs.Exchanges.PasswdReplies}
 use Rattle.key_commands.proofs.passwd.change_passphrase.Goals as goal
 
 pub change_opened-requires-clause-open : goal.change_opened-requires-clause-open
@@ -12,7 +12,7 @@ returns-in_err-file-clause-carries g c = λ wraps.
     let p = err_from_is_err_and c.from_residual.result c.from_residual.ensures.1 in
     let file = c.in_err-file.ensures.reads in
     rw (p.1, p.2, c.requires.free)
-    (stops_at (part_stops (part_called c.requires.open file)))
+    (stops_at (action_stops (action_called c.requires.open file)))
 
 pub returns-in_err-opened-clause-carries : goal.returns-in_err-opened-clause-carries
 unfolding PasswdReplies
@@ -20,7 +20,7 @@ returns-in_err-opened-clause-carries g c = λ wraps.
     let p = err_from_is_err_and c.from_residual-in_err-opened.result c.from_residual-in_err-opened.ensures.1 in
     let opened = rw c.requires.free at c.in_err-opened.ensures.does in
     rw (p.1, p.2)
-    (stops_at (part_then (part_called c.requires.open c.in_ok-file.ensures.reads) (part_stops (beside_keys opened))))
+    (stops_at (action_then (action_called c.requires.open c.in_ok-file.ensures.reads) (action_stops (beside_keys opened))))
 
 pub returns-in_err-change_opened-clause-carries : goal.returns-in_err-change_opened-clause-carries
 unfolding PasswdReplies
@@ -29,7 +29,7 @@ returns-in_err-change_opened-clause-carries g c = λ wraps.
     let opened = rw c.requires.free at c.in_ok-opened.ensures.does in
     let changed = rw c.as_slice.ensures at c.in_err-change_opened.ensures.does in
     rw (p.1, p.2)
-    (stops_at (part_then (part_called c.requires.open c.in_ok-file.ensures.reads) (part_then (beside_keys opened) (part_stops changed))))
+    (stops_at (action_then (action_called c.requires.open c.in_ok-file.ensures.reads) (action_then (beside_keys opened) (action_stops changed))))
 
 pub returns-clause-carries : goal.returns-clause-carries
 unfolding PasswdReplies
@@ -37,4 +37,4 @@ returns-clause-carries g c = λ wraps.
     let opened = rw c.requires.free at c.in_ok-opened.ensures.does in
     let changed = rw c.as_slice.ensures at c.in_ok-change_opened.ensures.does in
     replies_ok
-    (part_then (part_called c.requires.open c.in_ok-file.ensures.reads) (part_then (beside_keys opened) (part_then changed (part_still changed.fits.0 refl is_returned))))
+    (action_then (action_called c.requires.open c.in_ok-file.ensures.reads) (action_then (beside_keys opened) (action_then changed (action_still changed.fits.0 refl is_returned))))

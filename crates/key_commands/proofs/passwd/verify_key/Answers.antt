@@ -1,6 +1,6 @@
 use Rattle.std.proofs.{Common.refl, lemmas.Result.err_from_is_err_and}
-use Rattle.agent_ask.{proofs.PartsDone.{ticket_given, part_then, part_stops, part_still, part_turns}, specs.{Parts.returns as is_returned, PartReplies.stops_at}}
-use Rattle.key_commands.{proofs.{Partial.beside_keys, Doing.part_called, Requesting.replies_ok}, specs.Exchanges.VerifyReplies}
+use Rattle.agent_ask.{proofs.ActionsDone.{ticket_given, action_then, action_stops, action_still, action_turns}, specs.{Actions.returns as is_returned, ActionReplies.stops_at}}
+use Rattle.key_commands.{proofs.{Partial.beside_keys, Doing.action_called, Requesting.replies_ok}, specs.Exchanges.VerifyReplies}
 use Rattle.key_commands.proofs.passwd.verify_key.Goals as goal
 
 pub returns-in_err-file-clause-carries : goal.returns-in_err-file-clause-carries
@@ -9,7 +9,7 @@ returns-in_err-file-clause-carries g c = λ wraps dice.
     let p = err_from_is_err_and c.from_residual.result c.from_residual.ensures.1 in
     let file = c.in_err-file.ensures.reads in
     rw (p.1, p.2, c.requires.free)
-    (stops_at (part_stops (part_called c.requires.open file)))
+    (stops_at (action_stops (action_called c.requires.open file)))
 
 pub returns-in_err-opened-clause-carries : goal.returns-in_err-opened-clause-carries
 unfolding VerifyReplies
@@ -17,7 +17,7 @@ returns-in_err-opened-clause-carries g c = λ wraps dice.
     let p = err_from_is_err_and c.from_residual-in_err-opened.result c.from_residual-in_err-opened.ensures.1 in
     let opened = rw c.requires.free at c.in_err-opened.ensures.does in
     rw (p.1, p.2)
-    (stops_at (part_then (part_called c.requires.open c.in_ok-file.ensures.reads) (part_stops (beside_keys opened))))
+    (stops_at (action_then (action_called c.requires.open c.in_ok-file.ensures.reads) (action_stops (beside_keys opened))))
 
 pub returns-clause-carries : goal.returns-clause-carries
 unfolding VerifyReplies
@@ -26,5 +26,5 @@ returns-clause-carries g c = λ wraps dice.
     let going = c.in_ok-opened.ensures.does.fits.0 in
     rw c.close.ensures.none
     (replies_ok
-    (part_then (part_called c.requires.open c.in_ok-file.ensures.reads) (part_then (beside_keys opened)
-    (part_then (part_turns going (ticket_given c.close.ensures.given)) (part_still going refl is_returned)))))
+    (action_then (action_called c.requires.open c.in_ok-file.ensures.reads) (action_then (beside_keys opened)
+    (action_then (action_turns going (ticket_given c.close.ensures.given)) (action_still going refl is_returned)))))

@@ -1,6 +1,6 @@
 use Rattle.std.proofs.Common.{refl}
-use Rattle.{cache_policy.specs.Turns.{Given, Empty, Stopping, Refused}, agent_ask.specs.PartStates.{still, one}}
-use Rattle.key_commands.specs.{KeyParts.{no_nonce, given, empty, stopping, no_memory}, Passphrases.ask_nonce}
+use Rattle.{cache_policy.specs.Turns.{Given, Empty, Stopping, Refused}, agent_ask.specs.ActionStates.{still, one}}
+use Rattle.key_commands.specs.{KeyActions.{no_nonce, given, empty, stopping, no_memory}, Passphrases.ask_nonce}
 use Rattle.key_commands.proofs.receiving.look_over.Goals as goal
 
 pub returns-in_default-clause-turn : goal.returns-in_default-clause-turn

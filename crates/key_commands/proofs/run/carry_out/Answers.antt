@@ -1,6 +1,6 @@
 use Rattle.std.proofs.{Common.refl, lemmas.Result.err_from_is_err_and}
-use Rattle.agent_ask.{specs.{Parts.{returns as is_returned, refuses}, PartReplies.stops_at}, proofs.PartsDone.{part_then, part_stops, part_still}}
-use Rattle.key_commands.{proofs.{Doing.part_called, Partial.{carries_beside, carries_beside_desk}, Requesting.replies_ok}, specs.Exchanges.HaveKeyReplies}
+use Rattle.agent_ask.{specs.{Actions.{returns as is_returned, refuses}, ActionReplies.stops_at}, proofs.ActionsDone.{action_then, action_stops, action_still}}
+use Rattle.key_commands.{proofs.{Doing.action_called, Partial.{carries_beside, carries_beside_desk}, Requesting.replies_ok}, specs.Exchanges.HaveKeyReplies}
 use Rattle.key_commands.proofs.run.carry_out.Goals as goal
 
 pub returns-in_err-has_one-in-HaveKey-clause-carries : goal.returns-in_err-has_one-in-HaveKey-clause-carries
@@ -8,13 +8,13 @@ unfolding HaveKeyReplies
 returns-in_err-has_one-in-HaveKey-clause-carries g c =
     let p = err_from_is_err_and c.from_residual.result c.from_residual.ensures.1 in
     rw (c.in-HaveKey.is, c.requires.free, p.1, p.2)
-    (stops_at (part_stops (part_called c.requires.open c.in_err-has_one-in-HaveKey.ensures)))
+    (stops_at (action_stops (action_called c.requires.open c.in_err-has_one-in-HaveKey.ensures)))
 
 pub returns-in_ok-has_one-in-HaveKey-clause-carries : goal.returns-in_ok-has_one-in-HaveKey-clause-carries
 unfolding HaveKeyReplies
 returns-in_ok-has_one-in-HaveKey-clause-carries g c =
     rw (c.in-HaveKey.is, c.requires.free)
-    (replies_ok (part_then (part_called c.requires.open c.in_ok-has_one-in-HaveKey.ensures) (part_still c.requires.open refl is_returned)))
+    (replies_ok (action_then (action_called c.requires.open c.in_ok-has_one-in-HaveKey.ensures) (action_still c.requires.open refl is_returned)))
 
 pub returns-in-KeyInfo-clause-carries : goal.returns-in-KeyInfo-clause-carries
 returns-in-KeyInfo-clause-carries g c =
@@ -34,4 +34,4 @@ returns-in-KeyWrap-clause-carries g c =
 pub returns-in-Bad-clause-carries : goal.returns-in-Bad-clause-carries
 returns-in-Bad-clause-carries g c =
     rw (c.in-Bad.is, c.requires.free)
-    (stops_at (part_still c.requires.open refl refuses))
+    (stops_at (action_still c.requires.open refl refuses))

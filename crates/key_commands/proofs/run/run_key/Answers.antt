@@ -1,6 +1,6 @@
 use Rattle.std.proofs.Common.{refl}
 use Rattle.{assuan_server.specs.{Written.refusal_line, Clients.connection_views}, agent_ask.proofs.Replying.answers}
-use Rattle.key_commands.{specs.{Exchanges.KeyReplies, Parts.{key_went_after, key_gone}, Replies.{IsReply, key_goes_on}}, proofs.Requesting.gone_as_it_went}
+use Rattle.key_commands.{specs.{Exchanges.KeyReplies, Actions.{key_went_after, key_gone}, Replies.{IsReply, key_goes_on}}, proofs.Requesting.gone_as_it_went}
 use Rattle.key_commands.proofs.run.run_key.Goals as goal
 
 pub returns-clause-answers : goal.returns-clause-answers

@@ -1,4 +1,4 @@
-use Rattle.agent_ask.proofs.PartsDone.{cache_changed}
+use Rattle.agent_ask.proofs.ActionsDone.{cache_changed}
 use Rattle.key_commands.proofs.turns.keep_pass.Goals as goal
 
 pub returns-clause-turn : goal.returns-clause-turn

@@ -1,5 +1,5 @@
 use Rattle.std.proofs.{Common.{◌≡◌, Some, None, true, false, refl, ap, sym, ◌∙◌}, lemmas.Result.err_from_is_err_and}
-use Rattle.{agent_ask.{specs.Parts.{returns as done, refuses}, proofs.PartsDone.part_stops}, trust_list.specs.Trust.trust}
+use Rattle.{agent_ask.{specs.Actions.{returns as done, refuses}, proofs.ActionsDone.action_stops}, trust_list.specs.Trust.trust}
 use Rattle.agent_origin.{specs.TrustExchanges.{Stores, StoresUnsaid}, proofs.TrustDone.{file_left, said_done}}
 use Rattle.agent_origin.proofs.trust.calls.store_unsaid.Goals as goal
 
@@ -7,7 +7,7 @@ pub returns-in_err-file : goal.returns-in_err-file
 unfolding StoresUnsaid
 returns-in_err-file g c = λ conn going held.
     let p = err_from_is_err_and c.from_residual.result c.from_residual.ensures.1 in
-    rw (p.1, p.2) (part_stops (c.in_err-file.ensures.refused conn going held))
+    rw (p.1, p.2) (action_stops (c.in_err-file.ensures.refused conn going held))
 
 pub returns-in-Some-true : goal.returns-in-Some-true
 unfolding StoresUnsaid

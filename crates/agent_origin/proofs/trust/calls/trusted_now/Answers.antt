@@ -1,5 +1,5 @@
 use Rattle.std.{proofs.{Common.{◌≡◌, Bool, Option, None, Some, Ok, Err, true, false, refl, sym, ◌∙◌}, lemmas.Result.err_from_is_err_and}, specs.Option.unwrap_or}
-use Rattle.{agent_ask.{specs.Parts.{Refuses, returns as nothing, refuses}, proofs.PartsDone.part_stops}, agent_ports.specs.TrustFiles.TrustState, session_client.specs.declared.code.Code.TheVariants.NotTrusted}
+use Rattle.{agent_ask.{specs.Actions.{Refuses, returns as nothing, refuses}, proofs.ActionsDone.action_stops}, agent_ports.specs.TrustFiles.TrustState, session_client.specs.declared.code.Code.TheVariants.NotTrusted}
 use Rattle.{session_client.specs.declared.refusal.Refusal.TheVariants.Agent, trust_list.specs.Trust.trust}
 use Rattle.agent_origin.{specs.{TrustExchanges.{unless_said, TrustedNow}, TrustStates.DoesAtFile}, proofs.TrustDone.{file_left, said_done}}
 use Rattle.agent_origin.proofs.trust.calls.trusted_now.Goals as goal
@@ -19,7 +19,7 @@ pub returns-in_err-file : goal.returns-in_err-file
 unfolding TrustedNow
 returns-in_err-file g c = λ conn going held.
     let p = err_from_is_err_and c.from_residual.result c.from_residual.ensures.1 in
-    rw (p.1, p.2) (part_stops (c.in_err-file.ensures.refused conn going held))
+    rw (p.1, p.2) (action_stops (c.in_err-file.ensures.refused conn going held))
 
 pub returns-then-unwrap_or : goal.returns-then-unwrap_or
 unfolding TrustedNow

@@ -1,5 +1,5 @@
 use Rattle.std.proofs.lemmas.Result.{err_from_is_err_and}
-use Rattle.{agent_ask.proofs.PartsDone.{seated_in, unseated_in}, agent_origin.proofs.TrustDone.beside_desk}
+use Rattle.{agent_ask.proofs.ActionsDone.{seated_in, unseated_in}, agent_origin.proofs.TrustDone.beside_desk}
 use Rattle.agent_origin.proofs.trust.marking.ask.Goals as goal
 
 pub returns-in_err-seat_by_mode-clause-asks : goal.returns-in_err-seat_by_mode-clause-asks

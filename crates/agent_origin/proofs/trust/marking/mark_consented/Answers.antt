@@ -1,5 +1,5 @@
 use Rattle.std.proofs.{Common.Some, lemmas.Result.err_from_is_err_and}
-use Rattle.agent_ask.{specs.PartStates.NoTurn, proofs.PartsDone.{part_then, part_stops}}
+use Rattle.agent_ask.{specs.ActionStates.NoTurn, proofs.ActionsDone.{action_then, action_stops}}
 use Rattle.agent_origin.{specs.TrustExchanges.Consented, proofs.TrustDone.{agreed_done, beside_all}}
 use Rattle.agent_origin.proofs.trust.marking.mark_consented.Goals as goal
 
@@ -9,7 +9,7 @@ returns-in_err-agree-clause-marks g c = λ keys dice.
     let p = err_from_is_err_and c.from_residual.result c.from_residual.ensures.1 in
     let first = rw c.trust_question-trusts.ensures at c.in_err-agree.ensures.asked in
     rw (p.1, p.2)
-    (part_stops
+    (action_stops
     (agreed_done c.args.ticket.now (g.T.TrustFile.trust c.args.trust.now) first c.in_err-agree.ensures.left keys dice))
 
 pub returns-in_err-agree-2-clause-marks : goal.returns-in_err-agree-2-clause-marks
@@ -19,9 +19,9 @@ returns-in_err-agree-2-clause-marks g c = λ keys dice.
     let first = rw c.trust_question-trusts.ensures at c.in_ok-agree.ensures.asked in
     let second = rw c.fingerprint_question-is_right.ensures at c.in_err-agree-2.ensures.asked in
     rw (p.1, p.2)
-    (part_then
+    (action_then
     (agreed_done c.args.ticket.now (g.T.TrustFile.trust c.args.trust.now) first c.in_ok-agree.ensures.left keys dice)
-    (part_stops
+    (action_stops
     (agreed_done c.args.ticket.now (g.T.TrustFile.trust c.args.trust.now) second c.in_err-agree-2.ensures.left keys dice)))
 
 pub returns-clause-marks : goal.returns-clause-marks
@@ -29,9 +29,9 @@ unfolding Consented
 returns-clause-marks g c = λ keys dice.
     let first = rw c.trust_question-trusts.ensures at c.in_ok-agree.ensures.asked in
     let second = rw c.fingerprint_question-is_right.ensures at c.in_ok-agree-2.ensures.asked in
-    part_then
+    action_then
     (agreed_done c.args.ticket.now (g.T.TrustFile.trust c.args.trust.now) first c.in_ok-agree.ensures.left keys dice)
-    (part_then
+    (action_then
     (agreed_done c.args.ticket.now (g.T.TrustFile.trust c.args.trust.now) second c.in_ok-agree-2.ensures.left keys dice)
     (beside_all NoTurn g.P.Prompter.prompted c.agree-2.new.client tt c.agree-2.new.prompter (Some c.args.ticket.now) c.in_ok-agree-2.ensures.left
     c.store_unsaid.ensures keys dice))

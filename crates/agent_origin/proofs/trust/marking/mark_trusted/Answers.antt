@@ -1,5 +1,5 @@
 use Rattle.std.proofs.{Common.{◌≡◌, Some, None, true, false, refl, ap, sym, ◌∙◌}, lemmas.Result.err_from_is_err_and}
-use Rattle.{agent_ask.{specs.Parts.{returns, refuses}, proofs.PartsDone.{part_then, part_stops}}, trust_list.specs.Trust.trust}
+use Rattle.{agent_ask.{specs.Actions.{returns, refuses}, proofs.ActionsDone.{action_then, action_stops}}, trust_list.specs.Trust.trust}
 use Rattle.agent_origin.{specs.TrustExchanges.{asked_in, Marked}, proofs.TrustDone.{file_left, said_done, beside_all}}
 use Rattle.agent_origin.proofs.trust.marking.mark_trusted.Goals as goal
 
@@ -8,7 +8,7 @@ unfolding Marked
 returns-in_err-file-clause-marks g c = λ keys dice.
     let p = err_from_is_err_and c.from_residual.result c.from_residual.ensures.1 in
     rw (p.1, p.2, c.requires.none)
-    (part_stops
+    (action_stops
     (beside_all g.D.Desk.turned g.P.Prompter.prompted c.args.conn.now c.args.desk.now c.args.prompter.now _ c.requires.open c.in_err-file.ensures.refused keys dice))
 
 pub returns-in-Some-true-clause-marks : goal.returns-in-Some-true-clause-marks
@@ -36,6 +36,6 @@ unfolding Marked
 returns-clause-marks g c = λ keys dice.
     let m = c.args.marking.now in
     let is : trust c.in_ok-file.file.items m.fingerprint.now.0 ≡ None = rw c.deref.ensures.value at (sym c.trusted.ensures ∙ c.in-None.is) in
-    part_then
+    action_then
     (beside_all g.D.Desk.turned g.P.Prompter.prompted c.args.conn.now c.args.desk.now c.args.prompter.now None c.requires.open c.in_ok-file.ensures.read keys dice)
     (rw is (c.ask.ensures.asks keys dice))

@@ -1,5 +1,5 @@
 use Rattle.std.proofs.Common.{refl}
-use Rattle.agent_ask.{specs.Parts.refuses, proofs.PartsDone.part_still}
+use Rattle.agent_ask.{specs.Actions.refuses, proofs.ActionsDone.action_still}
 use Rattle.agent_origin.proofs.TrustDone.{beside_all}
 use Rattle.agent_origin.proofs.trust.run.carry_out.Goals as goal
 
@@ -11,4 +11,4 @@ returns-in-IsTrusted-clause-carries g c =
 pub returns-in-Bad-clause-carries : goal.returns-in-Bad-clause-carries
 returns-in-Bad-clause-carries g c = λ keys dice.
     rw (c.in-Bad.is, c.requires.none)
-    (part_still c.requires.open refl refuses)
+    (action_still c.requires.open refl refuses)

@@ -1,14 +1,14 @@
--- Parts of a request: what decides the request among their events is what they are refused by.
+-- Actions of a request: what decides the request among their events is what they are refused by.
 use Rattle.std.{specs.{List.AllByRecursion, Option.option_map}, proofs.Common.{◌≡◌, ◌≢◌, ◌∙◌, ◌⊎◌, ℕ, List, [], ◌∷◌, ◌++◌, Option, Some, None, Result, Ok, Err, arith, refl, sym, ap, subst, inl, inr}}
-use Rattle.agent_ask.specs.{PortCalls.{Keys, Read, Removed, Trust}, Parts.{◌>>=◌, Refuses, refuses as refusing, returns, needed, or_else}, SessionEvents.{Received, Sent, Cut, Inquiry, CacheTurn, Port, said_last}, TrustCalls.TrustCall}
-use Rattle.{agent_ask.{specs.{TurnParts.Closes, ClientParts.Inquires}, proofs.Within.Joins}, agent_ports.specs.declared.{grip.Grip.Grip, keys.{KeyDone.KeyDone, KeyRead.KeyRead}}, assuan_server.specs.Clients.session_lines}
+use Rattle.agent_ask.specs.{PortCalls.{Keys, Read, Removed, Trust}, Actions.{◌>>=◌, Refuses, refuses as refusing, returns, needed, or_else}, SessionEvents.{Received, Sent, Cut, Inquiry, CacheTurn, Port, said_last}, TrustCalls.TrustCall}
+use Rattle.{agent_ask.{specs.{TurnActions.Closes, ClientActions.Inquires}, proofs.Within.Joins}, agent_ports.specs.declared.{grip.Grip.Grip, keys.{KeyDone.KeyDone, KeyRead.KeyRead}}, assuan_server.specs.Clients.session_lines}
 use Rattle.{assuan_server.specs.{Written.{failed, refusal_line}, declared.errors.Origin.TheVariants.Agent as OfAgent}, cache_policy.specs.declared.secret.TheConstants.MAX_SECRET_LEN, session_client.specs.Asking.said_by}
 use Rattle.session_client.specs.{Refusals.refusal_code, declared.{client.TheConstants.MAX_NOTE_LEN, code.Code.Code, refusal.Refusal.{Refusal, TheVariants.{Agent, Client}}, client_error.ClientError.ClientError}}
-use Rattle.key_commands.{specs.{Lines.max_key_data, Events.Event, Parts.Part}, proofs.EachEvent.each_answer}
+use Rattle.key_commands.{specs.{Lines.max_key_data, Events.Event, Actions.Action}, proofs.EachEvent.each_answer}
 use Rattle.agent_session.{specs.{Causes.{Has, here, later}, Completeness.{Remembers, HasError}, Refusals.{refuses, shuts}}, proofs.Courses.{CacheWorks.FitsCache, KeyWorks.FitsKeys}}
 use Rattle.agent_session.proofs.{Courses.Works.{unsaid, unheard_by, GoesOn, WorkEnd, no_more, refused, lost, forgot, WorksTo, WorksSo, shuts_fit}, Causes.Explained.has_split, Standing.{each_left, each_right, each_has, has_right}}
 use Rattle.agent_ask.proofs.Within as within
-use Rattle.agent_ask.specs.ClientParts as client_parts
+use Rattle.agent_ask.specs.ClientActions as client_actions
 
 -- the bytes of a key that a client sent, the reads of a key's file, the removals of one, and the calls of the trust file by which a request is refused by a code
 pub record Deciding : Type 1 where
@@ -42,16 +42,16 @@ module _ (deciding : Deciding) where
   pub never_decided : (events : List Event) → AllByRecursion IsFree events → {why : Code} → IsDecided events why → ⊥
   never_decided events each decided = each_has IsFree events each decided.has _ decided.decides
 
--- ---- parts
+-- ---- actions
 
--- nothing is due before a part, and nothing is owed behind it
+-- nothing is due before an action, and nothing is owed behind it
 abbrev pub NoneDue : Code → Type 0
 NoneDue why = ⊥
 
 abbrev pub NoneOwed : {A : Type 0} → A → Code → Type 0
 NoneOwed value why = ⊥
 
--- what a part comes to that is to be refused by this code: a value behind which that is owed, or the refusal
+-- what an action comes to that is to be refused by this code: a value behind which that is owed, or the refusal
 abbrev pub SaysTo : {A : Type 0} → (A → Code → Type 0) → Result A Refusal → Code → Type 0
 SaysTo Owed (Ok value) why = Owed value why
 SaysTo Owed (Err refusal) why = refusal_line refusal ≡ Some (failed why)
@@ -61,12 +61,12 @@ pub client_line : (why : Code) (unheard : _) (refusal : Refusal) → refusal_cod
 client_line why unheard refusal code_is same = subst (λ r. refusal_line r ≡ Some (failed why)) same (ap (option_map failed) code_is)
 
 module _ (deciding : Deciding) where
-  -- A part whose request is refused by what decides it among these events, or before them, where that is due; or behind it, where it is owed then.
-  abbrev pub HeedLaw : {A : Type 0} → (Code → Type 0) → (A → Code → Type 0) → Part A
+  -- An action whose request is refused by what decides it among these events, or before them, where that is due; or behind it, where it is owed then.
+  abbrev pub HeedLaw : {A : Type 0} → (Code → Type 0) → (A → Code → Type 0) → Action A
   HeedLaw Due Owed before events result after = AllByRecursion Remembers events → (why : Code) → Due why ⊎ IsDecided deciding events why → SaysTo Owed result why
 
-  abbrev pub Heeds : {A : Type 0} → (Code → Type 0) → Part A → (A → Code → Type 0) → Type 0
-  Heeds {A} Due part Owed = (before : Option ℕ) (events : List Event) (result : Result A Refusal) (after : Option ℕ) → part before events result after → HeedLaw Due Owed before events result after
+  abbrev pub Heeds : {A : Type 0} → (Code → Type 0) → Action A → (A → Code → Type 0) → Type 0
+  Heeds {A} Due action Owed = (before : Option ℕ) (events : List Event) (result : Result A Refusal) (after : Option ℕ) → action before events result after → HeedLaw Due Owed before events result after
 
   due_then : (Due Mid : Code → Type 0) (some more : List Event) (why : Code) → (Due why ⊎ IsDecided deciding some why → Mid why) → Due why ⊎ IsDecided deciding (some ++ more) why → Mid why ⊎ IsDecided deciding more why
   due_then Due Mid some more why by_first (inl due) = inl (by_first (inl due))
@@ -82,8 +82,8 @@ module _ (deciding : Deciding) where
     alone = λ first. first;
   }
 
-  pub bind : {A B : Type 0} {part : Part A} {next : A → Part B} {Due : Code → Type 0} (Mid : A → Code → Type 0) {Owed : B → Code → Type 0} → Heeds Due part Mid → ((value : A) → Heeds (Mid value) (next value) Owed)
-      → Heeds Due (part >>= next) Owed
+  pub bind : {A B : Type 0} {action : Action A} {next : A → Action B} {Due : Code → Type 0} (Mid : A → Code → Type 0) {Owed : B → Code → Type 0} → Heeds Due action Mid → ((value : A) → Heeds (Mid value) (next value) Owed)
+      → Heeds Due (action >>= next) Owed
   bind Mid first next = (within.bind heed_joins (record { of = first }) (λ value. record { of = next value })).of
 
   -- ---- single events
@@ -95,7 +95,7 @@ module _ (deciding : Deciding) where
   pub decided_only : {first : Event} {why : Code} → IsDecided deciding (first ∷ []) why → Decides deciding first why
   decided_only {why} decided = only why decided.has decided.decides
 
-  -- ---- parts by which nothing is decided but by what the client said
+  -- ---- actions by which nothing is decided but by what the client said
 
   -- an event by which a request is refused only where its client said so
   abbrev pub IsSaidAlone : Event → Type 0
@@ -152,8 +152,8 @@ module _ (deciding : Deciding) where
         by_lost {at} (later has) decides = absurd (never_decided deciding last (each_free last each) {why = why} (record { event = at; has = has; decides = decides }))
     end_says why (forgot fits is memory) remembers decided = absurd (remembers.1.0 tt)
 
-    -- a part that is work of such events
-    pub said_alone : {part : Part A} → WorksSo IsSaidAlone part → Heeds NoneDue part Owed
+    -- an action that is work of such events
+    pub said_alone : {action : Action A} → WorksSo IsSaidAlone action → Heeds NoneDue action Owed
     said_alone work before events result after does remembers why (inl due) = absurd due
     said_alone work before events result after does remembers why (inr decided) =
         elim (has_split so.work so.last (subst (λ e. Has decided.event e) so.is decided.has)) [
@@ -170,7 +170,7 @@ module _ (deciding : Deciding) where
   undecided (inr decided) = absurd (never_decided deciding [] tt decided)
 
   module _ {A : Type 0} where
-    pub otherwise : (value : Option A) {other : Part A} → Heeds NoneDue other NoneOwed → Heeds NoneDue (or_else value other) NoneOwed
+    pub otherwise : (value : Option A) {other : Action A} → Heeds NoneDue other NoneOwed → Heeds NoneDue (or_else value other) NoneOwed
     otherwise None other before events result after does remembers why due = other before events result after does remembers why due
     otherwise (Some value) other _ _ _ _ returns remembers why due = undecided due
 
@@ -184,7 +184,7 @@ module _ (deciding : Deciding) where
     is_needed given (Some value) _ _ _ _ returns remembers why due = elim due [ inl is ↦ absurd (cc (is.0)) | inr decided ↦ never_decided deciding [] tt decided ]
 
     -- what is never due
-    pub undue : {part : Part A} {Due : Code → Type 0} {Owed : A → Code → Type 0} → ((why : Code) → Due why → ⊥) → Heeds NoneDue part Owed → Heeds Due part Owed
+    pub undue : {action : Action A} {Due : Code → Type 0} {Owed : A → Code → Type 0} → ((why : Code) → Due why → ⊥) → Heeds NoneDue action Owed → Heeds Due action Owed
     undue never heeds before events result after does remembers why due = elim due [ inl is ↦ absurd (never why is) | inr decided ↦ heeds before events result after does remembers why (inr decided) ]
 
   -- ---- the client
@@ -192,8 +192,8 @@ module _ (deciding : Deciding) where
   -- what is owed behind bytes of a key that were sent
   pub inquires_of : (word : List ℕ) (limit : ℕ) → Heeds NoneDue (Inquires session_lines word limit) (λ bytes why. (limit ≡ max_key_data) × deciding.sent bytes why)
   inquires_of word limit before events result after does remembers why (inl due) = absurd due
-  inquires_of word limit before events result after (client_parts.given {bytes} is) remembers why (inr decided) = subst (λ r. SaidDecides deciding limit r why) is (decided_only decided)
-  inquires_of word limit before events result after (client_parts.not_given {why = unheard} is) remembers why (inr decided) =
+  inquires_of word limit before events result after (client_actions.given {bytes} is) remembers why (inr decided) = subst (λ r. SaidDecides deciding limit r why) is (decided_only decided)
+  inquires_of word limit before events result after (client_actions.not_given {why = unheard} is) remembers why (inr decided) =
       client_line why unheard (Client unheard) (subst (λ r. SaidDecides deciding limit r why) is (decided_only decided)) refl
 
 -- the events of what is asked and told for a passphrase of a key, or of what is cached
@@ -250,8 +250,8 @@ module _ (deciding : Deciding) where
 pub said_error : (first back : List Event) (line : Option (List ℕ)) (why : Code) → line ≡ Some (failed why) → HasError why OfAgent (first ++ (back ++ said_last line))
 said_error first back line why is = subst (λ l. HasError why OfAgent (first ++ (back ++ said_last l))) (sym is) (has_right first (has_right back here))
 
--- a request whose parts heed it is answered so
-module _ (deciding : Deciding) {A : Type 0} {Due : Code → Type 0} {part : Part A} (heeds : Heeds deciding Due part NoneOwed) (why : Code) where
+-- a request whose actions heed it is answered so
+module _ (deciding : Deciding) {A : Type 0} {Due : Code → Type 0} {action : Action A} (heeds : Heeds deciding Due action NoneOwed) (why : Code) where
   module _ {events back : List Event} {held : Option ℕ} (line : Option (List ℕ)) (closes : Closes None held back (Ok tt) None) (remembers : AllByRecursion Remembers (events ++ (back ++ said_last line)))
       (due : Due why ⊎ IsDecided deciding (events ++ (back ++ said_last line)) why) where
     before : Due why ⊎ IsDecided deciding events why
@@ -260,8 +260,8 @@ module _ (deciding : Deciding) {A : Type 0} {Due : Code → Type 0} {part : Part
       | inr decided ↦ inr (decided_before deciding events (back ++ said_last line) (answer_free deciding line closes) decided)
     ]
 
-    pub never_ok : {value : A} → part None events (Ok value) held → ⊥
+    pub never_ok : {value : A} → action None events (Ok value) held → ⊥
     never_ok {value} does = heeds None events (Ok value) held does (each_left Remembers events _ remembers) why before
 
-    pub error_said : {refusal : Refusal} → refusal_line refusal ≡ line → part None events (Err refusal) held → HasError why OfAgent (events ++ (back ++ said_last line))
+    pub error_said : {refusal : Refusal} → refusal_line refusal ≡ line → action None events (Err refusal) held → HasError why OfAgent (events ++ (back ++ said_last line))
     error_said {refusal} is does = said_error events back line why (sym is ∙ heeds None events (Err refusal) held does (each_left Remembers events _ remembers) why before)

@@ -1,12 +1,12 @@
--- Parts of a request that were done, one after another, and those that stand beside a desk and ports that they have nothing to do with.
+-- Actions of a request that were done, one after another, and those that stand beside a desk and ports that they have nothing to do with.
 use Rattle.std.proofs.Common.{◌≡◌, ◌≤◌, ℕ, true, List, [], ◌∷◌, ◌++◌, Option, Some, None, Result, Ok, Err, is_some, refl, arith}
 use Rattle.cache_policy.specs.{declared.{mark.{MarkStep.{MarkStep, TheVariants.{Ask, Close}}, Way.{Way, TheVariants.{Quiet, Prompt}}}, mode.Mode.Mode}, Turns.{Turn, Given, Empty, Open, Done, FitsStep, opens}}
 use Rattle.{session_client.specs.{Lines.{Lines, Views, IsOpen}, declared.{refusal.Refusal.Refusal, client_error.Gone.Gone}}, session_options.specs.declared.options.PinMode.PinMode}
-use Rattle.agent_ask.specs.{Answering.{ReaderLeft, FaultsCounted}, PortCalls.{PortCall, EventOf, world_with}, Parts.{PartOf, ◌>>=◌, goes_on, stops, refuses}}
-use Rattle.agent_ask.specs.PartStates.{PartState, part_state, gone_in, DoesPart, NoTurn, NoEnd, DoesWithClient, DoesTurn, DoesTurns, still, one}
+use Rattle.agent_ask.specs.{Answering.{ReaderLeft, FaultsCounted}, PortCalls.{PortCall, EventOf, world_with}, Actions.{ActionOf, ◌>>=◌, goes_on, stops, refuses}}
+use Rattle.agent_ask.specs.ActionStates.{ActionState, action_state, gone_in, DoesAction, NoTurn, NoEnd, DoesWithClient, DoesTurn, DoesTurns, still, one}
 use Rattle.agent_ask.specs.Seats.{Gives, TakesTicket, GivesTicket, Changed, ChangesCache, Answered, AsksCache, opened as ticket_opened, interrupted as ticket_refused, taken, refused, unheld, given, changed, unchanged, found, none_found}
-use Rattle.agent_ask.{specs.{Seats.{prompt_opened, not_answered, SeatsIn}, SessionEvents.{AnyEvent, cache_turn}, TurnParts.{Asks, Seats, Changes, Closes, closed, in_mode}}, proofs.{Beside.done_in, Doing.{done_none, done_then, done_turned}}}
-use Rattle.agent_ask.specs.TurnParts as turns
+use Rattle.agent_ask.{specs.{Seats.{prompt_opened, not_answered, SeatsIn}, SessionEvents.{AnyEvent, cache_turn}, TurnActions.{Asks, Seats, Changes, Closes, closed, in_mode}}, proofs.{Beside.done_in, Doing.{done_none, done_then, done_turned}}}
+use Rattle.agent_ask.specs.TurnActions as turns
 
 module _ {lines : Lines} {C : Type 0} (views : Views lines C) where
   -- a reader that holds no more than another did
@@ -14,7 +14,7 @@ module _ {lines : Lines} {C : Type 0} (views : Views lines C) where
   reader_from None start mid now fewer fits = (fits.0, omega (arith, fewer, fits.1))
   reader_from (Some how) start mid now fewer fits = fits
 
-  -- a part that leaves the connection alone, and after which the session goes on
+  -- an action that leaves the connection alone, and after which the session goes on
   pub still_open : (how : Option Gone) → how ≡ None → (conn : C) → IsOpen views conn → ReaderLeft views how conn conn
   still_open how on conn going = rw on (going, omega arith)
 
@@ -22,11 +22,11 @@ module _ {lines : Lines} {C : Type 0} (views : Views lines C) where
   no_fault how on start now = rw on (record { read = λ e. absurd (cc e); write = λ e. absurd (cc e) })
 
 module _ {lines : Lines} {C D E : Type 0} {views : Views lines C} {turned : D → MarkStep → Turn → D → Type 0} {ported : E → PortCall → E → Type 0} where
-  module _ {A B : Type 0} {part : PartOf (EventOf lines) A} {next : A → PartOf (EventOf lines) B} {before after : Option ℕ} {start now : PartState views turned ported} where
-    -- a part came to a value, and then the next was done
-    pub part_then : {mid : Option ℕ} {between : PartState views turned ported} {value : A} {result : Result B Refusal} → DoesPart views turned ported part before start (Ok value) mid between
-        → DoesPart views turned ported (next value) mid between result after now → DoesPart views turned ported (part >>= next) before start result after now
-    part_then {between} {result} first second = record {
+  module _ {A B : Type 0} {action : ActionOf (EventOf lines) A} {next : A → ActionOf (EventOf lines) B} {before after : Option ℕ} {start now : ActionState views turned ported} where
+    -- an action came to a value, and then the next was done
+    pub action_then : {mid : Option ℕ} {between : ActionState views turned ported} {value : A} {result : Result B Refusal} → DoesAction views turned ported action before start (Ok value) mid between
+        → DoesAction views turned ported (next value) mid between result after now → DoesAction views turned ported (action >>= next) before start result after now
+    action_then {between} {result} first second = record {
       events = first.events ++ second.events;
       does = goes_on first.does second.does;
       done = done_then first.done second.done;
@@ -37,16 +37,16 @@ module _ {lines : Lines} {C D E : Type 0} {views : Views lines C} {turned : D �
       };
     }
 
-    -- a part was refused, and nothing is done behind it
-    pub part_stops : {why : Refusal} → DoesPart views turned ported part before start (Err why) after now → DoesPart views turned ported (part >>= next) before start (Err why) after now
-    part_stops first = record { events = first.events; does = stops first.does; done = first.done; fits = first.fits; faults = first.faults }
+    -- an action was refused, and nothing is done behind it
+    pub action_stops : {why : Refusal} → DoesAction views turned ported action before start (Err why) after now → DoesAction views turned ported (action >>= next) before start (Err why) after now
+    action_stops first = record { events = first.events; does = stops first.does; done = first.done; fits = first.fits; faults = first.faults }
 
-  -- parts at the desk alone, while the connection is open
-  module _ {A : Type 0} {part : PartOf (EventOf lines) A} {before after : Option ℕ} {result : Result A Refusal} {conn : C} {ends : E} (going : IsOpen views conn) where
+  -- actions at the desk alone, while the connection is open
+  module _ {A : Type 0} {action : ActionOf (EventOf lines) A} {before after : Option ℕ} {result : Result A Refusal} {conn : C} {ends : E} (going : IsOpen views conn) where
     -- one turn
-    pub part_turned : {desk now : D} → DoesTurn turned part before desk result after now
-        → DoesPart views turned ported part before (part_state views turned ported conn desk ends) result after (part_state views turned ported conn now ends)
-    part_turned {desk} {now} done = record {
+    pub action_turned : {desk now : D} → DoesTurn turned action before desk result after now
+        → DoesAction views turned ported action before (action_state views turned ported conn desk ends) result after (action_state views turned ported conn now ends)
+    action_turned {desk} {now} done = record {
       events = cache_turn done.step done.turn ∷ [];
       does = done.does;
       done = done_turned {w = world_with {lines = lines} turned ported} done.step done.turn conn desk now ends done.turned_so;
@@ -55,68 +55,68 @@ module _ {lines : Lines} {C D E : Type 0} {views : Views lines C} {turned : D �
     }
 
     -- nothing
-    pub part_still : {desk : D} → gone_in result ≡ None → part before [] result after → DoesPart views turned ported part before (part_state views turned ported conn desk ends) result after (part_state views turned ported conn desk ends)
-    part_still {desk} on does = record {
+    pub action_still : {desk : D} → gone_in result ≡ None → action before [] result after → DoesAction views turned ported action before (action_state views turned ported conn desk ends) result after (action_state views turned ported conn desk ends)
+    action_still {desk} on does = record {
       events = [];
       does = does;
-      done = done_none (part_state views turned ported conn desk ends);
+      done = done_none (action_state views turned ported conn desk ends);
       fits = still_open views (gone_in result) on conn going;
       faults = no_fault views (gone_in result) on conn conn;
     }
 
     -- one turn at most
-    pub part_turns : {desk now : D} → DoesTurns turned part before desk result after now
-        → DoesPart views turned ported part before (part_state views turned ported conn desk ends) result after (part_state views turned ported conn now ends)
-    part_turns (still does on) = part_still on does
-    part_turns (one done) = part_turned done
+    pub action_turns : {desk now : D} → DoesTurns turned action before desk result after now
+        → DoesAction views turned ported action before (action_state views turned ported conn desk ends) result after (action_state views turned ported conn now ends)
+    action_turns (still does on) = action_still on does
+    action_turns (one done) = action_turned done
 
 module _ {lines : Lines} {C : Type 0} (views : Views lines C) where
   -- Each turn of a desk is one of another desk that holds it, and each event at some ports is one at others that hold them.
-  module _ {B D E Whole : Type 0} (part_turned : B → MarkStep → Turn → B → Type 0) (part_port : E → PortCall → E → Type 0)
+  module _ {B D E Whole : Type 0} (action_turned : B → MarkStep → Turn → B → Type 0) (action_port : E → PortCall → E → Type 0)
       (turned : D → MarkStep → Turn → D → Type 0) (ported : Whole → PortCall → Whole → Type 0) (desk_of : B → D) (put : E → Whole)
-      (each_turn : (before after : B) (step : MarkStep) (turn : Turn) → part_turned before step turn after → turned (desk_of before) step turn (desk_of after))
-      (each : (before after : E) (what : PortCall) → part_port before what after → ported (put before) what (put after)) where
-    abbrev pub state_of : PartState views part_turned part_port → PartState views turned ported
+      (each_turn : (before after : B) (step : MarkStep) (turn : Turn) → action_turned before step turn after → turned (desk_of before) step turn (desk_of after))
+      (each : (before after : E) (what : PortCall) → action_port before what after → ported (put before) what (put after)) where
+    abbrev pub state_of : ActionState views action_turned action_port → ActionState views turned ported
     state_of at = record { conn = at.conn; desk = desk_of at.desk; ends = put at.ends }
 
-    pub part_in : {A : Type 0} {part : PartOf (EventOf lines) A} {before after : Option ℕ} {result : Result A Refusal} {start now : PartState views part_turned part_port}
-        → DoesPart views part_turned part_port part before start result after now → DoesPart views turned ported part before (state_of start) result after (state_of now)
-    part_in done = record {
+    pub action_in : {A : Type 0} {action : ActionOf (EventOf lines) A} {before after : Option ℕ} {result : Result A Refusal} {start now : ActionState views action_turned action_port}
+        → DoesAction views action_turned action_port action before start result after now → DoesAction views turned ported action before (state_of start) result after (state_of now)
+    action_in done = record {
       events = done.events;
       does = done.does;
-      done = done_in part_turned turned part_port ported desk_of put each_turn each done.done;
+      done = done_in action_turned turned action_port ported desk_of put each_turn each done.done;
       fits = done.fits;
       faults = done.faults;
     }
 
-module _ {lines : Lines} {C : Type 0} {views : Views lines C} {A : Type 0} {part : PartOf (EventOf lines) A} where
-  -- a part at the client alone, with a desk and ports beside
+module _ {lines : Lines} {C : Type 0} {views : Views lines C} {A : Type 0} {action : ActionOf (EventOf lines) A} where
+  -- an action at the client alone, with a desk and ports beside
   pub beside_client : {D E : Type 0} {turned : D → MarkStep → Turn → D → Type 0} {ported : E → PortCall → E → Type 0} {result : Result A Refusal} {conn now : C} {held : Option ℕ} {desk : D} {ends : E}
-      → DoesWithClient views part conn result now
-      → DoesPart views turned ported part held (part_state views turned ported conn desk ends) result held (part_state views turned ported now desk ends)
+      → DoesWithClient views action conn result now
+      → DoesAction views turned ported action held (action_state views turned ported conn desk ends) result held (action_state views turned ported now desk ends)
   beside_client {turned} {ported} {held} {desk} {ends} done =
-      part_in views NoTurn NoEnd turned ported (λ none. desk) (λ none. ends) (λ before after step turn never. absurd never) (λ before after what never. absurd never) (done held)
+      action_in views NoTurn NoEnd turned ported (λ none. desk) (λ none. ends) (λ before after step turn never. absurd never) (λ before after what never. absurd never) (done held)
 
-  -- a connection is open after a part that came to a value
-  pub open_after : {value : A} {conn now : C} → DoesWithClient views part conn (Ok value) now → IsOpen views now
+  -- a connection is open after an action that came to a value
+  pub open_after : {value : A} {conn now : C} → DoesWithClient views action conn (Ok value) now → IsOpen views now
   open_after done = (done None).fits.0
 
 -- ---- turns, and nothing behind them
 
-module _ {T O F D A B : Type 0} {turned : D → MarkStep → Turn → D → Type 0} {part : PartOf (AnyEvent T O F) A} {next : A → PartOf (AnyEvent T O F) B} {before after : Option ℕ} {desk : D} where
-  pub turn_then : {now : D} {value : A} {result : Result B Refusal} {mid : Option ℕ} → DoesTurn turned part before desk (Ok value) mid now → next value mid [] result after → gone_in result ≡ None
-      → DoesTurn turned (part >>= next) before desk result after now
+module _ {T O F D A B : Type 0} {turned : D → MarkStep → Turn → D → Type 0} {action : ActionOf (AnyEvent T O F) A} {next : A → ActionOf (AnyEvent T O F) B} {before after : Option ℕ} {desk : D} where
+  pub turn_then : {now : D} {value : A} {result : Result B Refusal} {mid : Option ℕ} → DoesTurn turned action before desk (Ok value) mid now → next value mid [] result after → gone_in result ≡ None
+      → DoesTurn turned (action >>= next) before desk result after now
   turn_then turn more on = record { step = turn.step; turn = turn.turn; turned_so = turn.turned_so; does = goes_on turn.does more; on = on }
 
-  pub turn_stops : {now : D} {why : Refusal} → DoesTurn turned part before desk (Err why) after now → DoesTurn turned (part >>= next) before desk (Err why) after now
+  pub turn_stops : {now : D} {why : Refusal} → DoesTurn turned action before desk (Err why) after now → DoesTurn turned (action >>= next) before desk (Err why) after now
   turn_stops turn = record { step = turn.step; turn = turn.turn; turned_so = turn.turned_so; does = stops turn.does; on = turn.on }
 
-  pub turns_then : {now : D} {value : A} {result : Result B Refusal} {mid : Option ℕ} → DoesTurns turned part before desk (Ok value) mid now → next value mid [] result after → gone_in result ≡ None
-      → DoesTurns turned (part >>= next) before desk result after now
+  pub turns_then : {now : D} {value : A} {result : Result B Refusal} {mid : Option ℕ} → DoesTurns turned action before desk (Ok value) mid now → next value mid [] result after → gone_in result ≡ None
+      → DoesTurns turned (action >>= next) before desk result after now
   turns_then (still does is) more on = still (goes_on does more) on
   turns_then (one turn) more on = one (turn_then turn more on)
 
-  pub turns_stop : {now : D} {why : Refusal} → DoesTurns turned part before desk (Err why) after now → DoesTurns turned (part >>= next) before desk (Err why) after now
+  pub turns_stop : {now : D} {why : Refusal} → DoesTurns turned action before desk (Err why) after now → DoesTurns turned (action >>= next) before desk (Err why) after now
   turns_stop (still does on) = still (stops does) on
   turns_stop (one turn) = one (turn_stops turn)
 
@@ -179,16 +179,16 @@ ticket_given unheld = still turns.Closes.unheld refl
 ticket_given (given {ticket} turn turned_so fits) = one (record { step = Close ticket _; turn = turn; turned_so = turned_so; does = closed turn fits; on = refl })
 
 -- a request took the seat by the pinentry-mode, or is refused
-module _ {lines : Lines} {C D E A : Type 0} {views : Views lines C} {turned : D → MarkStep → Turn → D → Type 0} {ported : E → PortCall → E → Type 0} (prompt : PartOf (EventOf lines) A)
+module _ {lines : Lines} {C D E A : Type 0} {views : Views lines C} {turned : D → MarkStep → Turn → D → Type 0} {ported : E → PortCall → E → Type 0} (prompt : ActionOf (EventOf lines) A)
     {conn : C} (going : IsOpen views conn) {ends : E} {desk : D} where
   pub unseated_in : {mode : PinMode} {why : Refusal} {held : Option ℕ} {now : D} → SeatsIn turned desk mode (Err why) held now
-      → DoesPart views turned ported (in_mode mode prompt) None (part_state views turned ported conn desk ends) (Err why) held (part_state views turned ported conn now ends)
-  unseated_in (SeatsIn.asks takes) = part_stops (part_turned going (ticket_taken takes))
-  unseated_in SeatsIn.cancels = part_still going refl refuses
-  unseated_in SeatsIn.errs = part_still going refl refuses
-  unseated_in SeatsIn.loops = part_still going refl refuses
+      → DoesAction views turned ported (in_mode mode prompt) None (action_state views turned ported conn desk ends) (Err why) held (action_state views turned ported conn now ends)
+  unseated_in (SeatsIn.asks takes) = action_stops (action_turned going (ticket_taken takes))
+  unseated_in SeatsIn.cancels = action_still going refl refuses
+  unseated_in SeatsIn.errs = action_still going refl refuses
+  unseated_in SeatsIn.loops = action_still going refl refuses
 
-  pub seated_in : {mode : PinMode} {result : Result A Refusal} {held after : Option ℕ} {now : D} {last : PartState views turned ported} → SeatsIn turned desk mode (Ok tt) held now
-      → DoesPart views turned ported prompt held (part_state views turned ported conn now ends) result after last
-      → DoesPart views turned ported (in_mode mode prompt) None (part_state views turned ported conn desk ends) result after last
-  seated_in (SeatsIn.asks takes) rest = part_then (part_turned going (ticket_taken takes)) rest
+  pub seated_in : {mode : PinMode} {result : Result A Refusal} {held after : Option ℕ} {now : D} {last : ActionState views turned ported} → SeatsIn turned desk mode (Ok tt) held now
+      → DoesAction views turned ported prompt held (action_state views turned ported conn now ends) result after last
+      → DoesAction views turned ported (in_mode mode prompt) None (action_state views turned ported conn desk ends) result after last
+  seated_in (SeatsIn.asks takes) rest = action_then (action_turned going (ticket_taken takes)) rest

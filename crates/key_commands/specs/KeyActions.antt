@@ -1,12 +1,12 @@
--- The parts of requests on keys that are no passphrase's: what is done with key files and with wrapped keys, and how consent is asked for (GnuPG
+-- The actions of requests on keys that are no passphrase's: what is done with key files and with wrapped keys, and how consent is asked for (GnuPG
 -- manual, "Agent's Assuan protocol"). The codes, the texts and the order of what is done are this project's own.
 use Rattle.std.specs.Prelude.{◌≡◌, ◌≢◌, ◌≤◌, ◌<◌, length, ℕ, Bool, true, false, List, [], ◌∷◌, codes, not, Option, Some, None, Result, Ok, Err}
-use Rattle.agent_ask.specs.{ClientParts.{Writes, Inquires}, PortCalls.{Listed, Replaced, Removed}, SessionEvents.{Inquiry, cache_turn}, ConsentParts.AgreesTo, Parts.{◌>>=◌, Returns, Refuses, wanted, unless}}
-use Rattle.{agent_ask.specs.TurnParts.{Changes, Peeks, Closes, in_mode}, agent_ports.specs.declared.{grip.Grip.Grip, keys.{KeyDone.KeyDone, KeyRead.KeyRead, KeyNames.KeyNames}}, assuan_server.specs.Clients.session_lines}
+use Rattle.agent_ask.specs.{ClientActions.{Writes, Inquires}, PortCalls.{Listed, Replaced, Removed}, SessionEvents.{Inquiry, cache_turn}, ConsentActions.AgreesTo, Actions.{◌>>=◌, Returns, Refuses, wanted, unless}}
+use Rattle.{agent_ask.specs.TurnActions.{Changes, Peeks, Closes, in_mode}, agent_ports.specs.declared.{grip.Grip.Grip, keys.{KeyDone.KeyDone, KeyRead.KeyRead, KeyNames.KeyNames}}, assuan_server.specs.Clients.session_lines}
 use Rattle.{assuan_server.specs.{Inquiries.{Outcome, IsAtEnd}, Written.{IsDataAnswer, limit_line}}, session_client.specs.{declared.{code.Code.Code, refusal.Refusal.{Refusal, TheVariants.Agent}}, Asking.Asked}}
 use Rattle.{cache_policy.specs.{declared.{grant.Grant.Grant, mode.Mode.TheVariants.Normal}, Turns.{Given, Empty, Stopping, Refused, FitsStep}}, secret_file.specs.Protects.{ocb_protection, protected_file}}
 use Rattle.{session_options.specs.{OptionValues.OptionValues, declared.rules.Rules.Rules}, sexp_keys.specs.{Key.Key, Lists.{grip_of, key_list_of}, declared.fault.KeyFault.KeyFault}}
-use Rattle.key_commands.specs.{Events.{Event, called, read, out_of_memory}, Files.FileSays, Lines.{grip_text, info_line, max_key_data, described, delete_description}, Parts.{Part, Finds, read_fault}, Passphrases.{ask_nonce, put_key}}
+use Rattle.key_commands.specs.{Events.{Event, called, read, out_of_memory}, Files.FileSays, Lines.{grip_text, info_line, max_key_data, described, delete_description}, Actions.{Action, Finds, read_fault}, Passphrases.{ask_nonce, put_key}}
 use Rattle.key_commands.specs.{Faults.fault_code, Wrapping.{wrapped_key, WrappedSays}, declared.{key_calls.KeyFile.KeyFile, wrapping.TheConstants.MAX_LIST_LEN}}
 use Rattle.agent_ports.specs.declared.keys.KeyDone.TheVariants as key_done
 use Rattle.agent_ports.specs.declared.keys.KeyNames.TheVariants as key_names
@@ -63,14 +63,14 @@ pub data IsShort (key : Key) (held : Option ℕ) : List Event → Result (Unit {
   long : MAX_LIST_LEN < length (key_list_of key) → IsShort key held [] (Err (Agent code.BadSecKey)) held
 
 -- a passphrase that was given for a key's new file is kept: by the ticket that the request holds, or else by a turn of its own
-abbrev pub KeepsNew : Grip → List ℕ → Part (Unit {0})
+abbrev pub KeepsNew : Grip → List ℕ → Action (Unit {0})
 KeepsNew grip pass None = Changes (put_key grip pass) None
 KeepsNew grip pass (Some ticket) = Closes (Some pass) (Some ticket)
 
 -- ---- HAVEKEY
 
 -- one of the keys is there. They are looked for in order, to the first that is there.
-abbrev pub HasOne : List Grip → Part (Unit {0})
+abbrev pub HasOne : List Grip → Action (Unit {0})
 HasOne [] = Refuses (Agent code.NoSecKey)
 HasOne (grip ∷ more) = do
   there ← Finds grip
@@ -79,7 +79,7 @@ HasOne (grip ∷ more) = do
 -- ---- KEYINFO
 
 -- a key's line
-abbrev pub TellsKeyInfo : Grip → Key → Part (List ℕ)
+abbrev pub TellsKeyInfo : Grip → Key → Action (List ℕ)
 TellsKeyInfo grip key = do
   cached ← Peeks (grip_text grip) Normal
   Returns (info_line grip cached key.is_clear)
@@ -98,19 +98,19 @@ pub data ReadsListed (grip : Grip) (held : Option ℕ) : List Event → Result (
   no_memory : {answer : KeyRead} {file : List ℕ} → file_in answer ≡ Some file → ReadsListed grip held (read grip answer ∷ out_of_memory ∷ []) (Err (Agent code.NoMemory)) held
   unread : {answer : KeyRead} {code : Code} → answer ≢ key_read.Absent → read_fault answer ≡ Some code → ReadsListed grip held (read grip answer ∷ []) (Err (Agent code)) held
 
-abbrev pub WritesInfo : Grip → Option Key → Part (Unit {0})
+abbrev pub WritesInfo : Grip → Option Key → Action (Unit {0})
 WritesInfo grip None = Returns tt
 WritesInfo grip (Some key) = do
   line ← TellsKeyInfo grip key
   Writes line
 
-abbrev pub TellsListed : Grip → Part (Unit {0})
+abbrev pub TellsListed : Grip → Action (Unit {0})
 TellsListed grip = do
   key ← ReadsListed grip
   WritesInfo grip key
 
 -- a line for each of these keys, each written before the next key is read
-abbrev pub WritesInfos : List Grip → Part (Unit {0})
+abbrev pub WritesInfos : List Grip → Action (Unit {0})
 WritesInfos [] = Returns tt
 WritesInfos (grip ∷ more) = do
   told ← TellsListed grip
@@ -131,7 +131,7 @@ pub data Unwraps (wrap wrapped : List ℕ) (held : Option ℕ) : List Event → 
   no_memory : Unwraps wrap wrapped held (out_of_memory ∷ []) (Err (Agent code.NoMemory)) held
 
 -- the client is told the limit, and sends a key that is wrapped under this wrapping key
-abbrev pub ReceivesKey : (wrap : List ℕ) → Part Key
+abbrev pub ReceivesKey : (wrap : List ℕ) → Action Key
 ReceivesKey wrap = do
   told ← Writes (limit_line max_key_data)
   wrapped ← AsksKeyData
@@ -143,7 +143,7 @@ pub data NamesKey (key : Key) (held : Option ℕ) : List Event → Result Grip R
   no_memory : NamesKey key held (out_of_memory ∷ []) (Err (Agent code.NoMemory)) held
 
 -- a file that is there isn't replaced, unless that is wanted
-abbrev pub IsFree : (force : Bool) → Grip → Part (Unit {0})
+abbrev pub IsFree : (force : Bool) → Grip → Action (Unit {0})
 IsFree true grip = Returns tt
 IsFree false grip = do
   there ← Finds grip
@@ -168,10 +168,10 @@ pub data WrapsKey (wrap : List ℕ) (key : Key) (held : Option ℕ) : List Event
 
 module _ (rules : Rules) (options : OptionValues) where
   -- the user agrees that this key is deleted
-  abbrev pub Agrees : Grip → Part (Unit {0})
+  abbrev pub Agrees : Grip → Action (Unit {0})
   Agrees grip = AgreesTo session_lines rules options (described options.description (delete_description grip))
 
   -- the user agrees that a key is deleted, unless nobody is to be asked
-  abbrev pub Consents : (force : Bool) → Grip → Part (Unit {0})
+  abbrev pub Consents : (force : Bool) → Grip → Action (Unit {0})
   Consents true grip = Returns tt
   Consents false grip = in_mode options.mode (Agrees grip)

@@ -3,7 +3,7 @@
 use Rattle.std.specs.Prelude.{ℕ, List, Option, Some, None, Result, Ok, Err}
 use Rattle.{agent_ports.specs.declared.link.WriteFault.WriteFault as Fault, cache_policy.specs.{declared.mark.MarkStep.MarkStep, Turns.Turn}, session_client.specs.{Asking.{HasSaid, SaysLine}, Lines.{Lines, Views}, Refusals.gone_by}}
 use Rattle.session_client.specs.declared.{refusal.Refusal.Refusal, client_error.Gone.{Gone, TheVariants.WriteFault}}
-use Rattle.agent_ask.specs.{Answering.unless_cut, PortCalls.{PortCall, EventOf}, PartExchanges.AnyReply, Parts.PartOf, PartStates.{PartState, DoesPart}}
+use Rattle.agent_ask.specs.{Answering.unless_cut, PortCalls.{PortCall, EventOf}, ActionExchanges.AnyReply, Actions.ActionOf, ActionStates.{ActionState, DoesAction}}
 
 -- the reply that an answer is by some text of its own, and after which this is kept
 abbrev pub reply_by : {R S W : Type 0} (went_of : R → W) → R → S → List ℕ → AnyReply S W
@@ -18,10 +18,10 @@ module _ {lines : Lines} {C R W : Type 0} (views : Views lines C) (IsText : R �
         → RespondsBy refusal_line went_after start (Err why) (unless_cut (went_after (gone_by why)) (went_after (Some WriteFault)) written) now
 
   -- all was done for a request but its reply, whatever text that is written by
-  pub data CarriesBy {D E S : Type 0} (turned : D → MarkStep → Turn → D → Type 0) (ported : E → PortCall → E → Type 0) (part : PartOf (EventOf lines) (AnyReply S W)) (before : S)
-      (start : PartState views turned ported) : Result R Refusal → S → Option ℕ → PartState views turned ported → Type 0 where
-    comes_to : {answer : R} {kept : S} {held : Option ℕ} {now : PartState views turned ported}
-        → ((text : List ℕ) → IsText answer text → DoesPart views turned ported part None start (Ok (reply_by went_of answer kept text)) held now)
-        → CarriesBy turned ported part before start (Ok answer) kept held now
-    stops_at : {why : Refusal} {held : Option ℕ} {now : PartState views turned ported} → DoesPart views turned ported part None start (Err why) held now
-        → CarriesBy turned ported part before start (Err why) before held now
+  pub data CarriesBy {D E S : Type 0} (turned : D → MarkStep → Turn → D → Type 0) (ported : E → PortCall → E → Type 0) (action : ActionOf (EventOf lines) (AnyReply S W)) (before : S)
+      (start : ActionState views turned ported) : Result R Refusal → S → Option ℕ → ActionState views turned ported → Type 0 where
+    comes_to : {answer : R} {kept : S} {held : Option ℕ} {now : ActionState views turned ported}
+        → ((text : List ℕ) → IsText answer text → DoesAction views turned ported action None start (Ok (reply_by went_of answer kept text)) held now)
+        → CarriesBy turned ported action before start (Ok answer) kept held now
+    stops_at : {why : Refusal} {held : Option ℕ} {now : ActionState views turned ported} → DoesAction views turned ported action None start (Err why) held now
+        → CarriesBy turned ported action before start (Err why) before held now

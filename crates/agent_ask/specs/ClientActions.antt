@@ -1,7 +1,7 @@
--- The parts of a request that are done with its client. This is the project's own.
+-- The actions of a request that are done with its client. This is the project's own.
 use Rattle.std.specs.Prelude.{◌≡◌, ℕ, ◌++◌, List, [], ◌∷◌, Option, Result, Ok, Err}
 use Rattle.session_client.specs.{Asking.{AnyInquired, said_by}, Lines.Lines, declared.{refusal.Refusal.{Refusal, TheVariants.Client}, client_error.ClientError.ClientError}}
-use Rattle.agent_ask.specs.{PortCalls.EventOf, Parts.{PartOf, ◌>>=◌}, SessionEvents.{AnyEvent, Sent, Cut, Inquiry}}
+use Rattle.agent_ask.specs.{PortCalls.EventOf, Actions.{ActionOf, ◌>>=◌}, SessionEvents.{AnyEvent, Sent, Cut, Inquiry}}
 use Rattle.session_client.specs.declared.client_error.Gone.TheVariants as gone
 use Rattle.session_client.specs.declared.client_error.ClientError.TheVariants as client_error
 
@@ -19,7 +19,7 @@ module _ (lines : Lines) where
         → Inquires word limit held (Inquiry word [] limit inquired ∷ []) (Err (Client why)) held
 
   -- it is told something first
-  abbrev pub AsksClient : (told word : List ℕ) (limit : ℕ) → PartOf (EventOf lines) (List ℕ)
+  abbrev pub AsksClient : (told word : List ℕ) (limit : ℕ) → ActionOf (EventOf lines) (List ℕ)
   AsksClient told word limit = do
     wrote ← Writes told
     Inquires word limit

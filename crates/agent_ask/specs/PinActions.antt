@@ -1,4 +1,4 @@
--- Prompts for a passphrase as parts of a request. The codes are this project's own.
+-- Prompts for a passphrase as actions of a request. The codes are this project's own.
 use Rattle.std.specs.{Prelude.{◌≡◌, List, ℕ, Option, Some, None, Result, Ok, Err}, Option.option_map}
 use Rattle.session_client.specs.{Lines.Lines, declared.refusal.Refusal.{Refusal, TheVariants.{Agent, Pinentry, Client}}}
 use Rattle.agent_ask.specs.{Callers.unheard_of, Events.PromptEvent, PortCalls.EventOf, Prompts.{AsksPin, AsksPinBy}, SessionPrompts.AnyInSession, declared.{ask.Asked.Asked, spec.{AskPlan.AskPlan, PromptSpec.PromptSpec}, test.Tested.Tested}}

@@ -1,11 +1,11 @@
--- The parts of requests on keys, each of whose refusals has its cause.
+-- The actions of requests on keys, each of whose refusals has its cause.
 use Rattle.std.{specs.{List.AllByRecursion, Prelude.⊤, Option.option_map}, proofs.Common.{false, ◌≡◌, ℕ, List, ◌∷◌, Option, Some, None, Result, Ok, Err, refl, sym, subst, inl, inr}}
 use Rattle.agent_ask.specs.{Callers.unheard_of, Events.{OutOfMemory, PromptEvent, Called, Notified}, PortCalls.{PortCall, Keys, Read, Replaced, Removed, Prompt}, SessionEvents.{Port, cache_turn}, SessionPrompts.AnyInSession}
-use Rattle.agent_ask.specs.{declared.{ask.Asked.Asked, caller.Heard.Heard, consent.Agreed.Agreed, spec.{AskPlan.AskPlan, PromptSpec.PromptSpec}}, ConsentParts.{AgreesTo, consent_refusal}, PinParts.{PromptsPin, pin_refusal}}
+use Rattle.agent_ask.specs.{declared.{ask.Asked.Asked, caller.Heard.Heard, consent.Agreed.Agreed, spec.{AskPlan.AskPlan, PromptSpec.PromptSpec}}, ConsentActions.{AgreesTo, consent_refusal}, PinActions.{PromptsPin, pin_refusal}}
 use Rattle.{agent_ports.specs.declared.{grip.Grip.Grip, keys.{KeyDone.KeyDone, KeyRead.KeyRead}}, assuan_server.specs.Clients.session_lines, session_client.specs.declared.{code.Code.Code, client_error.ClientError.ClientError}}
 use Rattle.{session_client.specs.declared.refusal.Refusal.{Refusal, TheVariants.Client}, cache_policy.specs.{Turns.Given, declared.{grant.Grant.Grant, mark.MarkStep.MarkStep}}, session_options.specs.declared.rules.Rules.Rules}
 use Rattle.{sexp_keys.specs.{Key.Key, declared.fault.KeyFault.KeyFault}, secret_file.specs.Opens.LockedKey, agent_commands.specs.{Events.EventWith, declared.request.Request.Request}, key_commands.specs.Faults.fault_code}
-use Rattle.key_commands.specs.{KeyParts.{ReadsFile, change_fault, Replaces, Removes, KeepsNew}, Parts.read_fault, Passphrases.{ask_nonce, LooksForNonce, TakesSeat, Locks, OpensBy, TriesPassphrase, TriesFound, PromptsOld, PromptsNew}}
+use Rattle.key_commands.specs.{KeyActions.{ReadsFile, change_fault, Replaces, Removes, KeepsNew}, Actions.read_fault, Passphrases.{ask_nonce, LooksForNonce, TakesSeat, Locks, OpensBy, TriesPassphrase, TriesFound, PromptsOld, PromptsNew}}
 use Rattle.agent_origin.specs.declared.session_state.SessionState.{SessionState}
 use Rattle.agent_session.specs.Causes.{Has, StandIn, IsCaused, IsSaid, said, IsUnread, IsUnremoved, LacksKeys, on_keys, one, IsRead, read, IsReadOf, read_of, IsReadLocked, OpensRead, opens, IsFaulty, Unlocks, Judges, NamesOld, ComesBy}
 use Rattle.agent_session.specs.{Causes.{HasPrompt, AsksAny, old_plan, new_plan, protection, faulty, HasCall, GivesNone, GivesNoneFor, none_at_all, wrong, ByNonce}, Completeness.AnswersNothing}
@@ -20,8 +20,8 @@ use Rattle.agent_ports.specs.declared.keys.KeyRead.TheVariants as key_read
 use Rattle.session_client.specs.declared.code.Code.TheVariants as code
 use Rattle.session_client.specs.declared.client_error.ClientError.TheVariants as client_error
 use Rattle.sexp_keys.specs.declared.fault.KeyFault.TheVariants as faults
-use Rattle.agent_ask.specs.ConsentParts as consent
-use Rattle.key_commands.specs.KeyParts as parts
+use Rattle.agent_ask.specs.ConsentActions as consent
+use Rattle.key_commands.specs.KeyActions as actions
 use Rattle.key_commands.specs.Passphrases as passphrases
 use Rattle.agent_session.specs.Causes as causes
 use Rattle.agent_session.proofs.Causes.Faulty as said
@@ -241,11 +241,11 @@ module _ (rules : Rules) (kept : SessionState) (request : Request) (whole : List
 
   module _ (grip : Grip) (judges : Judges request grip) (lacks : IsUnread whole grip → LacksKeys whole (on_keys request)) where
     pub reads_file : ExplainsHere (ReadsFile grip) (λ file. IsReadOf whole grip file.bytes × IsRead whole grip (Ok file.key))
-    reads_file before events result after (parts.is_key is says) stands = record { silent = (tt, tt); explained = (read_of is (has_first stands), read is says (has_first stands)) }
-    reads_file before events result after (parts.faulty {file} {fault} is says) stands =
+    reads_file before events result after (actions.is_key is says) stands = record { silent = (tt, tt); explained = (read_of is (has_first stands), read is says (has_first stands)) }
+    reads_file before events result after (actions.faulty {file} {fault} is says) stands =
         record { silent = (tt, tt); explained = fault_caused fault (file_fault_said file fault says) (λ why so. causes.file judges (read is says (has_first stands)) so) }
-    reads_file before events result after (parts.no_memory is) stands = record { silent = (tt, (tt, tt)); explained = out_of_memory_second rules kept request whole stands }
-    reads_file before events result after (parts.unread {answer} is) stands =
+    reads_file before events result after (actions.no_memory is) stands = record { silent = (tt, (tt, tt)); explained = out_of_memory_second rules kept request whole stands }
+    reads_file before events result after (actions.unread {answer} is) stands =
         record { silent = (tt, tt); explained = read_caused grip answer (λ absent. lacks (subst (λ a. Has (Port (Keys (Read grip a))) whole) absent (has_first stands))) is stands }
 
   module _ (grip : Grip) (lacks : IsUnremoved whole grip → LacksKeys whole (on_keys request)) where
@@ -256,8 +256,8 @@ module _ (rules : Rules) (kept : SessionState) (request : Request) (whole : List
     removal_caused key_done.NoMemory why is stands = let same : code.NoMemory ≡ why = cc in subst CausedHere same (one _ tt (has_first stands))
 
     pub removes : ExplainsHere (Removes grip) Anything
-    removes before events result after parts.done stands = record { silent = (tt, tt); explained = tt }
-    removes before events result after (parts.not_done {answer} {code = why} is) stands = record { silent = (tt, tt); explained = removal_caused answer why is stands }
+    removes before events result after actions.done stands = record { silent = (tt, tt); explained = tt }
+    removes before events result after (actions.not_done {answer} {code = why} is) stands = record { silent = (tt, tt); explained = removal_caused answer why is stands }
 
   -- a file that is replaced needn't be there
   module _ (there : (grip : Grip) (file : List ℕ) → Has (Port (Keys (Replaced grip file key_done.Absent))) whole → ⊥) (grip : Grip) (file : List ℕ) where
@@ -269,5 +269,5 @@ module _ (rules : Rules) (kept : SessionState) (request : Request) (whole : List
     replacement_caused key_done.NoMemory why is stands = let same : code.NoMemory ≡ why = cc in subst CausedHere same (one _ tt (has_first stands))
 
     pub replaces : ExplainsHere (Replaces grip file) Anything
-    replaces before events result after parts.done stands = record { silent = (tt, tt); explained = tt }
-    replaces before events result after (parts.not_done {answer} {code = why} is) stands = record { silent = (tt, tt); explained = replacement_caused answer why is stands }
+    replaces before events result after actions.done stands = record { silent = (tt, tt); explained = tt }
+    replaces before events result after (actions.not_done {answer} {code = why} is) stands = record { silent = (tt, tt); explained = replacement_caused answer why is stands }

@@ -1,4 +1,4 @@
--- The user's consent as a part of a request. The codes are this project's own.
+-- The user's consent as an action of a request. The codes are this project's own.
 use Rattle.std.specs.{Prelude.{◌≡◌, ℕ, Bool, false, List, [], Option, Some, None, Result, Ok, Err}, Option.option_map}
 use Rattle.{session_client.specs.{Lines.Lines, declared.refusal.Refusal.{Refusal, TheVariants.{Agent, Pinentry, Client}}}, session_options.specs.{OptionValues.OptionValues, declared.rules.Rules.Rules}}
 use Rattle.agent_ask.specs.{Callers.unheard_of, Consents.AsksConsent, Events.PromptEvent, PortCalls.EventOf, Plans.{IsSpec, text}, SessionPrompts.AnyInSession, declared.{consent.Agreed.Agreed, spec.PromptSpec.PromptSpec}}

@@ -1,8 +1,8 @@
--- Parts of a request on keys, by which nothing is handed to the cache but the request's own: how they follow one another.
+-- Actions of a request on keys, by which nothing is handed to the cache but the request's own: how they follow one another.
 use Rattle.std.{specs.{List.AllByRecursion, Prelude.⊤}, proofs.Common.{◌≡◌, ℕ, Bool, true, false, List, [], ◌∷◌, ◌++◌, Option, Some, None, Result, Ok, Err, refl, sym, subst, append_assoc, append-nil}}
-use Rattle.agent_ask.{specs.{PortCalls.PortCall, SessionEvents.{CacheTurn, cache_turn}, Parts.{◌>>=◌, Returns, Refuses, needed, wanted}}, proofs.Within.{HoldsOf, Within, Joins, weaker, bind, returned_so, refused_so}}
+use Rattle.agent_ask.{specs.{PortCalls.PortCall, SessionEvents.{CacheTurn, cache_turn}, Actions.{◌>>=◌, Returns, Refuses, needed, wanted}}, proofs.Within.{HoldsOf, Within, Joins, weaker, bind, returned_so, refused_so}}
 use Rattle.{cache_policy.specs.{Turns.Turn, declared.mark.MarkStep.{MarkStep, TheVariants.Close}}, agent_commands.specs.Events.EventWith, session_client.specs.declared.{code.Code.Code, refusal.Refusal.{Refusal, TheVariants.Agent}}}
-use Rattle.key_commands.{specs.Parts.Part, proofs.EachEvent.EachSo}
+use Rattle.key_commands.{specs.Actions.Action, proofs.EachEvent.EachSo}
 use Rattle.agent_session.{specs.{Imports.HandsNothing, OwnPassphrases.HandsIn}, proofs.{AtOnce.FitsTurn, Standing.{each_left, each_right}, Courses.Works.{Keeps, each_fits}}}
 
 -- it hands no passphrase to the cache
@@ -20,7 +20,7 @@ Fit events = AllByRecursion FitsTurn events
 abbrev pub Fact : Type 1
 Fact = List (EventWith PortCall) → Option ℕ → Type 0
 
--- ---- parts
+-- ---- actions
 
 pub whatever : {A : Type 0} {Is : Type 0} (result : Result A Refusal) → Is → HoldsOf (λ value. Is) result
 whatever (Ok value) is = is
@@ -30,16 +30,16 @@ whatever (Err why) is = tt
 pub record Stays (Pre : Fact) : Type 0 where
   pub of : (prior more : List (EventWith PortCall)) (held : Option ℕ) → Pre prior held → Pre (prior ++ more) held
 
--- a part that hands nothing in, and leaves the ticket, by which something becomes so
-abbrev pub QuietWith : {A : Type 0} → Part A → (A → List (EventWith PortCall) → Type 0) → Type 0
-QuietWith {A} part Extra = (prior : List (EventWith PortCall)) (before : Option ℕ) (events : List (EventWith PortCall)) (result : Result A Refusal) (after : Option ℕ) → part before events result after → Fit events
+-- an action that hands nothing in, and leaves the ticket, by which something becomes so
+abbrev pub QuietWith : {A : Type 0} → Action A → (A → List (EventWith PortCall) → Type 0) → Type 0
+QuietWith {A} action Extra = (prior : List (EventWith PortCall)) (before : Option ℕ) (events : List (EventWith PortCall)) (result : Result A Refusal) (after : Option ℕ) → action before events result after → Fit events
     → AllByRecursion IsQuiet events × (after ≡ before) × HoldsOf (λ value. Extra value (prior ++ events)) result
 
-abbrev pub Quiet : {A : Type 0} → Part A → Type 0
-Quiet {A} part = (before : Option ℕ) (events : List (EventWith PortCall)) (result : Result A Refusal) (after : Option ℕ) → part before events result after → Fit events → AllByRecursion IsQuiet events × (after ≡ before)
+abbrev pub Quiet : {A : Type 0} → Action A → Type 0
+Quiet {A} action = (before : Option ℕ) (events : List (EventWith PortCall)) (result : Result A Refusal) (after : Option ℕ) → action before events result after → Fit events → AllByRecursion IsQuiet events × (after ≡ before)
 
 -- work in which nothing is handed in, and that leaves the ticket
-pub quiet_keeps : {A : Type 0} {part : Part A} → Keeps IsQuiet part → Quiet part
+pub quiet_keeps : {A : Type 0} {action : Action A} → Keeps IsQuiet action → Quiet action
 quiet_keeps keeps before events result after does fits = let so = keeps before events result after does in (each_fits IsQuiet tt so.0, so.1)
 
 with_both : {A : Type 0} {Is : Type 0} (Extra : A → Type 0) (result : Result A Refusal) → Is → HoldsOf Extra result → HoldsOf (λ value. Is × Extra value) result
@@ -95,17 +95,17 @@ module _ (Stores : List (EventWith PortCall) → MarkStep → Type 0) where
       subst (λ b. Stores b asked) (append_assoc before (first ∷ []) front)
       (own_at (before ++ first ∷ []) more front asked turn back (subst (λ e. AreOwn (before ++ e ∷ []) more) same own.1) rest hands)
 
-  -- ---- parts
+  -- ---- actions
 
-  -- where this is so of what was done before and of the ticket that is held, a part's events are the request's own, and then that is so
+  -- where this is so of what was done before and of the ticket that is held, an action's events are the request's own, and then that is so
   pub record Owns {A : Type 0} (Pre : Fact) (Post : A → Fact) (before : Option ℕ) (events : List (EventWith PortCall)) (result : Result A Refusal) (after : Option ℕ) : Type 0 where
     pub so : (prior : List (EventWith PortCall)) → Fit events → Pre prior before → AreOwn prior events × HoldsOf (λ value. Post value (prior ++ events) after) result
 
-  abbrev pub OwnSo : {A : Type 0} → Fact → Part A → (A → Fact) → Type 0
-  OwnSo Pre part Post = Within part (Owns Pre Post)
+  abbrev pub OwnSo : {A : Type 0} → Fact → Action A → (A → Fact) → Type 0
+  OwnSo Pre action Post = Within action (Owns Pre Post)
 
-  pub owns : {A : Type 0} {Pre : Fact} {Post : A → Fact} {part : Part A} → ((prior : List (EventWith PortCall)) (before : Option ℕ) (events : List (EventWith PortCall)) (result : Result A Refusal) (after : Option ℕ)
-      → part before events result after → Fit events → Pre prior before → AreOwn prior events × HoldsOf (λ value. Post value (prior ++ events) after) result) → OwnSo Pre part Post
+  pub owns : {A : Type 0} {Pre : Fact} {Post : A → Fact} {action : Action A} → ((prior : List (EventWith PortCall)) (before : Option ℕ) (events : List (EventWith PortCall)) (result : Result A Refusal) (after : Option ℕ)
+      → action before events result after → Fit events → Pre prior before → AreOwn prior events × HoldsOf (λ value. Post value (prior ++ events) after) result) → OwnSo Pre action Post
   owns so = record { of = λ before events result after does. record { so = λ prior. so prior before events result after does } }
 
   owns_join : {A B : Type 0} {Pre : Fact} {Mid : A → Fact} {Post : B → Fact} → Joins (Owns Pre Mid) (λ value. Owns (Mid value) Post) (Owns Pre Post)
@@ -119,7 +119,7 @@ module _ (Stores : List (EventWith PortCall) → MarkStep → Type 0) where
     alone = λ first. record { so = λ prior fits pre. ((first.so prior fits pre).0, tt) };
   }
 
-  pub own_bind : {A B : Type 0} {Pre : Fact} {Mid : A → Fact} {Post : B → Fact} {part : Part A} {next : A → Part B} → OwnSo Pre part Mid → ((value : A) → OwnSo (Mid value) (next value) Post) → OwnSo Pre (part >>= next) Post
+  pub own_bind : {A B : Type 0} {Pre : Fact} {Mid : A → Fact} {Post : B → Fact} {action : Action A} {next : A → Action B} → OwnSo Pre action Mid → ((value : A) → OwnSo (Mid value) (next value) Post) → OwnSo Pre (action >>= next) Post
   own_bind = bind owns_join
 
   -- what is so then is more than is wanted
@@ -128,28 +128,28 @@ module _ (Stores : List (EventWith PortCall) → MarkStep → Type 0) where
     narrows_of prior after (Ok value) holds = narrows value prior after holds
     narrows_of prior after (Err why) holds = tt
 
-  pub own_weaker : {A : Type 0} {Pre : Fact} {Post Other : A → Fact} {part : Part A} → OwnSo Pre part Post
-      → ((value : A) (prior : List (EventWith PortCall)) (held : Option ℕ) → Post value prior held → Other value prior held) → OwnSo Pre part Other
+  pub own_weaker : {A : Type 0} {Pre : Fact} {Post Other : A → Fact} {action : Action A} → OwnSo Pre action Post
+      → ((value : A) (prior : List (EventWith PortCall)) (held : Option ℕ) → Post value prior held → Other value prior held) → OwnSo Pre action Other
   own_weaker own narrows = weaker (record {
     of = λ before events result after owned. record { so = λ prior fits pre. let so = owned.so prior fits pre in (so.0, narrows_of narrows (prior ++ events) after result so.1) };
   }) own
 
-  pub own_where : {A : Type 0} {Pre Wider : Fact} {Post : A → Fact} {part : Part A} → ((prior : List (EventWith PortCall)) (held : Option ℕ) → Pre prior held → Wider prior held) → OwnSo Wider part Post → OwnSo Pre part Post
+  pub own_where : {A : Type 0} {Pre Wider : Fact} {Post : A → Fact} {action : Action A} → ((prior : List (EventWith PortCall)) (held : Option ℕ) → Pre prior held → Wider prior held) → OwnSo Wider action Post → OwnSo Pre action Post
   own_where narrows = weaker (record { of = λ before events result after owned. record { so = λ prior fits pre. owned.so prior fits (narrows prior before pre) } })
 
-  module _ {Pre : Fact} (stays : Stays Pre) {A : Type 0} {part : Part A} where
-    pub quiet_with : {Extra : A → List (EventWith PortCall) → Type 0} → QuietWith part Extra → OwnSo Pre part (λ value prior held. Pre prior held × Extra value prior)
+  module _ {Pre : Fact} (stays : Stays Pre) {A : Type 0} {action : Action A} where
+    pub quiet_with : {Extra : A → List (EventWith PortCall) → Type 0} → QuietWith action Extra → OwnSo Pre action (λ value prior held. Pre prior held × Extra value prior)
     quiet_with {Extra} quiet = owns (λ prior before events result after does fits pre.
         let so = quiet prior before events result after does fits in
         (quiet_are_own prior events so.0, with_both (λ value. Extra value (prior ++ events)) result (subst (Pre (prior ++ events)) (sym so.1) (stays.of prior events before pre)) so.2))
 
-    pub quietly : Quiet part → OwnSo Pre part (λ value. Pre)
+    pub quietly : Quiet action → OwnSo Pre action (λ value. Pre)
     quietly quiet = owns (λ prior before events result after does fits pre.
         let so = quiet before events result after does fits in
         (quiet_are_own prior events so.0, whatever result (subst (Pre (prior ++ events)) (sym so.1) (stays.of prior events before pre))))
 
   -- one of which each event is quiet
-  pub each_quiet : {A : Type 0} {Pre : Fact} {part : Part A} → EachSo IsQuiet part → OwnSo Pre part (λ value. Anything)
+  pub each_quiet : {A : Type 0} {Pre : Fact} {action : Action A} → EachSo IsQuiet action → OwnSo Pre action (λ value. Anything)
   each_quiet each = owns (λ prior before events result after does fits pre. (quiet_are_own prior events (each.of before events result after does), whatever result tt))
 
   -- ---- the simplest ones

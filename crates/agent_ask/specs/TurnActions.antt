@@ -1,8 +1,8 @@
--- Parts of a request that are turns at the desk, each of which comes out as its step can. This is the project's own.
+-- Actions of a request that are turns at the desk, each of which comes out as its step can. This is the project's own.
 use Rattle.std.specs.Prelude.{ℕ, List, [], ◌∷◌, Option, Some, None, Result, Ok, Err, Bool}
 use Rattle.{cache_policy.specs.{declared.{grant.Grant.Grant, mark.MarkStep.{MarkStep, TheVariants.{Close, Peek, Seat}}, mode.Mode.Mode}, Turns.{Turn, Given, Empty, Open, Done, Held, FitsStep}}, session_client.specs.declared.code.Code.Code}
 use Rattle.session_client.specs.declared.refusal.Refusal.{Refusal, TheVariants.Agent}
-use Rattle.{agent_ask.specs.{Interrupts.Interrupts, Parts.{PartOf, ◌>>=◌, Refuses}, SessionEvents.{AnyEvent, cache_turn}}, session_options.specs.declared.options.PinMode.PinMode}
+use Rattle.{agent_ask.specs.{Interrupts.Interrupts, Actions.{ActionOf, ◌>>=◌, Refuses}, SessionEvents.{AnyEvent, cache_turn}}, session_options.specs.declared.options.PinMode.PinMode}
 use Rattle.session_client.specs.declared.code.Code.TheVariants as code
 use Rattle.session_options.specs.declared.options.PinMode.TheVariants as mode
 
@@ -35,7 +35,7 @@ module _ {T O F : Type 0} where
     closed : {ticket : ℕ} (turn : Turn) → FitsStep (Close ticket keep) turn → Closes keep (Some ticket) (cache_turn (Close ticket keep) turn ∷ []) (Ok tt) None
 
   -- a prompt by the pinentry-mode: the seat is taken first, or the request is refused
-  abbrev pub in_mode : {A : Type 0} → PinMode → PartOf (AnyEvent T O F) A → PartOf (AnyEvent T O F) A
+  abbrev pub in_mode : {A : Type 0} → PinMode → ActionOf (AnyEvent T O F) A → ActionOf (AnyEvent T O F) A
   in_mode mode.Ask prompt = do
     seated ← Seats (Seat None None)
     prompt

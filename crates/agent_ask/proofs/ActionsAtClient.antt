@@ -1,9 +1,9 @@
--- Parts at the client: a text that is written, an inquiry, a prompt that it is told of.
+-- Actions at the client: a text that is written, an inquiry, a prompt that it is told of.
 use Rattle.std.proofs.Common.{◌≡◌, ◌≤◌, ℕ, List, [], ◌∷◌, Option, Result, Ok, Err, arith, sym, ◌∙◌, subst}
 use Rattle.{agent_ports.specs.{Leads.Leads, Writing.StopsWriting, declared.link.WriteFault.WriteFault}, session_client.specs.{Asking.{HasSaid, LeftByError, AsksClient as AskedClient}, Lines.{Lines, Views, IsOpen}, Refusals.gone_by}}
 use Rattle.{session_client.specs.declared.{refusal.Refusal.{Refusal, TheVariants.{Agent, Pinentry, Client}}, client_error.ClientError.ClientError}, cache_policy.specs.{declared.mark.MarkStep.MarkStep, Turns.Turn}}
-use Rattle.agent_ask.specs.{Answering.{ReaderLeft, FaultsCounted}, ClientParts.{Writes, written, cut, Inquires, given, not_given}, Clients.{Hears, LeftByPart}, Doing.{PromptEnds, DoesCall, DoesPrompt, HasEvents}, Events.{Call, PromptEvent}}
-use Rattle.agent_ask.specs.{PortCalls.{PortCall, Prompt, EventOf, world_with}, Parts.PartOf, PartStates.{part_state, gone_in, DoesPart, NoTurn, NoEnd, DoesWithClient}, PinParts.{PromptsPin, AsksFor}, SessionEvents.{Sent, Cut, Inquiry}}
+use Rattle.agent_ask.specs.{Answering.{ReaderLeft, FaultsCounted}, ClientActions.{Writes, written, cut, Inquires, given, not_given}, Clients.{Hears, LeftByAction}, Doing.{PromptEnds, DoesCall, DoesPrompt, HasEvents}, Events.{Call, PromptEvent}}
+use Rattle.agent_ask.specs.{PortCalls.{PortCall, Prompt, EventOf, world_with}, Actions.ActionOf, ActionStates.{action_state, gone_in, DoesAction, NoTurn, NoEnd, DoesWithClient}, PinActions.{PromptsPin, AsksFor}, SessionEvents.{Sent, Cut, Inquiry}}
 use Rattle.agent_ask.{specs.{SessionPrompts.AnyInSession, declared.{ask.Asked.Asked, spec.{AskPlan.AskPlan, PromptSpec.PromptSpec}, test.Tested.Tested}}, proofs.{Doing.{done_said, done_cut, done_inquired}, Prompting.shown}}
 use Rattle.session_client.specs.declared.client_error.Gone.TheVariants as gone
 use Rattle.session_client.specs.declared.client_error.ClientError.TheVariants as client_error
@@ -24,13 +24,13 @@ module _ {lines : Lines} {C : Type 0} (views : Views lines C) (start now : C) wh
 
   -- how it is left by a prompt
   module _ {A : Type 0} where
-    reader_left : (result : Result A Refusal) → (IsOpen views now → views.held now ≤ views.held start) → LeftByPart views result start now → ReaderLeft views (gone_in result) start now
+    reader_left : (result : Result A Refusal) → (IsOpen views now → views.held now ≤ views.held start) → LeftByAction views result start now → ReaderLeft views (gone_in result) start now
     reader_left (Ok value) fewer left = (left, fewer left)
     reader_left (Err (Agent code)) fewer left = (left, fewer left)
     reader_left (Err (Pinentry code)) fewer left = (left, fewer left)
     reader_left (Err (Client why)) fewer left = reader_unheard fewer why left
 
-    faults_left : (result : Result A Refusal) → LeftByPart views result start now → FaultsCounted views (gone_in result) start now
+    faults_left : (result : Result A Refusal) → LeftByAction views result start now → FaultsCounted views (gone_in result) start now
     faults_left (Ok value) left = record { read = λ e. absurd (cc e); write = λ e. absurd (cc e) }
     faults_left (Err (Agent code)) left = record { read = λ e. absurd (cc e); write = λ e. absurd (cc e) }
     faults_left (Err (Pinentry code)) left = record { read = λ e. absurd (cc e); write = λ e. absurd (cc e) }
@@ -84,13 +84,13 @@ module _ {lines : Lines} {C : Type 0} {views : Views lines C} {start now : C} wh
 -- The ports hold the prompter: with each state of it they are these, and what a prompt does to it is done to them.
 module _ {lines : Lines} {C D P E : Type 0} (views : Views lines C) (turned : D → MarkStep → Turn → D → Type 0) (desk : D) {prompted : P → Call → P → Type 0} (ported : E → PortCall → E → Type 0) (put : P → E)
     (each : (before after : P) (event : PromptEvent) → DoesCall prompted before event after → ported (put before) (Prompt event) (put after))
-    {Wished : C → List ℕ → Result (List ℕ) ClientError → C → Type 0} {start now : PromptEnds P C} {A : Type 0} {part : PartOf (EventOf lines) A} {result : Result A Refusal} {ticket : Option ℕ} where
-  -- A prompt was shown, and the session shows its events: a part that these are was done, and left the connection so.
-  pub part_prompted : {prompt : List PromptEvent}
-      → Leads (DoesPrompt prompted (Hears views Wished)) start prompt now → ((events : List (EventOf lines)) → AnyInSession lines prompt events → part ticket events result ticket)
-      → LeftByPart views result start.caller now.caller
-      → DoesPart views turned ported part ticket (part_state views turned ported start.caller desk (put start.prompter)) result ticket (part_state views turned ported now.caller desk (put now.prompter))
-  part_prompted leads does left =
+    {Wished : C → List ℕ → Result (List ℕ) ClientError → C → Type 0} {start now : PromptEnds P C} {A : Type 0} {action : ActionOf (EventOf lines) A} {result : Result A Refusal} {ticket : Option ℕ} where
+  -- A prompt was shown, and the session shows its events: an action that these are was done, and left the connection so.
+  pub action_prompted : {prompt : List PromptEvent}
+      → Leads (DoesPrompt prompted (Hears views Wished)) start prompt now → ((events : List (EventOf lines)) → AnyInSession lines prompt events → action ticket events result ticket)
+      → LeftByAction views result start.caller now.caller
+      → DoesAction views turned ported action ticket (action_state views turned ported start.caller desk (put start.prompter)) result ticket (action_state views turned ported now.caller desk (put now.prompter))
+  action_prompted leads does left =
       let s = shown views turned prompted ported put each desk leads in
       record {
         events = s.events;
@@ -103,9 +103,9 @@ module _ {lines : Lines} {C D P E : Type 0} (views : Views lines C) (turned : D 
   -- it was one for a passphrase
   pub prompt_answered : {T : Type 0} {tested : T → List ℕ → Tested → T → Type 0} {before after : T} {spec : PromptSpec} {plan : AskPlan} {Rule : List ℕ → Type 0} {given : Result (List ℕ) Refusal}
       → (asks : HasEvents (DoesPrompt prompted (Hears views Wished)) (λ events. AsksFor tested before after spec plan Rule events given) start now)
-      → ((events : List (EventOf lines)) → PromptsPin lines spec plan Rule events asks.are.answer → part ticket events result ticket) → LeftByPart views result start.caller now.caller
-      → DoesPart views turned ported part ticket (part_state views turned ported start.caller desk (put start.prompter)) result ticket (part_state views turned ported now.caller desk (put now.prompter))
-  prompt_answered asks is = part_prompted asks.lead (λ events in_session. is events (record { prompt = asks.events; asks = asks.are.asks.asks; in_session = in_session }))
+      → ((events : List (EventOf lines)) → PromptsPin lines spec plan Rule events asks.are.answer → action ticket events result ticket) → LeftByAction views result start.caller now.caller
+      → DoesAction views turned ported action ticket (action_state views turned ported start.caller desk (put start.prompter)) result ticket (action_state views turned ported now.caller desk (put now.prompter))
+  prompt_answered asks is = action_prompted asks.lead (λ events in_session. is events (record { prompt = asks.events; asks = asks.are.asks.asks; in_session = in_session }))
 
 -- the same plan in other words
 pub planned : {lines : Lines} {spec : PromptSpec} {plan other : AskPlan} {Rule : List ℕ → Type 0} {events : List (EventOf lines)} {answer : Asked} → plan ≡ other
