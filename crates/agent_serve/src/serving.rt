@@ -5,7 +5,6 @@
 
 ghost use Rattle.std.specs.Prelude.{◌≡◌, ◌<◌, ◌≤◌, ◌-◌, ◌^◌, None, is_some, false};
 ghost use Rattle.pinentry_client.specs.States.{at_pinentry};
-ghost use Rattle.agent_ports.specs.HostParts.{AreNew, IsFolder};
 ghost use Rattle.agent_serve.specs.Serves.{ServesOne, link_of};
 
 use crate::GatedPrompter;
@@ -54,65 +53,15 @@ where
     let gate = host.gate();
     gate.at(GatePoint::Began, session);
     let parts = host.session_parts();
-    let trust = host.trust();
-    let served = serve_with(
-        rt, alloc, rules, host, parts, trust, counted, pass, session, link, door,
-    );
-    gate.at(GatePoint::Ended, session);
-    served
-}
-
-/// Serves the session with these parts and this trust file, which nothing was done with.
-fn serve_with<W: Wait + time::Clock, H: Host>(
-    rt: &W,
-    alloc: Global,
-    rules: &Rules,
-    host: &H,
-    parts: Parts<H::Launcher, H::Clock, H::Dice, H::Keys>,
-    trust: H::Trust,
-    counted: &Counted,
-    pass: CountedPass,
-    session: SessionId,
-    link: &mut H::Link,
-    door: Door,
-) -> (CountedPass, SessionEnd)
-where
-    H::Launcher: Drop,
-    H::Clock: Drop,
-    H::Dice: Drop,
-    H::Keys: Drop,
-    H::Trust: Drop,
-    requires own { pass.table ≡ counted.now.table }
-    requires by { session.pass ≡ pass.number }
-    requires later { pass.sessions ≤ session.count }
-    requires numbered { session.count < 2 ^ 64 - 1 }
-    requires new { AreNew (record {
-      launches = H.Launcher.launches;
-      readings = H.Clock.readings;
-      draws = H.Dice.draws;
-      keys = H.Keys.keys;
-    }) parts }
-    requires unused { (H.Trust.trust trust).faults ≡ 0 }
-    requires keys_in { IsFolder (H.homedir host.now) (H.Keys.keys parts.keys).folder }
-    requires trust_in { IsFolder (H.homedir host.now) (H.Trust.trust trust).folder }
-    ensures { ServesOne (record {
-      launches = H.Launcher.launches;
-      readings = H.Clock.readings;
-      draws = H.Dice.draws;
-      keys = H.Keys.keys;
-    }) H.Trust.trust (H.homedir host.now) rules.now door session
-        (link_of (H.Link.input link.old) (H.Link.output link.old)) pass result.1
-        (link_of (H.Link.input link.new) (H.Link.output link.new)) result.0 }
-{
     let Parts {
         mut launcher,
         clock,
         mut dice,
         mut keys,
     } = parts;
-    let mut trust = trust;
+    let mut trust = host.trust();
     let pinentry = Pinentry::new(alloc, &mut launcher, copied(&rules.pinentry));
-    let mut prompter = GatedPrompter::new(pinentry, host.gate(), session);
+    let mut prompter = GatedPrompter::new(pinentry, gate, session);
     let mut desk = CountedDesk::new(rt, counted, pass, session, clock);
     let end = serve_door(
         alloc,
@@ -127,5 +76,6 @@ where
     );
     // No child is left.
     prompter.into_prompter().into_launcher();
+    gate.at(GatePoint::Ended, session);
     (desk.into_pass(), end)
 }
