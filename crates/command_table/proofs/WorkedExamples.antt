@@ -1,7 +1,7 @@
 -- The definitions on worked examples, each by computation.
 use Rattle.std.specs.Prelude.{◌≡◌, [], ◌∷◌, ◌++◌, map, codes, true, false, Some, None, refl}
-use Rattle.command_table.specs.{Commands.{command_in, command_named, commands, ends_description, names_told, is_listed}, declared.commands.{Command.TheVariants.{Cache, Key}, CommandName.TheVariants.GetInfo}}
-use Rattle.command_table.specs.declared.commands.KeyCommandName.TheVariants.{Passwd}
+use Rattle.command_table.specs.{Commands.{command_in, command_named, commands, ends_description, names_told, is_listed}, declared.commands.{Command.TheVariants.{Cache, Key, Trust}, CommandName.TheVariants.{GetInfo, Nop, SetKeyDesc}}}
+use Rattle.command_table.specs.declared.commands.{KeyCommandName.TheVariants.Passwd, TrustCommandName.TheVariants.IsTrusted}
 
 in_any_case : command_in (codes " GetInfo version") ≡ Some (Cache GetInfo)
 unfolding command_named
@@ -20,8 +20,7 @@ unfolding command_named
 it_ends = refl
 
 -- HELP of a session without a door, and what it tells at one besides
-told : names_told false commands ≡ codes "NOP" ∷ codes "RESET" ∷ codes "BYE" ∷ codes "HELP" ∷ codes "OPTION" ∷ codes "GETINFO" ∷ codes "GET_PASSPHRASE" ∷ codes "PRESET_PASSPHRASE" ∷ codes "CLEAR_PASSPHRASE"
-    ∷ codes "GET_CONFIRMATION" ∷ codes "RELOADAGENT" ∷ codes "KILLAGENT" ∷ codes "HAVEKEY" ∷ codes "KEYINFO" ∷ codes "KEYWRAP_KEY" ∷ codes "IMPORT_KEY" ∷ codes "EXPORT_KEY" ∷ codes "PASSWD" ∷ codes "DELETE_KEY" ∷ []
+told : names_told false ((codes "NOP", Cache Nop) ∷ (codes "SETKEYDESC", Cache SetKeyDesc) ∷ (codes "PASSWD", Key Passwd) ∷ (codes "ISTRUSTED", Trust IsTrusted) ∷ []) ≡ codes "NOP" ∷ codes "PASSWD" ∷ []
 told = refl
 
 told_at_a_door : names_told true commands ≡ names_told false commands ++ codes "ISTRUSTED" ∷ codes "MARKTRUSTED" ∷ []
