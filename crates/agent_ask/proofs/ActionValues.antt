@@ -1,7 +1,7 @@
 -- Values and facts that have to be there, where they are and where they aren't.
 use Rattle.std.proofs.Common.{◌≡◌, ℕ, Bool, true, false, [], Option, Some, None, Ok, Err, subst}
 use Rattle.session_client.specs.declared.{code.Code.Code, refusal.Refusal.TheVariants.Agent}
-use Rattle.agent_ask.specs.Actions.{needed, wanted, returns, refuses}
+use Rattle.agent_ask.specs.Session.Actions.{needed, wanted, returns, refuses}
 
 module _ (E : Type 0) (code : Code) (held : Option ℕ) where
   pub wanted_there : (fact : Bool) → fact ≡ true → wanted {E = E} code fact held [] (Ok tt) held

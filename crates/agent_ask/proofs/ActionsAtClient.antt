@@ -2,9 +2,9 @@
 use Rattle.std.proofs.Common.{◌≡◌, ◌≤◌, ℕ, List, [], ◌∷◌, Option, Result, Ok, Err, arith, sym, ◌∙◌, subst}
 use Rattle.{agent_ports.specs.{Leads.Leads, Writing.StopsWriting, declared.link.WriteFault.WriteFault}, session_client.specs.{Asking.{HasSaid, LeftByError, AsksClient as AskedClient}, Lines.{Lines, Views, IsOpen}, Refusals.gone_by}}
 use Rattle.{session_client.specs.declared.{refusal.Refusal.{Refusal, TheVariants.{Agent, Pinentry, Client}}, client_error.ClientError.ClientError}, cache_policy.specs.{declared.mark.MarkStep.MarkStep, Turns.Turn}}
-use Rattle.agent_ask.specs.{Answering.{ReaderLeft, FaultsCounted}, ClientActions.{Writes, written, cut, Inquires, given, not_given}, Clients.{Hears, LeftByAction}, Doing.{PromptEnds, DoesCall, DoesPrompt, HasEvents}, Events.{Call, PromptEvent}}
-use Rattle.agent_ask.specs.{PortCalls.{PortCall, Prompt, EventOf, world_with}, Actions.ActionOf, ActionStates.{action_state, gone_in, DoesAction, NoTurn, NoEnd, DoesWithClient}, PinActions.{PromptsPin, AsksFor}, SessionEvents.{Sent, Cut, Inquiry}}
-use Rattle.agent_ask.{specs.{SessionPrompts.AnyInSession, declared.{ask.Asked.Asked, spec.{AskPlan.AskPlan, PromptSpec.PromptSpec}, test.Tested.Tested}}, proofs.{Doing.{done_said, done_cut, done_inquired}, Prompting.shown}}
+use Rattle.agent_ask.specs.{Session.{Answering.{ReaderLeft, FaultsCounted}, ClientActions.{Writes, written, cut, Inquires, given, not_given}}, Clients.{Hears, LeftByAction}, Doing.{PromptEnds, DoesCall, DoesPrompt, HasEvents}, Events.{Call, PromptEvent}}
+use Rattle.agent_ask.specs.{Session.{PortCalls.{PortCall, Prompt, EventOf, world_with}, Actions.ActionOf, ActionStates.{action_state, gone_in, DoesAction, NoTurn, NoEnd, DoesWithClient}, SessionEvents.{Sent, Cut, Inquiry}}, PinActions.{PromptsPin, AsksFor}}
+use Rattle.agent_ask.{specs.{SessionPrompts.AnyInSession, declared.prompt.{ask.Asked.Asked, spec.{AskPlan.AskPlan, PromptSpec.PromptSpec}, test.Tested.Tested}}, proofs.{Doing.{done_said, done_cut, done_inquired}, Prompting.shown}}
 use Rattle.session_client.specs.declared.client_error.Gone.TheVariants as gone
 use Rattle.session_client.specs.declared.client_error.ClientError.TheVariants as client_error
 

@@ -2,11 +2,11 @@
 use Rattle.std.proofs.Common.{◌≡◌, ◌≤◌, ℕ, true, List, [], ◌∷◌, ◌++◌, Option, Some, None, Result, Ok, Err, is_some, refl, arith}
 use Rattle.cache_policy.specs.{declared.{mark.{MarkStep.{MarkStep, TheVariants.{Ask, Close}}, Way.{Way, TheVariants.{Quiet, Prompt}}}, mode.Mode.Mode}, Turns.{Turn, Given, Empty, Open, Done, FitsStep, opens}}
 use Rattle.{session_client.specs.{Lines.{Lines, Views, IsOpen}, declared.{refusal.Refusal.Refusal, client_error.Gone.Gone}}, session_options.specs.declared.options.PinMode.PinMode}
-use Rattle.agent_ask.specs.{Answering.{ReaderLeft, FaultsCounted}, PortCalls.{PortCall, EventOf, world_with}, Actions.{ActionOf, ◌>>=◌, goes_on, stops, refuses}}
-use Rattle.agent_ask.specs.ActionStates.{ActionState, action_state, gone_in, DoesAction, NoTurn, NoEnd, DoesWithClient, DoesTurn, DoesTurns, still, one}
+use Rattle.agent_ask.specs.Session.{Answering.{ReaderLeft, FaultsCounted}, PortCalls.{PortCall, EventOf, world_with}, Actions.{ActionOf, ◌>>=◌, goes_on, stops, refuses}}
+use Rattle.agent_ask.specs.Session.ActionStates.{ActionState, action_state, gone_in, DoesAction, NoTurn, NoEnd, DoesWithClient, DoesTurn, DoesTurns, still, one}
 use Rattle.agent_ask.specs.Seats.{Gives, TakesTicket, GivesTicket, Changed, ChangesCache, Answered, AsksCache, opened as ticket_opened, interrupted as ticket_refused, taken, refused, unheld, given, changed, unchanged, found, none_found}
-use Rattle.agent_ask.{specs.{Seats.{prompt_opened, not_answered, SeatsIn}, SessionEvents.{AnyEvent, cache_turn}, TurnActions.{Asks, Seats, Changes, Closes, closed, in_mode}}, proofs.{Beside.done_in, Doing.{done_none, done_then, done_turned}}}
-use Rattle.agent_ask.specs.TurnActions as turns
+use Rattle.agent_ask.{specs.{Seats.{prompt_opened, not_answered, SeatsIn}, Session.{SessionEvents.{AnyEvent, cache_turn}, TurnActions.{Asks, Seats, Changes, Closes, closed, in_mode}}}, proofs.{Beside.done_in, Doing.{done_none, done_then, done_turned}}}
+use Rattle.agent_ask.specs.Session.TurnActions as turns
 
 module _ {lines : Lines} {C : Type 0} (views : Views lines C) where
   -- a reader that holds no more than another did

@@ -1,7 +1,7 @@
 -- Requests that were answered, by an exchange that is one of another relation too, and with other ends beside.
 use Rattle.std.proofs.Common.{◌≡◌, List, Option, Some, refl, sym, subst}
 use Rattle.{cache_policy.specs.{declared.mark.MarkStep.MarkStep, Turns.Turn}, session_client.specs.{Lines.{Lines, Views}, declared.client_error.Gone.{Gone, TheVariants.WriteFault}}}
-use Rattle.agent_ask.{specs.{Answering.{WholeOrCut, whole, cut, AnswersBy}, PortCalls.{PortCall, EventOf, world_with}, SessionEvents.AnyEvent, States.AnyState, Worlds.AnyWorld}, proofs.Beside.{state_beside, done_beside}}
+use Rattle.agent_ask.{specs.Session.{Answering.{WholeOrCut, whole, cut, AnswersBy}, PortCalls.{PortCall, EventOf, world_with}, SessionEvents.AnyEvent, States.AnyState, Worlds.AnyWorld}, proofs.Beside.{state_beside, done_beside}}
 
 -- Each exchange of a relation is one of another, behind which a session goes on as it does behind its own.
 exchange_as : {T O F S R W V : Type 0} {went_after : Option Gone → W} {other_after : Option Gone → V} {exchange : List (AnyEvent T O F) → S → W → Type 0} {other : List (AnyEvent T O F) → R → V → Type 0} {kept : S}

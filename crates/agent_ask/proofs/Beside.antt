@@ -1,7 +1,7 @@
 -- What is done at a desk and at some ports, at another desk that holds it, and with other ends beside.
 use Rattle.std.proofs.Common.{List}
 use Rattle.{agent_ports.specs.Leads.{Leads, none, one}, cache_policy.specs.{declared.mark.MarkStep.MarkStep, Turns.Turn}, session_client.specs.Lines.{Lines, Views}}
-use Rattle.agent_ask.specs.{PortCalls.{PortCall, EventOf, world_with}, States.{AnyState, AnyLead}, Worlds.{Outside, Does, received, sent, cut, asked, not_asked, turned as turned_so, ported}}
+use Rattle.agent_ask.specs.Session.{PortCalls.{PortCall, EventOf, world_with}, States.{AnyState, AnyLead}, Worlds.{Outside, Does, received, sent, cut, asked, not_asked, turned as turned_so, ported}}
 
 -- Each turn of a desk is one of another desk that holds it, and each event at some ports is one at others that hold them.
 module _ {lines : Lines} {C D E Whole : Type 0} (action_turned : C → MarkStep → Turn → C → Type 0) (turned : D → MarkStep → Turn → D → Type 0)

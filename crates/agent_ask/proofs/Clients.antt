@@ -1,7 +1,7 @@
 -- What a session's client is heard to say of a prompt, and how that leaves its connection.
 use Rattle.std.proofs.Common.{◌≡◌, ◌≢◌, ℕ, List, None, Some, Result, Ok, Err, refl, sym, ap, ◌∙◌, subst}
 use Rattle.session_client.specs.{Asking.{LeftBy, LeftByError, TellsClient}, Lines.{Lines, Views, IsOpen}, declared.client_error.ClientError.ClientError}
-use Rattle.agent_ask.specs.{Callers.{unheard_of, heard_of, heard_by, wish_by, IsHearing}, Clients.{Hears, note, wish}, Events.{Question, Launched, Wanted}, declared.caller.Heard.TheVariants.Fine}
+use Rattle.agent_ask.specs.{Callers.{unheard_of, heard_of, heard_by, wish_by, IsHearing}, Clients.{Hears, note, wish}, Events.{Question, Launched, Wanted}, declared.client.caller.Heard.TheVariants.Fine}
 use Rattle.session_client.specs.declared.client_error.ClientError.TheVariants as client_error
 
 -- a client error is told by its answer

@@ -1,8 +1,8 @@
 -- Consent as an action of a request.
 use Rattle.std.proofs.Common.{◌≡◌, ℕ, false, List, [], Some, Result, Ok, Err, subst}
 use Rattle.{session_client.specs.{Lines.Lines, declared.refusal.Refusal.Refusal}, session_options.specs.{OptionValues.OptionValues, declared.rules.Rules.Rules}, arrayvec.specs.ArrayVec.ArrayVec}
-use Rattle.agent_ask.specs.{ConsentActions.{IsConsented, AsksQuestion, IsQuestion, AgreesTo, consents, refused}, Consents.AsksConsent, Events.PromptEvent, PortCalls.EventOf, Plans.IsSpec, SessionPrompts.AnyInSession}
-use Rattle.agent_ask.specs.declared.{consent.Agreed.Agreed, spec.PromptSpec.PromptSpec}
+use Rattle.agent_ask.specs.{ConsentActions.{IsConsented, AsksQuestion, IsQuestion, AgreesTo, consents, refused}, Consents.AsksConsent, Events.PromptEvent, Session.PortCalls.EventOf, Plans.IsSpec, SessionPrompts.AnyInSession}
+use Rattle.agent_ask.specs.declared.prompt.{consent.Agreed.Agreed, spec.PromptSpec.PromptSpec}
 
 -- a prompt that shows this question
 pub asked_question : {rules : Rules} {options : OptionValues} {question none : ArrayVec ℕ} {spec : PromptSpec} → IsSpec rules options question none false spec → none.items ≡ []

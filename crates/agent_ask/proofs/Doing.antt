@@ -2,8 +2,8 @@
 use Rattle.std.proofs.Common.{ℕ, List, [], ◌∷◌, ◌++◌, Ok, Err, refl, ap, ◌∙◌, arith}
 use Rattle.{agent_ports.{specs.{Leads.{none, one}, Sides.Side, Writing.StopsWriting, declared.link.WriteFault.WriteFault}, proofs.Leading.leads_then}, cache_policy.specs.{declared.mark.MarkStep.MarkStep, Turns.Turn}}
 use Rattle.session_client.{specs.{Asking.{AnyInquired, Asked, NotAsked, HasSaid, HasInquired}, Lines.{Lines, Views}}, proofs.Received.HasReceived}
-use Rattle.agent_ask.specs.{LinkFaults.{fails_at_input, fails_at_output}, SessionEvents.{AnyEvent, Received, Sent, Cut, Inquiry, Port, cache_turn}, States.{AnyState, AnyLead}}
-use Rattle.agent_ask.{specs.Worlds.{AnyWorld, received, sent, cut, asked as asked_so, not_asked, turned, ported}, proofs.Counting.{one_is_counted, both_are_counted}}
+use Rattle.agent_ask.specs.{LinkFaults.{fails_at_input, fails_at_output}, Session.{SessionEvents.{AnyEvent, Received, Sent, Cut, Inquiry, Port, cache_turn}, States.{AnyState, AnyLead}}}
+use Rattle.agent_ask.{specs.Session.Worlds.{AnyWorld, received, sent, cut, asked as asked_so, not_asked, turned, ported}, proofs.Counting.{one_is_counted, both_are_counted}}
 
 -- the bytes of a text that went before its write stopped
 abbrev pub stopped_at : {lines : Lines} {C : Type 0} {views : Views lines C} {text : List ℕ} {start now : C} {why : WriteFault} → HasSaid views text start (Err why) now → List ℕ

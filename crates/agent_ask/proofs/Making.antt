@@ -2,8 +2,8 @@
 use Rattle.std.proofs.{Common.{◌≡◌, ℕ, ◌+◌, Bool, List, [], ◌∷◌, ◌++◌, None, Ok, refl}, lemmas.List.replicate-append-replicate}
 use Rattle.agent_ports.{specs.Leads.{Leads, none, one}, proofs.Leading.leads_then}
 use Rattle.agent_ask.specs.{Doing.{ends, DoesCall, called, DoesPrompt, calls, HasEvents}, Events.{Call, Start, Question, PromptEvent, Called}, Prompts.{Opens, failed, broken, pin_or_stop, typed, repeat_text, repeated}}
-use Rattle.agent_ask.specs.declared.{caller.Heard.Heard, prompter.{Opened.{Opened, TheVariants.{Pid, Failed, Broken}}, Outcome.Outcome}, spec.PromptSpec.PromptSpec}
-use Rattle.agent_ask.specs.declared.prompter.Outcome.TheVariants as outcome
+use Rattle.agent_ask.specs.declared.{client.caller.Heard.Heard, prompt.{prompter.{Opened.{Opened, TheVariants.{Pid, Failed, Broken}}, Outcome.Outcome}, spec.PromptSpec.PromptSpec}}
+use Rattle.agent_ask.specs.declared.prompt.prompter.Outcome.TheVariants as outcome
 
 -- the start gave no process
 pub unopened : (spec : PromptSpec) (notify : Bool) (opened : Opened) → ((pid : ℕ) → opened ≡ Pid pid → ⊥) → Opens spec notify (Called (Start spec opened) ∷ []) None

@@ -1,12 +1,12 @@
 -- The events of a prompt have one answer.
 use Rattle.std.{proofs.Common.{◌≡◌, ◌≢◌, ◌<◌, ◌+◌, ℕ, zero, suc, Bool, Option, None, Some, List, [], ◌∷◌, ◌++◌, Result, Ok, Err, refl, ap, sym, ◌∙◌, subst, append_assoc, arith}, specs.Prelude.⊤}
 use Rattle.agent_ask.specs.{Events.{GetPin, Confirm, Shut, PromptEvent, Called, Notified, OutOfMemory}, Tests.PinTest}
-use Rattle.agent_ask.specs.{Prompts.{MeetsCheck, try_text, pin_or_stop, typed, repeat_text, repeated, Repeats, IsTry, Tries, Opens, AsksBefore, AsksPin}, declared.{ask.Asked.Asked, caller.Heard.Heard, consent.Agreed.Agreed}}
-use Rattle.agent_ask.specs.{declared.{prompter.{Consent.Consent, Outcome.Outcome}, spec.{AskPlan.AskPlan, PromptSpec.PromptSpec}, tries.{Failure.{Failure, TheVariants.Differ}, Stop.Stop}}, Consents.{ConsentBefore, AsksConsent, agreed_of}}
-use Rattle.agent_ask.specs.declared.ask.Asked.TheVariants as asked
-use Rattle.agent_ask.specs.declared.consent.Agreed.TheVariants as agreed
-use Rattle.agent_ask.specs.declared.prompter.Outcome.TheVariants as outcome
-use Rattle.agent_ask.specs.declared.tries.Stop.TheVariants as stop
+use Rattle.agent_ask.specs.{Prompts.{MeetsCheck, try_text, pin_or_stop, typed, repeat_text, repeated, Repeats, IsTry, Tries, Opens, AsksBefore, AsksPin}, declared.{prompt.{ask.Asked.Asked, consent.Agreed.Agreed}, client.caller.Heard.Heard}}
+use Rattle.agent_ask.specs.{declared.prompt.{prompter.{Consent.Consent, Outcome.Outcome}, spec.{AskPlan.AskPlan, PromptSpec.PromptSpec}, tries.{Failure.{Failure, TheVariants.Differ}, Stop.Stop}}, Consents.{ConsentBefore, AsksConsent, agreed_of}}
+use Rattle.agent_ask.specs.declared.prompt.ask.Asked.TheVariants as asked
+use Rattle.agent_ask.specs.declared.prompt.consent.Agreed.TheVariants as agreed
+use Rattle.agent_ask.specs.declared.prompt.prompter.Outcome.TheVariants as outcome
+use Rattle.agent_ask.specs.declared.prompt.tries.Stop.TheVariants as stop
 
 -- a call of the prompter comes first, if anything
 abbrev pub BeginsCalled : List PromptEvent → Type 0

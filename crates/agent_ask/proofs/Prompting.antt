@@ -2,7 +2,7 @@
 use Rattle.std.proofs.Common.{◌≤◌, ℕ, List, [], ◌∷◌, Result, arith, subst}
 use Rattle.{agent_ports.specs.Leads.{Leads, none, one}, cache_policy.specs.{declared.mark.MarkStep.MarkStep, Turns.Turn}, session_client.specs.{Lines.{Lines, Views, IsOpen}, declared.client_error.ClientError.ClientError}}
 use Rattle.agent_ask.specs.{Callers.SaysNote, Clients.{Hears, note as told}, Doing.{PromptEnds, DoesCall, called, out_of_memory, DoesPrompt, calls, notified}, Events.{Call, PromptEvent, Called, OutOfMemory}}
-use Rattle.agent_ask.specs.{PortCalls.{PortCall, Prompt, EventOf, world_with}, SessionEvents.Port, States.{AnyState, AnyLead}}
+use Rattle.agent_ask.specs.Session.{PortCalls.{PortCall, Prompt, EventOf, world_with}, SessionEvents.Port, States.{AnyState, AnyLead}}
 use Rattle.agent_ask.{specs.SessionPrompts.{AnyInSession, none as no_events, called as shows_call, noted as shows_note, out_of_memory as shows_memory, note}, proofs.Doing.{done_none, done_then, done_port, done_inquired}}
 
 -- The ports hold the prompter: with each state of it they are these, and what a prompt does to it is done to them.

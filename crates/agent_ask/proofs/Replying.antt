@@ -2,9 +2,9 @@
 use Rattle.std.proofs.Common.{◌≡◌, ℕ, List, [], ◌∷◌, ◌++◌, Option, Some, None, Result, Ok, Err, refl, ap, sym, ◌∙◌, subst, arith, append_assoc}
 use Rattle.{agent_ports.specs.{Sides.Side, Writing.StopsWriting, declared.link.WriteFault.WriteFault as Fault}, cache_policy.specs.{declared.mark.MarkStep.MarkStep, Turns.Turn}, session_client.specs.Asking.{HasSaid, SaysLine}}
 use Rattle.session_client.specs.{Lines.{Lines, Views}, Refusals.gone_by, declared.{refusal.Refusal.Refusal, client_error.Gone.{Gone, TheVariants.{ReadFault, WriteFault}}}}
-use Rattle.agent_ask.specs.{Answering.{unless_cut, whole, cut, ReaderLeft, FaultsCounted, AnswersBy}, PortCalls.{PortCall, EventOf, world_with}, ActionExchanges.{AnyReply, AnyExchange, answered, refused as is_refused}}
-use Rattle.agent_ask.specs.{ActionReplies.{RespondsBy, replied, refused, reply_by, CarriesBy, comes_to, stops_at}, Actions.ActionOf, ActionStates.{ActionState, action_state, DoesAction, DoesTurns, still, one}, Seats.GivesTicket}
-use Rattle.agent_ask.{specs.{SessionEvents.{AnyEvent, Sent, Cut, cache_turn, said_last}, States.{AnyState, AnyLead}, TurnActions.Closes, Worlds.AnyWorld}, proofs.Doing.{done_none, done_then, done_turned, done_said, done_cut}}
+use Rattle.agent_ask.specs.Session.{Answering.{unless_cut, whole, cut, ReaderLeft, FaultsCounted, AnswersBy}, PortCalls.{PortCall, EventOf, world_with}, ActionExchanges.{AnyReply, AnyExchange, answered, refused as is_refused}}
+use Rattle.agent_ask.specs.{Session.{ActionReplies.{RespondsBy, replied, refused, reply_by, CarriesBy, comes_to, stops_at}, Actions.ActionOf, ActionStates.{ActionState, action_state, DoesAction, DoesTurns, still, one}}, Seats.GivesTicket}
+use Rattle.agent_ask.{specs.Session.{SessionEvents.{AnyEvent, Sent, Cut, cache_turn, said_last}, States.{AnyState, AnyLead}, TurnActions.Closes, Worlds.AnyWorld}, proofs.Doing.{done_none, done_then, done_turned, done_said, done_cut}}
 use Rattle.agent_ask.proofs.ActionsDone.{no_fault, state_of, action_in, ticket_given}
 
 module _ {lines : Lines} {C : Type 0} (views : Views lines C) where

@@ -1,9 +1,9 @@
 -- What no question comes to.
 use Rattle.std.{proofs.Common.{◌≡◌, ℕ, List, Err, sym, subst}, specs.Prelude.⊤}
-use Rattle.agent_ask.specs.{Events.PromptEvent, Prompts.{Repeats, ended, pin_or_stop}, declared.{ask.Asked.Asked, prompter.Outcome.Outcome}}
-use Rattle.agent_ask.specs.declared.ask.Asked.TheVariants as asked
-use Rattle.agent_ask.specs.declared.prompter.Outcome.TheVariants as outcome
-use Rattle.agent_ask.specs.declared.tries.Stop.TheVariants as stop
+use Rattle.agent_ask.specs.{Events.PromptEvent, Prompts.{Repeats, ended, pin_or_stop}, declared.prompt.{ask.Asked.Asked, prompter.Outcome.Outcome}}
+use Rattle.agent_ask.specs.declared.prompt.ask.Asked.TheVariants as asked
+use Rattle.agent_ask.specs.declared.prompt.prompter.Outcome.TheVariants as outcome
+use Rattle.agent_ask.specs.declared.prompt.tries.Stop.TheVariants as stop
 
 -- a passphrase, a client that didn't take note, and being out of memory
 abbrev pub IsNoStop : Asked → Type 0

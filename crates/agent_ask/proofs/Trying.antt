@@ -2,10 +2,10 @@
 use Rattle.std.proofs.Common.{◌≡◌, ◌≢◌, ℕ, List, [], ◌∷◌, ◌++◌, Option, Result, Ok, Err, refl, ap, sym, ◌∙◌, subst, append_assoc}
 use Rattle.agent_ports.{specs.Leads.{none, one}, proofs.Leading.leads_then}
 use Rattle.agent_ask.specs.{Doing.HasEvents, Events.PromptEvent, Prompts.{IsTry, ended, weak, bad, untested, accepted, Repeats, same, Tries, good, over, again, AsksBefore, tried, AsksPinBy}}
-use Rattle.agent_ask.specs.{Tests.{SameRule, IsTest, PinTest, test_of, Tests, WithTests, EndsBy, EndsAccepted, EndsOutOfMemory}, declared.{ask.Asked.Asked, caller.Heard.Heard, spec.{AskPlan.AskPlan, PromptSpec.PromptSpec}, test.Tested.{Tested, TheVariants.{Yes, NoMemory}}, tries.Failure.Failure}}
-use Rattle.agent_ask.{specs.declared.tries.Stop.Stop, proofs.{Making.made_then, Stopping.{never_stops, never_repeats}}}
-use Rattle.agent_ask.specs.declared.ask.Asked.TheVariants as asked
-use Rattle.agent_ask.specs.declared.tries.Stop.TheVariants as stop
+use Rattle.agent_ask.specs.{Tests.{SameRule, IsTest, PinTest, test_of, Tests, WithTests, EndsBy, EndsAccepted, EndsOutOfMemory}, declared.{prompt.{ask.Asked.Asked, spec.{AskPlan.AskPlan, PromptSpec.PromptSpec}, test.Tested.{Tested, TheVariants.{Yes, NoMemory}}, tries.Failure.Failure}, client.caller.Heard.Heard}}
+use Rattle.agent_ask.{specs.declared.prompt.tries.Stop.Stop, proofs.{Making.made_then, Stopping.{never_stops, never_repeats}}}
+use Rattle.agent_ask.specs.declared.prompt.ask.Asked.TheVariants as asked
+use Rattle.agent_ask.specs.declared.prompt.tries.Stop.TheVariants as stop
 
 module _ {T : Type 0} {tested : T → List ℕ → Tested → T → Type 0} where
   -- the rule stays the same

@@ -2,7 +2,7 @@
 -- is held then. So what follows one another is judged once, by the laws that follow one another, and a library of actions is its law, how that joins, and its smallest actions.
 use Rattle.std.{specs.Prelude.⊤, proofs.Common.{ℕ, Bool, true, false, List, [], ◌++◌, Option, Some, None, Result, Ok, Err}}
 use Rattle.session_client.specs.declared.{code.Code.Code, refusal.Refusal.{Refusal, TheVariants.Agent}}
-use Rattle.agent_ask.specs.Actions.{ActionOf, ◌>>=◌, Follows, goes_on, stops, Returns, returns, Refuses, refuses, needed, or_else, unless, wanted}
+use Rattle.agent_ask.specs.Session.Actions.{ActionOf, ◌>>=◌, Follows, goes_on, stops, Returns, returns, Refuses, refuses, needed, or_else, unless, wanted}
 
 -- what is so of an action's value, where it comes to one
 abbrev pub HoldsOf : {A : Type 0} → (A → Type 0) → Result A Refusal → Type 0

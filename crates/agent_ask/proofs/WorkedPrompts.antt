@@ -1,9 +1,9 @@
 -- Prompts of which the client isn't told, as worked examples have them: by the calls of the prompter alone.
 use Rattle.std.proofs.Common.{◌≡◌, ◌≤◌, ℕ, false, List, [], ◌∷◌, ◌++◌, None, refl, ap, arith}
 use Rattle.session_client.specs.Lines.{Lines}
-use Rattle.agent_ask.specs.{ConsentActions.PromptsConsent, Consents.{agreed_of, ConsentBefore}, Events.{Call, Start, Confirm, Shut, PromptEvent, Called}, PortCalls.{EventOf, Prompt}, PinActions.PromptsPin, Prompts.{Opens, Tries, AsksBefore}}
-use Rattle.agent_ask.specs.{SessionEvents.Port, SessionPrompts.AnyInSession, Tests.PinTest, declared.{ask.Asked.Asked, prompter.Consent.Consent, spec.{AskPlan.AskPlan, PromptSpec.PromptSpec}}}
-use Rattle.agent_ask.specs.declared.prompter.Opened.TheVariants as opened
+use Rattle.agent_ask.specs.{ConsentActions.PromptsConsent, Consents.{agreed_of, ConsentBefore}, Events.{Call, Start, Confirm, Shut, PromptEvent, Called}, Session.PortCalls.{EventOf, Prompt}, PinActions.PromptsPin, Prompts.{Opens, Tries, AsksBefore}}
+use Rattle.agent_ask.specs.{Session.SessionEvents.Port, SessionPrompts.AnyInSession, Tests.PinTest, declared.prompt.{ask.Asked.Asked, prompter.Consent.Consent, spec.{AskPlan.AskPlan, PromptSpec.PromptSpec}}}
+use Rattle.agent_ask.specs.declared.prompt.prompter.Opened.TheVariants as opened
 
 -- the three tries of a prompt
 pub first_try : 1 ≤ 3

@@ -1,7 +1,7 @@
 -- What the client's answers mean. This is the project's own.
 use Rattle.std.specs.Prelude.{◌≡◌, ℕ, List, Bool, true, false, Option, Some, None, Result, Ok, Err, ⊤}
 use Rattle.session_client.specs.declared.client_error.ClientError.{ClientError}
-use Rattle.agent_ask.specs.{Events.{Question, Launched, Wanted}, declared.caller.Heard.{Heard, TheVariants.{Fine, Secret, Cancelled, TooMuch, Unexpected, Gone}}}
+use Rattle.agent_ask.specs.{Events.{Question, Launched, Wanted}, declared.client.caller.Heard.{Heard, TheVariants.{Fine, Secret, Cancelled, TooMuch, Unexpected, Gone}}}
 use Rattle.session_client.specs.declared.client_error.ClientError.TheVariants as client_error
 
 -- the client is gone

@@ -1,7 +1,7 @@
 -- A session's client as a prompt has to do with it. This is the project's own.
 use Rattle.std.specs.Prelude.{ℕ, List, Result, Ok, Err}
 use Rattle.session_client.specs.{Asking.{TellsClient, LeftByError}, Lines.{Lines, Views, IsOpen}, declared.{refusal.Refusal.{Refusal, TheVariants.Client}, client_error.ClientError.ClientError}}
-use Rattle.agent_ask.specs.{Callers.{IsHearing, SaysNote, SaysWish}, Events.{Question, Launched, Wanted}, declared.caller.Heard.Heard}
+use Rattle.agent_ask.specs.{Callers.{IsHearing, SaysNote, SaysWish}, Events.{Question, Launched, Wanted}, declared.client.caller.Heard.Heard}
 
 module _ {lines : Lines} {C : Type 0} (views : Views lines C) where
   -- how its connection is left by a request that came to this: open, but where it is refused since the client is gone

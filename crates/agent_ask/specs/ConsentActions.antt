@@ -1,9 +1,9 @@
 -- The user's consent as an action of a request. The codes are this project's own.
 use Rattle.std.specs.{Prelude.{◌≡◌, ℕ, Bool, false, List, [], Option, Some, None, Result, Ok, Err}, Option.option_map}
 use Rattle.{session_client.specs.{Lines.Lines, declared.refusal.Refusal.{Refusal, TheVariants.{Agent, Pinentry, Client}}}, session_options.specs.{OptionValues.OptionValues, declared.rules.Rules.Rules}}
-use Rattle.agent_ask.specs.{Callers.unheard_of, Consents.AsksConsent, Events.PromptEvent, PortCalls.EventOf, Plans.{IsSpec, text}, SessionPrompts.AnyInSession, declared.{consent.Agreed.Agreed, spec.PromptSpec.PromptSpec}}
+use Rattle.agent_ask.specs.{Callers.unheard_of, Consents.AsksConsent, Events.PromptEvent, Session.PortCalls.EventOf, Plans.{IsSpec, text}, SessionPrompts.AnyInSession, declared.prompt.{consent.Agreed.Agreed, spec.PromptSpec.PromptSpec}}
 use Rattle.session_client.specs.declared.code.Code.TheVariants as code
-use Rattle.agent_ask.specs.declared.consent.Agreed.TheVariants as agreed
+use Rattle.agent_ask.specs.declared.prompt.consent.Agreed.TheVariants as agreed
 
 -- how a request is refused whose prompt gave no consent
 abbrev pub consent_refusal : Agreed → Option Refusal

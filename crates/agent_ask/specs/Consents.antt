@@ -1,8 +1,8 @@
 -- One prompt for consent, from its start to its end (GnuPG manual, "Agent GET_CONFIRMATION"; pinentry manual, "protocol").
 use Rattle.std.specs.Prelude.{◌≡◌, ◌≢◌, Bool, List, [], ◌∷◌, ◌++◌, Some, None}
-use Rattle.agent_ask.specs.{Events.{Confirm, Shut, PromptEvent, Called}, Prompts.Opens, declared.{caller.Heard.{Heard, TheVariants.Fine}, consent.Agreed.Agreed, prompter.Consent.Consent}}
-use Rattle.agent_ask.specs.declared.{prompter.Consent.TheVariants.{Yes, No, Cancelled, TimedOut, Failed, Broken}, spec.PromptSpec.PromptSpec}
-use Rattle.agent_ask.specs.declared.consent.Agreed.TheVariants as agreed
+use Rattle.agent_ask.specs.{Events.{Confirm, Shut, PromptEvent, Called}, Prompts.Opens, declared.{client.caller.Heard.{Heard, TheVariants.Fine}, prompt.{consent.Agreed.Agreed, prompter.Consent.Consent}}}
+use Rattle.agent_ask.specs.declared.prompt.{prompter.Consent.TheVariants.{Yes, No, Cancelled, TimedOut, Failed, Broken}, spec.PromptSpec.PromptSpec}
+use Rattle.agent_ask.specs.declared.prompt.consent.Agreed.TheVariants as agreed
 
 -- the answer by the one question
 abbrev pub agreed_of : Consent → Agreed

@@ -1,7 +1,7 @@
 -- What each event of a prompt does to the prompter and to the caller. This is the project's own.
 use Rattle.std.specs.Prelude.{ℕ, List}
 use Rattle.agent_ports.specs.Leads.{Leads}
-use Rattle.agent_ask.specs.{Events.{Call, Question, Launched, PromptEvent, Called, Notified, OutOfMemory}, declared.caller.Heard.Heard}
+use Rattle.agent_ask.specs.{Events.{Call, Question, Launched, PromptEvent, Called, Notified, OutOfMemory}, declared.client.caller.Heard.Heard}
 
 pub record PromptEnds (P C : Type 0) : Type 0 where
   pub prompter : P

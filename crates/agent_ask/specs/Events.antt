@@ -1,6 +1,6 @@
 -- The events of a prompt: what is asked of a prompter and of the client, with each answer. These are the project's own.
 use Rattle.std.specs.Prelude.{ℕ, List}
-use Rattle.agent_ask.specs.declared.{spec.PromptSpec.PromptSpec, prompter.{Opened.Opened, Outcome.Outcome, Consent.Consent}, caller.Heard.Heard}
+use Rattle.agent_ask.specs.declared.{prompt.{spec.PromptSpec.PromptSpec, prompter.{Opened.Opened, Outcome.Outcome, Consent.Consent}}, client.caller.Heard.Heard}
 
 -- a call of a prompter, with its answer
 pub data Call : Type 0 where

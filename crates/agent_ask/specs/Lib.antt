@@ -1,3 +1,4 @@
+pub mod Session
 pub mod Events
 pub mod Prompters
 pub mod Callers
@@ -8,22 +9,10 @@ pub mod Consents
 pub mod Trying
 pub mod Listening
 pub mod Clients
-pub mod TrustCalls
-pub mod PortCalls
-pub mod SessionEvents
-pub mod Worlds
 pub mod SessionPrompts
 pub mod LinkFaults
-pub mod States
 pub mod Plans
 pub mod Interrupts
-pub mod Actions
-pub mod TurnActions
 pub mod ConsentActions
 pub mod Seats
-pub mod ClientActions
 pub mod PinActions
-pub mod ActionExchanges
-pub mod Answering
-pub mod ActionStates
-pub mod ActionReplies

@@ -1,7 +1,7 @@
 -- Which events of a session failed at its link: a read that failed, and a write that went in part. This is the project's own.
 use Rattle.std.specs.{List.count_by, Prelude.{ℕ, Bool, true, false, List}}
 use Rattle.{agent_ports.specs.Counts.RoseBy, session_client.specs.{Asking.{Asked, NotAsked, is_unread}, Lines.Lines}}
-use Rattle.agent_ask.specs.SessionEvents.{AnyEvent, Received, Cut, Inquiry}
+use Rattle.agent_ask.specs.Session.SessionEvents.{AnyEvent, Received, Cut, Inquiry}
 
 module _ (lines : Lines) {F : Type 0} where
   abbrev pub fails_at_input : AnyEvent lines.Took lines.Outcome F → Bool

@@ -1,9 +1,9 @@
 -- Prompts for a passphrase as actions of a request. The codes are this project's own.
 use Rattle.std.specs.{Prelude.{◌≡◌, List, ℕ, Option, Some, None, Result, Ok, Err}, Option.option_map}
 use Rattle.session_client.specs.{Lines.Lines, declared.refusal.Refusal.{Refusal, TheVariants.{Agent, Pinentry, Client}}}
-use Rattle.agent_ask.specs.{Callers.unheard_of, Events.PromptEvent, PortCalls.EventOf, Prompts.{AsksPin, AsksPinBy}, SessionPrompts.AnyInSession, declared.{ask.Asked.Asked, spec.{AskPlan.AskPlan, PromptSpec.PromptSpec}, test.Tested.Tested}}
+use Rattle.agent_ask.specs.{Callers.unheard_of, Events.PromptEvent, Session.PortCalls.EventOf, Prompts.{AsksPin, AsksPinBy}, SessionPrompts.AnyInSession, declared.prompt.{ask.Asked.Asked, spec.{AskPlan.AskPlan, PromptSpec.PromptSpec}, test.Tested.Tested}}
 use Rattle.session_client.specs.declared.code.Code.TheVariants as code
-use Rattle.agent_ask.specs.declared.ask.Asked.TheVariants as asked
+use Rattle.agent_ask.specs.declared.prompt.ask.Asked.TheVariants as asked
 
 -- one prompt for a passphrase that is right by this rule, in the session: its events, and its answer
 pub record PromptsPin (lines : Lines) (spec : PromptSpec) (plan : AskPlan) (Rule : List ℕ → Type 0) (shown : List (EventOf lines)) (answer : Asked) : Type 0 where

@@ -2,7 +2,7 @@
 -- shown where is this project's own.
 use Rattle.std.specs.Prelude.{◌≡◌, ℕ, Bool, List, [], Some, None, if◌then◌else◌}
 use Rattle.{arrayvec.specs.ArrayVec.ArrayVec, session_options.specs.{OptionValues.{OptionValues, words_of}, declared.rules.Rules.Rules}}
-use Rattle.agent_ask.specs.declared.spec.{AskPlan.AskPlan, PromptSpec.PromptSpec}
+use Rattle.agent_ask.specs.declared.prompt.spec.{AskPlan.AskPlan, PromptSpec.PromptSpec}
 
 -- the bytes as a text
 abbrev pub text : List ℕ → ArrayVec ℕ

@@ -2,9 +2,9 @@
 use Rattle.std.specs.Prelude.{◌≡◌, ◌≤◌, ℕ, Bool, true, false}
 use Rattle.agent_ports.specs.Counts.{Rose}
 use Rattle.agent_ask.specs.Events.{Call, Start, GetPin, Confirm, Shut}
-use Rattle.agent_ask.specs.declared.prompter.Opened.TheVariants as opened
-use Rattle.agent_ask.specs.declared.prompter.Outcome.TheVariants as outcome
-use Rattle.agent_ask.specs.declared.prompter.Consent.TheVariants as consent
+use Rattle.agent_ask.specs.declared.prompt.prompter.Opened.TheVariants as opened
+use Rattle.agent_ask.specs.declared.prompt.prompter.Outcome.TheVariants as outcome
+use Rattle.agent_ask.specs.declared.prompt.prompter.Consent.TheVariants as consent
 
 -- what a prompter shows: whether it is ready for a question, whether a child stands, and how many calls failed
 pub record AtPrompter : Type 0 where

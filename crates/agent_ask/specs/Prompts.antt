@@ -1,12 +1,12 @@
 -- One prompt for a passphrase, from its start to its end (GnuPG manual, "Agent GET_PASSPHRASE"; pinentry manual, "protocol"). How many
 -- tries there are, their order and their texts are this project's own.
 use Rattle.std.specs.{Prelude.{◌≡◌, ◌≢◌, ◌≤◌, ◌<◌, ◌+◌, ℕ, Bool, true, false, not, List, [], ◌∷◌, ◌++◌, length, count_by, replicate, codes, Option, Some, None, Result, Ok, Err, ⊤}, Char.is_ascii_alphabetic}
-use Rattle.agent_ask.specs.{Events.{Start, GetPin, Shut, PromptEvent, Called, Notified, OutOfMemory}, declared.{ask.Asked.Asked, caller.Heard.{Heard, TheVariants.Fine}}}
-use Rattle.agent_ask.specs.declared.{prompter.Outcome.{Outcome, TheVariants.{Pin, Cancelled, TimedOut, Failed, Broken}}, spec.{AskPlan.AskPlan, PromptSpec.PromptSpec}, tries.Failure.{Failure, TheVariants.{BadPassphrase, TooWeak, Differ}}}
-use Rattle.agent_ask.specs.{declared.{tries.Stop.Stop, test.Tested.{Tested, TheVariants.{Yes, No, NoMemory}}}, Tests.{PinTest, Tests, test_of}}
-use Rattle.agent_ask.specs.declared.ask.Asked.TheVariants as asked
-use Rattle.agent_ask.specs.declared.prompter.Opened.TheVariants as opened
-use Rattle.agent_ask.specs.declared.tries.Stop.TheVariants as stop
+use Rattle.agent_ask.specs.{Events.{Start, GetPin, Shut, PromptEvent, Called, Notified, OutOfMemory}, declared.{prompt.ask.Asked.Asked, client.caller.Heard.{Heard, TheVariants.Fine}}}
+use Rattle.agent_ask.specs.declared.prompt.{prompter.Outcome.{Outcome, TheVariants.{Pin, Cancelled, TimedOut, Failed, Broken}}, spec.{AskPlan.AskPlan, PromptSpec.PromptSpec}, tries.Failure.{Failure, TheVariants.{BadPassphrase, TooWeak, Differ}}}
+use Rattle.agent_ask.specs.{declared.prompt.{tries.Stop.Stop, test.Tested.{Tested, TheVariants.{Yes, No, NoMemory}}}, Tests.{PinTest, Tests, test_of}}
+use Rattle.agent_ask.specs.declared.prompt.ask.Asked.TheVariants as asked
+use Rattle.agent_ask.specs.declared.prompt.prompter.Opened.TheVariants as opened
+use Rattle.agent_ask.specs.declared.prompt.tries.Stop.TheVariants as stop
 
 -- a new passphrase meets the check, where there is one: so many bytes, and so many of them that are no ASCII letters
 abbrev pub MeetsCheck : Option (ℕ × ℕ) → List ℕ → Type 0

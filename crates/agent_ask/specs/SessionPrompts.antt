@@ -2,7 +2,7 @@
 -- client's note is this project's own.
 use Rattle.std.specs.Prelude.{ℕ, List, [], ◌∷◌, codes, decimal}
 use Rattle.session_client.specs.{Asking.{AnyInquired, said_by, without_data}, Lines.Lines, declared.client.TheConstants.MAX_NOTE_LEN}
-use Rattle.agent_ask.specs.{Events.{PromptEvent, Called, Notified, OutOfMemory, Call}, Callers.SaysNote, PortCalls.{EventOf, Prompt}, SessionEvents.{AnyEvent, Inquiry, Port}, declared.caller.Heard.Heard}
+use Rattle.agent_ask.specs.{Events.{PromptEvent, Called, Notified, OutOfMemory, Call}, Callers.SaysNote, Session.{PortCalls.{EventOf, Prompt}, SessionEvents.{AnyEvent, Inquiry, Port}}, declared.client.caller.Heard.Heard}
 
 -- the client is told of a prompt in the process of this number; what it may send back is dropped
 abbrev pub note : {T O F : Type 0} → ℕ → AnyInquired O → AnyEvent T O F

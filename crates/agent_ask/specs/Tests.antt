@@ -1,7 +1,7 @@
 -- What a test's answers mean, and the answers that it gives one after another. This is the project's own.
 use Rattle.std.specs.Prelude.{ℕ, List, ⊤}
 use Rattle.agent_ports.specs.Leads.{Leads}
-use Rattle.agent_ask.specs.declared.test.Tested.{Tested, TheVariants.{Yes, No, NoMemory}}
+use Rattle.agent_ask.specs.declared.prompt.test.Tested.{Tested, TheVariants.{Yes, No, NoMemory}}
 
 -- two rules for the same passphrases
 pub record SameRule (Rule Other : List ℕ → Type 0) : Type 0 where

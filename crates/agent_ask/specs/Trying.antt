@@ -1,9 +1,9 @@
 -- Private: what the code's tries and prompts leave.
 use Rattle.std.specs.Prelude.{◌≢◌, ℕ, Bool, true, false, List, Option, Some, None, Result, Ok, Err, ⊤}
-use Rattle.agent_ask.specs.{Callers.heard_of, Consents.agreed_of, Events.{Question, Launched}, declared.{ask.Asked.Asked, caller.Heard.{Heard, TheVariants.Fine}, consent.Agreed.Agreed, prompter.Consent.Consent}}
-use Rattle.{agent_ask.specs.declared.tries.Stop.{Stop, TheVariants.{Failed, Over}}, session_client.specs.declared.{client_error.ClientError.ClientError, refusal.Refusal.{Refusal, TheVariants.Client}}}
-use Rattle.agent_ask.specs.declared.ask.Asked.TheVariants as asked
-use Rattle.agent_ask.specs.declared.consent.Agreed.TheVariants as agreed
+use Rattle.agent_ask.specs.{Callers.heard_of, Consents.agreed_of, Events.{Question, Launched}, declared.{prompt.{ask.Asked.Asked, consent.Agreed.Agreed, prompter.Consent.Consent}, client.caller.Heard.{Heard, TheVariants.Fine}}}
+use Rattle.{agent_ask.specs.declared.prompt.tries.Stop.{Stop, TheVariants.{Failed, Over}}, session_client.specs.declared.{client_error.ClientError.ClientError, refusal.Refusal.{Refusal, TheVariants.Client}}}
+use Rattle.agent_ask.specs.declared.prompt.ask.Asked.TheVariants as asked
+use Rattle.agent_ask.specs.declared.prompt.consent.Agreed.TheVariants as agreed
 
 -- the prompt isn't over
 abbrev pub GoesOn : Result (List ℕ) Stop → Type 0

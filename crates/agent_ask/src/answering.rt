@@ -2,7 +2,7 @@
 //! function, `unless_cut`, which every writer of replies ends with; `specs/Answering` defines it.
 
 ghost use Rattle.std.specs.Prelude.{◌≡◌};
-ghost use Rattle.agent_ask.specs.Answering.{unless_cut};
+ghost use Rattle.agent_ask.specs.Session.Answering.{unless_cut};
 
 use agent_ports::WriteFault;
 

@@ -1,6 +1,8 @@
 //! Any client of a session as the `Caller` of a prompt. It calls the client's `tell` and `ask`, and
 //! nothing else. Begin with `Caller`; `specs/Clients` says what a client is heard to say (`Hears`).
 
+pub(crate) mod caller;
+
 use crate::{Caller, Heard};
 use cache_policy::Secret;
 use session_client::{Client, ClientError};

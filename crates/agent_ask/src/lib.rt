@@ -8,37 +8,25 @@
 //! `specs/Consents`.
 #![tactic(auto)]
 
-mod agreeing;
 mod answering;
-mod ask;
-mod caller;
 mod client;
-mod consent;
-mod held;
 mod laws;
-mod lending;
-mod opening;
-mod plan;
-mod prompter;
+mod prompt;
 mod seat;
-mod spec;
-mod test;
-mod tries;
-mod turns;
 
-pub use agreeing::{agree, agree_by_mode};
 pub use answering::unless_cut;
-pub use ask::{Asked, ask_pin};
-pub use caller::{Caller, Heard};
-pub use consent::{Agreed, ask_consent};
-pub use held::Held;
+pub use client::caller::{Caller, Heard};
 pub use laws::{a_consent_has_one_answer, a_prompt_has_one_answer, failures_are_counted};
-pub use lending::{AnyPin, ask_user};
-pub use plan::{ask_plan, prompt_spec};
-pub use prompter::{Consent, Opened, Outcome, Prompter};
+pub use prompt::agreeing::{agree, agree_by_mode};
+pub use prompt::ask::{Asked, ask_pin};
+pub use prompt::consent::{Agreed, ask_consent};
+pub use prompt::given::{AnyPin, ask_user};
+pub use prompt::plan::{ask_plan, prompt_spec};
+pub use prompt::prompter::{Consent, Opened, Outcome, Prompter};
+pub use prompt::spec::{AskPlan, PromptSpec};
+pub use prompt::test::{Test, Tested};
+pub use prompt::tries::MAX_TRIES;
+pub use seat::held::Held;
+pub use seat::turns::{ask_cache, change};
 pub use seat::{close, give_back, hold_seat, seat_by_mode, take_seat, without_memory};
 pub use session_client::{Gone, MAX_NOTE_LEN};
-pub use spec::{AskPlan, PromptSpec};
-pub use test::{Test, Tested};
-pub use tries::MAX_TRIES;
-pub use turns::{ask_cache, change};

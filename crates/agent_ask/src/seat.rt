@@ -3,12 +3,15 @@
 //! with `take_seat` and `give_back`; `hold_seat` and `close` do the same for a request's `Held`.
 //! Definitions are in `specs/Seats` and `specs/TurnActions`.
 
+pub(crate) mod held;
+pub(crate) mod turns;
+
 ghost use Rattle.std.specs.Prelude.{◌≡◌, Ok, Err, Some, None, IfOk, IfErr, IsOk, IsSome};
 ghost use Rattle.agent_ask.specs.Seats.{GivesTicket, SeatsIn, TakesTicket, WantsSeat};
 ghost use Rattle.cache_policy.specs.declared.mark.MarkStep.TheVariants.{Close, Seat};
 ghost use Rattle.cache_policy.specs.Turns.{Turn, FitsStep, asked_step, closes};
 
-use crate::held::Held;
+use crate::seat::held::Held;
 use cache_policy::{Desk, Refused, Reply, Secret, Step, Under};
 use prompt_seat::Ticket;
 use session_client::{Code, Refusal};

@@ -1,7 +1,7 @@
 -- Actions of a request on the cache, one after another, and requests whose actions are done.
 use Rattle.std.proofs.Common.{◌≡◌, ◌≢◌, ℕ, Bool, true, false, List, [], Option, Some, None, Result, Ok, Err, refl}
-use Rattle.agent_ask.specs.{Doing.DoesCall, Events.{Call, PromptEvent}, PortCalls.{PortCall, Prompt}, ActionReplies.{reply_by, comes_to, stops_at}, Actions.{◌>>=◌, Returns, returns, refuses, goes_on}}
-use Rattle.agent_ask.specs.{ActionStates.{ActionState, action_state, gone_in, DoesAction, DoesPrompts, prompts, NoTurn, NoEnd, DoesTurn, DoesTurns}, Seats.ChangesCache}
+use Rattle.agent_ask.specs.{Doing.DoesCall, Events.{Call, PromptEvent}, Session.{PortCalls.{PortCall, Prompt}, ActionReplies.{reply_by, comes_to, stops_at}, Actions.{◌>>=◌, Returns, returns, refuses, goes_on}}}
+use Rattle.agent_ask.specs.{Session.ActionStates.{ActionState, action_state, gone_in, DoesAction, DoesPrompts, prompts, NoTurn, NoEnd, DoesTurn, DoesTurns}, Seats.ChangesCache}
 use Rattle.{agent_ask.proofs.{ActionsDone.{action_then, action_stops, action_turned, action_still, action_turns, action_in, cache_changed}, Replying.carries_in}, assuan_server.specs.{Clients.connection_views, Connections.{Connection, IsOpen}}}
 use Rattle.{assuan_server.specs.Written.ok, cache_policy.specs.{declared.mark.MarkStep.MarkStep, Turns.Turn}, session_client.specs.declared.refusal.Refusal.Refusal, session_options.specs.OptionValues.OptionValues}
 use Rattle.session_options.specs.declared.{options.{OptionAnswer.{OptionAnswer, TheVariants.{Set, Unknown, Parameter, NotSupported}}, PinMode.{PinMode, TheVariants.{Ask, Cancel, Error, Loopback}}}, rules.Rules.Rules}

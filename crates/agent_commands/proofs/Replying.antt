@@ -1,6 +1,6 @@
 -- Requests that were carried out, and whose replies were written, as a session on the cache shows them.
 use Rattle.std.proofs.Common.{◌≡◌, ℕ, Option, Some, None, Result, refl}
-use Rattle.{agent_ask.specs.{PortCalls.{PortCall, world_with}, ActionExchanges.AnyExchange, ActionStates.action_state, Seats.GivesTicket}, assuan_server.specs.{Clients.connection_views, Connections.Connection, Written.refusal_line}}
+use Rattle.{agent_ask.specs.{Session.{PortCalls.{PortCall, world_with}, ActionExchanges.AnyExchange, ActionStates.action_state}, Seats.GivesTicket}, assuan_server.specs.{Clients.connection_views, Connections.Connection, Written.refusal_line}}
 use Rattle.{cache_policy.specs.{declared.mark.MarkStep.MarkStep, Turns.Turn}, session_client.specs.declared.{refusal.Refusal.Refusal, client_error.Gone.Gone}, session_options.specs.OptionValues.OptionValues}
 use Rattle.agent_commands.specs.{Endings.{went_after, gone_after}, Exchanges.CacheReply, Actions.CacheAction, States.{ServedState, AnswersRequest}, Steps.{IsText, went_of, CarriesOut, RespondsTo}, declared.response.Response.Response}
 use Rattle.agent_commands.specs.declared.went.Went.{Went}

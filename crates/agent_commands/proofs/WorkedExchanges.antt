@@ -1,14 +1,14 @@
 -- A row of each request on the cache or on the session that prompts nobody: what is done and written for it, and how the session goes on.
 use Rattle.std.{specs.{Prelude.{◌≡◌, ◌++◌, ℕ, List, [], ◌∷◌, codes, true, false, Some, None, refl}, Fmt.digits}, proofs.{Common.arith, lemmas.List.Elements.{All-cons, All-nil}}}
-use Rattle.agent_ask.specs.{ClientActions.{written, given, not_given}, Interrupts.stopping, ActionExchanges.{answered, refused}, Actions.{returns, refuses, goes_on, stops}, Plans.text, SessionEvents.{Sent, Inquiry, cache_turn}}
-use Rattle.{agent_ask.specs.TurnActions.{empty, done, interrupted, unheld}, assuan_escape.specs.DataLines.IsPiece, assuan_server.specs.{Inquiries.{Outcome, Data, Cancelled, Unexpected, Ended}, Written.{failed, limit_line, ok, IsDataAnswer}}}
+use Rattle.agent_ask.specs.{Session.{ClientActions.{written, given, not_given}, ActionExchanges.{answered, refused}, Actions.{returns, refuses, goes_on, stops}, SessionEvents.{Sent, Inquiry, cache_turn}}, Interrupts.stopping, Plans.text}
+use Rattle.{agent_ask.specs.Session.TurnActions.{empty, done, interrupted, unheld}, assuan_escape.specs.DataLines.IsPiece, assuan_server.specs.{Inquiries.{Outcome, Data, Cancelled, Unexpected, Ended}, Written.{failed, limit_line, ok, IsDataAnswer}}}
 use Rattle.cache_policy.specs.declared.{grant.Grant.Grant, life.Life.TheVariants.{Default, Endless}, mark.MarkStep.TheVariants.{Put, Clear, Flush, Stop}, mode.Mode.TheVariants.{Any, User}, secret.TheConstants.MAX_SECRET_LEN}
 use Rattle.{cache_policy.specs.Turns.{Given, Empty, Done, Stopping}, session_client.specs.{Asking.Asked, declared.refusal.Refusal.TheVariants.{Agent, Client}}}
 use Rattle.session_options.specs.{OptionValues.{OptionValues, applied, at_start, with_description}, Table.{named, mode_of}, declared.rules.Rules.Rules}
 use Rattle.agent_commands.specs.{Answers.{closing, help}, Exchanges.{last_reply, reply, tells, TellsInfo, CacheExchange}, Actions.CacheEvent, Passphrases.ask, Requests.{GetFields, get_passphrase}}
 use Rattle.agent_commands.specs.declared.request.{CacheCommand.TheVariants.{Nop, Reset, Bye, Help, SetOption, SetKeyDesc, GetInfo, PresetPassphrase, ClearPassphrase, ReloadAgent, KillAgent}, Info.TheVariants.Version}
 use Rattle.agent_commands.specs.declared.{request.{Request.TheVariants.{Cache, Bad}, Texts.Texts}, went.Went.TheVariants.{On, End}}
-use Rattle.agent_ask.specs.TurnActions as turn
+use Rattle.agent_ask.specs.Session.TurnActions as turn
 use Rattle.session_client.specs.declared.code.Code.TheVariants as code
 use Rattle.session_client.specs.declared.client_error.Gone.TheVariants as gone
 use Rattle.session_client.specs.declared.client_error.ClientError.TheVariants as client_error

@@ -1,20 +1,20 @@
 -- A row of each request on the cache that prompts the user: what is done and written for it, in order.
 use Rattle.std.{specs.{Prelude.{⊤, ◌≡◌, ◌++◌, ℕ, List, [], ◌∷◌, codes, true, false, Some, None, refl}, Fmt.digits}, proofs.{Common.{arith, ap, length}, lemmas.List.Elements.{All-cons, All-nil}}}
-use Rattle.{arrayvec.specs.ArrayVec.ArrayVec, agent_ask.specs.{Events.{Call, Start, GetPin, Confirm, Shut, Called, Notified}, PortCalls.Prompt, ActionExchanges.{answered, refused}, Actions.{returns, goes_on, stops}}}
-use Rattle.agent_ask.specs.{Plans.{IsSpec, plan_of, text}, Prompts.{MeetsCheck, typed, repeat_text, Opens, Tries, IsTry, Repeats}, SessionEvents.{Sent, Port, cache_turn}, SessionPrompts.{AnyInSession, note}, Tests.test_of}
-use Rattle.agent_ask.{specs.{TurnActions.{opened, unheld, closed}, declared.{spec.{AskPlan.AskPlan, PromptSpec.PromptSpec}, test.Tested.TheVariants.Yes}}, proofs.WorkedPrompts.{called_by, shown_by, prompts, first_try, second_try, third_try}}
+use Rattle.{arrayvec.specs.ArrayVec.ArrayVec, agent_ask.specs.{Events.{Call, Start, GetPin, Confirm, Shut, Called, Notified}, Session.{PortCalls.Prompt, ActionExchanges.{answered, refused}, Actions.{returns, goes_on, stops}}}}
+use Rattle.agent_ask.specs.{Plans.{IsSpec, plan_of, text}, Prompts.{MeetsCheck, typed, repeat_text, Opens, Tries, IsTry, Repeats}, Session.SessionEvents.{Sent, Port, cache_turn}, SessionPrompts.{AnyInSession, note}, Tests.test_of}
+use Rattle.agent_ask.{specs.{Session.TurnActions.{opened, unheld, closed}, declared.prompt.{spec.{AskPlan.AskPlan, PromptSpec.PromptSpec}, test.Tested.TheVariants.Yes}}, proofs.WorkedPrompts.{called_by, shown_by, prompts, first_try, second_try, third_try}}
 use Rattle.{assuan_escape.specs.DataLines.IsPiece, assuan_server.specs.{Clients.session_lines, Written.{failed, failed_at_pinentry, ok, IsDataAnswer}}, cache_policy.specs.declared.mark.MarkStep.TheVariants.{Seat, Close}}
 use Rattle.{cache_policy.specs.Turns.{Open, Done}, session_client.specs.{Asking.Asked, declared.refusal.Refusal.TheVariants.{Agent, Pinentry, Client}}, session_options.specs.{OptionValues.OptionValues, declared.rules.Rules.Rules}}
 use Rattle.agent_commands.specs.{Exchanges.{reply, tells, CacheExchange}, Actions.CacheEvent, Passphrases.ask_or_open, Requests.{GetFields, get_passphrase}, declared.request.CacheCommand.TheVariants.GetConfirmation}
 use Rattle.agent_commands.specs.declared.{request.{Request.TheVariants.Cache, Texts.Texts}, went.Went.TheVariants.On}
 use Rattle.agent_ask.specs.ConsentActions as consent
 use Rattle.agent_ask.specs.Consents as consents
-use Rattle.agent_ask.specs.declared.ask.Asked.TheVariants as asked
-use Rattle.agent_ask.specs.declared.caller.Heard.TheVariants as heard
-use Rattle.agent_ask.specs.declared.consent.Agreed.TheVariants as agreed
-use Rattle.agent_ask.specs.declared.prompter.Consent.TheVariants as consented
-use Rattle.agent_ask.specs.declared.prompter.Opened.TheVariants as opening
-use Rattle.agent_ask.specs.declared.prompter.Outcome.TheVariants as outcome
+use Rattle.agent_ask.specs.declared.prompt.ask.Asked.TheVariants as asked
+use Rattle.agent_ask.specs.declared.client.caller.Heard.TheVariants as heard
+use Rattle.agent_ask.specs.declared.prompt.consent.Agreed.TheVariants as agreed
+use Rattle.agent_ask.specs.declared.prompt.prompter.Consent.TheVariants as consented
+use Rattle.agent_ask.specs.declared.prompt.prompter.Opened.TheVariants as opening
+use Rattle.agent_ask.specs.declared.prompt.prompter.Outcome.TheVariants as outcome
 use Rattle.assuan_server.specs.Inquiries as answers
 use Rattle.session_client.specs.declared.code.Code.TheVariants as code
 use Rattle.session_client.specs.declared.client_error.ClientError.TheVariants as client_error

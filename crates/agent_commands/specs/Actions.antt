@@ -1,6 +1,6 @@
 -- The actions of a request on the cache, over the lines that this project's server reads.
 use Rattle.std.specs.Prelude.{ℕ, List, codes}
-use Rattle.{agent_ask.specs.{ClientActions.{AsksClient, Writes}, PortCalls.EventOf, Actions.ActionOf}, assuan_server.specs.{Clients.session_lines, Written.limit_line}, cache_policy.specs.declared.secret.TheConstants.MAX_SECRET_LEN}
+use Rattle.{agent_ask.specs.Session.{ClientActions.{AsksClient, Writes}, PortCalls.EventOf, Actions.ActionOf}, assuan_server.specs.{Clients.session_lines, Written.limit_line}, cache_policy.specs.declared.secret.TheConstants.MAX_SECRET_LEN}
 
 abbrev pub CacheEvent : Type 0
 CacheEvent = EventOf session_lines

@@ -1,5 +1,5 @@
 -- What a session does over the lines that this project's server reads.
-use Rattle.{agent_ask.specs.SessionEvents.AnyEvent, assuan_line.specs.declared.reader.Took.Took, assuan_server.specs.Inquiries.Outcome, session_client.specs.Asking.AnyInquired}
+use Rattle.{agent_ask.specs.Session.SessionEvents.AnyEvent, assuan_line.specs.declared.reader.Took.Took, assuan_server.specs.Inquiries.Outcome, session_client.specs.Asking.AnyInquired}
 
 abbrev pub Inquired : Type 0
 Inquired = AnyInquired Outcome

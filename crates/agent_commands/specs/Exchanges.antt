@@ -1,7 +1,7 @@
 -- Requests and what is done for them, as the GnuPG manual has them ("Agent's Assuan protocol"). The codes, the texts and the order of
 -- what is done are this project's own. A row of each stands in proofs/WorkedExchanges, or where it prompts in proofs/WorkedPrompts.
 use Rattle.std.specs.{Prelude.{ℕ, Bool, true, List, [], Option, Some, None, Result, Ok, if◌then◌else◌}, Option.option_and_then}
-use Rattle.{arrayvec.specs.ArrayVec.ArrayVec, agent_ask.specs.{ConsentActions.AgreesTo, Actions.{◌>>=◌, Returns, Refuses, wanted, or_else}, TurnActions.{Changes, in_mode}, ActionExchanges.{AnyReply, AnyExchange}}}
+use Rattle.{arrayvec.specs.ArrayVec.ArrayVec, agent_ask.specs.{ConsentActions.AgreesTo, Session.{Actions.{◌>>=◌, Returns, Refuses, wanted, or_else}, TurnActions.{Changes, in_mode}, ActionExchanges.{AnyReply, AnyExchange}}}}
 use Rattle.{assuan_server.specs.{Clients.session_lines, Written.{refusal_line, ok}}, cache_policy.specs.declared.{life.Life.Life, mark.MarkStep.{MarkStep, TheVariants.{Put, Clear, Flush, Stop}}, mode.Mode.TheVariants.Any}}
 use Rattle.{session_client.specs.declared.refusal.Refusal.{Refusal, TheVariants.Agent}, session_options.specs.{OptionValues.{OptionValues, at_start, applied, with_description}, declared.options.OptionAnswer.OptionAnswer}}
 use Rattle.session_options.specs.declared.{options.{OptionAnswer.TheVariants.{Set, Unknown, Parameter, NotSupported}, PinMode.PinMode}, rules.Rules.Rules}

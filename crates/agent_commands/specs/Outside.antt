@@ -1,5 +1,5 @@
 -- What a session of this project stands on: the lines that its server reads, a desk, and ports.
-use Rattle.{agent_ask.specs.{Events.Call, ActionStates.DoesPrompts, PortCalls.world_with, Worlds.AnyWorld}, assuan_server.specs.Clients.session_lines, cache_policy.specs.{declared.mark.MarkStep.MarkStep, Turns.Turn}}
+use Rattle.{agent_ask.specs.{Events.Call, Session.{ActionStates.DoesPrompts, PortCalls.world_with, Worlds.AnyWorld}}, assuan_server.specs.Clients.session_lines, cache_policy.specs.{declared.mark.MarkStep.MarkStep, Turns.Turn}}
 
 abbrev pub World : Type 1
 World = AnyWorld session_lines

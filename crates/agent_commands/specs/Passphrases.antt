@@ -1,10 +1,10 @@
 -- How GET_PASSPHRASE comes by a passphrase (GnuPG manual, "Agent GET_PASSPHRASE"). The codes, the texts and the order of what is done are this project's own.
 use Rattle.std.specs.Prelude.{◌≡◌, ◌≢◌, ℕ, Bool, true, false, List, Option, Some, None, Result, Ok, Err, ⊤}
-use Rattle.agent_ask.specs.{Actions.{◌>>=◌, Returns, Refuses, needed, or_else}, Plans.{IsSpec, plan_of}, TurnActions.{Asks, Seats, Changes, Closes}, declared.{ask.Asked.Asked, spec.PromptSpec.PromptSpec}, PinActions.{PromptsPin, pin_refusal}}
+use Rattle.agent_ask.specs.{Session.{Actions.{◌>>=◌, Returns, Refuses, needed, or_else}, TurnActions.{Asks, Seats, Changes, Closes}}, Plans.{IsSpec, plan_of}, declared.prompt.{ask.Asked.Asked, spec.PromptSpec.PromptSpec}, PinActions.{PromptsPin, pin_refusal}}
 use Rattle.{assuan_server.specs.Clients.session_lines, cache_policy.specs.declared.{life.Life.TheVariants.Default, mark.{MarkStep.{MarkStep, TheVariants.{Ask, Seat, Put}}, Way.TheVariants.{Quiet, Prompt}}, mode.Mode.TheVariants.User}}
 use Rattle.{session_client.specs.declared.refusal.Refusal.{Refusal, TheVariants.Agent}, session_options.specs.{OptionValues.OptionValues, declared.{options.PinMode.PinMode, rules.Rules.Rules}}}
 use Rattle.agent_commands.specs.{Actions.{CacheEvent, AsksPassphrase, CacheAction}, Requests.GetFields, declared.request.Texts.Texts}
-use Rattle.agent_ask.specs.declared.ask.Asked.TheVariants as asked
+use Rattle.agent_ask.specs.declared.prompt.ask.Asked.TheVariants as asked
 use Rattle.session_client.specs.declared.code.Code.TheVariants as code
 use Rattle.session_options.specs.declared.options.PinMode.TheVariants as mode
 

@@ -1,6 +1,6 @@
 -- How a session stands at some state of its code, and how events lead from one state to another.
 use Rattle.std.specs.Prelude.{List}
-use Rattle.{agent_ask.specs.{Answering.AnswersBy, Events.Call, States.{AnyState, AnyLead}}, assuan_server.specs.{Connections.Connection, Clients.connection_views}, cache_policy.specs.{declared.mark.MarkStep.MarkStep, Turns.Turn}}
+use Rattle.{agent_ask.specs.{Session.{Answering.AnswersBy, States.{AnyState, AnyLead}}, Events.Call}, assuan_server.specs.{Connections.Connection, Clients.connection_views}, cache_policy.specs.{declared.mark.MarkStep.MarkStep, Turns.Turn}}
 use Rattle.agent_commands.specs.{Endings.{went_after, gone_after}, Events.EventWith, Outside.{World, world, prompt_world}, declared.went.Went.Went}
 
 -- a state in the code: its connection, its desk, and the ports

@@ -1,8 +1,8 @@
 -- A session's talk over any kind of events, any relation of exchanges, and any state between them: the Assuan manual's ("client
 -- requests", "server responses"). How it ends is this project's own.
 use Rattle.std.specs.Prelude.{ℕ, List, [], ◌∷◌, ◌++◌}
-use Rattle.{assuan_server.specs.Written.{greeting, failed}, session_client.specs.declared.code.Code.TheVariants.LineTooLong, assuan_text.specs.LineEnds.line_of, agent_ask.specs.Answering.WholeOrCut}
-use Rattle.agent_ask.specs.SessionEvents.{Received, Sent, CutAtLast}
+use Rattle.{assuan_server.specs.Written.{greeting, failed}, session_client.specs.declared.code.Code.TheVariants.LineTooLong, assuan_text.specs.LineEnds.line_of, agent_ask.specs.Session.Answering.WholeOrCut}
+use Rattle.agent_ask.specs.Session.SessionEvents.{Received, Sent, CutAtLast}
 use Rattle.agent_commands.specs.{Endings.went_after, Events.EventWith, declared.went.{SessionEnd.{SessionEnd, TheVariants.{Ended, TooLong, Spent, ReadFault, WriteFault}}, Went.{Went, TheVariants.{On, End}}}}
 use Rattle.assuan_line.specs.declared.reader.Took.TheVariants as took
 

@@ -4,7 +4,7 @@
 //! `CacheExchange` (`specs/Exchanges`).
 
 ghost use Rattle.std.specs.Prelude.{◌≡◌, ℕ, List, None, Some};
-ghost use Rattle.agent_ask.specs.{Prompters.IsShut, ActionStates.{DoesPrompts, DoesWithClient, NoEnd, action_state}};
+ghost use Rattle.agent_ask.specs.{Prompters.IsShut, Session.ActionStates.{DoesPrompts, DoesWithClient, NoEnd, action_state}};
 ghost use Rattle.{agent_ask.specs.Seats.ChangesCache, assuan_server.specs.Clients.connection_views};
 ghost use Rattle.assuan_server.specs.Connections.{Connection, IsOpen};
 ghost use Rattle.cache_policy.specs.declared.mark.MarkStep.TheVariants.{Clear};

@@ -3,7 +3,7 @@
 //! `ask_client`; its events are `AsksPassphrase` (`specs/Actions`).
 
 ghost use Rattle.assuan_server.specs.{Clients.connection_views, Connections.IsOpen};
-ghost use Rattle.agent_ask.specs.ActionStates.{DoesWithClient};
+ghost use Rattle.agent_ask.specs.Session.ActionStates.{DoesWithClient};
 ghost use Rattle.agent_commands.specs.Actions.{AsksPassphrase};
 
 use agent_ports::Link;

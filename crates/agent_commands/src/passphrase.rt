@@ -4,7 +4,7 @@
 //! each of the ways, as `ByUser` and `ByCache`.
 
 ghost use Rattle.std.specs.Prelude.{◌≡◌, ◌≢◌, None, Ok, is_some, true};
-ghost use Rattle.agent_ask.specs.{Prompters.IsShut, ActionStates.{DoesAction, DoesPrompts, DoesTurn, DoesTurns}};
+ghost use Rattle.agent_ask.specs.{Prompters.IsShut, Session.ActionStates.{DoesAction, DoesPrompts, DoesTurn, DoesTurns}};
 ghost use Rattle.assuan_server.specs.{Clients.connection_views, Connections.IsOpen};
 ghost use Rattle.agent_commands.specs.Passphrases.{ByCache, ByClient, ByUser, KeepsUnder, LooksFor};
 ghost use Rattle.agent_commands.specs.Passphrases.{PromptsAny, Uncached, WantsPrompt};

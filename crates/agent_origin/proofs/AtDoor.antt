@@ -1,6 +1,6 @@
 -- A line at a door, by each way that it is answered.
 use Rattle.std.proofs.Common.{◌≡◌, ℕ, List, true, false, None, Some}
-use Rattle.{agent_ask.{specs.{Events.Call, ActionExchanges.AnyExchange}, proofs.Answered.answered_as}, agent_commands.specs.{Endings.went_after, States.AnswersRequest, declared.went.Went.Went}, assuan_server.specs.Connections.Connection}
+use Rattle.{agent_ask.{specs.{Events.Call, Session.ActionExchanges.AnyExchange}, proofs.Answered.answered_as}, agent_commands.specs.{Endings.went_after, States.AnswersRequest, declared.went.Went.Went}, assuan_server.specs.Connections.Connection}
 use Rattle.{assuan_server.specs.Written.{failed, ok, refusal_line}, session_client.specs.declared.code.Code.TheVariants.Forbidden, cache_policy.specs.{declared.mark.MarkStep.MarkStep, Turns.Turn}}
 use Rattle.session_options.specs.declared.rules.Rules.{Rules}
 use Rattle.agent_origin.specs.{DoorSessions.{door_command, door_help, helped, unset, trusts, any, DoorExchange, forbidden, is_allowed}, Doors.allowed, TrustExchanges.TrustReplies, PortStates.{PortWorld, PortState}}

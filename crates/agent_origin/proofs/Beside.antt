@@ -1,12 +1,12 @@
 -- Requests on the cache with the keys and the dice beside, requests on keys with the option values beside, and both with the trust file beside.
 use Rattle.std.proofs.Common.{◌≡◌, ℕ, List, Some, refl}
-use Rattle.{arrayvec.specs.ArrayVec.ArrayVec, agent_ask.{specs.{Answering.AnswersBy, Events.Call, ActionStates.{DoesPrompts, prompts}, PortCalls.{PortCall, PortEnds, DoesPort}}, proofs.Answered.{answered_onward, answered_as, answers_beside}}}
+use Rattle.{arrayvec.specs.ArrayVec.ArrayVec, agent_ask.{specs.{Session.{Answering.AnswersBy, ActionStates.{DoesPrompts, prompts}, PortCalls.{PortCall, PortEnds, DoesPort}}, Events.Call}, proofs.Answered.{answered_onward, answered_as, answers_beside}}}
 use Rattle.{agent_ports.specs.{KeyFiles.KeyFiles, Sides.Side, TrustFiles.TrustState}, assuan_server.specs.{Clients.connection_views, Connections.Connection}, cache_policy.specs.{declared.mark.MarkStep.MarkStep, Turns.Turn}}
 use Rattle.{session_options.specs.{OptionValues.OptionValues, declared.rules.Rules.Rules}, agent_commands.specs.{Endings.{went_after, gone_after}, Events.EventWith, Exchanges.CacheExchange, Outside.{world, prompt_world}}}
 use Rattle.{agent_commands.{specs.{States.{served_state, prompt_state, AnswersRequest}, declared.{request.Request.{Request, TheVariants.Key}, went.Went.Went}}, proofs.Replying.gone_as_it_went}, key_commands.specs.Exchanges.KeyExchange}
 use Rattle.key_commands.specs.{KeyEnds.{KeyEnds, DoesAtKeys, prompt}, Requests.key_request_of, States.{KeyWorld, KeyState, key_state, AnswersKey}, Actions.key_gone, declared.{went.KeyWent.KeyWent, keywrap_key.WrapKeys.WrapKeys}}
 use Rattle.agent_origin.specs.{PortStates.{port_ends, PortWorld}, SessionExchanges.{RequestExchange, cache, keys, went_after_key, described_after}, declared.session_state.SessionState.SessionState}
-use Rattle.agent_ask.specs.PortCalls as ported
+use Rattle.agent_ask.specs.Session.PortCalls as ported
 use Rattle.key_commands.specs.KeyEnds as at_keys
 use Rattle.key_commands.specs.declared.went.KeyWent.TheVariants as key
 

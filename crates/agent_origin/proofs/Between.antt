@@ -1,6 +1,6 @@
 -- What stands between a prompt's start and its end: its questions, and neither a start nor an end.
 use Rattle.std.{specs.{List.AllByRecursion, Prelude.⊤}, proofs.Common.{ℕ, List, Result, zero, suc}}
-use Rattle.{agent_ask.specs.{Events.{Start, Shut, PromptEvent, Called}, Prompts.{IsTry, Repeats, Tries, repeated}, Tests.PinTest, declared.{ask.Asked.Asked, spec.AskPlan.AskPlan}}, key_commands.proofs.EachEvent.each_append}
+use Rattle.{agent_ask.specs.{Events.{Start, Shut, PromptEvent, Called}, Prompts.{IsTry, Repeats, Tries, repeated}, Tests.PinTest, declared.prompt.{ask.Asked.Asked, spec.AskPlan.AskPlan}}, key_commands.proofs.EachEvent.each_append}
 use Rattle.agent_ask.specs.Prompts as prompts
 
 abbrev pub IsBetween : PromptEvent → Type 0

@@ -1,7 +1,7 @@
 -- Actions of a request on the cache by which no prompter is called, and each of whose events is so.
 use Rattle.std.proofs.Common.{codes, ℕ, Bool, List, Option, Some, None, Result}
 use Rattle.agent_commands.specs.{Exchanges.{option_replies, Presets, TellsPassphrase, TellsInfo}, Actions.AsksPassphrase, Passphrases.{LooksFor, WantsPrompt, KeepsUnder, ByCache, Uncached, WithoutPrompt}, declared.request.Info.Info}
-use Rattle.{cache_policy.specs.{declared.{life.Life.Life, mark.MarkStep.MarkStep}, Turns.Turn}, agent_ask.specs.SessionEvents.cache_turn, session_client.specs.declared.refusal.Refusal.{Refusal, TheVariants.Agent}}
+use Rattle.{cache_policy.specs.{declared.{life.Life.Life, mark.MarkStep.MarkStep}, Turns.Turn}, agent_ask.specs.Session.SessionEvents.cache_turn, session_client.specs.declared.refusal.Refusal.{Refusal, TheVariants.Agent}}
 use Rattle.{session_options.specs.{OptionValues.OptionValues, declared.{options.{OptionAnswer.OptionAnswer, PinMode.PinMode}, rules.Rules.Rules}}, key_commands.specs.Events.Event}
 use Rattle.key_commands.proofs.EachEvent.{IsStill, All, EachSo, asks_secret, each_bind, each_returned, each_refused, each_needed, each_otherwise, each_wanted, each_looks, each_seats, each_changes}
 use Rattle.agent_commands.specs.Exchanges as exchange

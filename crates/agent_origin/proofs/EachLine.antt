@@ -1,7 +1,7 @@
 -- What is so of all that is done for a line of a session. And so each event is so, where each but a read request and a call of the trust file is: no line of
 -- a session calls the trust file, but by the commands on it.
 use Rattle.std.proofs.Common.{◌≡◌, ◌∙◌, ℕ, Bool, true, false, List, Option, Some, None, Result, refl}
-use Rattle.agent_ask.{specs.{Events.PromptEvent, Actions.{◌>>=◌, Returns}, SessionEvents.Sent, TurnActions.Changes, SessionPrompts.AnyInSession}, proofs.Within.{Within, Does, or_otherwise}}
+use Rattle.agent_ask.{specs.{Events.PromptEvent, Session.{Actions.{◌>>=◌, Returns}, SessionEvents.Sent, TurnActions.Changes}, SessionPrompts.AnyInSession}, proofs.Within.{Within, Does, or_otherwise}}
 use Rattle.agent_commands.specs.{Exchanges.{CacheExchange, CacheReply, confirms_by, CacheReplies}, Passphrases.{PromptsAny, Prompts, as_wanted, passphrase_by}, Requests.GetFields, declared.request.CacheCommand.CacheCommand}
 use Rattle.{agent_commands.specs.declared.{request.{Request.{Request, TheVariants.{Cache, Key, Bad}}, Texts.Texts}, went.Went.Went}, arrayvec.specs.ArrayVec.ArrayVec, assuan_server.specs.Clients.session_lines}
 use Rattle.{cache_policy.specs.declared.mark.MarkStep.MarkStep, session_client.specs.declared.refusal.Refusal.{Refusal, TheVariants.Agent}, session_options.specs.{OptionValues.{OptionValues, EnvWords}, declared.options.PinMode.PinMode}}

@@ -1,6 +1,6 @@
 -- What is so of requests on the trust list, by what is so of their smallest actions; and those of these each of whose events is so.
 use Rattle.std.proofs.Common.{ℕ, Bool, true, false, List, Option, Some, None, Result, refl}
-use Rattle.agent_ask.{proofs.Within.{Within, Joins, OfNothing, Does, does_join, bind, returned, refused}, specs.{ConsentActions.AgreesTo, Actions.{◌>>=◌, Refuses}, TrustCalls.TrustCall, TurnActions.Seats}}
+use Rattle.agent_ask.{proofs.Within.{Within, Joins, OfNothing, Does, does_join, bind, returned, refused}, specs.{ConsentActions.AgreesTo, Session.{Actions.{◌>>=◌, Refuses}, TrustCalls.TrustCall, TurnActions.Seats}}}
 use Rattle.{agent_ports.specs.declared.grip.Grip.Grip, assuan_server.specs.Clients.session_lines, cache_policy.specs.declared.mark.MarkStep.TheVariants.Seat, session_client.specs.declared.{code.Code.Code, refusal.Refusal.Refusal}}
 use Rattle.{session_client.specs.declared.refusal.Refusal.TheVariants.Agent, session_options.specs.{OptionValues.OptionValues, declared.{options.PinMode.PinMode, rules.Rules.Rules}}, trust_list.specs.Trust.trust}
 use Rattle.key_commands.{specs.{Events.{Event, out_of_memory}, Actions.Action}, proofs.{EachEvent.{All, EachSo, each_seats}, EachRequest.Carries}}

@@ -3,7 +3,7 @@ use Rattle.std.{proofs.Common.{◌≡◌, ◌≤◌, ◌+◌, ℕ, List, [], ◌
 use Rattle.{agent_ports.{specs.{Leads.{Leads, none, one}, Sides.{Side, WhereKnown}, declared.link.WriteFault.WriteFault, Writing.StopsWriting}, proofs.Known.{known_same, known_then}}, assuan_line.specs.Next.Reader}
 use Rattle.{assuan_server.{specs.{Connections.Connection, Written.{greeting, WritesText}, Reading.{budget, Supply, unread, IsSupply}, Clients.HasSupply}, proofs.Clients.said_so}, assuan_text.specs.LineEnds.line_of}
 use Rattle.agent_commands.specs.{Endings.gone_of, Events.EventWith, Outside.World, States.{ServedState, EventsLead}, Talks.{greeted, cut_greeting}, declared.went.SessionEnd.{SessionEnd, TheVariants.WriteFault as CutOff}}
-use Rattle.agent_ask.{specs.{SessionEvents.{Sent, Cut}, Worlds.{Outside, Does, received, sent, cut, asked, not_asked, turned, ported}}, proofs.Doing.{done_then, done_said, done_cut}}
+use Rattle.agent_ask.{specs.Session.{SessionEvents.{Sent, Cut}, Worlds.{Outside, Does, received, sent, cut, asked, not_asked, turned, ported}}, proofs.Doing.{done_then, done_said, done_cut}}
 use Rattle.agent_origin.specs.{Sessions.{LineRelation, Leaves, ServesSession, Surroundings, supply_of, ends_with}, Serving.{ServesRequests, around}}
 
 -- a reader that has read nothing

@@ -1,7 +1,7 @@
 -- Each prompt of a session's request names the terminal and the language that its option values have.
 use Rattle.std.{specs.List.AllByRecursion, proofs.Common.{◌≡◌, Bool, List, [], ◌∷◌, ◌++◌, Option, refl, sym, subst}}
-use Rattle.agent_ask.specs.{Consents.ConsentBefore, Events.{Start, GetPin, Confirm, Shut, PromptEvent, Called, Notified, OutOfMemory}, PortCalls.{Prompt, Trust}, Prompts.{AsksBefore, Opens}, SessionEvents.{Received, CacheTurn, Port}}
-use Rattle.{agent_ask.specs.{SessionPrompts.AnyInSession, Tests.PinTest, declared.{ask.Asked.Asked, consent.Agreed.Agreed, spec.{AskPlan.AskPlan, PromptSpec.PromptSpec}}}, agent_commands.specs.declared.request.Request.Request}
+use Rattle.agent_ask.specs.{Consents.ConsentBefore, Events.{Start, GetPin, Confirm, Shut, PromptEvent, Called, Notified, OutOfMemory}, Session.{PortCalls.{Prompt, Trust}, SessionEvents.{Received, CacheTurn, Port}}, Prompts.{AsksBefore, Opens}}
+use Rattle.{agent_ask.specs.{SessionPrompts.AnyInSession, Tests.PinTest, declared.prompt.{ask.Asked.Asked, consent.Agreed.Agreed, spec.{AskPlan.AskPlan, PromptSpec.PromptSpec}}}, agent_commands.specs.declared.request.Request.Request}
 use Rattle.{agent_commands.specs.declared.went.Went.Went, assuan_server.specs.Clients.session_lines, key_commands.{specs.Events.Event, proofs.{EachEvent.{IsStill, each_append, each_returned}, EachRequest.{Carries, so, then, whole}}}}
 use Rattle.session_options.specs.{OptionValues.{OptionValues, EnvWords, words_of}, declared.rules.Rules.Rules}
 use Rattle.agent_origin.specs.{DoorSessions.{AllowedExchange, DoorExchange}, OuterPrompts.{Names, PromptNames, PromptsName}, SessionExchanges.RequestExchange, TrustExchanges.TrustExchange, declared.door.Door.Door}

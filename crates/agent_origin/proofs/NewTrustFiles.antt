@@ -1,7 +1,7 @@
 -- New trust files: each has its two consents.
 use Rattle.std.{proofs.{Common.{◌≡◌, ◌≤◌, ℕ, Bool, true, false, List, [], ◌∷◌, ◌++◌, length, Option, None, Some, Result, Ok, Err, refl, ap, sym, ◌∙◌, subst}, lemmas.List.{append_assoc, append-nil}}, specs.List.AllByRecursion}
-use Rattle.{arrayvec.specs.ArrayVec.ArrayVec, agent_ask.specs.{Answering.{WholeOrCut, whole, cut}, ConsentActions.{AgreesTo, consents, refused as dissents}, ActionExchanges.{AnyExchange, answered, refused}}}
-use Rattle.agent_ask.specs.{Actions.{Follows, goes_on, stops, returns, Refuses, refuses}, SessionEvents.{Received, Sent, Cut, cache_turn, CutAtLast, said_last}, TrustCalls.Read, TurnActions.{Seats, opened, Closes, closed}}
+use Rattle.{arrayvec.specs.ArrayVec.ArrayVec, agent_ask.specs.{Session.{Answering.{WholeOrCut, whole, cut}, ActionExchanges.{AnyExchange, answered, refused}}, ConsentActions.{AgreesTo, consents, refused as dissents}}}
+use Rattle.agent_ask.specs.Session.{Actions.{Follows, goes_on, stops, returns, Refuses, refuses}, SessionEvents.{Received, Sent, Cut, cache_turn, CutAtLast, said_last}, TrustCalls.Read, TurnActions.{Seats, opened, Closes, closed}}
 use Rattle.agent_commands.specs.{Endings.went_after, Exchanges.CacheReply, Requests.request_of, Talks.{Talk, over, ended, spent, read_fault, too_long as talk_too_long, cut_too_long, Session as SessionOf, greeted, cut_greeting}}
 use Rattle.{agent_commands.specs.declared.went.{SessionEnd.SessionEnd, Went.Went}, agent_ports.specs.declared.{grip.Grip.Grip, trust.TrustRead.TrustRead}, assuan_server.specs.{Clients.session_lines, Written.{failed, refusal_line}}}
 use Rattle.{cache_policy.specs.{Turns.{Turn, Open}, declared.mark.MarkStep.TheVariants.{Seat, Close}}, key_commands.{specs.{Events.Event, Actions.Action}, proofs.{EachEvent.{each_seats, each_answer}, EachRequest.IsBesideTrust}}}

@@ -1,7 +1,7 @@
 -- Lines that are allowed at the outer door, and what is done for them to the cache.
 use Rattle.std.{proofs.Common.{◌≡◌, ℕ, Bool, true, false, List, [], ◌∷◌, ◌++◌, Option, None, Some, Result, Ok, Err, is_none, refl, ap, sym, ◌∙◌, subst, append_assoc}, specs.Prelude.⊤}
-use Rattle.agent_ask.specs.{ClientActions.{Writes, written, cut, Inquires, given, not_given}, ConsentActions.AgreesTo, Events.PromptEvent, ActionExchanges.{AnyReply, AnyExchange, answered, refused}, Actions.{Follows, Returns, Refuses}}
-use Rattle.agent_ask.specs.{SessionEvents.{AnyEvent, Received, Sent, Cut, Inquiry, CacheTurn, Port, turns_in, said_last}, TurnActions.{Seats, opened, interrupted, Closes, unheld, closed}}
+use Rattle.agent_ask.specs.{Session.{ClientActions.{Writes, written, cut, Inquires, given, not_given}, ActionExchanges.{AnyReply, AnyExchange, answered, refused}, Actions.{Follows, Returns, Refuses}}, ConsentActions.AgreesTo, Events.PromptEvent}
+use Rattle.agent_ask.specs.Session.{SessionEvents.{AnyEvent, Received, Sent, Cut, Inquiry, CacheTurn, Port, turns_in, said_last}, TurnActions.{Seats, opened, interrupted, Closes, unheld, closed}}
 use Rattle.agent_ask.{specs.SessionPrompts.{AnyInSession, none, called, noted, out_of_memory}, proofs.Within.{Within, OfNothing, weaker, returned, refused as refused_so, is_needed, or_otherwise}}
 use Rattle.agent_commands.specs.{Exchanges.{CacheExchange, LineExchange, option_replies, confirms_by, CacheReplies, TellsPassphrase, TellsInfo}, Actions.{CacheEvent, CacheAction, AsksPassphrase}}
 use Rattle.agent_commands.specs.Passphrases.{LooksFor, WantsPrompt, KeepsUnder, ByCache, Uncached as NotCached, WithoutPrompt, PromptsAny, Prompts, as_wanted, passphrase_by}

@@ -1,6 +1,6 @@
 -- Lines with a command on keys that are allowed at the outer door, and what is done for them to the cache.
 use Rattle.std.{proofs.Common.{◌≡◌, ℕ, Bool, true, false, not, cond, List, [], ◌∷◌, Option, None, Some, Result, Ok, Err, refl, ap, sym}, specs.Prelude.codes}
-use Rattle.{agent_ask.{specs.{PortCalls.PortCall, Plans.text, Actions.{goes_on, stops, returns}, TurnActions.{peeked, interrupted}}, proofs.Within.is_unless}, agent_commands.specs.Events.EventWith}
+use Rattle.{agent_ask.{specs.{Session.{PortCalls.PortCall, Actions.{goes_on, stops, returns}, TurnActions.{peeked, interrupted}}, Plans.text}, proofs.Within.is_unless}, agent_commands.specs.Events.EventWith}
 use Rattle.{agent_commands.specs.{Requests.{request_of, request_by, cache_request_by, asked_by, either as of_cache}, declared.request.{CacheCommand.CacheCommand, Request.TheVariants.Key}}, agent_ports.specs.declared.grip.Grip.Grip}
 use Rattle.{arrayvec.specs.ArrayVec.ArrayVec, session_client.specs.{declared.{code.Code.Code, refusal.Refusal.{Refusal, TheVariants.Agent}}, Fields.{◌>>=◌, in_form}}, assuan_text.specs.Options.{arguments_of, has_option, options_of}}
 use Rattle.{assuan_text.specs.Words.{rest_of, words}, command_table.specs.{Commands.{command_in, outer_rule}, declared.commands.{Command.Command, KeyCommandName.KeyCommandName}}, key_commands.specs.Events.Event}

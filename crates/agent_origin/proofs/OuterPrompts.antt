@@ -1,7 +1,7 @@
 -- At the outer door no terminal and no language is set, so no prompt names one.
 use Rattle.std.{specs.{List.AllByRecursion, Prelude.{codes, drop}}, proofs.Common.{◌≡◌, ◌∙◌, ℕ, Bool, true, false, cond, List, [], ◌∷◌, ◌++◌, Option, Some, None, Ok, bytes_eq, refl, sym, ap, subst}}
 use Rattle.std.proofs.lemmas.Slice.Eq.{bytes_eq-Decides}
-use Rattle.agent_ask.{specs.{Answering.{WholeOrCut, whole, cut}, ActionExchanges.{answered, refused}, SessionEvents.{Cut, Sent, CutAtLast}}, proofs.Within.{Within, Yields, returned_so, refused_so, yields_then}}
+use Rattle.agent_ask.{specs.Session.{Answering.{WholeOrCut, whole, cut}, ActionExchanges.{answered, refused}, SessionEvents.{Cut, Sent, CutAtLast}}, proofs.Within.{Within, Yields, returned_so, refused_so, yields_then}}
 use Rattle.agent_commands.specs.{Endings.went_after, Exchanges.{CacheExchange, CacheReply, option_replies, CacheReplies}, Requests.request_of}
 use Rattle.agent_commands.specs.{Talks.{Talk, goes_on, over, ended, spent, read_fault, too_long, cut_too_long, Session, greeted, cut_greeting}, declared.request.{CacheCommand.CacheCommand, Request.{Request, TheVariants.{Cache, Key, Bad}}}}
 use Rattle.{agent_commands.specs.declared.went.{SessionEnd.SessionEnd, Went.{Went, TheVariants.On}}, assuan_server.specs.Written.ok, assuan_text.specs.Rows.found, command_table.specs.Commands.command_in, key_commands.specs.Events.Event}

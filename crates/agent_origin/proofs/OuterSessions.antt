@@ -1,6 +1,6 @@
 -- Whole sessions at the outer door, and what they do to the cache.
 use Rattle.std.proofs.Common.{◌≡◌, ℕ, true, List, [], ◌∷◌, ◌++◌, refl, ap, sym, ◌∙◌, subst}
-use Rattle.{agent_ask.specs.{Answering.{WholeOrCut, whole, cut}, SessionEvents.{AnyEvent, Sent, Cut, turns_in, CutAtLast}}, agent_commands.specs.{Endings.went_after, Exchanges.CacheExchange, Requests.request_of}}
+use Rattle.{agent_ask.specs.Session.{Answering.{WholeOrCut, whole, cut}, SessionEvents.{AnyEvent, Sent, Cut, turns_in, CutAtLast}}, agent_commands.specs.{Endings.went_after, Exchanges.CacheExchange, Requests.request_of}}
 use Rattle.agent_commands.specs.{Talks.{Talk, goes_on, over, ended, spent, read_fault, too_long, cut_too_long, Session, greeted, cut_greeting}, declared.{request.Request.Request, went.{SessionEnd.SessionEnd, Went.Went}}}
 use Rattle.{key_commands.specs.{Events.Event, Exchanges.KeyExchange, Requests.key_request_of}, session_options.specs.declared.rules.Rules.Rules}
 use Rattle.agent_origin.specs.{DoorSessions.{AllowedExchange, helped, unset, trusts, any, DoorExchange, forbidden, is_allowed}, Doors.allowed, OuterTurns.{AreOuterTurns, no_turns, LeavesCache}}

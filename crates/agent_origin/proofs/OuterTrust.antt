@@ -1,6 +1,6 @@
 -- Lines with a command on the trust list that are allowed at the outer door, and what is done for them to the cache.
 use Rattle.std.proofs.Common.{◌≡◌, ℕ, Bool, true, false, List, Option, None, Some, Result, Ok, Err}
-use Rattle.{agent_ask.specs.Actions.Refuses, agent_commands.specs.declared.went.Went.Went, agent_ports.specs.declared.grip.Grip.Grip, session_client.specs.declared.{code.Code.Code, refusal.Refusal.{Refusal, TheVariants.Agent}}}
+use Rattle.{agent_ask.specs.Session.Actions.Refuses, agent_commands.specs.declared.went.Went.Went, agent_ports.specs.declared.grip.Grip.Grip, session_client.specs.declared.{code.Code.Code, refusal.Refusal.{Refusal, TheVariants.Agent}}}
 use Rattle.{session_client.specs.Fields.◌>>=◌, command_table.specs.{Commands.command_in, declared.commands.Command.Command}, key_commands.specs.Events.Event, session_options.specs.{OptionValues.OptionValues, declared.rules.Rules.Rules}}
 use Rattle.trust_list.specs.Trust.{trust}
 use Rattle.agent_origin.specs.{Doors.{passes_by, allowed}, TrustExchanges.{TrustExchange, Carried, TrustedNow, unless_said}, OuterTurns.LeavesCache, TrustActions.{ReadsFile, has_read, faulted, no_memory}}

@@ -2,7 +2,7 @@
 use Rattle.std.proofs.Common.{◌≡◌, ℕ, List, [], ◌∷◌, ◌++◌, Option, Some, None, Ok, Err, refl, ap, sym, ◌∙◌, subst, arith, append_assoc}
 use Rattle.{agent_ports.specs.{Counts.Rose, declared.link.WriteFault.WriteFault, Writing.StopsWriting}, assuan_line.specs.{Next.Reader, declared.reader.Took.Took}, assuan_server.specs.{Clients.connection_views, Connections.Connection}}
 use Rattle.{assuan_server.{specs.{Requests.NextRequest, Written.{failed, WritesText}, Reading.unread}, proofs.{Clients.{said_so, received_so}, Reading.here_going}}, session_client.specs.declared.code.Code.TheVariants.LineTooLong}
-use Rattle.agent_ask.{specs.{Answering.{ReaderLeft, FaultsCounted}, SessionEvents.{Received, Sent, Cut}}, proofs.{ActionsDone.{still_open, no_fault}, Replying.text_written, Doing.{done_none, done_then, done_said, done_cut, done_received}}}
+use Rattle.agent_ask.{specs.Session.{Answering.{ReaderLeft, FaultsCounted}, SessionEvents.{Received, Sent, Cut}}, proofs.{ActionsDone.{still_open, no_fault}, Replying.text_written, Doing.{done_none, done_then, done_said, done_cut, done_received}}}
 use Rattle.agent_commands.specs.{Endings.{gone_of, went_after, gone_after}, Events.EventWith, Outside.World, States.{ServedState, EventsLead, AnswersRequest}, Talks.{Talk, goes_on, over, ended, spent, read_fault, too_long, cut_too_long}}
 use Rattle.agent_commands.{specs.declared.went.{SessionEnd.{SessionEnd, TheVariants.{Bye, Killed, Ended, TooLong, Spent, ReadFault}}, Went.{Went, TheVariants.{On, End}}}, proofs.Replying.gone_as_it_went}
 use Rattle.agent_origin.specs.{Sessions.{LineRelation, Leaves}, Serving.{ServesRequests, SaysText, says}}

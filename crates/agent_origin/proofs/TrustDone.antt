@@ -1,14 +1,14 @@
 -- Actions of a request on the trust list that were done, each beside the ends of its session that it leaves alone.
 use Rattle.std.proofs.Common.{◌≡◌, ℕ, Bool, List, [], ◌∷◌, Option, Some, None, Result, Ok, Err, arith}
-use Rattle.agent_ask.specs.{Clients.{Hears, LeftByAction}, ConsentActions.{AgreesTo, AsksQuestion}, Doing.{PromptEnds, DoesPrompt, HasEvents}, Events.Call, PortCalls.{PortCall, DoesPort, world_with}, Actions.◌>>=◌}
-use Rattle.agent_ask.{specs.{ActionStates.{gone_in, DoesAction, NoTurn}, SessionEvents.Port, ActionReplies.stops_at}, proofs.{ConsentActions.agrees, Doing.done_port, ActionsAtClient.action_prompted}}
+use Rattle.agent_ask.specs.{Clients.{Hears, LeftByAction}, ConsentActions.{AgreesTo, AsksQuestion}, Doing.{PromptEnds, DoesPrompt, HasEvents}, Events.Call, Session.{PortCalls.{PortCall, DoesPort, world_with}, Actions.◌>>=◌}}
+use Rattle.agent_ask.{specs.Session.{ActionStates.{gone_in, DoesAction, NoTurn}, SessionEvents.Port, ActionReplies.stops_at}, proofs.{ConsentActions.agrees, Doing.done_port, ActionsAtClient.action_prompted}}
 use Rattle.{agent_ask.proofs.ActionsDone.{action_then, action_stops, action_still, action_in}, agent_ports.specs.{KeyFiles.KeyFiles, Sides.Side, TrustFiles.TrustState, declared.grip.Grip.Grip}}
 use Rattle.{assuan_server.specs.{Clients.{session_lines, connection_views, Wishes}, Connections.{Connection, IsOpen}}, cache_policy.specs.{declared.mark.MarkStep.MarkStep, Turns.Turn}, key_commands.specs.Actions.Action}
 use Rattle.{session_client.specs.declared.refusal.Refusal.Refusal, session_options.specs.{OptionValues.OptionValues, declared.rules.Rules.Rules}, trust_list.specs.Trust.trust, agent_commands.specs.Steps.{CarriesOut, ok_by}}
 use Rattle.agent_commands.proofs.Carrying.{replies_ok}
 use Rattle.agent_origin.specs.{PortStates.{port_ends, PortState}, TrustExchanges.{unless_said, Carried, TrustReplies}, TrustActions.ReadsFile, TrustStates.{DoesTrustFile, called, no_memory, DoesAtFile, LeavesKeys}}
 use Rattle.agent_origin.specs.declared.trust.request.TrustRequest.{TrustRequest}
-use Rattle.agent_ask.specs.PortCalls as ported
+use Rattle.agent_ask.specs.Session.PortCalls as ported
 
 -- ---- the trust file
 

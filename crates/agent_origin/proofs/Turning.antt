@@ -1,7 +1,7 @@
 -- The turns among a session's events.
 use Rattle.std.proofs.Common.{List}
-use Rattle.{agent_ports.specs.Leads.{Leads, none, one}, cache_policy.specs.Extending.TakesTurn, agent_commands.specs.{Events.EventWith, Outside.World}, agent_ask.specs.SessionEvents.turns_in}
-use Rattle.{agent_ask.specs.Worlds.{Outside, Does, received, sent, cut, asked, not_asked, turned, ported}, assuan_server.specs.Reading.Supply}
+use Rattle.{agent_ports.specs.Leads.{Leads, none, one}, cache_policy.specs.Extending.TakesTurn, agent_commands.specs.{Events.EventWith, Outside.World}, agent_ask.specs.Session.SessionEvents.turns_in}
+use Rattle.{agent_ask.specs.Session.Worlds.{Outside, Does, received, sent, cut, asked, not_asked, turned, ported}, assuan_server.specs.Reading.Supply}
 
 pub turns_lead : {w : World} {supply : Supply} {before after : Outside w} {events : List (EventWith w.Port)} → Leads (Does w supply) before events after
     → Leads (TakesTurn w.turned) before.desk (turns_in events) after.desk

@@ -1,8 +1,8 @@
 -- What is done for requests on the trust list, on worked examples.
 use Rattle.std.{proofs.Common.{◌≡◌, ℕ, Bool, false, List, [], ◌∷◌, ◌++◌, replicate, Some, None, refl, lit≤}, specs.{Fmt.digits, Prelude.codes}}
-use Rattle.{hex.specs.Hex.encode_with, agent_ask.specs.{Consents.{AsksConsent, agreed_of, asked}, Events.{Called, Start, Confirm, Shut}, PortCalls.Prompt, Plans.{IsSpec, text}, Prompts.quiet, SessionEvents.{Sent, Port, cache_turn}}}
-use Rattle.agent_ask.specs.{TrustCalls.{Read, Replaced}, SessionPrompts.{none, called as shown}, declared.{prompter.{Consent.{Consent, TheVariants.{Yes, No}}, Opened.TheVariants.Pid}, spec.PromptSpec.PromptSpec}}
-use Rattle.agent_ask.specs.{ConsentActions.{consents, refused as dissents}, Actions.{goes_on, stops, returns, refuses}, ActionExchanges.{answered, refused}, TurnActions.{opened, unheld, closed}}
+use Rattle.{hex.specs.Hex.encode_with, agent_ask.specs.{Consents.{AsksConsent, agreed_of, asked}, Events.{Called, Start, Confirm, Shut}, Session.{PortCalls.Prompt, SessionEvents.{Sent, Port, cache_turn}}, Plans.{IsSpec, text}, Prompts.quiet}}
+use Rattle.agent_ask.specs.{Session.TrustCalls.{Read, Replaced}, SessionPrompts.{none, called as shown}, declared.prompt.{prompter.{Consent.{Consent, TheVariants.{Yes, No}}, Opened.TheVariants.Pid}, spec.PromptSpec.PromptSpec}}
+use Rattle.agent_ask.specs.{ConsentActions.{consents, refused as dissents}, Session.{Actions.{goes_on, stops, returns, refuses}, ActionExchanges.{answered, refused}, TurnActions.{opened, unheld, closed}}}
 use Rattle.{assuan_server.specs.Written.{ok, failed, failed_at_pinentry}, agent_commands.specs.{declared.went.Went.TheVariants.On, Exchanges.reply}, agent_ports.specs.declared.{grip.Grip.Grip, trust.TrustDone.TheVariants.Done as IsDone}}
 use Rattle.{agent_ports.specs.declared.trust.TrustRead.{TrustRead, TheVariants.{Absent, Failed}}, cache_policy.specs.{declared.mark.MarkStep.TheVariants.{Seat, Close}, Turns.{Open, Done}}, key_commands.specs.Events.Event}
 use Rattle.{session_options.specs.{OptionValues.OptionValues, declared.rules.Rules.Rules}, trust_list.specs.Trust.with_entry, session_client.specs.declared.refusal.Refusal.TheVariants.{Agent, Pinentry}}

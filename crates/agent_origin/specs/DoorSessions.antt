@@ -2,7 +2,7 @@
 -- list are served beside those of every session. A known command that isn't allowed there is answered by an error of its own, and nothing else is
 -- done. The terminal of another machine has no effect at the outer door. This is the project's own.
 use Rattle.std.specs.Prelude.{◌≡◌, ℕ, true, false, List, [], ◌∷◌, Option, Some, None, if◌then◌else◌}
-use Rattle.{agent_ask.specs.{Events.Call, SessionEvents.Sent}, agent_commands.specs.{Answers.help_with, declared.went.{SessionEnd.SessionEnd, Went.{Went, TheVariants.On}}, Requests.request_of}, assuan_server.specs.Written.{failed, ok}}
+use Rattle.{agent_ask.specs.{Events.Call, Session.SessionEvents.Sent}, agent_commands.specs.{Answers.help_with, declared.went.{SessionEnd.SessionEnd, Went.{Went, TheVariants.On}}, Requests.request_of}, assuan_server.specs.Written.{failed, ok}}
 use Rattle.{session_client.specs.declared.code.Code.TheVariants.Forbidden, command_table.specs.{Commands.command_in, declared.commands.Command.Command}, cache_policy.specs.{declared.mark.MarkStep.MarkStep, Turns.Turn}}
 use Rattle.{key_commands.specs.Events.Event, session_options.specs.declared.rules.Rules.Rules}
 use Rattle.agent_origin.specs.{Doors.{sets_terminal, allowed}, TrustExchanges.TrustExchange, PortStates.PortWorld, TrustRequests.trust_request_of, SessionExchanges.{SessionExchange, kept_at_start}}

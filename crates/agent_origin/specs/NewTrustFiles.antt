@@ -1,6 +1,6 @@
 -- A new trust file: what was done for its request before it took the old one's place. This is this project's own.
 use Rattle.std.specs.Prelude.{◌≡◌, ◌≤◌, ℕ, List, [], ◌∷◌, ◌++◌, length, Some, None, Ok}
-use Rattle.{arrayvec.specs.ArrayVec.ArrayVec, agent_ask.specs.{ConsentActions.AgreesTo, SessionEvents.{Received, cache_turn}, TrustCalls.{Read, Replaced}}, agent_ports.specs.declared.{grip.Grip.Grip, trust.TrustDone.TheVariants.Done}}
+use Rattle.{arrayvec.specs.ArrayVec.ArrayVec, agent_ask.specs.{ConsentActions.AgreesTo, Session.{SessionEvents.{Received, cache_turn}, TrustCalls.{Read, Replaced}}}, agent_ports.specs.declared.{grip.Grip.Grip, trust.TrustDone.TheVariants.Done}}
 use Rattle.{agent_ports.specs.declared.trust.TrustRead.TrustRead, assuan_line.specs.declared.reader.Took.TheVariants.Line, assuan_server.specs.Clients.session_lines, cache_policy.specs.Turns.{Turn, Open}}
 use Rattle.{cache_policy.specs.declared.mark.MarkStep.TheVariants.{Seat, Close}, key_commands.specs.Events.Event, session_options.specs.{OptionValues.OptionValues, declared.rules.Rules.Rules}, trust_list.specs.Trust.{trust, with_entry}}
 use Rattle.trust_list.specs.declared.TheConstants.{MAX_TRUST_FILE_LEN}

@@ -1,7 +1,7 @@
 -- What prompts name in a session that came in by the outer door. The terminal and the language of its client are another machine's, so its prompts name
 -- none. This is this project's own.
 use Rattle.std.specs.{Prelude.{◌≡◌, List, [], ⊤}, List.AllByRecursion}
-use Rattle.{agent_ask.specs.{Events.{Start, Called, PromptEvent}, PortCalls.Prompt, SessionEvents.Port}, key_commands.specs.Events.Event, session_options.specs.OptionValues.{EnvWords, words_of}}
+use Rattle.{agent_ask.specs.{Events.{Start, Called, PromptEvent}, Session.{PortCalls.Prompt, SessionEvents.Port}}, key_commands.specs.Events.Event, session_options.specs.OptionValues.{EnvWords, words_of}}
 
 -- no terminal and no language is named
 abbrev pub no_words : EnvWords

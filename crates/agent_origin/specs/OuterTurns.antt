@@ -2,7 +2,7 @@
 -- looks whether a passphrase is cached. So it stores, clears and forgets nothing, and is given no passphrase of the cache. This is this project's
 -- own.
 use Rattle.std.specs.{Prelude.{◌≢◌, ℕ, List, [], ◌∷◌, Option, None}, List.AllByRecursion}
-use Rattle.{agent_ask.specs.{SessionEvents.{AnyEvent, turns_in}, Interrupts.Interrupts}, session_client.specs.declared.code.Code.Code, cache_policy.specs.{Extending.Taken, Turns.{Turn, Given, Open}, declared.grant.Grant.Grant}}
+use Rattle.{agent_ask.specs.{Session.SessionEvents.{AnyEvent, turns_in}, Interrupts.Interrupts}, session_client.specs.declared.code.Code.Code, cache_policy.specs.{Extending.Taken, Turns.{Turn, Given, Open}, declared.grant.Grant.Grant}}
 use Rattle.cache_policy.specs.declared.{mark.MarkStep.TheVariants.{Seat, Close, Peek}, mode.Mode.Mode}
 
 -- its turns, one after another

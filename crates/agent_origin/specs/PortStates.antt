@@ -1,5 +1,5 @@
 -- What a session stands on beside its link, and how it stands there at some state of its code. This is the project's own.
-use Rattle.{agent_ask.specs.{Events.Call, PortCalls.{PortEnds, port_world}}, agent_commands.specs.{Outside.World, States.ServedState}, agent_ports.specs.{KeyFiles.KeyFiles, Sides.Side, TrustFiles.TrustState}}
+use Rattle.{agent_ask.specs.{Events.Call, Session.PortCalls.{PortEnds, port_world}}, agent_commands.specs.{Outside.World, States.ServedState}, agent_ports.specs.{KeyFiles.KeyFiles, Sides.Side, TrustFiles.TrustState}}
 use Rattle.{assuan_server.specs.Connections.Connection, cache_policy.specs.{declared.mark.MarkStep.MarkStep, Turns.Turn}}
 use Rattle.agent_origin.specs.Sessions.{Surroundings}
 

@@ -1,6 +1,6 @@
 -- Private: how far a session has come at some state of its code.
 use Rattle.std.specs.Prelude.{ℕ, Bool, true, false, List, Option, Some, Result}
-use Rattle.{agent_ask.specs.Answering.{unless_cut, FaultsCounted}, agent_commands.specs.{Endings.gone_of, Events.EventWith, Outside.World, States.{ServedState, EventsLead}, Talks.Talk, declared.went.SessionEnd.SessionEnd}}
+use Rattle.{agent_ask.specs.Session.Answering.{unless_cut, FaultsCounted}, agent_commands.specs.{Endings.gone_of, Events.EventWith, Outside.World, States.{ServedState, EventsLead}, Talks.Talk, declared.went.SessionEnd.SessionEnd}}
 use Rattle.{agent_commands.specs.declared.went.{SessionEnd.TheVariants.WriteFault, Went.{Went, TheVariants.{On, End}}}, agent_ports.specs.declared.link.WriteFault.WriteFault as Fault, assuan_server.specs.Clients.connection_views}
 use Rattle.{assuan_server.specs.{Connections.Connection, Reading.unread, Written.WritesText}, command_table.specs.declared.commands.Command.Command}
 use Rattle.agent_origin.specs.Sessions.{Surroundings, Leaves, LineRelation}

@@ -1,7 +1,7 @@
 -- What a session does for each of its requests, by what it keeps between them. That the wrapping keys stay until its end, and how long a description lives,
 -- is this project's own.
 use Rattle.std.specs.Prelude.{ℕ, List, None, if◌then◌else◌}
-use Rattle.{arrayvec.specs.ArrayVec.ArrayVec, agent_ask.specs.PortCalls.PortCall, agent_commands.specs.{Endings.end_of, Events.EventWith, Exchanges.CacheExchange, Requests.request_of, declared.request.Request.{Request, TheVariants.Key}}}
+use Rattle.{arrayvec.specs.ArrayVec.ArrayVec, agent_ask.specs.Session.PortCalls.PortCall, agent_commands.specs.{Endings.end_of, Events.EventWith, Exchanges.CacheExchange, Requests.request_of, declared.request.Request.{Request, TheVariants.Key}}}
 use Rattle.{agent_commands.specs.declared.went.Went.{Went, TheVariants.{On, End}}, key_commands.specs.{Exchanges.KeyExchange, Requests.key_request_of, declared.{went.KeyWent.KeyWent, keywrap_key.WrapKeys.WrapKeys}}}
 use Rattle.{command_table.specs.Commands.{command_in, ends_description}, session_options.specs.{OptionValues.{OptionValues, at_start, without_description}, declared.rules.Rules.Rules}}
 use Rattle.agent_origin.specs.declared.session_state.SessionState.{SessionState}

@@ -1,8 +1,8 @@
 -- A session from bytes to bytes: what it does, and how each of its ends to the outside fixes that. How it ends is this project's own.
 use Rattle.std.specs.{Prelude.{◌≡◌, ◌≤◌, ◌+◌, ℕ, List, [], ◌∷◌, ◌++◌, length, Option}, Option.option_map_or}
 use Rattle.{agent_ports.specs.{Counts.Rose, Leads.Leads, Sides.{Side, WhereKnown}}, agent_commands.specs.{Events.EventWith, Outside.World, Talks.Session, declared.went.{Went.Went, SessionEnd.SessionEnd}}}
-use Rattle.{agent_commands.specs.declared.went.SessionEnd.TheVariants.{Bye, Killed, Ended, TooLong, Spent, ReadFault, WriteFault}, agent_ask.specs.{LinkFaults.{fails_at_input, fails_at_output, CountsFailed}, SessionEvents.Cut}}
-use Rattle.{agent_ask.specs.Worlds.{Outside, Does}, assuan_server.specs.{Clients.session_lines, Reading.{budget, Supply}}}
+use Rattle.{agent_commands.specs.declared.went.SessionEnd.TheVariants.{Bye, Killed, Ended, TooLong, Spent, ReadFault, WriteFault}, agent_ask.specs.{LinkFaults.{fails_at_input, fails_at_output, CountsFailed}, Session.SessionEvents.Cut}}
+use Rattle.{agent_ask.specs.Session.Worlds.{Outside, Does}, assuan_server.specs.{Clients.session_lines, Reading.{budget, Supply}}}
 
 -- what a session has to do with: both sides of its link, its desk, and the ports
 pub record Surroundings (w : World) : Type 0 where

@@ -1,7 +1,7 @@
 -- Requests on the trust list and what is done for them, as the GnuPG manual has them ("Agent's Assuan protocol", ISTRUSTED and MARKTRUSTED). The
 -- codes, the texts and the order of what is done are this project's own. A row of each stands in proofs/WorkedExchanges.
 use Rattle.std.specs.Prelude.{◌++◌, ℕ, Bool, true, false, List, codes, Option, Some, None}
-use Rattle.{agent_ask.specs.{ConsentActions.AgreesTo, Events.Call, ActionExchanges.AnyExchange, Actions.{◌>>=◌, Returns, Refuses}, TurnActions.in_mode}, assuan_server.specs.{Written.{ok, refusal_line}, Clients.session_lines, Connections.Connection}}
+use Rattle.{agent_ask.specs.{ConsentActions.AgreesTo, Events.Call, Session.{ActionExchanges.AnyExchange, Actions.{◌>>=◌, Returns, Refuses}, TurnActions.in_mode}}, assuan_server.specs.{Written.{ok, refusal_line}, Clients.session_lines, Connections.Connection}}
 use Rattle.{agent_commands.specs.{Endings.went_after, Exchanges.{CacheReply, reply}, States.AnswersRequest, declared.went.Went.Went}, agent_ports.specs.{KeyFiles.KeyFiles, Sides.Side, TrustFiles.TrustState, declared.grip.Grip.Grip}}
 use Rattle.{cache_policy.specs.{Turns.Turn, declared.mark.MarkStep.MarkStep}, hex.specs.Hex.encode_upper, key_commands.specs.{Events.Event, Actions.Action}, session_client.specs.declared.refusal.Refusal.TheVariants.Agent}
 use Rattle.{session_options.specs.{OptionValues.OptionValues, declared.{options.PinMode.PinMode, rules.Rules.Rules}}, trust_list.specs.Trust.trust}

@@ -1,6 +1,6 @@
 -- Private: actions of a request on the trust list that are done in the code.
 use Rattle.std.specs.Prelude.{ℕ, Option, Result}
-use Rattle.{agent_ask.specs.{Events.Call, PortCalls.{PortCall, DoesPort, Trust, NoMemory}, ActionStates.{action_state, DoesAction, NoTurn}, TrustCalls.{TrustCall, DoesTrust}}, agent_ports.specs.{KeyFiles.KeyFiles, Sides.Side}}
+use Rattle.{agent_ask.specs.{Events.Call, Session.{PortCalls.{PortCall, DoesPort, Trust, NoMemory}, ActionStates.{action_state, DoesAction, NoTurn}, TrustCalls.{TrustCall, DoesTrust}}}, agent_ports.specs.{KeyFiles.KeyFiles, Sides.Side}}
 use Rattle.{agent_ports.specs.TrustFiles.TrustState, assuan_server.specs.{Clients.connection_views, Connections.{Connection, IsOpen}}, cache_policy.specs.{declared.mark.MarkStep.MarkStep, Turns.Turn}, key_commands.specs.Actions.Action}
 use Rattle.session_client.specs.declared.refusal.Refusal.{Refusal}
 use Rattle.agent_origin.specs.PortStates.{port_state}

@@ -4,7 +4,7 @@
 //! (`specs/DoorSessions`).
 
 ghost use Rattle.std.specs.Prelude.{◌≡◌, ℕ, List, [], ◌∷◌, ◌++◌, true, false};
-ghost use Rattle.agent_ask.specs.SessionEvents.{Sent, turns_in};
+ghost use Rattle.agent_ask.specs.Session.SessionEvents.{Sent, turns_in};
 ghost use Rattle.agent_commands.specs.{Exchanges.LineExchange, Requests.request_of};
 ghost use Rattle.agent_commands.specs.declared.request.Request.TheVariants.{Key};
 ghost use Rattle.agent_commands.specs.declared.went.SessionEnd.{SessionEnd as Ends};

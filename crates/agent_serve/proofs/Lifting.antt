@@ -1,6 +1,6 @@
 -- A session at the desk and with the pinentry is one at what they show.
 use Rattle.std.{proofs.Common.{◌≡◌, ℕ, List, [], ◌++◌, Option, None, Some, ◌+◌, false, refl, ap, ◌∙◌, subst}, specs.Prelude.is_some}
-use Rattle.agent_ask.specs.{Doing.{called, out_of_memory}, Events.Call, PortCalls.{prompt, keys, dice, trust, no_memory}, SessionEvents.turns_in, Worlds.{Outside, Does, received, sent, cut, asked, not_asked, turned, ported}}
+use Rattle.agent_ask.specs.{Doing.{called, out_of_memory}, Events.Call, Session.{PortCalls.{prompt, keys, dice, trust, no_memory}, SessionEvents.turns_in, Worlds.{Outside, Does, received, sent, cut, asked, not_asked, turned, ported}}}
 use Rattle.{agent_ask.specs.Prompters.IsShut, agent_origin.specs.{PortStates.{PortWorld, surroundings}, declared.door.Door.Door, DoorSessions.ServesDoor, Sessions.{ends_with, supply_of}}, agent_commands.specs.Outside.World}
 use Rattle.{agent_commands.specs.declared.went.SessionEnd.SessionEnd, assuan_server.specs.Clients.session_lines, agent_ports.specs.{HostParts.{Views, IsFolder, AreNew}, KeyFiles.KeyFiles, Launches.Launches, Leads.{Leads, none, one}}}
 use Rattle.{agent_ports.specs.{Readings.Readings, Sides.Side, declared.{host.Parts.Parts, session.SessionId.SessionId}, TrustFiles.TrustState}, cache_policy.specs.{Extending.Taken, declared.mark.Mark.Mark}, key_commands.specs.Events.Event}

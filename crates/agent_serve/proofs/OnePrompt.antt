@@ -1,7 +1,7 @@
 -- What is asked of a prompter by one prompt are the calls of one prompt.
 use Rattle.std.{specs.List.AllByRecursion, proofs.Common.{◌≡◌, ℕ, Bool, List, [], ◌∷◌, ◌++◌, refl, ap, sym, subst}}
 use Rattle.agent_ask.specs.{Consents.{AsksConsent, ConsentBefore}, Events.{Call, Start, GetPin, Confirm, Shut, PromptEvent, Called, Notified, OutOfMemory}, Prompts.{AsksPin, AsksBefore, Opens}, Tests.PinTest, SessionPrompts.AnyInSession}
-use Rattle.{agent_ask.specs.declared.{ask.Asked.Asked, consent.Agreed.Agreed, spec.{AskPlan.AskPlan, PromptSpec.PromptSpec}}, assuan_server.specs.Clients.session_lines, agent_origin.proofs.Between.{IsBetween, tries_between}}
+use Rattle.{agent_ask.specs.declared.prompt.{ask.Asked.Asked, consent.Agreed.Agreed, spec.{AskPlan.AskPlan, PromptSpec.PromptSpec}}, assuan_server.specs.Clients.session_lines, agent_origin.proofs.Between.{IsBetween, tries_between}}
 use Rattle.{key_commands.specs.Events.Event, pinentry_client.specs.Whole.{AreQuestions, IsOnePrompt}}
 use Rattle.agent_serve.specs.Prompts.{calls_in}
 use Rattle.agent_ask.specs.Consents as consents

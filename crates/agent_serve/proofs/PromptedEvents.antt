@@ -1,6 +1,6 @@
 -- Events among which the prompter's calls are those of prompts, one after another.
 use Rattle.std.{specs.List.AllByRecursion, proofs.Common.{◌≡◌, List, [], ◌∷◌, ◌++◌, refl, sym, ap, subst, ◌∙◌, append_assoc, append-nil}}
-use Rattle.agent_ask.specs.{Events.{Call, Called, Notified, OutOfMemory, PromptEvent}, PortCalls.{Keys, Dice, NoMemory, Prompt, Trust}, SessionEvents.{Received, Sent, Cut, Inquiry, CacheTurn, Port}, SessionPrompts.AnyInSession}
+use Rattle.agent_ask.specs.{Events.{Call, Called, Notified, OutOfMemory, PromptEvent}, Session.{PortCalls.{Keys, Dice, NoMemory, Prompt, Trust}, SessionEvents.{Received, Sent, Cut, Inquiry, CacheTurn, Port}}, SessionPrompts.AnyInSession}
 use Rattle.{assuan_server.specs.Clients.session_lines, key_commands.{specs.Events.{Event, IsUncalled}, proofs.{EachEvent.still_uncalled, EachRequest.Carries}}, session_options.specs.OptionValues.EnvWords}
 use Rattle.pinentry_client.specs.{Children.{ArePrompts, none, next}, Whole.IsOnePrompt}
 use Rattle.agent_serve.{specs.Prompts.{calls_in, Prompted}, proofs.OnePrompt.{calls_of, pin_is_one, consent_is_one, shown_calls}}

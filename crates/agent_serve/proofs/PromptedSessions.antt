@@ -1,12 +1,12 @@
 -- Sessions with a pinentry: their prompts, one after another, and the children of these.
 use Rattle.std.{specs.List.count_by, proofs.Common.{◌≡◌, ◌+◌, ◌-◌, ◌^◌, ℕ, List, [], ◌∷◌, ◌++◌, min, sym, ap, subst, ◌∙◌, arith}}
-use Rattle.agent_ask.{proofs.Counting.failures, specs.{Answering.{WholeOrCut, whole, cut}, Doing.{called, out_of_memory}, Events.Call, Prompters.{IsCall, is_failed}, SessionEvents.{Received, Sent, Cut, CutAtLast}, Worlds.{Outside, Does}}}
+use Rattle.agent_ask.{proofs.Counting.failures, specs.{Session.{Answering.{WholeOrCut, whole, cut}, SessionEvents.{Received, Sent, Cut, CutAtLast}, Worlds.{Outside, Does}}, Doing.{called, out_of_memory}, Events.Call, Prompters.{IsCall, is_failed}}}
 use Rattle.{agent_commands.specs.{Endings.went_after, Talks.{Session, Talk}, declared.went.{SessionEnd.SessionEnd, Went.Went}}, agent_origin.specs.PortStates.PortWorld, agent_ports.specs.{Counts.RoseBy, Launches.Launches}}
 use Rattle.{agent_ports.specs.Leads.{Leads, none, one}, assuan_server.specs.Reading.Supply, cache_policy.specs.{Turns.Turn, declared.mark.MarkStep.MarkStep}, key_commands.specs.Events.Event, pinentry_client.proofs.Children.their_children}
 use Rattle.pinentry_client.specs.{Children.ArePrompts, Dialogues.PinentryDoes, States.{AtPinentry, at_prompter, idle}}
 use Rattle.agent_serve.{specs.Prompts.{calls_in, Prompted, HavePrompts}, proofs.PromptedEvents.{calls_append, prompted_append, uncalled}}
-use Rattle.agent_ask.specs.PortCalls as ported
-use Rattle.agent_ask.specs.Worlds as worlds
+use Rattle.agent_ask.specs.Session.PortCalls as ported
+use Rattle.agent_ask.specs.Session.Worlds as worlds
 use Rattle.agent_commands.specs.Talks as talks
 
 -- ---- the prompter's calls among the events

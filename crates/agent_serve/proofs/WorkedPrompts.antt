@@ -1,7 +1,7 @@
 -- Worked examples: a request for consent whose pinentry couldn't be started. Its prompt has no child.
 use Rattle.std.{proofs.Common.{◌≡◌, ℕ, false, List, [], ◌∷◌, Some, None, Err, refl, sym, subst, arith}, specs.Prelude.⊤}
-use Rattle.agent_ask.specs.{ConsentActions.AgreesTo, Doing.called, Events.{Start, Shut, Called}, PortCalls.Prompt, Actions.{goes_on, stops}, Plans.IsSpec, SessionEvents.{Sent, Port, cache_turn}, Worlds.{Outside, Does}}
-use Rattle.{agent_ask.specs.declared.spec.PromptSpec.PromptSpec, agent_commands.specs.{Exchanges.confirms_by, declared.{request.{CacheCommand.TheVariants.GetConfirmation, Request.TheVariants.Cache}, went.Went.TheVariants.On}}}
+use Rattle.agent_ask.specs.{ConsentActions.AgreesTo, Doing.called, Events.{Start, Shut, Called}, Session.{PortCalls.Prompt, Actions.{goes_on, stops}, SessionEvents.{Sent, Port, cache_turn}, Worlds.{Outside, Does}}, Plans.IsSpec}
+use Rattle.{agent_ask.specs.declared.prompt.spec.PromptSpec.PromptSpec, agent_commands.specs.{Exchanges.confirms_by, declared.{request.{CacheCommand.TheVariants.GetConfirmation, Request.TheVariants.Cache}, went.Went.TheVariants.On}}}
 use Rattle.{agent_origin.specs.{PortStates.PortWorld, SessionExchanges.{RequestExchange, cache}, declared.session_state.SessionState.SessionState}, agent_ports.specs.{KeyFiles.KeyFiles, Launches.Launches, Leads.{Leads, none, one}, Sides.Side}}
 use Rattle.{agent_ports.specs.TrustFiles.TrustState, assuan_server.specs.{Clients.session_lines, Reading.Supply, Written.failed}, session_client.specs.declared.refusal.Refusal.TheVariants.Agent, cache_policy.specs.Turns.{Turn, Open, Done}}
 use Rattle.{cache_policy.specs.declared.mark.MarkStep.{MarkStep, TheVariants.{Seat, Close}}, key_commands.specs.Events.Event, pinentry_client.{proofs.Calling.is_call, specs.{Dialogues.{PinentryDoes, unlaunched, shut_alone}, States.idle}}}
@@ -9,13 +9,13 @@ use Rattle.session_options.specs.declared.rules.Rules.{Rules}
 use Rattle.agent_serve.{specs.Prompts.HavePrompts, proofs.{PromptedLines.request_prompted, PromptedSessions.have_prompts}}
 use Rattle.agent_ask.specs.ConsentActions as consent
 use Rattle.agent_ask.specs.Consents as consents
-use Rattle.agent_ask.specs.PortCalls as ported
-use Rattle.agent_ask.specs.ActionExchanges as whole
+use Rattle.agent_ask.specs.Session.PortCalls as ported
+use Rattle.agent_ask.specs.Session.ActionExchanges as whole
 use Rattle.agent_ask.specs.Prompts as prompts
-use Rattle.agent_ask.specs.TurnActions as taken
+use Rattle.agent_ask.specs.Session.TurnActions as taken
 use Rattle.agent_ask.specs.SessionPrompts as tickets
-use Rattle.agent_ask.specs.Worlds as worlds
-use Rattle.agent_ask.specs.declared.prompter.Opened.TheVariants as opened
+use Rattle.agent_ask.specs.Session.Worlds as worlds
+use Rattle.agent_ask.specs.declared.prompt.prompter.Opened.TheVariants as opened
 use Rattle.session_client.specs.declared.code.Code.TheVariants as code
 use Rattle.session_options.specs.declared.options.PinMode.TheVariants as mode
 

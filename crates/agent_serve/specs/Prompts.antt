@@ -1,6 +1,6 @@
 -- The prompts of a session, one after another, and their children. This is the project's own.
 use Rattle.std.specs.{List.count_by, Prelude.{ℕ, List, [], ◌∷◌}}
-use Rattle.{agent_ask.specs.{Events.{Call, Called}, PortCalls.Prompt, Prompters.is_failed, SessionEvents.Port}, agent_ports.specs.{Counts.RoseBy, Launches.Launches}, key_commands.specs.Events.Event}
+use Rattle.{agent_ask.specs.{Events.{Call, Called}, Session.{PortCalls.Prompt, SessionEvents.Port}, Prompters.is_failed}, agent_ports.specs.{Counts.RoseBy, Launches.Launches}, key_commands.specs.Events.Event}
 use Rattle.pinentry_client.specs.Children.{ArePrompts, HaveTheirChildren}
 
 -- the calls of the prompter among the events

@@ -1,6 +1,6 @@
 -- One session at a pass of the counted lock: what it does to its link, and which marks it adds to the run. This is the project's own.
 use Rattle.std.specs.{Prelude.{◌≡◌, ◌+◌, ℕ, Bool, true, false, List, [], ◌∷◌, ◌++◌, filter, length, None}, List.AllByRecursion}
-use Rattle.{agent_ask.specs.SessionEvents.turns_in, agent_commands.specs.declared.went.SessionEnd.SessionEnd, agent_ports.specs.{HostParts.{Views, IsFolder, AreNew}, KeyFiles.KeyFiles, Launches.Launches, Readings.Readings, Sides.Side}}
+use Rattle.{agent_ask.specs.Session.SessionEvents.turns_in, agent_commands.specs.declared.went.SessionEnd.SessionEnd, agent_ports.specs.{HostParts.{Views, IsFolder, AreNew}, KeyFiles.KeyFiles, Launches.Launches, Readings.Readings, Sides.Side}}
 use Rattle.{agent_ports.specs.{declared.{host.Parts.Parts, session.SessionId.SessionId}, TrustFiles.TrustState}, agent_origin.specs.{declared.door.Door.Door, DoorSessions.ServesDoor, PortStates.{PortWorld, surroundings}}}
 use Rattle.{agent_origin.specs.Sessions.Surroundings, cache_policy.specs.{declared.mark.Mark.Mark, Extending.Taken, Seat.is_open, Tallies.{is_given, is_empty, how_many}, Turns.{Turn, Given, Empty, Open}}}
 use Rattle.{counted_lock.specs.{Passes.{AtPass, mine}, Turns.{AtCountedDesk, TurnsPass, CountedTurn}}, pinentry_client.specs.{Dialogues.PinentryDoes, States.idle}, session_options.specs.declared.rules.Rules.Rules}

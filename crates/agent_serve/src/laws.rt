@@ -4,7 +4,7 @@
 //! (`specs/Working`).
 
 ghost use Rattle.std.specs.Prelude.{◌+◌, ◌-◌, ◌<◌, ◌^◌, ℕ, List, None};
-ghost use Rattle.agent_ask.specs.SessionEvents.{turns_in};
+ghost use Rattle.agent_ask.specs.Session.SessionEvents.{turns_in};
 ghost use Rattle.agent_commands.specs.declared.went.SessionEnd.{SessionEnd as Ends};
 ghost use Rattle.agent_origin.specs.{DoorSessions.ServesDoor, PortStates.PortWorld};
 ghost use Rattle.agent_origin.specs.{OuterPrompts.{no_words, PromptsName}, OuterRuns.LeavesDesk};

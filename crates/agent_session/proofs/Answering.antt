@@ -1,6 +1,6 @@
 -- Sessions whose exchanges are all caused, and whose requests are all answered.
 use Rattle.std.{specs.List.AllByRecursion, proofs.Common.{◌≡◌, ◌⊎◌, ℕ, List, [], ◌∷◌, ◌++◌, refl, sym, subst, inl, inr}}
-use Rattle.{agent_ask.specs.{Events.Call, PortCalls.{NotDrawn, Keys, Dice, NoMemory}, Prompters.{AtPrompter, IsCall, is_failed}, SessionEvents.{Sent, Cut, Port, CutAtLast}}, session_client.specs.declared.code.Code.Code}
+use Rattle.{agent_ask.specs.{Events.Call, Session.{PortCalls.{NotDrawn, Keys, Dice, NoMemory}, SessionEvents.{Sent, Cut, Port, CutAtLast}}, Prompters.{AtPrompter, IsCall, is_failed}}, session_client.specs.declared.code.Code.Code}
 use Rattle.{assuan_server.specs.declared.errors.Origin.{Origin, TheVariants.Agent}, cache_policy.specs.{declared.mark.MarkStep.MarkStep, Turns.Turn}, session_options.specs.declared.rules.Rules.Rules}
 use Rattle.{agent_commands.specs.{Requests.request_of, Talks.Session, declared.went.{SessionEnd.{SessionEnd, TheVariants.{ReadFault, WriteFault}}, Went.{Went, TheVariants.On}}}, agent_origin.specs.PortStates.PortWorld}
 use Rattle.{agent_origin.specs.{SessionExchanges.{SessionExchange, kept_at_start}, Sessions.{Surroundings, ServesSession}, declared.session_state.SessionState.SessionState}, key_commands.{specs.Events.Event, proofs.EachEvent.each_append}}

@@ -1,17 +1,17 @@
 -- Requests that ask nobody.
 use Rattle.std.{specs.{List.AllByRecursion, Prelude.⊤}, proofs.Common.{◌≡◌, ℕ, Bool, true, false, List, [], ◌∷◌, ◌++◌, Option, Some, None, Result, Ok, Err, refl, ap}}
-use Rattle.agent_ask.specs.{Events.Call, PortCalls.PortCall, SessionEvents.{Sent, CacheTurn, cache_turn, said_last}, Worlds.{Outside, Does}, Interrupts.Interrupts, ActionExchanges.{AnyExchange, answered, refused}}
-use Rattle.{agent_ask.specs.{Actions.{goes_on, stops, returns, refuses, needed}, TurnActions.{Asks, Closes}}, agent_ports.specs.Leads.{Leads, none, one}, assuan_server.specs.{Reading.Supply, Written.{ok, failed, refusal_line}}}
+use Rattle.agent_ask.specs.{Events.Call, Session.{PortCalls.PortCall, SessionEvents.{Sent, CacheTurn, cache_turn, said_last}, Worlds.{Outside, Does}, ActionExchanges.{AnyExchange, answered, refused}}, Interrupts.Interrupts}
+use Rattle.{agent_ask.specs.Session.{Actions.{goes_on, stops, returns, refuses, needed}, TurnActions.{Asks, Closes}}, agent_ports.specs.Leads.{Leads, none, one}, assuan_server.specs.{Reading.Supply, Written.{ok, failed, refusal_line}}}
 use Rattle.{session_client.specs.declared.{code.Code.Code, refusal.Refusal.Refusal}, cache_policy.specs.{Desks.{AtDesk, IsTurn}, Turns.{Turn, Done, Late, FitsStep}, declared.{life.Life.Life, mark.MarkStep.MarkStep}}}
 use Rattle.{cache_policy.specs.declared.mark.MarkStep.TheVariants.{Clear, Flush}, session_options.specs.{OptionValues.OptionValues, declared.rules.Rules.Rules}, agent_commands.specs.{Events.EventWith, Answers.IsPassphrase}}
 use Rattle.agent_commands.specs.{Endings.went_after, Exchanges.{CacheExchange, CacheReply, ChangeReplies, GetReplies, PresetReplies, is_quiet, put}, Passphrases.{ByCache, ask, passphrase_by}, Requests.GetFields}
 use Rattle.agent_commands.specs.declared.{request.{CacheCommand.TheVariants.{GetPassphrase, PresetPassphrase, ClearPassphrase, ReloadAgent}, Request.{Request, TheVariants.Cache}, Texts.Texts}, went.Went.Went}
 use Rattle.agent_origin.specs.{PortStates.PortWorld, SessionExchanges.{RequestExchange, cache, keys}, declared.session_state.SessionState.SessionState}
 use Rattle.agent_session.specs.{Causes.WantsMemory, Completeness.{IsStopped, AnswersFromCache, AnswersAtOnce, AnswersDone}}
-use Rattle.agent_ask.specs.Worlds as worlds
+use Rattle.agent_ask.specs.Session.Worlds as worlds
 use Rattle.session_client.specs.declared.code.Code.TheVariants as code
 use Rattle.agent_ask.specs.Interrupts as turns
-use Rattle.agent_ask.specs.TurnActions as turning
+use Rattle.agent_ask.specs.Session.TurnActions as turning
 use Rattle.agent_commands.specs.Exchanges as exchanges
 use Rattle.agent_session.specs.Completeness as completeness
 

@@ -1,6 +1,6 @@
 -- Lines at a door: each exchange is caused, and is one of any session, where its command isn't the door's own.
 use Rattle.std.{specs.List.AllByRecursion, proofs.Common.{◌≡◌, ◌⊎◌, ℕ, true, false, List, [], ◌∷◌, Option, Some, None, refl, sym, ap, subst, inl, inr, ◌∙◌}}
-use Rattle.{agent_ask.specs.{Prompters.is_failed, SessionEvents.Sent}, agent_commands.specs.{Requests.request_of, declared.went.Went.{Went, TheVariants.On}}, assuan_server.specs.Written.{failed as failed_line, ok}}
+use Rattle.{agent_ask.specs.{Prompters.is_failed, Session.SessionEvents.Sent}, agent_commands.specs.{Requests.request_of, declared.went.Went.{Went, TheVariants.On}}, assuan_server.specs.Written.{failed as failed_line, ok}}
 use Rattle.{assuan_server.specs.declared.errors.Origin.{Origin, TheVariants.Agent}, session_client.specs.declared.code.Code.Code, key_commands.{specs.Events.Event, proofs.EachRequest.IsBesideTrust}}
 use Rattle.{session_options.specs.declared.rules.Rules.Rules, agent_origin.specs.{DoorSessions.{door_help, AllowedExchange, DoorExchange, door_command}, Doors.allowed, TrustExchanges.TrustExchange}}
 use Rattle.agent_origin.specs.{TrustRequests.{trust_request_of, trust_command}, SessionExchanges.SessionExchange, declared.{door.Door.Door, session_state.SessionState.SessionState, trust.request.TrustRequest.TheVariants.Bad}}

@@ -1,11 +1,11 @@
 -- Requests that ask the cache alone, or clear it, at a desk that finds no memory only for steps that may want some.
 use Rattle.std.{specs.{List.AllByRecursion, Prelude.⊤}, proofs.Common.{◌≡◌, ℕ, Bool, List, [], ◌∷◌, Option, Some, None, refl, subst}}
-use Rattle.{agent_ask.specs.{Events.Call, PortCalls.PortCall, SessionEvents.{CacheTurn, cache_turn}, Worlds.{Outside, Does}}, agent_ports.specs.Leads.{Leads, none, one}, assuan_server.specs.Reading.Supply}
+use Rattle.{agent_ask.specs.{Events.Call, Session.{PortCalls.PortCall, SessionEvents.{CacheTurn, cache_turn}, Worlds.{Outside, Does}}}, agent_ports.specs.Leads.{Leads, none, one}, assuan_server.specs.Reading.Supply}
 use Rattle.{cache_policy.specs.{Turns.{Turn, Late, Refused, FitsStep, MayWantMemory}, declared.mark.MarkStep.{MarkStep, TheVariants.{Clear, Flush}}}, agent_origin.specs.PortStates.PortWorld}
 use Rattle.{agent_origin.specs.{SessionExchanges.{RequestExchange, cache, keys}, declared.session_state.SessionState.SessionState}, session_options.specs.{OptionValues.OptionValues, declared.rules.Rules.Rules}}
 use Rattle.agent_commands.specs.{Events.EventWith, Exchanges.CacheExchange, Passphrases.ask, declared.{request.{CacheCommand.TheVariants.{GetPassphrase, ClearPassphrase, ReloadAgent}, Request.{Request, TheVariants.Cache}}, went.Went.Went}}
 use Rattle.agent_session.{specs.{Completeness.{IsStopped, AnswersFromCache}, Refusals.AnswersAlone}, proofs.AtOnce.{FitsTurn, IsCalm, ByTurn, answers, interrupted, LooksAlone, not_interrupted, changed, looked}}
-use Rattle.agent_ask.specs.Worlds as worlds
+use Rattle.agent_ask.specs.Session.Worlds as worlds
 
 -- a turn finds no memory only where its step may want some
 abbrev pub IsFair : EventWith PortCall → Type 0

@@ -1,6 +1,6 @@
 -- A session ends where a line of its client's was too long, and its client is told so exactly where it ends by that.
 use Rattle.std.{specs.List.AllByRecursion, proofs.Common.{◌≡◌, ◌∙◌, ◌++◌, ◌⊎◌, ℕ, List, [], ◌∷◌, Option, None, Some, codes, arith, refl, sym, ap, subst, inl, inr}}
-use Rattle.{agent_ask.specs.{Answering.{whole, cut}, SessionEvents.{Received, Sent, Cut, CutAtLast}}, agent_commands.specs.{Requests.request_of, Endings.end_of, Talks.{Talk, Session}, declared.request.Request.{Request, TheVariants.Key}}}
+use Rattle.{agent_ask.specs.Session.{Answering.{whole, cut}, SessionEvents.{Received, Sent, Cut, CutAtLast}}, agent_commands.specs.{Requests.request_of, Endings.end_of, Talks.{Talk, Session}, declared.request.Request.{Request, TheVariants.Key}}}
 use Rattle.agent_commands.specs.declared.went.{SessionEnd.{SessionEnd, TheVariants.{Bye, Killed, Ended, TooLong, Spent, ReadFault, WriteFault}}, Went.{Went, TheVariants.{On, End}}}
 use Rattle.agent_origin.specs.{DoorSessions.{AllowedExchange, DoorExchange}, TrustExchanges.TrustExchange, TrustRequests.trust_command, SessionExchanges.{RequestExchange, cache, keys, went_after_key}, declared.door.Door.Door}
 use Rattle.{agent_origin.specs.declared.session_state.SessionState.SessionState, command_table.specs.{Commands.command_in, declared.commands.TrustCommandName.TrustCommandName}, assuan_server.specs.{Errors.error_text, Written.greeting}}

@@ -1,6 +1,6 @@
 -- What a session hands to the cache is of the last line that was read before.
 use Rattle.std.{specs.{List.AllByRecursion, Prelude.⊤}, proofs.Common.{◌≡◌, ℕ, List, [], ◌∷◌, ◌++◌, refl, sym, ap, ◌∙◌, subst, append_assoc}}
-use Rattle.{agent_ask.specs.{Answering.{WholeOrCut, whole, cut}, PortCalls.PortCall, SessionEvents.{Received, Sent, Cut, CacheTurn, cache_turn, CutAtLast}}, assuan_server.specs.Written.{failed, ok, greeting}}
+use Rattle.{agent_ask.specs.Session.{Answering.{WholeOrCut, whole, cut}, PortCalls.PortCall, SessionEvents.{Received, Sent, Cut, CacheTurn, cache_turn, CutAtLast}}, assuan_server.specs.Written.{failed, ok, greeting}}
 use Rattle.{session_client.specs.declared.code.Code.TheVariants.{Forbidden, LineTooLong}, cache_policy.specs.{Turns.Turn, declared.mark.MarkStep.MarkStep}, agent_commands.specs.{Endings.went_after, Events.EventWith, Requests.request_of}}
 use Rattle.{agent_commands.specs.{Talks.{Talk, Session}, declared.went.{SessionEnd.SessionEnd, Went.{Went, TheVariants.On}}}, key_commands.proofs.{EachEvent.each_append, EachRequest.IsBesideTrust}}
 use Rattle.{session_options.specs.declared.rules.Rules.Rules, agent_origin.{proofs.EachLine.each_request, specs.{DoorSessions.{AllowedExchange, DoorExchange, door_help}, TrustRequests.trust_request_of, SessionExchanges.SessionExchange}}}

@@ -1,6 +1,6 @@
 -- Each exchange of a session stands between two states of its desk and of its ports, and the laws on single requests hold of it.
 use Rattle.std.proofs.Common.{ℕ, List, [], ◌∷◌, ◌++◌, sym, subst}
-use Rattle.{agent_ask.specs.{Answering.{WholeOrCut, whole, cut}, Events.Call, Prompters.{AtPrompter, IsCall}, SessionEvents.{Sent, Cut, CutAtLast}, Worlds.{Outside, Does}}, agent_commands.specs.{Endings.went_after, Events.EventWith}}
+use Rattle.{agent_ask.specs.{Session.{Answering.{WholeOrCut, whole, cut}, SessionEvents.{Sent, Cut, CutAtLast}, Worlds.{Outside, Does}}, Events.Call, Prompters.{AtPrompter, IsCall}}, agent_commands.specs.{Endings.went_after, Events.EventWith}}
 use Rattle.{agent_commands.specs.{Outside.World, Requests.request_of, Talks.{Talk, Session}, declared.went.{SessionEnd.SessionEnd, Went.Went}}, agent_origin.specs.{PortStates.PortWorld, SessionExchanges.SessionExchange}}
 use Rattle.{agent_origin.specs.{Sessions.LineRelation, declared.session_state.SessionState.SessionState}, agent_ports.{proofs.Leading.leads_then, specs.{Leads.{Leads, none, one}, Sides.with_bytes}}, assuan_server.specs.Reading.Supply}
 use Rattle.{assuan_server.specs.declared.errors.Origin.TheVariants.Agent, cache_policy.specs.{Desks.{AtDesk, IsTurn}, Turns.{Turn, Refused, MayWantMemory}, declared.mark.MarkStep.MarkStep}, key_commands.specs.Events.Event as SessionEvent}
@@ -9,7 +9,7 @@ use Rattle.agent_session.specs.{Completeness.{Exchanges as Relations, Causes, Is
 use Rattle.agent_session.{specs.RunExchanges.{Between, LinkBytes, with_link, Saying, ExchangeBetween, LawfulRequest, LawfulExchange, LawfulSession}, proofs.{Answering.Judging, AtOnce.{all_fit, at_once, each_calm}}}
 use Rattle.agent_session.proofs.{Counts.{Completing.{failures_rise, all_possible, never_absent}, Counting.counts_failures}, Fair.{first_fair, alone_first}, Causes.{KeyExplained.exchange_caused, Uncaused.ok_by}}
 use Rattle.agent_session.proofs.{Own.{OwnCache.{request_own, request_says_own}, OwnKeys.request_told, OwnActions.own_at}, Courses.{RefusedCourses.{caused_refuses, refused_course}, SessionCourses.request_course}}
-use Rattle.agent_ask.specs.Worlds as worlds
+use Rattle.agent_ask.specs.Session.Worlds as worlds
 use Rattle.agent_commands.specs.Talks as talks
 
 -- some events, and those behind them

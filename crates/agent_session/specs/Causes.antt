@@ -2,8 +2,8 @@
 -- own.
 use Rattle.std.specs.Prelude.{◌≡◌, ◌<◌, ◌⊎◌, ◌++◌, ℕ, Bool, true, false, List, [], ◌∷◌, length, map, take, drop, codes, Option, Some, None, Result, Ok, Err, ⊤}
 use Rattle.{arrayvec.specs.ArrayVec.ArrayVec, agent_ask.specs.Events.{Call, GetPin, Confirm, Start, Called, OutOfMemory, PromptEvent}}
-use Rattle.agent_ask.specs.{PortCalls.{PortCall, KeyCall, Read, Listed, Replaced, Removed, Drew, NotDrawn, Prompt, Keys, Dice, Trust, NoMemory}, Prompters.is_failed, Plans.plan_of, Prompts.AsksPin}
-use Rattle.agent_ask.specs.{SessionEvents.{Inquiry, CacheTurn, Port, cache_turn}, TrustCalls.TrustCall, SessionPrompts.AnyInSession, declared.{ask.Asked.Asked, spec.{AskPlan.AskPlan, PromptSpec.PromptSpec}}}
+use Rattle.agent_ask.specs.{Session.PortCalls.{PortCall, KeyCall, Read, Listed, Replaced, Removed, Drew, NotDrawn, Prompt, Keys, Dice, Trust, NoMemory}, Prompters.is_failed, Plans.plan_of, Prompts.AsksPin}
+use Rattle.agent_ask.specs.{Session.{SessionEvents.{Inquiry, CacheTurn, Port, cache_turn}, TrustCalls.TrustCall}, SessionPrompts.AnyInSession, declared.prompt.{ask.Asked.Asked, spec.{AskPlan.AskPlan, PromptSpec.PromptSpec}}}
 use Rattle.{agent_ports.specs.declared.{grip.Grip.Grip, keys.KeyRead.KeyRead}, assuan_server.specs.{Clients.session_lines, declared.errors.Origin.{Origin, TheVariants.{Agent, Pinentry}}}, session_client.specs.declared.code.Code.Code}
 use Rattle.{session_client.specs.{declared.client_error.ClientError.ClientError, Asking.said_by}, cache_policy.specs.{Turns.{Turn, Given, Empty, Stopping, Late, Refused, closes}, declared.{grant.Grant.Grant, mark.{MarkStep.MarkStep, Way.Way}}}}
 use Rattle.{cache_policy.specs.declared.secret.TheConstants.MAX_SECRET_LEN, secret_file.specs.{Answers.IsLockedFault, Opens.{LockedKey, IsLocked, OpensTo}, Protects.{ocb_protection, protected_file}}, key_lines.specs.Canon.is_canonical}
@@ -13,11 +13,11 @@ use Rattle.{agent_commands.specs.declared.request.{CacheCommand.TheVariants.{Set
 use Rattle.key_commands.specs.{Faults.fault_code, Files.{FileSays, IsWithList}, KeyActions.file_in, Passphrases.{OpensBy, ask_nonce, ask_key}, Requests.key_request_of, Wrapping.WrappedSays, declared.request.KeyRequest.KeyRequest}
 use Rattle.{key_commands.specs.declared.wrapping.TheConstants.MAX_LIST_LEN, agent_origin.specs.declared.session_state.SessionState.SessionState}
 use Rattle.agent_ask.specs.Plans as plans
-use Rattle.agent_ask.specs.TrustCalls as trust_call
-use Rattle.agent_ask.specs.declared.ask.Asked.TheVariants as asked
-use Rattle.agent_ask.specs.declared.prompter.Consent.TheVariants as consent
-use Rattle.agent_ask.specs.declared.prompter.Opened.TheVariants as opened
-use Rattle.agent_ask.specs.declared.prompter.Outcome.TheVariants as outcome
+use Rattle.agent_ask.specs.Session.TrustCalls as trust_call
+use Rattle.agent_ask.specs.declared.prompt.ask.Asked.TheVariants as asked
+use Rattle.agent_ask.specs.declared.prompt.prompter.Consent.TheVariants as consent
+use Rattle.agent_ask.specs.declared.prompt.prompter.Opened.TheVariants as opened
+use Rattle.agent_ask.specs.declared.prompt.prompter.Outcome.TheVariants as outcome
 use Rattle.agent_ports.specs.declared.keys.KeyDone.TheVariants as key_done
 use Rattle.agent_ports.specs.declared.keys.KeyNames.TheVariants as key_names
 use Rattle.agent_ports.specs.declared.keys.KeyRead.TheVariants as key_read

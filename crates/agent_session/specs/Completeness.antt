@@ -1,6 +1,6 @@
 -- Sessions whose requests are all answered. This is the project's own.
 use Rattle.std.specs.{List.AllByRecursion, Prelude.{◌≡◌, ◌⊎◌, ◌++◌, ℕ, Bool, true, List, [], ◌∷◌, codes, Option, Some, None, ⊤, false}}
-use Rattle.{agent_ask.specs.{Events.Call, PortCalls.PortEnds, Prompters.{AtPrompter, is_failed}, SessionEvents.{Received, Sent, CacheTurn, cache_turn}}, agent_ports.specs.Counts.Rose, assuan_server.specs.Errors.error_text}
+use Rattle.{agent_ask.specs.{Events.Call, Session.{PortCalls.PortEnds, SessionEvents.{Received, Sent, CacheTurn, cache_turn}}, Prompters.{AtPrompter, is_failed}}, agent_ports.specs.Counts.Rose, assuan_server.specs.Errors.error_text}
 use Rattle.{assuan_server.specs.{Written.{greeting, failed, ok}, declared.errors.Origin.{Origin, TheVariants.Agent}}, session_client.specs.declared.code.Code.Code, assuan_text.specs.LineEnds.{line_of, has_lf}}
 use Rattle.{cache_policy.specs.{Turns.{Turn, Given, Empty, Done, Stopping}, declared.{grant.Grant.Grant, mark.MarkStep.{MarkStep, TheVariants.{Clear, Flush}}}}, key_commands.specs.Events.Event}
 use Rattle.{session_options.specs.declared.rules.Rules.Rules, agent_commands.specs.{Answers.IsPassphrase, Events.EventWith as SessionEvent, Exchanges.{put, is_quiet}, Passphrases.ask, Requests.request_of}}

@@ -1,9 +1,9 @@
 -- How many events of a session failed, on each of its ports and at its link. This is the project's own.
 use Rattle.std.specs.{List.count_by, Prelude.{Bool, true, false, List}}
-use Rattle.agent_ask.specs.{Events.Called, PortCalls.{PortEnds, Read, Listed, Replaced, Removed, NotDrawn, Prompt, Keys, Dice, Trust}, LinkFaults.{fails_at_input, fails_at_output, CountsFailed}, Prompters.{AtPrompter, is_failed}}
-use Rattle.{agent_ask.specs.SessionEvents.Port, agent_ports.specs.Counts.RoseBy, assuan_server.specs.Clients.session_lines, agent_commands.specs.{Events.EventWith as EventIn, Outside.World}, key_commands.specs.Events.Event}
+use Rattle.agent_ask.specs.{Events.Called, Session.PortCalls.{PortEnds, Read, Listed, Replaced, Removed, NotDrawn, Prompt, Keys, Dice, Trust}, LinkFaults.{fails_at_input, fails_at_output, CountsFailed}, Prompters.{AtPrompter, is_failed}}
+use Rattle.{agent_ask.specs.Session.SessionEvents.Port, agent_ports.specs.Counts.RoseBy, assuan_server.specs.Clients.session_lines, agent_commands.specs.{Events.EventWith as EventIn, Outside.World}, key_commands.specs.Events.Event}
 use Rattle.agent_origin.specs.Sessions.{Surroundings}
-use Rattle.agent_ask.specs.TrustCalls as trust_call
+use Rattle.agent_ask.specs.Session.TrustCalls as trust_call
 use Rattle.agent_ports.specs.declared.keys.KeyDone.TheVariants as key_done
 use Rattle.agent_ports.specs.declared.keys.KeyNames.TheVariants as key_names
 use Rattle.agent_ports.specs.declared.keys.KeyRead.TheVariants as key_read

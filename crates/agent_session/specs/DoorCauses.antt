@@ -1,7 +1,7 @@
 -- Why a request is answered by an error line in a session that came in by a door: that it isn't allowed there, or what must have happened in its
 -- exchange, for each code of a request on the trust list. The codes and their causes are this project's own.
 use Rattle.std.specs.Prelude.{◌≡◌, ◌<◌, ◌⊎◌, ℕ, Bool, true, false, List, ◌∷◌, length, Option, Some, None}
-use Rattle.{agent_ask.specs.{Prompters.is_failed, TrustCalls.Read}, agent_commands.specs.Requests.request_of, agent_ports.specs.declared.{grip.Grip.Grip, trust.TrustRead.TrustRead}, arrayvec.specs.ArrayVec.ArrayVec}
+use Rattle.{agent_ask.specs.{Prompters.is_failed, Session.TrustCalls.Read}, agent_commands.specs.Requests.request_of, agent_ports.specs.declared.{grip.Grip.Grip, trust.TrustRead.TrustRead}, arrayvec.specs.ArrayVec.ArrayVec}
 use Rattle.{session_client.specs.declared.code.Code.Code, assuan_server.specs.declared.errors.Origin.{Origin, TheVariants.{Agent, Pinentry}}, cache_policy.specs.Turns.{Stopping, Late}, key_commands.specs.Events.Event}
 use Rattle.{session_options.specs.{OptionValues.OptionValues, declared.rules.Rules.Rules}, trust_list.specs.{Trust.{trust, with_entry}, declared.TheConstants.MAX_TRUST_FILE_LEN}, agent_origin.specs.{Doors.allowed, TrustExchanges.flag_of}}
 use Rattle.agent_origin.specs.{TrustActions.{file_in, trust_called}, TrustRequests.{trust_request_of, trust_command}, declared.{door.Door.Door, session_state.SessionState.SessionState, trust.request.TrustPurpose.TrustPurpose}}

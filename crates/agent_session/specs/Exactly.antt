@@ -1,6 +1,6 @@
 -- The codes that a request is answered by exactly where their cause stands. The codes and their causes are this project's own.
 use Rattle.std.specs.Prelude.{◌≡◌, ◌<◌, ◌⊎◌, ℕ, true, false, List, length, Option, Some, None, Ok}
-use Rattle.{agent_ask.specs.{Events.{Called, GetPin}, PortCalls.Prompt, declared.prompter.Outcome.TheVariants.Pin, SessionEvents.{Received, Port, cache_turn}}, agent_commands.specs.{Requests.request_of, declared.request.Request.Request}}
+use Rattle.{agent_ask.specs.{Events.{Called, GetPin}, Session.{PortCalls.Prompt, SessionEvents.{Received, Port, cache_turn}}, declared.prompt.prompter.Outcome.TheVariants.Pin}, agent_commands.specs.{Requests.request_of, declared.request.Request.Request}}
 use Rattle.{agent_commands.specs.declared.went.SessionEnd.{SessionEnd, TheVariants.{TooLong, WriteFault}}, agent_ports.specs.declared.grip.Grip.Grip, session_client.specs.declared.code.Code.Code}
 use Rattle.{assuan_server.specs.declared.errors.Origin.TheVariants.Agent, cache_policy.specs.{Turns.{Given, Done}, declared.{grant.Grant.Grant, mark.Way.Way}}, key_commands.specs.{Events.Event, Files.IsWithList}}
 use Rattle.{key_commands.specs.{Passphrases.{OpensBy, ask_nonce, ask_key, put_key}, declared.wrapping.TheConstants.MAX_LIST_LEN}, key_lines.specs.Canon.is_canonical, secret_file.specs.Opens.LockedKey}

@@ -1,6 +1,6 @@
 -- What an IMPORT_KEY hands to the cache, and where among the rest that is done for it. This is the project's own.
 use Rattle.std.specs.{List.AllByRecursion, Prelude.{◌≡◌, ◌≢◌, ℕ, List, ◌∷◌, ◌++◌, drop, length, Some, ⊤}}
-use Rattle.{agent_ask.specs.{PortCalls.{PortCall, Replaced}, SessionEvents.{CacheTurn, cache_turn}, Interrupts.Interrupts}, agent_ports.specs.declared.{grip.Grip.Grip, keys.KeyDone.KeyDone}, assuan_escape.specs.Escapes.hex_text}
+use Rattle.{agent_ask.specs.{Session.{PortCalls.{PortCall, Replaced}, SessionEvents.{CacheTurn, cache_turn}}, Interrupts.Interrupts}, agent_ports.specs.declared.{grip.Grip.Grip, keys.KeyDone.KeyDone}, assuan_escape.specs.Escapes.hex_text}
 use Rattle.{session_client.specs.declared.code.Code.Code, cache_policy.specs.{Turns.{Turn, Done}, declared.{life.Life.TheVariants.Default, mark.MarkStep.{MarkStep, TheVariants.{Close, Put}}, mode.Mode.TheVariants.Nonce}}}
 use Rattle.{agent_commands.specs.Events.EventWith, key_commands.specs.{Events.{drew, called}, Passphrases.put_key}}
 use Rattle.agent_session.specs.OwnPassphrases.{HandsIn}

@@ -3,7 +3,7 @@
 -- line of a request on the cache or on the session has no passphrase in it, or it has the one that the request itself asked for; no line of a request on
 -- keys has one. This is the project's own.
 use Rattle.std.specs.{List.AllByRecursion, Prelude.{◌≡◌, ℕ, true, false, List, ◌∷◌, ◌++◌, codes, Option, Some, None, Ok, ⊤, Bool, drop, []}}
-use Rattle.{agent_ask.specs.{PortCalls.PortCall, SessionEvents.{Received, Sent, cache_turn}, declared.spec.AskPlan.AskPlan}, agent_ports.specs.declared.grip.Grip.Grip, assuan_line.specs.declared.reader.Took.TheVariants.Line}
+use Rattle.{agent_ask.specs.{Session.{PortCalls.PortCall, SessionEvents.{Received, Sent, cache_turn}}, declared.prompt.spec.AskPlan.AskPlan}, agent_ports.specs.declared.grip.Grip.Grip, assuan_line.specs.declared.reader.Took.TheVariants.Line}
 use Rattle.{assuan_server.specs.{Written.{greeting, ok, IsDataAnswer}, Errors.error_text, declared.errors.Origin.Origin}, assuan_text.specs.LineEnds.line_of, cache_policy.specs.{Turns.{Turn, Given, Open}, declared.grant.Grant.Grant}}
 use Rattle.cache_policy.specs.declared.{life.Life.Life, mark.{MarkStep.{MarkStep, TheVariants.{Seat, Put, Close}}, Way.TheVariants.Prompt}, mode.Mode.{Mode, TheVariants.{Any, Normal, Nonce, User}}, secret.TheConstants.MAX_SECRET_LEN}
 use Rattle.{secret_file.specs.Opens.LockedKey, session_options.specs.{OptionValues.OptionValues, declared.rules.Rules.Rules}, sexp_keys.specs.{Key.Key, Lists.grip_of}, agent_commands.specs.{Events.EventWith, Passphrases.{ask_or_open, ask}}}
@@ -12,7 +12,7 @@ use Rattle.{agent_commands.specs.Answers.{closing, help, IsInfo, IsPassphrase}, 
 use Rattle.{key_commands.specs.{Wrapping.wrapped_key, declared.request.Direction.Direction}, agent_origin.specs.declared.session_state.SessionState.SessionState, session_client.specs.declared.code.Code.Code}
 use Rattle.assuan_escape.specs.Escapes.{hex_text}
 use Rattle.agent_session.specs.{Causes.{Has, HasPrompt, KeyDataSays, on_keys, old_plan, AsksAny, Unlocks, IsSent, IsReadLocked, IsDrawn, OpensRead}, Completeness.Exchanges}
-use Rattle.agent_ask.specs.declared.ask.Asked.TheVariants as asked
+use Rattle.agent_ask.specs.declared.prompt.ask.Asked.TheVariants as asked
 use Rattle.key_commands.specs.declared.request.KeyRequest.TheVariants as on
 
 -- ---- what a request names

@@ -1,17 +1,17 @@
 -- What stands after a refusal: how each request is carried out, as far as what it stores, clears, replaces and gives back goes, and what an event that refuses
 -- it leaves to be done. This is the project's own.
 use Rattle.std.specs.{List.AllByRecursion, Prelude.{◌≡◌, ◌≢◌, ◌⊎◌, ◌++◌, ℕ, true, false, List, [], ◌∷◌, Option, Some, None, ⊤}}
-use Rattle.agent_ask.specs.{Events.{Call, GetPin, Confirm, Start, Shut, Called, OutOfMemory}, PortCalls.{PortCall, KeyCall, Read, Listed, Replaced, Removed, NotDrawn, Prompt, Keys, Dice, NoMemory, Trust}}
-use Rattle.{agent_ask.specs.{SessionEvents.{Received, Sent, CacheTurn, Port, cache_turn}, TrustCalls.TrustCall, Interrupts.Interrupts}, agent_ports.specs.declared.{grip.Grip.Grip, keys.{KeyDone.KeyDone, KeyRead.KeyRead}}}
+use Rattle.agent_ask.specs.{Events.{Call, GetPin, Confirm, Start, Shut, Called, OutOfMemory}, Session.PortCalls.{PortCall, KeyCall, Read, Listed, Replaced, Removed, NotDrawn, Prompt, Keys, Dice, NoMemory, Trust}}
+use Rattle.{agent_ask.specs.{Session.{SessionEvents.{Received, Sent, CacheTurn, Port, cache_turn}, TrustCalls.TrustCall}, Interrupts.Interrupts}, agent_ports.specs.declared.{grip.Grip.Grip, keys.{KeyDone.KeyDone, KeyRead.KeyRead}}}
 use Rattle.{assuan_server.specs.Written.failed, session_client.specs.declared.code.Code.Code, cache_policy.specs.{Desks.{AtDesk, is_of}, Histories.History, Runs.joined, Turns.{Turn, Done, Refused, closes, opens}, declared.mark.Mark.Mark}}
 use Rattle.{cache_policy.specs.declared.{mark.MarkStep.{MarkStep, TheVariants.{Put, Clear, Flush, Stop, Close}}, mode.Mode.TheVariants.Normal}, agent_commands.specs.{Events.EventWith, Exchanges.is_quiet}}
 use Rattle.{agent_commands.specs.declared.request.{CacheCommand.TheVariants.{GetPassphrase, ClearPassphrase, ReloadAgent, KillAgent}, Request.{Request, TheVariants.Cache}}, key_commands.specs.Events.IsUncalled}
 use Rattle.key_commands.specs.{Lines.{IsNotice, grip_text}, Passphrases.put_key}
 use Rattle.agent_session.specs.{Completeness.{AnswersFromCache, AnswersDone, EndsInOk, IsAnswer}, OwnPassphrases.{IsNonceOf, MayStore}}
-use Rattle.agent_ask.specs.TrustCalls as trust_call
-use Rattle.agent_ask.specs.declared.prompter.Consent.TheVariants as consent
-use Rattle.agent_ask.specs.declared.prompter.Opened.TheVariants as opened
-use Rattle.agent_ask.specs.declared.prompter.Outcome.TheVariants as outcome
+use Rattle.agent_ask.specs.Session.TrustCalls as trust_call
+use Rattle.agent_ask.specs.declared.prompt.prompter.Consent.TheVariants as consent
+use Rattle.agent_ask.specs.declared.prompt.prompter.Opened.TheVariants as opened
+use Rattle.agent_ask.specs.declared.prompt.prompter.Outcome.TheVariants as outcome
 use Rattle.agent_ports.specs.declared.keys.KeyDone.TheVariants as key_done
 use Rattle.agent_ports.specs.declared.keys.KeyNames.TheVariants as key_names
 use Rattle.agent_ports.specs.declared.keys.KeyRead.TheVariants as key_read

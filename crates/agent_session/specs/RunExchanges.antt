@@ -1,7 +1,7 @@
 -- Exchanges of a session between the states of its desk and of its ports, and what the laws on single requests say of each. This is the project's
 -- own.
 use Rattle.std.specs.{List.AllByRecursion, Prelude.{◌≡◌, ◌≢◌, ℕ, List, Option, Some, None}}
-use Rattle.{agent_ask.specs.{Events.Call, PortCalls.PortEnds, Prompters.AtPrompter, Worlds.{Outside, Does}}, agent_commands.specs.{Events.EventWith, Outside.World, Requests.request_of, declared.went.{SessionEnd.SessionEnd, Went.Went}}}
+use Rattle.{agent_ask.specs.{Events.Call, Session.{PortCalls.PortEnds, Worlds.{Outside, Does}}, Prompters.AtPrompter}, agent_commands.specs.{Events.EventWith, Outside.World, Requests.request_of, declared.went.{SessionEnd.SessionEnd, Went.Went}}}
 use Rattle.{agent_commands.specs.declared.went.Went.TheVariants.On, agent_origin.specs.{PortStates.PortWorld, Sessions.LineRelation, declared.session_state.SessionState.SessionState}, agent_ports.specs.Leads.Leads}
 use Rattle.{assuan_server.specs.{Reading.Supply, declared.errors.Origin.{Origin, TheVariants.Agent}}, session_client.specs.declared.code.Code.{Code, TheVariants.LineTooLong}, cache_policy.specs.{Turns.Turn, declared.mark.MarkStep.MarkStep}}
 use Rattle.{key_commands.specs.{Events.Event as SessionEvent, declared.request.KeyRequest.KeyRequest}, session_options.specs.declared.rules.Rules.Rules}

@@ -1,7 +1,7 @@
 -- What is done for a request behind a call of the trust file that decides it: one that failed or found no memory, or by which a new file took the old
 -- one's place. This is the project's own.
 use Rattle.std.specs.Prelude.{◌≡◌, ℕ, List, [], ◌∷◌, Option, Some, None, ⊤}
-use Rattle.{agent_ask.specs.{PortCalls.Trust, SessionEvents.{Sent, Port, cache_turn}, TrustCalls.{TrustCall, Read, Replaced}}, assuan_server.specs.Written.{ok, failed}, cache_policy.specs.Turns.Turn}
+use Rattle.{agent_ask.specs.Session.{PortCalls.Trust, SessionEvents.{Sent, Port, cache_turn}, TrustCalls.{TrustCall, Read, Replaced}}, assuan_server.specs.Written.{ok, failed}, cache_policy.specs.Turns.Turn}
 use Rattle.{cache_policy.specs.declared.mark.MarkStep.TheVariants.Close, key_commands.specs.Events.Event}
 use Rattle.agent_ports.specs.declared.trust.TrustDone.TheVariants as done
 use Rattle.agent_ports.specs.declared.trust.TrustRead.TheVariants as read

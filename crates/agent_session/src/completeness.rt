@@ -3,7 +3,7 @@
 //! `each_error_has_its_cause`; definitions are in `specs/Causes` and `specs/Completeness`.
 
 ghost use Rattle.std.specs.{List.AllByRecursion, Prelude.{List, ℕ}};
-ghost use Rattle.{agent_ask.specs.Worlds.{Outside, Does}, agent_ports.specs.Leads.Leads};
+ghost use Rattle.{agent_ask.specs.Session.Worlds.{Outside, Does}, agent_ports.specs.Leads.Leads};
 ghost use Rattle.{assuan_server.specs.Reading.Supply, agent_commands.specs.Requests.request_of};
 ghost use Rattle.agent_commands.specs.{Talks.Session, declared.went.SessionEnd.SessionEnd as Ends};
 ghost use Rattle.{agent_commands.specs.declared.went.Went.Went, key_commands.specs.Events.Event};

@@ -3,7 +3,7 @@
 //! Begin with `a_session_extends_a_run`.
 
 ghost use Rattle.std.specs.Prelude.{◌≡◌, List, ℕ, None, true};
-ghost use Rattle.{cache_policy.specs.Extending.ExtendsDesk, agent_ask.specs.SessionEvents.turns_in};
+ghost use Rattle.{cache_policy.specs.Extending.ExtendsDesk, agent_ask.specs.Session.SessionEvents.turns_in};
 ghost use Rattle.agent_commands.specs.declared.went.{SessionEnd.SessionEnd as Ends, Went.Went};
 ghost use Rattle.key_commands.specs.Events.{Event};
 ghost use Rattle.session_options.specs.declared.rules.Rules.{Rules};

@@ -4,7 +4,7 @@
 //! definitions are in `specs/Refusals`, `specs/Imports` and `specs/TrustCalls`.
 
 ghost use Rattle.std.specs.{List.AllByRecursion, Prelude.{◌≡◌, ◌≢◌, Bool, List, Option, ℕ, Some}};
-ghost use Rattle.{agent_ask.specs.Worlds.{Outside, Does}, agent_ports.specs.Leads.Leads};
+ghost use Rattle.{agent_ask.specs.Session.Worlds.{Outside, Does}, agent_ports.specs.Leads.Leads};
 ghost use Rattle.assuan_server.specs.{Reading.Supply, declared.errors.Origin.Origin};
 ghost use Rattle.assuan_server.specs.declared.errors.Origin.TheVariants.{Agent};
 ghost use Rattle.session_client.specs.declared.code.Code.{Code, TheVariants.LineTooLong};

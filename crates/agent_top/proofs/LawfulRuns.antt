@@ -1,6 +1,6 @@
 -- The laws on whole runs, over what the agent does.
 use Rattle.std.{specs.Prelude.⊤, proofs.Common.{◌+◌, ℕ, List, [], ◌∷◌, Option, None, refl}}
-use Rattle.{agent_ask.specs.{Events.Call, Prompters.IsCall, SessionEvents.turns_in}, agent_commands.specs.declared.went.SessionEnd.SessionEnd, agent_origin.proofs.{OuterPrompts.session_unnamed, OuterRuns.leaves_desk}}
+use Rattle.{agent_ask.specs.{Events.Call, Prompters.IsCall, Session.SessionEvents.turns_in}, agent_commands.specs.declared.went.SessionEnd.SessionEnd, agent_origin.proofs.{OuterPrompts.session_unnamed, OuterRuns.leaves_desk}}
 use Rattle.agent_origin.{proofs.{OuterSessions.outer_leaves, Turning.turns_lead}, specs.{DoorSessions.DoorExchange, OuterPrompts.{no_words, PromptsName}, OuterRuns.LeavesDesk, OuterTurns.LeavesCache, SessionExchanges.kept_at_start}}
 use Rattle.{agent_origin.specs.declared.door.Door.{Door, TheVariants.{Home, Outer}}, agent_ports.specs.{HostParts.Views, Readings.Readings, Sides.Side, TrustFiles.TrustState, declared.session.SessionId.SessionId}}
 use Rattle.agent_serve.{proofs.{PromptedLines.door_prompted, PromptedSessions.{session_prompted, have_prompts}, Works.told_where_nothing_failed}, specs.Serves.{LinkSides, ServesOne}}

@@ -1,11 +1,10 @@
 -- A session at the desk is one at what the desk shows.
 use Rattle.std.proofs.Common.{◌≡◌, ℕ, List, None, refl, ap, ◌∙◌, subst}
-use Rattle.agent_ask.specs.{PortCalls.{PortCall, prompt, keys, dice, trust, no_memory}, Doing.{called, out_of_memory}, Prompters.IsShut, SessionEvents.turns_in}
-use Rattle.{agent_ask.specs.Worlds.{Outside, Does, received, sent, cut, asked, not_asked, turned, ported}, agent_core.specs.Solos.{SoloState, AtSolo, seen, TurnsSolo, SoloTurn}, agent_ports.specs.{KeyFiles.KeyFiles, Launches.Launches}}
-use Rattle.{agent_ports.specs.{Leads.{Leads, none, one}, Readings.Readings, Sides.Side}, cache_policy.specs.Extending.TakesTurn, agent_commands.specs.{Events.EventWith, Outside.World, declared.went.SessionEnd.SessionEnd}}
-use Rattle.{assuan_server.specs.Clients.session_lines, agent_origin.{proofs.Turning.turns_lead, specs.{Sessions.{ends_with, supply_of}, PortStates.PortWorld}}, agent_serve.proofs.Lifting.shut_is_idle}
-use Rattle.{agent_session.specs.Sessions.{without_trust, ServesRules}, pinentry_client.specs.{Dialogues.{PinentryDoes, PinentryCall}, States.{PinentryState, AtPinentry, at_pinentry, at_prompter}}}
-use Rattle.session_options.specs.declared.rules.Rules.{Rules}
+use Rattle.agent_ask.specs.{Session.{PortCalls.{PortCall, prompt, keys, dice, trust, no_memory}, SessionEvents.turns_in, Worlds.{Outside, Does, received, sent, cut, asked, not_asked, turned, ported}}, Doing.{called, out_of_memory}}
+use Rattle.{agent_ask.specs.Prompters.IsShut, agent_core.specs.Solos.{SoloState, AtSolo, seen, TurnsSolo, SoloTurn}, agent_ports.specs.{KeyFiles.KeyFiles, Launches.Launches, Leads.{Leads, none, one}, Readings.Readings, Sides.Side}}
+use Rattle.{cache_policy.specs.Extending.TakesTurn, agent_commands.specs.{Events.EventWith, Outside.World, declared.went.SessionEnd.SessionEnd}, assuan_server.specs.Clients.session_lines, agent_origin.proofs.Turning.turns_lead}
+use Rattle.{agent_origin.specs.{Sessions.{ends_with, supply_of}, PortStates.PortWorld}, agent_serve.proofs.Lifting.shut_is_idle, agent_session.specs.Sessions.{without_trust, ServesRules}}
+use Rattle.{pinentry_client.specs.{Dialogues.{PinentryDoes, PinentryCall}, States.{PinentryState, AtPinentry, at_pinentry, at_prompter}}, session_options.specs.declared.rules.Rules.Rules}
 use Rattle.agent_top.{proofs.Replays.{turns_extend, turns_are_legal, turns_replay}, specs.{Cache.{limits_of, fresh_desk}, Top.{machine, no_child, RunsServer, ran, exit_number, status_of}}}
 
 -- a session at a desk and with a pinentry, and what they show of it

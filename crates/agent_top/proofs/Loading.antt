@@ -2,8 +2,8 @@
 use Rattle.std.proofs.{Common.{◌≡◌, ◌∙◌, ◌≤◌, ◌<◌, ◌+◌, ◌*◌, ℕ, zero, suc, List, [], ◌∷◌, length, map, Option, None, Some, refl, ap, ap₂, sym, subst, arith, ◌-◌, ◌%◌, ◌/◌, mod-lt, lit<, true, eqb-true, append-nil}, lemmas.List.length-map}
 use Rattle.std.specs.{Prelude.{nat_lt, ◌==◌, if◌then◌else◌, IfSome, IfOk, Result}, Int.{w32, to_be_bytes}, List.{AllByRecursion, cons_option, filter_map}, Option.ok_or}
 use Rattle.cache_policy.specs.declared.{life.{Life.TheVariants.Seconds, Limits.Limits}, mark.{MarkStep.{MarkStep, TheVariants.{Ask, Put, Clear}}, Way.TheVariants.Quiet, Mark.Mark}, mode.Mode.TheVariants.{Any, User}, tally.Tally.Tally}
-use Rattle.{cache_policy.specs.{Histories.{History, moments}, Legal.IsLegalRun, Replay.{Replays, NoneEmpty, first_history, moments_at}, Runs.{joined, moment_of, start_of_run}}, agent_ask.specs.{Events.Call, PortCalls.PortCall}}
-use Rattle.{agent_ask.specs.Worlds.{Outside, Does, received, sent, cut, asked, not_asked, turned, ported}, agent_commands.specs.Events.EventWith, agent_origin.specs.PortStates.PortWorld, agent_core.specs.Solos.{SoloState, SoloTurn}}
+use Rattle.{cache_policy.specs.{Histories.{History, moments}, Legal.IsLegalRun, Replay.{Replays, NoneEmpty, first_history, moments_at}, Runs.{joined, moment_of, start_of_run}}, agent_ask.specs.{Events.Call, Session.PortCalls.PortCall}}
+use Rattle.{agent_ask.specs.Session.Worlds.{Outside, Does, received, sent, cut, asked, not_asked, turned, ported}, agent_commands.specs.Events.EventWith, agent_origin.specs.PortStates.PortWorld, agent_core.specs.Solos.{SoloState, SoloTurn}}
 use Rattle.{agent_core.specs.Tallies.tally_of, agent_ports.specs.{Leads.{Leads, none, one}, Readings.Readings}, assuan_server.specs.Clients.session_lines, rand_pcg.specs.{Lcg.Lcg, Pcg.pcg32}, session_options.specs.Defaults.default_rules}
 use Rattle.agent_top.{proofs.Replays.first_legal, specs.Cache.{limits_of, session}}
 use Rattle.agent_top.specs.Load.{IsLoadTally, IsMadeByLoad, load_steps, load_words, load_readings, generator_of, key, KeepsRun, AreOfWords, IsOfWord, step_of, words_from, readings_from}

@@ -1,6 +1,6 @@
 -- What the sessions of a daemon hand to the cache is their own.
 use Rattle.std.{specs.{List.AllByRecursion, Prelude.{◌⊎◌, nat_eq, cond, filter}}, proofs.{Common.{◌≡◌, ℕ, Bool, true, false, List, [], ◌∷◌, ◌++◌, length, Option, suc, refl, sym, ap, subst, inl, inr, arith}, lemmas.Bool.Decides.nat_tests}}
-use Rattle.{agent_ask.specs.SessionEvents.{Received, Sent, Cut, Inquiry, CacheTurn, Port, turns_in}, agent_commands.specs.declared.went.SessionEnd.SessionEnd, agent_origin.specs.{DoorSessions.DoorExchange, declared.door.Door.Door}}
+use Rattle.{agent_ask.specs.Session.SessionEvents.{Received, Sent, Cut, Inquiry, CacheTurn, Port, turns_in}, agent_commands.specs.declared.went.SessionEnd.SessionEnd, agent_origin.specs.{DoorSessions.DoorExchange, declared.door.Door.Door}}
 use Rattle.{agent_ports.specs.{HostParts.Views, Readings.Readings, Sides.Side, TrustFiles.TrustState, declared.session.SessionId.SessionId}, agent_serve.specs.{Pairs.ByPlace, Serves.{LinkSides, PassTurns, ServesOne}}}
 use Rattle.{agent_serve.specs.Working.{HostViews, Post, ServesLinks, Works, home_post, last_post}, agent_session.{specs.{Causes.{Has, here, later}, OwnPassphrases.HandsIn}, proofs.{AtOnce.all_fit, OwnSessions.{door_own, session_own}}}}
 use Rattle.cache_policy.specs.{Desks.MakesMarks, Extending.Taken, Histories.History, Turns.{Turn, with_since}, declared.{life.Limits.Limits, mark.{Mark.Mark, MarkStep.MarkStep}}}

@@ -1,6 +1,6 @@
 -- Runs of `--server`, and sessions of a daemon: the laws on single requests hold of each of their exchanges, and their prompts have their children.
 use Rattle.std.{proofs.Common.{◌≡◌, ◌<◌, ◌+◌, ℕ, Bool, List, Option, Some, None, length, refl, ap, subst, ◌∙◌, arith}, specs.{List.AllByRecursion, Prelude.{⊤, IfSome, true}}}
-use Rattle.{agent_ask.specs.{Events.Call, Prompters.IsCall, Worlds.{Outside, Does}}, agent_commands.specs.{Requests.request_of, declared.went.{SessionEnd.SessionEnd, Went.Went}}}
+use Rattle.{agent_ask.specs.{Events.Call, Prompters.IsCall, Session.Worlds.{Outside, Does}}, agent_commands.specs.{Requests.request_of, declared.went.{SessionEnd.SessionEnd, Went.Went}}}
 use Rattle.{agent_core.{specs.{Known.{MayRefuse, TakesStep, wants, begins, leaves}, Solos.{AtSolo, TurnsSolo, at_desk}, Cores.WantsMemory}, proofs.Alone.{IsAlone, alone_turn}}, agent_origin.specs.DoorSessions.{DoorExchange, door_command}}
 use Rattle.{agent_origin.specs.{Doors.allowed, PortStates.PortWorld, SessionExchanges.SessionExchange, declared.{door.Door.Door, session_state.SessionState.SessionState}}, agent_ports.specs.{HostParts.Views, Leads.Leads, Readings.Readings}}
 use Rattle.{agent_ports.specs.{TrustFiles.TrustState, declared.session.SessionId.SessionId}, agent_serve.{proofs.{PromptedLines.request_prompted, PromptedSessions.{session_prompted, have_prompts}}, specs.Serves.{LinkSides, ServesOne}}}
@@ -11,7 +11,7 @@ use Rattle.cache_policy.specs.{declared.mark.{MarkStep.TheVariants.{Ask, Seat, P
 use Rattle.{cache_policy.specs.Turns.{Turn, Refused, MayWantMemory, with_since}, counted_lock.specs.{Passes.AtPass, Turns.{AtCountedDesk, CountedTurn, at_counted}}, key_commands.specs.Events.Event}
 use Rattle.{pinentry_client.specs.{Dialogues.PinentryDoes, States.{AtPinentry, at_prompter}}, session_options.specs.declared.rules.Rules.Rules}
 use Rattle.agent_top.{proofs.Answered.{server_caused, daemon_caused}, specs.{Runs.{IsWithinHistory, IsOfEverySession, IsLawfulRun, IsLawfulSession, RunHasPrompts}, Top.{Machine, RunsServer, ran}}}
-use Rattle.agent_ask.specs.Worlds as worlds
+use Rattle.agent_ask.specs.Session.Worlds as worlds
 use Rattle.agent_core.specs.Known as known
 use Rattle.cache_policy.specs.declared.mark.MarkReply.TheVariants as reply
 use Rattle.agent_top.specs.Top as top

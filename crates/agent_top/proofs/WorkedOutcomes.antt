@@ -1,7 +1,7 @@
 -- What is written, and what a run comes to, on worked examples, each by computation.
 use Rattle.std.{specs.{Fmt.digits, Prelude.{◌≡◌, ◌≤◌, ◌<◌, ℕ, zero, suc, nat_eq, List, [], ◌∷◌, ◌++◌, length, codes, None, refl, true, false}, List.flat_map}, proofs.{Common.{lit<, lit≤, arith}, lemmas.Bool.Decides.nat_tests}}
 use Rattle.{hex.proofs.OnLiterals.hex_on_literals, agent_commands.specs.{Answers.closing, Passphrases.ask, Requests.request_of, declared.went.Went.TheVariants.On}, command_table.specs.Commands.command_named, agent_core.specs.Cores.mark_of}
-use Rattle.{agent_origin.specs.{DoorSessions.{DoorExchange, is_allowed, forbidden, unset}, declared.{door.Door.TheVariants.Outer, session_state.SessionState.SessionState}}, agent_ask.specs.SessionEvents.Sent, agent_ports.specs.Sides.Side}
+use Rattle.{agent_origin.specs.{DoorSessions.{DoorExchange, is_allowed, forbidden, unset}, declared.{door.Door.TheVariants.Outer, session_state.SessionState.SessionState}}, agent_ask.specs.Session.SessionEvents.Sent, agent_ports.specs.Sides.Side}
 use Rattle.{agent_ports.specs.declared.session.SessionId.SessionId, assuan_escape.specs.Escapes.hex_text, assuan_server.specs.Written.{failed, greeting, ok, ok_text}, assuan_text.specs.LineEnds.line_of}
 use Rattle.cache_policy.{proofs.GrowingRuns.legal_run_with_mark, specs.{Legal.IsLegalRun, declared.{life.{Life.TheVariants.Endless, Limits.Limits}, mark.{Mark.Mark, MarkReply.TheVariants.{Given, Empty, Done}}}}}
 use Rattle.{cache_policy.specs.declared.{mark.MarkStep.TheVariants.{Put, Clear, Stop}, mode.Mode.TheVariants.{Any, User}, tally.Tally.Tally}, counted_lock.specs.{Logs.{run_of_log, marks_by}, Passes.{AtCounted, AtPass, IsClosed, numbered}}}

@@ -1,7 +1,7 @@
 -- Whose the passphrases are that the daemon's sessions hand to the cache: each mark of the run by which one is handed in is the turn of one session, and
 -- the passphrase is of that session's own line. This is the project's own.
 use Rattle.std.specs.Prelude.{◌≡◌, List, ◌∷◌, ◌++◌}
-use Rattle.{agent_ask.specs.SessionEvents.cache_turn, agent_origin.specs.{DoorSessions.DoorExchange, SessionExchanges.kept_at_start, declared.door.Door.Door}, agent_serve.specs.Working.{HostViews, Post, ServesNext, next_session}}
+use Rattle.{agent_ask.specs.Session.SessionEvents.cache_turn, agent_origin.specs.{DoorSessions.DoorExchange, SessionExchanges.kept_at_start, declared.door.Door.Door}, agent_serve.specs.Working.{HostViews, Post, ServesNext, next_session}}
 use Rattle.{agent_session.specs.{Causes.Has, OwnPassphrases.StoresOwnIn}, cache_policy.specs.{Turns.Turn, declared.mark.Mark.Mark}, counted_lock.specs.Passes.AtPass, key_commands.specs.Events.Event}
 use Rattle.session_options.specs.declared.rules.Rules.{Rules}
 

@@ -2,7 +2,7 @@
 use Rattle.std.specs.{Prelude.{◌≡◌, ◌⊎◌, ℕ, List, [], ◌∷◌, Option, None, Some, ⊤}, List.AllByRecursion}
 use Rattle.{agent_core.specs.Solos.{AtSolo, TurnsSolo}, agent_ports.specs.{HostParts.{Views, AreSettled, settled_at}, KeyFiles.KeyFiles, Readings.{Readings, HasGiven}, Sides.Side, Launches.Launches, declared.host.Parts.Parts}}
 use Rattle.cache_policy.specs.{Histories.History, declared.{life.Limits.Limits, mark.MarkStep.MarkStep}, Extending.{Taken, IsExtended}, Legal.IsLegalRun, Replay.{first_history, Replays, Marked}, Turns.since_of}
-use Rattle.{session_options.specs.declared.rules.{Rules.Rules, RunMode.{RunMode, TheVariants.{Server, Daemon, Load}}}, agent_ask.specs.SessionEvents.turns_in, agent_commands.specs.declared.went.SessionEnd.SessionEnd}
+use Rattle.{session_options.specs.declared.rules.{Rules.Rules, RunMode.{RunMode, TheVariants.{Server, Daemon, Load}}}, agent_ask.specs.Session.SessionEvents.turns_in, agent_commands.specs.declared.went.SessionEnd.SessionEnd}
 use Rattle.{agent_commands.specs.declared.went.SessionEnd.TheVariants.{Bye, Killed, Ended, TooLong, Spent, ReadFault, WriteFault}, agent_origin.specs.{Sessions.Surroundings, PortStates.PortWorld}}
 use Rattle.{agent_session.specs.Sessions.{without_trust, ServesRules}, pinentry_client.specs.{Dialogues.PinentryDoes, States.{AtPinentry, idle}}}
 use Rattle.agent_top.specs.{Cache.{limits_of, session, fresh_desk}, declared.status.Status.Status}

@@ -3,7 +3,7 @@
 //! with `a_server_without_faults_is_answered`; definitions are in `specs/Completeness`.
 
 ghost use Rattle.std.specs.{List.AllByRecursion, Prelude.{◌≡◌, List, ℕ, None, true}};
-ghost use Rattle.{agent_ask.specs.Worlds.{Outside, Does}, agent_commands.specs.Requests.request_of};
+ghost use Rattle.{agent_ask.specs.Session.Worlds.{Outside, Does}, agent_commands.specs.Requests.request_of};
 ghost use Rattle.agent_commands.specs.{Talks.Session, declared.went.SessionEnd.SessionEnd as Ends};
 ghost use Rattle.agent_commands.specs.declared.went.Went.{Went};
 ghost use Rattle.agent_origin.specs.{DoorSessions.{DoorExchange, door_command}, Doors.allowed};

@@ -1,6 +1,6 @@
 -- What prompts for a passphrase show, and tests that open a locked key.
 use Rattle.std.proofs.Common.{◌≡◌, ℕ, Bool, List, [], Option, Some, refl, ap, ◌∙◌, subst}
-use Rattle.{agent_ask.specs.{Plans.{IsSpec, plan_of, text}, Tests.{PinTest, Tests, EndsAccepted}, declared.{spec.{AskPlan.AskPlan, PromptSpec.PromptSpec}, test.Tested.Tested}}, agent_ports.specs.Leads.{none, one}}
+use Rattle.{agent_ask.specs.{Plans.{IsSpec, plan_of, text}, Tests.{PinTest, Tests, EndsAccepted}, declared.prompt.{spec.{AskPlan.AskPlan, PromptSpec.PromptSpec}, test.Tested.Tested}}, agent_ports.specs.Leads.{none, one}}
 use Rattle.{arrayvec.specs.ArrayVec.ArrayVec, secret_file.specs.Opens.{LockedKey, OpensTo, FitsFile}, session_options.specs.{OptionValues.OptionValues, declared.rules.Rules.Rules}, sexp_keys.specs.Key.Key}
 use Rattle.key_commands.{specs.Trials.{IsTrial, IsUsable}, proofs.Opening.opened_is_usable}
 

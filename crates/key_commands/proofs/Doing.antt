@@ -1,6 +1,6 @@
 -- Actions of a request in which the keys are called, dice are thrown or memory is wanted, and such calls one after another.
 use Rattle.std.proofs.Common.{◌≡◌, ℕ, List, [], ◌∷◌, ◌++◌, Option, Some, None, Result, Ok, Err, refl, subst}
-use Rattle.agent_ask.specs.{Events.Call, PortCalls.{PortCall, KeyCall, DoesKeys, Keys, Dice, NoMemory, world_with}, Actions.{◌>>=◌, goes_on, stops}, ActionStates.{gone_in, DoesAction, action_state}, SessionEvents.Port, States.AnyLead}
+use Rattle.agent_ask.specs.{Events.Call, Session.{PortCalls.{PortCall, KeyCall, DoesKeys, Keys, Dice, NoMemory, world_with}, Actions.{◌>>=◌, goes_on, stops}, ActionStates.{gone_in, DoesAction, action_state}, SessionEvents.Port, States.AnyLead}}
 use Rattle.{agent_ask.proofs.{Doing.{done_none, done_then, done_port}, ActionsDone.{action_still, still_open, no_fault}}, agent_ports.specs.{KeyFiles.KeyFiles, Sides.Side, declared.keys.KeyDone.{KeyDone, TheVariants.Done}}}
 use Rattle.{assuan_server.specs.{Clients.{connection_views, session_lines}, Connections.{Connection, IsOpen}}, cache_policy.specs.{declared.mark.MarkStep.MarkStep, Turns.Turn}, session_client.specs.declared.code.Code.Code}
 use Rattle.session_client.specs.declared.refusal.Refusal.{Refusal, TheVariants.Agent}

@@ -1,7 +1,7 @@
 -- Actions of a request on keys each of whose events is so.
 use Rattle.std.{specs.{List.AllByRecursion, Prelude.{⊤, not, take, drop}}, proofs.Common.{◌==◌, ◌++◌, ℕ, Bool, true, false, List, [], ◌∷◌, length, codes, Option, Some, None, Result, Ok}}
-use Rattle.agent_ask.specs.{Events.PromptEvent, PortCalls.{Keys, Dice, NoMemory, Prompt, Trust}, SessionEvents.{Sent, Cut, Inquiry, Port, cache_turn, said_last}, SessionPrompts.AnyInSession}
-use Rattle.agent_ask.specs.{Actions.{◌>>=◌, goes_on, stops, Returns, returns, Refuses, needed, or_else, unless, wanted}, TurnActions.{Asks, Seats, Changes, Peeks, Closes}, ClientActions.{Writes, Inquires}, ConsentActions.AgreesTo}
+use Rattle.agent_ask.specs.{Events.PromptEvent, Session.{PortCalls.{Keys, Dice, NoMemory, Prompt, Trust}, SessionEvents.{Sent, Cut, Inquiry, Port, cache_turn, said_last}}, SessionPrompts.AnyInSession}
+use Rattle.agent_ask.specs.{Session.{Actions.{◌>>=◌, goes_on, stops, Returns, returns, Refuses, needed, or_else, unless, wanted}, TurnActions.{Asks, Seats, Changes, Peeks, Closes}, ClientActions.{Writes, Inquires}}, ConsentActions.AgreesTo}
 use Rattle.{agent_ask.proofs.Within.{Within, Joins, OfNothing, Does, does_join, bind, returned, refused, is_needed, or_otherwise, is_unless, is_wanted}, agent_ports.specs.declared.grip.Grip.Grip, assuan_server.specs.Clients.session_lines}
 use Rattle.{assuan_server.specs.Written.limit_line, session_client.specs.declared.{code.Code.Code, refusal.Refusal.{Refusal, TheVariants.Agent}}, cache_policy.specs.{Turns.Turn, declared.life.Life.TheVariants.Default}}
 use Rattle.{cache_policy.specs.declared.{mark.MarkStep.{MarkStep, TheVariants.{Close, Put, Peek}}, mode.Mode.TheVariants.{Normal, Nonce}, secret.TheConstants.MAX_SECRET_LEN}, assuan_escape.specs.Escapes.hex_text}
@@ -14,9 +14,9 @@ use Rattle.agent_ask.specs.SessionPrompts as session
 use Rattle.session_client.specs.declared.code.Code.TheVariants as code
 use Rattle.key_commands.specs.Files as files
 use Rattle.key_commands.specs.KeyActions as actions
-use Rattle.agent_ask.specs.ClientActions as client
+use Rattle.agent_ask.specs.Session.ClientActions as client
 use Rattle.agent_ask.specs.ConsentActions as consent
-use Rattle.agent_ask.specs.TurnActions as taken
+use Rattle.agent_ask.specs.Session.TurnActions as taken
 use Rattle.key_commands.specs.Actions as small
 use Rattle.key_commands.specs.Passphrases as passphrases
 

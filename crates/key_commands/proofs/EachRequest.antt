@@ -1,7 +1,7 @@
 -- Requests on keys each of whose events is so, where each event but a read request and a call of the trust file is so.
 use Rattle.std.{proofs.Common.{◌≡◌, ◌∙◌, ℕ, Bool, true, false, List, ◌++◌, Option, Some, None, Result, Ok, Err, []}, specs.Prelude.⊤}
-use Rattle.agent_ask.specs.{PortCalls.{Prompt, Trust}, SessionEvents.{Received, Sent, CacheTurn, Port, cache_turn}, ConsentActions.{AgreesTo, PromptsConsent}, ActionExchanges.{AnyReply, AnyExchange}, Actions.◌>>=◌, PinActions.PromptsPin}
-use Rattle.agent_ask.{specs.declared.{ask.Asked.Asked, consent.Agreed.Agreed, spec.{AskPlan.AskPlan, PromptSpec.PromptSpec}}, proofs.Within.{Within, OfNothing, Does, does_join, weaker, bind, or_otherwise}}
+use Rattle.agent_ask.specs.{Session.{PortCalls.{Prompt, Trust}, SessionEvents.{Received, Sent, CacheTurn, Port, cache_turn}, ActionExchanges.{AnyReply, AnyExchange}, Actions.◌>>=◌}, ConsentActions.{AgreesTo, PromptsConsent}, PinActions.PromptsPin}
+use Rattle.agent_ask.{specs.declared.prompt.{ask.Asked.Asked, consent.Agreed.Agreed, spec.{AskPlan.AskPlan, PromptSpec.PromptSpec}}, proofs.Within.{Within, OfNothing, Does, does_join, weaker, bind, or_otherwise}}
 use Rattle.{assuan_server.specs.Clients.session_lines, cache_policy.specs.{Turns.Turn, declared.{mark.MarkStep.{MarkStep, TheVariants.Peek}, mode.Mode.TheVariants.Normal}}, session_client.specs.declared.refusal.Refusal.Refusal}
 use Rattle.{session_client.specs.declared.{refusal.Refusal.TheVariants.Agent, client_error.Gone.Gone}, agent_ports.specs.declared.grip.Grip.Grip, secret_file.specs.Opens.LockedKey}
 use Rattle.{session_options.specs.{OptionValues.{OptionValues, EnvWords, words_of}, declared.{options.PinMode.PinMode, rules.Rules.Rules}}, sexp_keys.specs.Key.Key}
@@ -13,7 +13,7 @@ use Rattle.key_commands.proofs.EachEvent.{IsStill, All, each_append, each_shown,
 use Rattle.key_commands.proofs.EachEvent.{looks_over, takes_seat, each_closes, finds, draws, reads_file, lists, told, is_short, names_key, wraps_key, receives_key, is_free, has_one, locks, tries_found, removes, tells_info, writes_infos}
 use Rattle.key_commands.proofs.EachEvent.{client_old, rewrites_file, stores_key, client_new}
 use Rattle.agent_ask.specs.ConsentActions as consent
-use Rattle.agent_ask.specs.ActionExchanges as exchange
+use Rattle.agent_ask.specs.Session.ActionExchanges as exchange
 use Rattle.session_client.specs.declared.code.Code.TheVariants as code
 use Rattle.session_options.specs.declared.options.PinMode.TheVariants as mode
 use Rattle.key_commands.specs.Passphrases as passphrases

@@ -1,6 +1,6 @@
 -- Keys that come in.
 use Rattle.std.{proofs.Common.{◌≡◌, ◌≢◌, ◌≤◌, ◌⊎◌, inl, inr, ℕ, List, [], ◌∷◌, ◌++◌, length, Option, Some, None, Result, Ok, Err, refl, subst}, specs.Prelude.codes}
-use Rattle.agent_ask.{specs.{ClientActions.Inquires, PortCalls.{NoMemory, world_with}, ActionStates.{NoTurn, DoesWithClient}, SessionEvents.Inquiry}, proofs.{Doing.{done_then, done_port, done_inquired}, ActionsAtClient.{gave, gave_none}}}
+use Rattle.agent_ask.{specs.Session.{ClientActions.Inquires, PortCalls.{NoMemory, world_with}, ActionStates.{NoTurn, DoesWithClient}, SessionEvents.Inquiry}, proofs.{Doing.{done_then, done_port, done_inquired}, ActionsAtClient.{gave, gave_none}}}
 use Rattle.{agent_ask.proofs.ActionsDone.beside_client, agent_ports.specs.{Sides.WhereKnown, declared.grip.Grip.Grip}, assuan_server.specs.{Asking.{Inquire, IsNotAsked}, Clients.{connection_views, session_lines, outcome_says}}}
 use Rattle.assuan_server.{specs.{Connections.{Connection, IsOpen}, Inquiries.{Outcome, Inquiry as Comes, IsAtEnd, Answers, outcome_of, inquire_text}, declared.inquiry.Inquired.Inquired}, proofs.Clients.{inquiry_is_done, not_inquired}}
 use Rattle.{session_client.specs.{declared.{code.Code.Code, refusal.Refusal.{Refusal, TheVariants.Agent}}, Asking.{Asked, AsksClient, LeftBy}}, secret_file.proofs.Within.file_fits, sexp_keys.specs.{Key.Key, Lists.{key_list_of, grip_of}}}

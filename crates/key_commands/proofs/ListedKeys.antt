@@ -1,6 +1,6 @@
 -- Keys that are listed.
 use Rattle.std.proofs.{Common.{◌≡◌, ◌⊎◌, ◌≤◌, ◌<◌, ◌+◌, ℕ, true, false, List, [], ◌∷◌, length, drop, get_or, map, Option, Some, Result, Ok, Err, inl, inr, refl, ap, sym, ◌∙◌, subst, add-one}, Math.Seq.drop-cons, lemmas.List.drop_all}
-use Rattle.{agent_ask.{specs.{Events.Call, PortCalls.{Read, DoesKeys}, Actions.{returns, refuses}}, proofs.ActionsDone.{action_then, action_stops}}, agent_ports.specs.{KeyFiles.KeyFiles, declared.{grip.Grip.Grip, keys.KeyRead.KeyRead}}}
+use Rattle.{agent_ask.{specs.{Events.Call, Session.{PortCalls.{Read, DoesKeys}, Actions.{returns, refuses}}}, proofs.ActionsDone.{action_then, action_stops}}, agent_ports.specs.{KeyFiles.KeyFiles, declared.{grip.Grip.Grip, keys.KeyRead.KeyRead}}}
 use Rattle.{session_client.specs.declared.{code.Code.TheVariants.NoSecKey, refusal.Refusal.{Refusal, TheVariants.Agent}}, cache_policy.specs.{declared.mark.MarkStep.MarkStep, Turns.Turn}, sexp_keys.specs.declared.fault.KeyFault.KeyFault}
 use Rattle.sexp_keys.specs.declared.fault.KeyFault.TheVariants.{InvSexp, BadSecKey, Shadowed, NotSupported, NoMemory}
 use Rattle.key_commands.specs.{Files.FileSays, KeyActions.{file_in, ReadsListed, faulty, no_memory, HasOne, TellsListed, WritesInfos}, Actions.Finds, Partial.DoesKeyAction, States.KeyState, Steps.{DoesKeyCalls, unlisted}}

@@ -1,6 +1,6 @@
 -- Actions that have nothing to do with some ends of a session, with these beside.
 use Rattle.std.proofs.Common.{ℕ, Option, Result}
-use Rattle.{agent_ask.{specs.{Doing.{DoesCall, called, out_of_memory}, Events.{Call, PromptEvent}, PortCalls.{PortCall, Prompt}, ActionStates.{action_state, DoesAction, DoesPrompts, prompts, NoTurn}}, proofs.{ActionsDone.action_in, Replying.carries_in}}, agent_ports.specs.KeyFiles.KeyFiles}
+use Rattle.{agent_ask.{specs.{Doing.{DoesCall, called, out_of_memory}, Events.{Call, PromptEvent}, Session.{PortCalls.{PortCall, Prompt}, ActionStates.{action_state, DoesAction, DoesPrompts, prompts, NoTurn}}}, proofs.{ActionsDone.action_in, Replying.carries_in}}, agent_ports.specs.KeyFiles.KeyFiles}
 use Rattle.{agent_ports.specs.Sides.Side, assuan_server.specs.{Clients.connection_views, Connections.Connection}, cache_policy.specs.{declared.mark.MarkStep.MarkStep, Turns.Turn}, session_client.specs.declared.refusal.Refusal.Refusal}
 use Rattle.key_commands.specs.{Exchanges.KeyReply, KeyEnds.{KeyEnds, DoesAtKeys, prompt, keys, dice, no_memory}, Actions.Action}
 use Rattle.key_commands.specs.{Partial.{DoesKeyAction, NoCall, DoesBesideKeys, prompt as prompt_beside, no_memory as no_memory_beside, LeavesKeys, DoesAtPrompter, DoesAtDesk, DoesAtClient}, Replies.CarriesOut, States.{KeyState, key_state}}

@@ -1,6 +1,6 @@
 -- Requests for whose reply all was done, new passphrases that are kept, and clear keys, which need no passphrase.
 use Rattle.std.proofs.Common.{◌≡◌, ℕ, Bool, true, false, List, [], Option, Some, None, Result, Ok, is_some, refl}
-use Rattle.{agent_ask.{specs.{Events.Call, ActionReplies.comes_to, Actions.returns, ActionStates.{still, one}, Seats.GivesTicket, TurnActions.{Changes, Closes}}, proofs.ActionsDone.ticket_given}, agent_ports.specs.declared.grip.Grip.Grip}
+use Rattle.{agent_ask.{specs.{Events.Call, Session.{ActionReplies.comes_to, Actions.returns, ActionStates.{still, one}, TurnActions.{Changes, Closes}}, Seats.GivesTicket}, proofs.ActionsDone.ticket_given}, agent_ports.specs.declared.grip.Grip.Grip}
 use Rattle.{cache_policy.specs.{declared.mark.MarkStep.MarkStep, Turns.Turn}, session_client.specs.declared.{refusal.Refusal.Refusal, client_error.Gone.Gone}, session_options.specs.{OptionValues.OptionValues, declared.rules.Rules.Rules}}
 use Rattle.{sexp_keys.specs.Key.Key, assuan_server.specs.Written.ok}
 use Rattle.key_commands.specs.{Exchanges.{KeyReply, key_reply}, KeyActions.KeepsNew, Actions.{Action, key_went_after, key_gone}, Passphrases.{put_key, old_by, verified_by}, Replies.CarriesOut, Partial.DoesKeyAction, States.KeyState}

@@ -1,6 +1,6 @@
 -- Tickets that requests hold, and the turns that give them.
 use Rattle.std.proofs.Common.{◌≡◌, ℕ, List, [], true, false, Option, Some, None, Result, Ok, is_some, refl}
-use Rattle.{agent_ports.specs.declared.grip.Grip.Grip, cache_policy.specs.{declared.mark.MarkStep.MarkStep, Turns.Turn}, agent_ask.specs.{Seats.TakesTicket, Actions.returns, ActionStates.{still, one}, TurnActions.{Seats, opened}}}
+use Rattle.{agent_ports.specs.declared.grip.Grip.Grip, cache_policy.specs.{declared.mark.MarkStep.MarkStep, Turns.Turn}, agent_ask.specs.{Seats.TakesTicket, Session.{Actions.returns, ActionStates.{still, one}, TurnActions.{Seats, opened}}}}
 use Rattle.{agent_ask.proofs.ActionsDone.ticket_taken, session_client.specs.declared.refusal.Refusal.Refusal}
 use Rattle.key_commands.specs.{Events.Event, Passphrases.{TakesSeat, seat_for}, Steps.{TakesTurn, TakesTurns}}
 

@@ -1,7 +1,7 @@
 -- A row of each request on keys that prompts nobody: what is done and written for it.
 use Rattle.std.{specs.Prelude.{◌≡◌, ◌≤◌, ◌==◌, not, ℕ, true, false, List, [], ◌∷◌, ◌++◌, length, take, drop, replicate, codes, Some, None, Ok, refl}, proofs.Common.{sym, subst}}
-use Rattle.agent_ask.specs.{ClientActions.{written, given as sent}, PortCalls.{Listed, Replaced, Removed}, SessionEvents.{Sent, Inquiry, cache_turn}, ActionExchanges.{answered, refused}, Actions.{goes_on, stops, returns, refuses, wanted}}
-use Rattle.{agent_ask.specs.TurnActions.{given, empty, peeked, unheld, done}, agent_ports.specs.declared.{grip.Grip.Grip, keys.{KeyDone.TheVariants.Done as IsDone, KeyRead.{KeyRead, TheVariants.{Found, Absent}}, KeyNames.KeyNames}}}
+use Rattle.agent_ask.specs.Session.{ClientActions.{written, given as sent}, PortCalls.{Listed, Replaced, Removed}, SessionEvents.{Sent, Inquiry, cache_turn}, ActionExchanges.{answered, refused}, Actions.{goes_on, stops, returns, refuses, wanted}}
+use Rattle.{agent_ask.specs.Session.TurnActions.{given, empty, peeked, unheld, done}, agent_ports.specs.declared.{grip.Grip.Grip, keys.{KeyDone.TheVariants.Done as IsDone, KeyRead.{KeyRead, TheVariants.{Found, Absent}}, KeyNames.KeyNames}}}
 use Rattle.{assuan_server.specs.{Inquiries.Data, Written.{failed, ok, limit_line, IsDataAnswer}}, session_client.specs.declared.{code.Code.TheVariants.{NoSecKey, Parameter, General, FileExists, BadPass}, refusal.Refusal.TheVariants.Agent}}
 use Rattle.{session_client.specs.Asking.Asked, cache_policy.specs.declared.{grant.Grant.Grant, mark.{MarkStep.TheVariants.{Peek, Put, Clear}, Way.TheVariants.Quiet}, mode.Mode.TheVariants.{Normal, Nonce}, life.Life.TheVariants.Default}}
 use Rattle.{cache_policy.specs.{declared.secret.TheConstants.MAX_SECRET_LEN, Turns.{Given, Empty, Held, Done, FitsStep}}, assuan_escape.specs.Escapes.hex_text, secret_file.specs.Opens.{LockedKey, IsLocked, OpensTo}}

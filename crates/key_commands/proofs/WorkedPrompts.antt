@@ -1,8 +1,8 @@
 -- A row of each request on keys that prompts the user: what is done and written for it, in order.
 use Rattle.std.{specs.Prelude.{◌≡◌, ◌≤◌, ◌++◌, ℕ, true, false, List, [], ◌∷◌, length, take, drop, codes, Some, None, Ok, refl}, proofs.Common.arith}
-use Rattle.agent_ask.specs.{ClientActions.{written, given as sent}, Events.{Call, Start, GetPin, Confirm, Shut}, PortCalls.{Replaced, Removed}, ActionExchanges.{answered, refused}, Actions.{goes_on, stops, returns}, Plans.{IsSpec, text}}
-use Rattle.agent_ask.specs.{Prompts.{MeetsCheck, typed, Tries, IsTry, Repeats}, SessionEvents.{Sent, Inquiry, cache_turn}, Tests.test_of, TurnActions.{Asks, Seats, done, unheld, closed}, declared.prompter.Outcome.TheVariants.Pin}
-use Rattle.{agent_ask.{specs.declared.{spec.PromptSpec.PromptSpec, test.Tested.TheVariants.{Yes, No}}, proofs.WorkedPrompts.{shown_by, prompts, asks_consent, first_try, second_try, third_try}}, agent_ports.specs.declared.grip.Grip.Grip}
+use Rattle.agent_ask.specs.{Session.{ClientActions.{written, given as sent}, PortCalls.{Replaced, Removed}, ActionExchanges.{answered, refused}, Actions.{goes_on, stops, returns}}, Events.{Call, Start, GetPin, Confirm, Shut}, Plans.{IsSpec, text}}
+use Rattle.agent_ask.specs.{Prompts.{MeetsCheck, typed, Tries, IsTry, Repeats}, Session.{SessionEvents.{Sent, Inquiry, cache_turn}, TurnActions.{Asks, Seats, done, unheld, closed}}, Tests.test_of, declared.prompt.prompter.Outcome.TheVariants.Pin}
+use Rattle.{agent_ask.{specs.declared.prompt.{spec.PromptSpec.PromptSpec, test.Tested.TheVariants.{Yes, No}}, proofs.WorkedPrompts.{shown_by, prompts, asks_consent, first_try, second_try, third_try}}, agent_ports.specs.declared.grip.Grip.Grip}
 use Rattle.{agent_ports.specs.declared.keys.{KeyDone.TheVariants.Done as IsDone, KeyRead.{KeyRead, TheVariants.{Found, Absent}}}, assuan_escape.specs.Escapes.hex_text, assuan_server.specs.{Clients.session_lines, Inquiries.Data}}
 use Rattle.{assuan_server.specs.Written.{ok, limit_line, failed, failed_at_pinentry, IsDataAnswer}, cache_policy.specs.{Turns.{Given, Open, Done, FitsStep}, declared.{grant.Grant.Grant, life.Life.TheVariants.Default}}}
 use Rattle.{cache_policy.specs.declared.{mark.MarkStep.TheVariants.{Seat, Close, Put, Clear}, mode.Mode.TheVariants.{Normal, Nonce}}, key_lines.specs.Canon.is_canonical, secret_file.specs.Opens.{LockedKey, IsLocked, OpensTo}}
@@ -14,9 +14,9 @@ use Rattle.key_commands.specs.{Lines.{grip_text, described, old_description, new
 use Rattle.key_commands.specs.{Passphrases.{ask_key, seat_for, is_locked, opens, OpensBy, OpensLocked, PromptsOld, PromptsNew}, Wrapping.{wrapped_key, WrappedSays}}
 use Rattle.key_commands.specs.declared.{request.KeyRequest.TheVariants.{ImportKey, ExportKey, Passwd, DeleteKey}, went.KeyWent.TheVariants.On, keywrap_key.WrapKeys.WrapKeys, wrapping.TheConstants.MAX_LIST_LEN}
 use Rattle.agent_ask.specs.ConsentActions as consent
-use Rattle.agent_ask.specs.declared.consent.Agreed.TheVariants as agreed
-use Rattle.agent_ask.specs.declared.prompter.Consent.TheVariants as consented
-use Rattle.agent_ask.specs.declared.prompter.Opened.TheVariants as opening
+use Rattle.agent_ask.specs.declared.prompt.consent.Agreed.TheVariants as agreed
+use Rattle.agent_ask.specs.declared.prompt.prompter.Consent.TheVariants as consented
+use Rattle.agent_ask.specs.declared.prompt.prompter.Opened.TheVariants as opening
 use Rattle.cache_policy.specs.declared.mark.Way.TheVariants as way
 use Rattle.session_client.specs.declared.code.Code.TheVariants as code
 use Rattle.session_options.specs.declared.options.PinMode.TheVariants as mode

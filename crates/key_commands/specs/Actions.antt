@@ -1,6 +1,6 @@
 -- The actions of a request on keys that are done with the keys and with the dice alone, and how a session goes on behind one. This is the project's own.
 use Rattle.std.specs.Prelude.{◌≡◌, ℕ, List, [], ◌∷◌, Option, Some, None, Result, Ok, Err, Bool, true, false, length}
-use Rattle.{agent_ask.specs.{Actions.ActionOf, SessionEvents.said_last}, agent_ports.specs.declared.{grip.Grip.Grip, keys.KeyRead.KeyRead}, assuan_server.specs.Written.refusal_line, session_client.specs.declared.code.Code.Code}
+use Rattle.{agent_ask.specs.Session.{Actions.ActionOf, SessionEvents.said_last}, agent_ports.specs.declared.{grip.Grip.Grip, keys.KeyRead.KeyRead}, assuan_server.specs.Written.refusal_line, session_client.specs.declared.code.Code.Code}
 use Rattle.session_client.specs.declared.{refusal.Refusal.{Refusal, TheVariants.Agent}, client_error.Gone.Gone}
 use Rattle.key_commands.specs.{Events.{Event, drew, not_drawn, read}, declared.went.KeyWent.{KeyWent, TheVariants.{On, Gone as AtGone}}}
 use Rattle.agent_ports.specs.declared.keys.KeyRead.TheVariants as key_read

@@ -1,6 +1,6 @@
 -- What a session does for its requests on keys, over the lines that this project's server reads.
 use Rattle.std.specs.Prelude.{ℕ, List, ⊤}
-use Rattle.{agent_ask.specs.{Events.Called, PortCalls.{EventOf, KeyCall, Read, Keys, Dice, Drew, NotDrawn, NoMemory, Prompt}, SessionEvents.Port}, agent_ports.specs.declared.{grip.Grip.Grip, keys.KeyRead.KeyRead}}
+use Rattle.{agent_ask.specs.{Events.Called, Session.{PortCalls.{EventOf, KeyCall, Read, Keys, Dice, Drew, NotDrawn, NoMemory, Prompt}, SessionEvents.Port}}, agent_ports.specs.declared.{grip.Grip.Grip, keys.KeyRead.KeyRead}}
 use Rattle.assuan_server.specs.Clients.{session_lines}
 
 abbrev pub Event : Type 0

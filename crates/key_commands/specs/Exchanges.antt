@@ -1,7 +1,7 @@
 -- Requests on keys and what is done for them, as the GnuPG manual has them ("Agent's Assuan protocol"). The codes, the texts and the order of
 -- what is done are this project's own. A row of each stands in proofs/WorkedExchanges, or where it prompts in proofs/WorkedPrompts.
 use Rattle.std.specs.Prelude.{◌++◌, ℕ, Bool, true, false, List, take, drop, Option, Some}
-use Rattle.{agent_ask.specs.{ActionExchanges.{AnyReply, AnyExchange}, Actions.{◌>>=◌, Returns, Refuses, needed, wanted, or_else}, TurnActions.{Changes, Closes}}, agent_ports.specs.declared.grip.Grip.Grip}
+use Rattle.{agent_ask.specs.Session.{ActionExchanges.{AnyReply, AnyExchange}, Actions.{◌>>=◌, Returns, Refuses, needed, wanted, or_else}, TurnActions.{Changes, Closes}}, agent_ports.specs.declared.grip.Grip.Grip}
 use Rattle.{cache_policy.specs.declared.{life.Life.TheVariants.Default, mark.MarkStep.TheVariants.{Put, Clear}, mode.Mode.TheVariants.{Normal, Nonce}}, assuan_escape.specs.Escapes.hex_text, assuan_server.specs.Written.{refusal_line, ok}}
 use Rattle.{session_options.specs.{OptionValues.OptionValues, declared.rules.Rules.Rules}, sexp_keys.specs.Key.Key, session_client.specs.declared.refusal.Refusal.TheVariants.Agent}
 use Rattle.key_commands.specs.{Events.Event, Files.Rewrites, Lines.{grip_text, nonce_line}, Actions.{Action, Finds, Draws, key_went_after}, Passphrases.{OldPassphrase, NewPassphrase, VerifiesPassphrase, LooksForNonce}}

@@ -1,8 +1,8 @@
 -- The actions of requests on keys that are no passphrase's: what is done with key files and with wrapped keys, and how consent is asked for (GnuPG
 -- manual, "Agent's Assuan protocol"). The codes, the texts and the order of what is done are this project's own.
 use Rattle.std.specs.Prelude.{◌≡◌, ◌≢◌, ◌≤◌, ◌<◌, length, ℕ, Bool, true, false, List, [], ◌∷◌, codes, not, Option, Some, None, Result, Ok, Err}
-use Rattle.agent_ask.specs.{ClientActions.{Writes, Inquires}, PortCalls.{Listed, Replaced, Removed}, SessionEvents.{Inquiry, cache_turn}, ConsentActions.AgreesTo, Actions.{◌>>=◌, Returns, Refuses, wanted, unless}}
-use Rattle.{agent_ask.specs.TurnActions.{Changes, Peeks, Closes, in_mode}, agent_ports.specs.declared.{grip.Grip.Grip, keys.{KeyDone.KeyDone, KeyRead.KeyRead, KeyNames.KeyNames}}, assuan_server.specs.Clients.session_lines}
+use Rattle.agent_ask.specs.{Session.{ClientActions.{Writes, Inquires}, PortCalls.{Listed, Replaced, Removed}, SessionEvents.{Inquiry, cache_turn}, Actions.{◌>>=◌, Returns, Refuses, wanted, unless}}, ConsentActions.AgreesTo}
+use Rattle.{agent_ask.specs.Session.TurnActions.{Changes, Peeks, Closes, in_mode}, agent_ports.specs.declared.{grip.Grip.Grip, keys.{KeyDone.KeyDone, KeyRead.KeyRead, KeyNames.KeyNames}}, assuan_server.specs.Clients.session_lines}
 use Rattle.{assuan_server.specs.{Inquiries.{Outcome, IsAtEnd}, Written.{IsDataAnswer, limit_line}}, session_client.specs.{declared.{code.Code.Code, refusal.Refusal.{Refusal, TheVariants.Agent}}, Asking.Asked}}
 use Rattle.{cache_policy.specs.{declared.{grant.Grant.Grant, mode.Mode.TheVariants.Normal}, Turns.{Given, Empty, Stopping, Refused, FitsStep}}, secret_file.specs.Protects.{ocb_protection, protected_file}}
 use Rattle.{session_options.specs.{OptionValues.OptionValues, declared.rules.Rules.Rules}, sexp_keys.specs.{Key.Key, Lists.{grip_of, key_list_of}, declared.fault.KeyFault.KeyFault}}

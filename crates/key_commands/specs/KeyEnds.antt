@@ -1,5 +1,5 @@
 -- What a request on keys has to do with beside its link and its desk: the ports of a session without the trust file. This is the project's own.
-use Rattle.{agent_ask.specs.{Doing.DoesCall, Events.{Call, PromptEvent}, PortCalls.{KeyCall, Draw, PortCall, Prompt, Keys, Dice, NoMemory, DoesKeys, DoesDraw}}, agent_ports.specs.{KeyFiles.KeyFiles, Sides.Side}}
+use Rattle.{agent_ask.specs.{Doing.DoesCall, Events.{Call, PromptEvent}, Session.PortCalls.{KeyCall, Draw, PortCall, Prompt, Keys, Dice, NoMemory, DoesKeys, DoesDraw}}, agent_ports.specs.{KeyFiles.KeyFiles, Sides.Side}}
 
 pub record KeyEnds (P : Type 0) : Type 0 where
   pub prompter : P

@@ -1,6 +1,6 @@
 -- Private: actions of a request on keys that were done, and those that have nothing to do with some ends of its session.
 use Rattle.std.specs.Prelude.{ℕ, Option, Result}
-use Rattle.{agent_ask.specs.{Doing.DoesCall, Events.{Call, PromptEvent}, PortCalls.{PortCall, Prompt, NoMemory}, ActionStates.{DoesAction, action_state, NoTurn}}, assuan_server.specs.{Clients.connection_views, Connections.Connection}}
+use Rattle.{agent_ask.specs.{Doing.DoesCall, Events.{Call, PromptEvent}, Session.{PortCalls.{PortCall, Prompt, NoMemory}, ActionStates.{DoesAction, action_state, NoTurn}}}, assuan_server.specs.{Clients.connection_views, Connections.Connection}}
 use Rattle.{cache_policy.specs.{declared.mark.MarkStep.MarkStep, Turns.Turn}, session_client.specs.declared.refusal.Refusal.Refusal}
 use Rattle.key_commands.specs.{KeyEnds.DoesAtKeys, Actions.Action, States.KeyState}
 

@@ -1,13 +1,13 @@
 -- How a request comes by the passphrase of a key, old or new (GnuPG manual, "Agent EXPORT", "Agent PASSWD"). Where it is looked for, in which order, and what
 -- is kept of it, is this project's own.
 use Rattle.std.specs.Prelude.{◌≡◌, ◌≢◌, ◌==◌, ℕ, Bool, true, false, List, [], ◌∷◌, length, codes, Option, Some, None, Result, Ok, Err, not, ⊤}
-use Rattle.agent_ask.specs.{ClientActions.AsksClient, PinActions.{PromptsPin, pin_refusal}, Plans.{IsSpec, plan_of, text}, declared.{ask.Asked.Asked, spec.PromptSpec.PromptSpec}, Actions.{◌>>=◌, Returns, Refuses, needed, wanted, or_else}}
-use Rattle.{agent_ask.specs.TurnActions.{Asks, Seats, Changes}, agent_ports.specs.declared.grip.Grip.Grip, assuan_server.specs.{Clients.session_lines, Written.limit_line}, cache_policy.specs.declared.life.Life.TheVariants.Default}
+use Rattle.agent_ask.specs.{Session.{ClientActions.AsksClient, Actions.{◌>>=◌, Returns, Refuses, needed, wanted, or_else}}, PinActions.{PromptsPin, pin_refusal}, Plans.{IsSpec, plan_of, text}, declared.prompt.{ask.Asked.Asked, spec.PromptSpec.PromptSpec}}
+use Rattle.{agent_ask.specs.Session.TurnActions.{Asks, Seats, Changes}, agent_ports.specs.declared.grip.Grip.Grip, assuan_server.specs.{Clients.session_lines, Written.limit_line}, cache_policy.specs.declared.life.Life.TheVariants.Default}
 use Rattle.cache_policy.specs.declared.{mark.{MarkStep.{MarkStep, TheVariants.{Ask, Seat, Put}}, Way.{Way, TheVariants.{Quiet, Prompt}}}, mode.Mode.TheVariants.{Normal, Nonce}, secret.TheConstants.MAX_SECRET_LEN}
 use Rattle.{secret_file.specs.{Answers.IsLockedFault, Opens.{LockedKey, IsLocked, OpensTo}}, session_options.specs.{OptionValues.OptionValues, declared.{options.PinMode.PinMode, rules.Rules.Rules}}, sexp_keys.specs.Key.Key}
 use Rattle.{sexp_keys.specs.declared.fault.KeyFault.KeyFault, session_client.specs.declared.refusal.Refusal.{Refusal, TheVariants.Agent}}
 use Rattle.key_commands.specs.{Events.{Event, out_of_memory}, Lines.{grip_text, described, old_description, new_description, field_text}, Actions.Action, Faults.fault_code, declared.opened.OpenedKey.OpenedKey}
-use Rattle.agent_ask.specs.declared.ask.Asked.TheVariants as asked
+use Rattle.agent_ask.specs.declared.prompt.ask.Asked.TheVariants as asked
 use Rattle.session_client.specs.declared.code.Code.TheVariants as code
 use Rattle.session_options.specs.declared.options.PinMode.TheVariants as mode
 

@@ -1,6 +1,6 @@
 -- Private: what is written for a request, once all else is done for it.
 use Rattle.std.specs.Prelude.{◌≡◌, ◌++◌, ℕ, List, Option, Result}
-use Rattle.{agent_ask.specs.{Events.Call, ActionReplies.{RespondsBy, CarriesBy}}, assuan_server.specs.{Clients.connection_views, Connections.Connection, Written.{refusal_line, ok, IsDataAnswer}}}
+use Rattle.{agent_ask.specs.{Events.Call, Session.ActionReplies.{RespondsBy, CarriesBy}}, assuan_server.specs.{Clients.connection_views, Connections.Connection, Written.{refusal_line, ok, IsDataAnswer}}}
 use Rattle.{cache_policy.specs.{declared.mark.MarkStep.MarkStep, Turns.Turn}, session_client.specs.declared.refusal.Refusal.Refusal}
 use Rattle.key_commands.specs.{Exchanges.KeyReply, KeyEnds.DoesAtKeys, Actions.{Action, key_went_after}, States.KeyState, declared.{reply.Reply.Reply, went.KeyWent.{KeyWent, TheVariants.On}, keywrap_key.WrapKeys.WrapKeys}}
 use Rattle.key_commands.specs.declared.reply.Reply.TheVariants as replies

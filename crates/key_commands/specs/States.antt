@@ -1,6 +1,6 @@
 -- How a session stands at some state of its code before and after a request on keys, and how events lead from one to the other.
 use Rattle.std.specs.Prelude.{List}
-use Rattle.{agent_ask.specs.{Answering.AnswersBy, Events.Call, PortCalls.world_with, States.AnyState, Worlds.AnyWorld}, agent_ports.specs.{KeyFiles.KeyFiles, Sides.Side}, assuan_server.specs.Clients.{connection_views, session_lines}}
+use Rattle.{agent_ask.specs.{Session.{Answering.AnswersBy, PortCalls.world_with, States.AnyState, Worlds.AnyWorld}, Events.Call}, agent_ports.specs.{KeyFiles.KeyFiles, Sides.Side}, assuan_server.specs.Clients.{connection_views, session_lines}}
 use Rattle.{assuan_server.specs.Connections.Connection, cache_policy.specs.{declared.mark.MarkStep.MarkStep, Turns.Turn}}
 use Rattle.key_commands.specs.{Events.Event, KeyEnds.DoesAtKeys, Actions.{key_went_after, key_gone}, declared.{went.KeyWent.KeyWent, keywrap_key.WrapKeys.WrapKeys}}
 

@@ -1,6 +1,6 @@
 -- Private: what the steps of a request know.
 use Rattle.std.specs.{Prelude.{◌≡◌, ℕ, ◌==◌, ◌&&◌, nat_lt, Bool, List, [], ◌∷◌, length, Option, Some, None, Result, Ok, Err}, List.list_all}
-use Rattle.{agent_ask.specs.{PortCalls.{KeyCall, Draw, Dice, DoesKeys, DoesDraw}, ActionStates.{gone_in, DoesTurn, DoesTurns}, SessionEvents.Port}, agent_ports.specs.{KeyFiles.KeyFiles, Sides.Side, declared.keys.KeyDone.KeyDone}}
+use Rattle.{agent_ask.specs.Session.{PortCalls.{KeyCall, Draw, Dice, DoesKeys, DoesDraw}, ActionStates.{gone_in, DoesTurn, DoesTurns}, SessionEvents.Port}, agent_ports.specs.{KeyFiles.KeyFiles, Sides.Side, declared.keys.KeyDone.KeyDone}}
 use Rattle.{agent_ports.specs.declared.keys.KeyDone.TheVariants.Done, session_client.specs.declared.{code.Code.Code, refusal.Refusal.{Refusal, TheVariants.{Agent, Client}}}, assuan_server.specs.declared.inquiry.Inquired.Inquired}
 use Rattle.{cache_policy.specs.{declared.mark.MarkStep.MarkStep, Turns.Turn}, sexp_keys.specs.{Key.Key, declared.fault.KeyFault.KeyFault}}
 use Rattle.key_commands.specs.{Events.{Event, called, out_of_memory}, KeyActions.change_fault, Actions.Action}

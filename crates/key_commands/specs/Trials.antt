@@ -1,6 +1,6 @@
 -- Private: passphrases that are tried on a locked key at a prompt, and what their answers mean.
 use Rattle.std.{specs.Prelude.{◌≡◌, ℕ, List, Option, Some, IsTrue, ⊤}, proofs.Common.{sym, subst}}
-use Rattle.{agent_ask.specs.{Tests.{Judges, IsTest}, declared.test.Tested.{Tested, TheVariants.{Yes, No, NoMemory}}}, secret_file.specs.Opens.{LockedKey, OpensTo, FitsFile}, sexp_keys.specs.Key.Key}
+use Rattle.{agent_ask.specs.{Tests.{Judges, IsTest}, declared.prompt.test.Tested.{Tested, TheVariants.{Yes, No, NoMemory}}}, secret_file.specs.Opens.{LockedKey, OpensTo, FitsFile}, sexp_keys.specs.Key.Key}
 use Rattle.key_commands.specs.Passphrases.{OpensBy}
 
 -- a clear key within the limits of a file that is read

@@ -5,8 +5,8 @@
 ghost use Rattle.std.specs.Prelude.{[]};
 ghost use Rattle.{assuan_line.specs.Lines.IsLine, assuan_server.specs.Clients.connection_views};
 ghost use Rattle.assuan_server.specs.{Connections.IsOpen, Inquiries.inquire_text};
-ghost use Rattle.{assuan_server.specs.Written.limit_line, agent_ask.specs.ClientActions.Writes};
-ghost use Rattle.agent_ask.specs.ActionStates.{DoesWithClient};
+ghost use Rattle.{assuan_server.specs.Written.limit_line, agent_ask.specs.Session.ClientActions.Writes};
+ghost use Rattle.agent_ask.specs.Session.ActionStates.{DoesWithClient};
 ghost use Rattle.key_commands.specs.Passphrases.{AsksSecret};
 
 use agent_ports::Link;

@@ -5,7 +5,7 @@
 ghost use Rattle.std.specs.Prelude.{◌≡◌, false, None, Some};
 ghost use Rattle.{agent_ports.specs.Sides.Side, assuan_server.specs.Clients.connection_views};
 ghost use Rattle.assuan_server.specs.Connections.{Connection, IsOpen};
-ghost use Rattle.agent_ask.specs.{ClientActions.Writes, ActionStates.DoesWithClient};
+ghost use Rattle.agent_ask.specs.Session.{ClientActions.Writes, ActionStates.DoesWithClient};
 ghost use Rattle.session_options.specs.OptionValues.{OptionValues};
 ghost use Rattle.session_options.specs.declared.rules.Rules.{Rules as TheRules};
 ghost use Rattle.assuan_text.specs.LineEnds.{has_lf};

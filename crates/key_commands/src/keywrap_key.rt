@@ -6,7 +6,7 @@
 ghost use Rattle.std.specs.{Prelude.{◌≡◌, None, Some}, Option.option_copied};
 ghost use Rattle.agent_ports.specs.KeyFiles.{KeyFiles as Files};
 ghost use Rattle.assuan_server.specs.Connections.{Connection, IsOpen};
-ghost use Rattle.agent_ask.specs.{Actions.or_else, ActionStates.NoTurn};
+ghost use Rattle.agent_ask.specs.Session.{Actions.or_else, ActionStates.NoTurn};
 ghost use Rattle.session_options.specs.{OptionValues.OptionValues, declared.rules.Rules.Rules};
 ghost use Rattle.key_commands.specs.Exchanges.{KeyWrapReplies, wrap_key, with_wrap_key};
 ghost use Rattle.key_commands.specs.{Actions.Draws, Partial.NoCall, Replies.CarriesOut};

@@ -3,7 +3,7 @@
 //! `NewPassphrase` (`specs/Passphrases`), and `renewed_passphrase`, which PASSWD wants.
 
 ghost use Rattle.std.specs.Prelude.{◌≡◌};
-ghost use Rattle.agent_ask.specs.{ActionStates.DoesWithClient, Seats.IsReady};
+ghost use Rattle.agent_ask.specs.{Session.ActionStates.DoesWithClient, Seats.IsReady};
 ghost use Rattle.assuan_server.specs.{Clients.connection_views, Connections.IsOpen};
 ghost use Rattle.key_commands.specs.{Exchanges.RenewsPassphrase, Partial.LeavesKeys};
 ghost use Rattle.key_commands.specs.Passphrases.{ClientNew, NewPassphrase, new_by};

@@ -8,7 +8,7 @@ ghost use Rattle.cache_policy.specs.declared.life.Life.TheVariants.{Default};
 ghost use Rattle.cache_policy.specs.declared.mark.MarkStep.TheVariants.{Put, Clear};
 ghost use Rattle.cache_policy.specs.declared.mode.Mode.TheVariants.{Normal, Nonce};
 ghost use Rattle.cache_policy.specs.Turns.{asked_step, closes};
-ghost use Rattle.agent_ask.specs.TurnActions.{Changes, Peeks};
+ghost use Rattle.agent_ask.specs.Session.TurnActions.{Changes, Peeks};
 ghost use Rattle.key_commands.specs.{Passphrases.{TakesSeat, put_key}, Lines.grip_text};
 ghost use Rattle.key_commands.specs.Steps.{TakesTurn, TakesTurns};
 

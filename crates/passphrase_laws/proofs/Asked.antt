@@ -1,23 +1,10 @@
 -- The requests of a task are read by the agent as what they ask for.
 use Rattle.std.proofs.Common.{◌≡◌, ◌≢◌, ℕ, Bool, true, false, cond, List, [], ◌∷◌, ◌++◌, codes, Option, Some, None, Ok, refl, ap, sym, ◌∙◌, arith, append_assoc}
-use Rattle.agent_ask.specs.Plans.{text}
-use Rattle.agent_commands.specs.Fields.{text_or}
-use Rattle.command_table.specs.Commands.{command_named}
-use Rattle.agent_commands.specs.Requests.{GetFields, get_passphrase, get_of, request_of, either}
-use Rattle.agent_commands.specs.declared.request.Request.TheVariants.{Cache}
-use Rattle.arrayvec.specs.ArrayVec.{ArrayVec}
-use Rattle.assuan_escape.specs.Escapes.{unescaped}
-use Rattle.assuan_text.specs.Options.{options_of, arguments_of}
-use Rattle.assuan_text.specs.Words.{words}
-use Rattle.passphrase_words.specs.Requests.{Looks, Asks, line_of_request}
+use Rattle.{agent_ask.specs.Plans.text, agent_commands.specs.{Fields.text_or, Requests.{GetFields, get_passphrase, get_of, request_of, either}, declared.request.Request.TheVariants.Cache}, command_table.specs.Commands.command_named}
+use Rattle.{arrayvec.specs.ArrayVec.ArrayVec, assuan_escape.specs.Escapes.unescaped, assuan_text.specs.{Options.{options_of, arguments_of}, Words.words}, passphrase_words.specs.{Requests.{Looks, Asks, line_of_request}, Tasks.TaskValue}}
+use Rattle.passphrase_words.specs.{Texts.{word_of, prompt_word, description_or}, declared.task.Act.{Act, TheVariants.{Give, Cached, Forget, Store}}}
+use Rattle.passphrase_laws.{specs.Asking.{as_read, prompt_read, Says, is_quiet, repeats_of, fields_of}, proofs.{Fields.{behind, fields, id_word, quiet_read, repeat_read, plain_read}, Words.{IsWord, text_word}}}
 use Rattle.passphrase_words.specs.Requests as asking
-use Rattle.passphrase_words.specs.Tasks.{TaskValue}
-use Rattle.passphrase_words.specs.Texts.{word_of, prompt_word, description_or}
-use Rattle.passphrase_words.specs.declared.task.Act.{Act}
-use Rattle.passphrase_words.specs.declared.task.Act.TheVariants.{Give, Cached, Forget, Store}
-use Rattle.passphrase_laws.specs.Asking.{as_read, prompt_read, Says, is_quiet, repeats_of, fields_of}
-use Rattle.passphrase_laws.proofs.Fields.{behind, fields, id_word, quiet_read, repeat_read, plain_read}
-use Rattle.passphrase_laws.proofs.Words.{IsWord, text_word}
 
 -- a text as the agent reads its word
 text_read : (usual bytes : List ℕ) → text_or usual (word_of bytes) ≡ as_read bytes

@@ -1,18 +1,8 @@
 -- The whole road over a session of this agent.
 use Rattle.std.proofs.Common.{◌≡◌, ◌≢◌, ◌≤◌, ℕ, true, List, ◌++◌, length, Option, Some, ap, sym, subst, ◌∙◌, arith, length-append}
-use Rattle.agent_commands.specs.Actions.{CacheEvent}
-use Rattle.agent_commands.specs.Requests.{GetFields, get_passphrase, request_of}
-use Rattle.agent_commands.specs.declared.request.Request.TheVariants.{Cache}
-use Rattle.passphrase_talk.specs.Dialogues.{told_of}
-use Rattle.passphrase_talk.specs.Turns.{Turn}
-use Rattle.passphrase_talk.specs.Visits.{Talk}
-use Rattle.passphrase_talk.specs.declared.visits.TheConstants.{BUDGET}
-use Rattle.session_options.specs.declared.options.PinMode.TheVariants.{Loopback}
-use Rattle.session_options.specs.declared.rules.Rules.{Rules}
-use Rattle.passphrase_laws.specs.Exchanges.{texts_of}
-use Rattle.passphrase_laws.specs.Roads.{session_text}
-use Rattle.passphrase_laws.specs.Served.{AnswersRequest, Serves}
-use Rattle.passphrase_laws.proofs.Reaching.{reaches}
+use Rattle.{agent_commands.specs.{Actions.CacheEvent, Requests.{GetFields, get_passphrase, request_of}, declared.request.Request.TheVariants.Cache}, passphrase_talk.specs.{Dialogues.told_of, Turns.Turn, Visits.Talk}}
+use Rattle.{passphrase_talk.specs.declared.visits.TheConstants.BUDGET, session_options.specs.declared.{options.PinMode.TheVariants.Loopback, rules.Rules.Rules}}
+use Rattle.passphrase_laws.{specs.{Exchanges.texts_of, Roads.session_text, Served.{AnswersRequest, Serves}}, proofs.Reaching.reaches}
 
 pub answers : (rules : Rules) (options : List (List ℕ)) (line : List ℕ) (fields : GetFields) (events : List CacheEvent) (turns : List Turn) (given left written : Option (List ℕ))
     → Serves rules options line events → request_of line ≡ Cache (get_passphrase fields) → fields.plain ≡ true → given ≡ Some (texts_of events) → length (texts_of events) ≤ BUDGET

@@ -1,33 +1,15 @@
 -- A dialogue with a session, from its greeting to what is told of it.
-use Rattle.std.specs.List.{AllByRecursion}
-use Rattle.std.proofs.Common.{◌≡◌, ℕ, ◌≤◌, Bool, false, List, [], ◌∷◌, ◌++◌, length, Option, Some, None, Result, Ok, Err, refl, ap, sym, subst, ◌∙◌, arith, append_assoc, append-nil}
-use Rattle.std.proofs.lemmas.Bool.{false≢true}
+use Rattle.std.{specs.List.AllByRecursion, proofs.{Common.{◌≡◌, ℕ, ◌≤◌, Bool, false, List, [], ◌∷◌, ◌++◌, length, Option, Some, None, Result, Ok, Err, refl, ap, sym, subst, ◌∙◌, arith, append_assoc, append-nil}, lemmas.Bool.false≢true}}
 use Rattle.std.proofs.lemmas.List.Concat.{flat_map-append}
-use Rattle.agent_ask.specs.SessionEvents.{Sent, said_last}
-use Rattle.agent_commands.specs.Actions.{CacheEvent}
-use Rattle.agent_ports.specs.Sides.{followed_by}
-use Rattle.assuan_client.specs.Connections.{Connection}
-use Rattle.assuan_client.specs.Skipping.{nothing}
-use Rattle.assuan_client.specs.declared.answer.Answer.{Answer}
-use Rattle.assuan_client.specs.declared.answer.Answer.TheVariants as answer
-use Rattle.assuan_line.specs.Next.{Reader, held}
-use Rattle.assuan_server.specs.Errors.{error_text, error_number}
-use Rattle.assuan_server.specs.Written.{greeting, ok}
-use Rattle.assuan_text.specs.LineEnds.{line_of}
-use Rattle.passphrase_talk.specs.Dialogues.{Requests, IsDialogue, stopped, goes_on, requested, not_greeted, greeted, told_of, loss_of, passed, is_ok}
-use Rattle.passphrase_talk.specs.Turns.{Hello, OptionLine, Turn, turn_of, AreTaken, one}
-use Rattle.passphrase_talk.specs.Visits.{Talk}
-use Rattle.passphrase_talk.specs.declared.told.Told.{Told}
-use Rattle.passphrase_talk.specs.declared.visits.TheConstants.{BUDGET}
-use Rattle.session_client.specs.declared.refusal.Refusal.{Refusal}
-use Rattle.passphrase_laws.specs.Exchanges.{TellsLast, gone, IsSilent, Notes, texts_of, text_of}
-use Rattle.passphrase_laws.specs.Readings.{Comes}
-use Rattle.passphrase_laws.specs.Roads.{IsWhole, IfSecret, AreReplies, session_text, Hears}
-use Rattle.passphrase_laws.specs.Roads as road
-use Rattle.passphrase_laws.proofs.Finding.{ComesTo, is_found}
-use Rattle.passphrase_laws.proofs.Hearing.{Takes, takes, no_read, no_write, by_finds, begun, command_takes, front, rest, IsLast, last_is, requested_hears}
-use Rattle.passphrase_laws.proofs.Replying.{error_comes, ok_comes, greeting_comes}
+use Rattle.{agent_ask.specs.Session.SessionEvents.{Sent, said_last}, agent_commands.specs.Actions.CacheEvent, agent_ports.specs.Sides.followed_by, assuan_client.specs.{Connections.Connection, Skipping.nothing}}
+use Rattle.{assuan_client.specs.declared.answer.Answer.Answer, assuan_line.specs.Next.{Reader, held}, assuan_server.specs.{Errors.{error_text, error_number}, Written.{greeting, ok}}, assuan_text.specs.LineEnds.line_of}
+use Rattle.passphrase_talk.specs.{Dialogues.{Requests, IsDialogue, stopped, goes_on, requested, not_greeted, greeted, told_of, loss_of, passed, is_ok}, Turns.{Hello, OptionLine, Turn, turn_of, AreTaken, one}, Visits.Talk}
+use Rattle.{passphrase_talk.specs.declared.{told.Told.Told, visits.TheConstants.BUDGET}, session_client.specs.declared.refusal.Refusal.Refusal}
+use Rattle.passphrase_laws.{specs.{Exchanges.{TellsLast, gone, IsSilent, Notes, texts_of, text_of}, Readings.Comes, Roads.{IsWhole, IfSecret, AreReplies, session_text, Hears}}, proofs.Finding.{ComesTo, is_found}}
+use Rattle.passphrase_laws.proofs.{Hearing.{Takes, takes, no_read, no_write, by_finds, begun, command_takes, front, rest, IsLast, last_is, requested_hears}, Replying.{error_comes, ok_comes, greeting_comes}}
 use Rattle.passphrase_laws.proofs.Texts.{silent_texts, whole_front}
+use Rattle.assuan_client.specs.declared.answer.Answer.TheVariants as answer
+use Rattle.passphrase_laws.specs.Roads as road
 
 -- a turn that goes on tells nothing
 behind_option : {line : List ℕ} {options : List (List ℕ)} (option : List ℕ) (next : Answer) {turns : List Turn} → Requests line options turns

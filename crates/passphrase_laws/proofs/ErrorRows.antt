@@ -1,13 +1,8 @@
 -- Each error line of an agent, as a client reads it.
-use Rattle.std.proofs.Common.{◌≡◌, ℕ, List, refl, arith}
-use Rattle.std.specs.Fmt.{digits}
-use Rattle.assuan_client.specs.Forms.{answer_form, Err}
-use Rattle.assuan_server.specs.Errors.{error_text, error_number}
-use Rattle.assuan_server.specs.declared.errors.Origin.{Origin}
-use Rattle.assuan_server.specs.declared.errors.Origin.TheVariants.{Agent, Pinentry}
-use Rattle.session_client.specs.declared.code.Code.{Code}
-use Rattle.session_client.specs.declared.code.Code.TheVariants as code
+use Rattle.std.{proofs.Common.{◌≡◌, ℕ, List, refl, arith}, specs.Fmt.digits}
+use Rattle.{assuan_client.specs.Forms.{answer_form, Err}, assuan_server.specs.{Errors.{error_text, error_number}, declared.errors.Origin.{Origin, TheVariants.{Agent, Pinentry}}}, session_client.specs.declared.code.Code.Code}
 use Rattle.passphrase_laws.proofs.Walking.{IsSent}
+use Rattle.session_client.specs.declared.code.Code.TheVariants as code
 
 -- it is read as it was written, and as an error of its number
 pub record ErrorRow (line : List ℕ) (number : ℕ) : Type 0 where

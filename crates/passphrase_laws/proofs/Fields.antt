@@ -1,18 +1,8 @@
 -- The line that asks for a passphrase is read as it was meant.
 use Rattle.std.proofs.Common.{◌≡◌, ℕ, ◌+◌, ◌==◌, ◌&&◌, Bool, true, false, cond, List, [], ◌∷◌, ◌++◌, length, take, drop, slice_index, codes, Option, Some, None, Result, Ok, refl, ap, sym, ◌∙◌, arith}
-use Rattle.std.specs.Prelude.{not, nat_le}
-use Rattle.std.specs.List.{list_all, list_any, prefix_len}
-use Rattle.std.specs.Str.{bytes_eq}
-use Rattle.std.proofs.lemmas.Bool.{and_parts, or_from, eqb-true, leb-true, false_from_ne_true, false≢true}
-use Rattle.std.proofs.lemmas.Slice.Eq.{bytes_eq-Decides}
-use Rattle.agent_commands.specs.Fields.{texts_by, texts, repeats, cache_id, unless_placeholder}
-use Rattle.agent_commands.specs.Requests.{GetFields, get_passphrase, get_of}
-use Rattle.agent_commands.specs.declared.request.CacheCommand.{CacheCommand}
-use Rattle.assuan_text.specs.Blanks.{is_blank}
-use Rattle.assuan_text.specs.Options.{is_option, options_of, arguments_of, without_mark, has_option, last_option}
-use Rattle.assuan_text.specs.Words.{words}
-use Rattle.passphrase_words.specs.Ids.{is_id, is_id_byte, has_id_form}
-use Rattle.session_client.specs.Fields.{◌>>=◌, in_form}
+use Rattle.std.{proofs.lemmas.{Bool.{and_parts, or_from, eqb-true, leb-true, false_from_ne_true, false≢true}, Slice.Eq.bytes_eq-Decides}, specs.{Prelude.{not, nat_le}, List.{list_all, list_any, prefix_len}, Str.bytes_eq}}
+use Rattle.{agent_commands.specs.{Fields.{texts_by, texts, repeats, cache_id, unless_placeholder}, Requests.{GetFields, get_passphrase, get_of}, declared.request.CacheCommand.CacheCommand}, assuan_text.specs.Blanks.is_blank}
+use Rattle.{assuan_text.specs.{Options.{is_option, options_of, arguments_of, without_mark, has_option, last_option}, Words.words}, passphrase_words.specs.Ids.{is_id, is_id_byte, has_id_form}, session_client.specs.Fields.{◌>>=◌, in_form}}
 use Rattle.session_client.specs.declared.code.Code.{Code}
 use Rattle.passphrase_laws.proofs.Words.{IsWord, next_word, last_word}
 

@@ -1,21 +1,9 @@
 -- Lines that come to an answer are read as it.
-use Rattle.std.proofs.Common.{◌≡◌, ℕ, ◌+◌, ◌≤◌, false, List, [], ◌++◌, length, Option, Some, None, refl, ap, sym, subst, ◌∙◌, arith, append_assoc, length-append}
-use Rattle.std.specs.List.{flat_map}
-use Rattle.agent_ports.specs.Counts.{Rose}
-use Rattle.agent_ports.specs.Sides.{WhereKnown, followed_by}
-use Rattle.assuan_client.proofs.OnlyAnswer.{by_form, is_by_form}
-use Rattle.assuan_client.specs.Answers.{Answers, Says, read_fault, ReadOn}
-use Rattle.assuan_client.specs.Connections.{Connection}
-use Rattle.assuan_client.specs.Forms.{answer_form}
-use Rattle.assuan_client.specs.Skipping.{Tally, with_lines, with_inquiry, skips_after}
-use Rattle.assuan_client.specs.declared.answer.Answer.{Answer}
+use Rattle.std.{proofs.Common.{◌≡◌, ℕ, ◌+◌, ◌≤◌, false, List, [], ◌++◌, length, Option, Some, None, refl, ap, sym, subst, ◌∙◌, arith, append_assoc, length-append}, specs.List.flat_map}
+use Rattle.{agent_ports.specs.{Counts.Rose, Sides.{WhereKnown, followed_by}}, assuan_client.{proofs.OnlyAnswer.{by_form, is_by_form}, specs.{Answers.{Answers, Says, read_fault, ReadOn}, Connections.Connection, Forms.answer_form}}}
+use Rattle.{assuan_client.specs.{Skipping.{Tally, with_lines, with_inquiry, skips_after}, declared.answer.Answer.Answer}, assuan_line.specs.{Next.held, declared.reader.Took.{Took, TheVariants.ReadFault}}, assuan_text.specs.LineEnds.line_of}
+use Rattle.passphrase_laws.{specs.Readings.{unread, Finds, found, failed}, proofs.Walking.{IsSent, AreSkipped, Walked, walk, whole, spent, fault}}
 use Rattle.assuan_client.specs.declared.answer.Answer.TheVariants as answer
-use Rattle.assuan_line.specs.Next.{held}
-use Rattle.assuan_line.specs.declared.reader.Took.{Took}
-use Rattle.assuan_line.specs.declared.reader.Took.TheVariants.{ReadFault}
-use Rattle.assuan_text.specs.LineEnds.{line_of}
-use Rattle.passphrase_laws.specs.Readings.{unread, Finds, found, failed}
-use Rattle.passphrase_laws.proofs.Walking.{IsSent, AreSkipped, Walked, walk, whole, spent, fault}
 
 -- a text is lines that are skipped and one that isn't, by which they come to this answer
 pub record ComesTo (tally : Tally) (text : List ℕ) (answer : Answer) : Type 0 where

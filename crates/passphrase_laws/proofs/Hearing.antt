@@ -1,35 +1,15 @@
 -- What a dialogue tells of a session's bytes: each turn finds the answer that the session wrote next, or the link failed.
-use Rattle.std.specs.List.{AllByRecursion}
-use Rattle.std.proofs.Common.{◌≡◌, ◌≢◌, ◌⊎◌, ℕ, ◌+◌, Bool, true, false, cond, List, [], ◌∷◌, ◌++◌, length, decimal, Some, Result, Ok, Err, inl, inr, refl, ap, sym, subst, ◌∙◌, arith, append_assoc, length-append}
+use Rattle.std.{specs.List.AllByRecursion, proofs.Common.{◌≡◌, ◌≢◌, ◌⊎◌, ℕ, ◌+◌, Bool, true, false, cond, List, [], ◌∷◌, ◌++◌, length, decimal, Some, Result, Ok, Err, inl, inr, refl, ap, sym, subst, ◌∙◌, arith, append_assoc, length-append}}
 use Rattle.std.proofs.lemmas.Bool.{false≢true, ne_eqb}
-use Rattle.agent_ask.specs.SessionPrompts.{note}
-use Rattle.agent_commands.specs.Actions.{CacheEvent}
-use Rattle.assuan_client.specs.Answers.{success_of}
-use Rattle.assuan_client.specs.Connections.{Connection}
-use Rattle.assuan_client.specs.Skipping.{Tally, nothing, with_lines, with_inquiry}
-use Rattle.assuan_client.specs.Writing.{Command}
-use Rattle.assuan_client.specs.declared.answer.Answer.{Answer}
+use Rattle.{agent_ask.specs.SessionPrompts.note, agent_commands.specs.Actions.CacheEvent, assuan_client.specs.{Answers.success_of, Connections.Connection, Skipping.{Tally, nothing, with_lines, with_inquiry}, Writing.Command}}
+use Rattle.{assuan_client.specs.declared.answer.Answer.Answer, assuan_line.specs.Next.held, assuan_server.specs.{Errors.{error_text, error_number}, Inquiries.inquire_text, Written.refusal_line, declared.errors.Origin.Origin}}
+use Rattle.{assuan_text.specs.LineEnds.line_of, passphrase_talk.specs.{Dialogues.{Replies, ended, asked, told_behind, told_by, quiet, after_said, is_inquiry}, Turns.{End, Turn, AreTaken, one}, declared.told.Told.Told}}
+use Rattle.session_client.specs.declared.{code.Code.Code, refusal.Refusal.Refusal}
+use Rattle.passphrase_laws.specs.{Exchanges.{TellsLast, passphrase, gone, IsSilent, Notes, texts_of, text_of}, Readings.{unread, Comes, IsBegun, Finds, found, failed}, Roads.{IsWhole, IfSecret, AreReplies, session_text, Hears}}
+use Rattle.passphrase_laws.proofs.{Finding.{ComesTo, is_found}, NoteLines.{launched, note_comes}, Texts.{silent_texts, noted_texts, whole_at, note_whole}, Replying.{data_comes, error_comes}}
 use Rattle.assuan_client.specs.declared.answer.Answer.TheVariants as answer
-use Rattle.assuan_line.specs.Next.{held}
-use Rattle.assuan_server.specs.Errors.{error_text, error_number}
-use Rattle.assuan_server.specs.Inquiries.{inquire_text}
-use Rattle.assuan_server.specs.Written.{refusal_line}
-use Rattle.assuan_server.specs.declared.errors.Origin.{Origin}
-use Rattle.assuan_text.specs.LineEnds.{line_of}
-use Rattle.passphrase_talk.specs.Dialogues.{Replies, ended, asked, told_behind, told_by, quiet, after_said, is_inquiry}
-use Rattle.passphrase_talk.specs.Turns.{End, Turn, AreTaken, one}
-use Rattle.passphrase_talk.specs.declared.told.Told.{Told}
-use Rattle.session_client.specs.declared.code.Code.{Code}
-use Rattle.session_client.specs.declared.refusal.Refusal.{Refusal}
-use Rattle.passphrase_laws.specs.Exchanges.{TellsLast, passphrase, gone, IsSilent, Notes, texts_of, text_of}
 use Rattle.passphrase_laws.specs.Exchanges as exchanges
-use Rattle.passphrase_laws.specs.Readings.{unread, Comes, IsBegun, Finds, found, failed}
-use Rattle.passphrase_laws.specs.Roads.{IsWhole, IfSecret, AreReplies, session_text, Hears}
 use Rattle.passphrase_laws.specs.Roads as road
-use Rattle.passphrase_laws.proofs.Finding.{ComesTo, is_found}
-use Rattle.passphrase_laws.proofs.NoteLines.{launched, note_comes}
-use Rattle.passphrase_laws.proofs.Texts.{silent_texts, noted_texts, whole_at, note_whole}
-use Rattle.passphrase_laws.proofs.Replying.{data_comes, error_comes}
 
 -- ---- single turns
 

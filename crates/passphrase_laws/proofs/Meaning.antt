@@ -1,18 +1,9 @@
 -- What words mean, their task says.
-use Rattle.std.proofs.Common.{◌≡◌, ◌≢◌, ℕ, ◌&&◌, true, false, List, [], ◌∷◌, codes, get_or, Option, Some, None, inl, inr, refl, ap, sym, ◌∙◌}
-use Rattle.std.specs.Option.{option_and_then}
-use Rattle.std.specs.Prelude.{not}
-use Rattle.std.specs.Str.{bytes_eq}
-use Rattle.std.proofs.lemmas.Bool.{and_parts, cases_Bool, cond-true, cond-false, false≢true}
-use Rattle.std.proofs.lemmas.Slice.Eq.{bytes_eq-Decides}
-use Rattle.passphrase_words.specs.Options.{form_of}
-use Rattle.passphrase_words.specs.Rules.{are_sound, fits}
-use Rattle.passphrase_words.specs.Spelling.{Setting, is_set, value_given}
-use Rattle.passphrase_words.specs.Tasks.{TaskValue, WantsTask}
-use Rattle.passphrase_words.specs.Texts.{texts_of}
-use Rattle.passphrase_words.specs.Words.{Reads, ReadsAskpass}
-use Rattle.passphrase_words.specs.Words as reading
+use Rattle.std.proofs.{Common.{◌≡◌, ◌≢◌, ℕ, ◌&&◌, true, false, List, [], ◌∷◌, codes, get_or, Option, Some, None, inl, inr, refl, ap, sym, ◌∙◌}, lemmas.Bool.{and_parts, cases_Bool, cond-true, cond-false, false≢true}}
+use Rattle.std.{proofs.lemmas.Slice.Eq.bytes_eq-Decides, specs.{Option.option_and_then, Prelude.not, Str.bytes_eq}}
+use Rattle.passphrase_words.specs.{Options.form_of, Rules.{are_sound, fits}, Spelling.{Setting, is_set, value_given}, Tasks.{TaskValue, WantsTask}, Texts.texts_of, Words.{Reads, ReadsAskpass}}
 use Rattle.passphrase_laws.specs.Asking.{HasTexts, Means, Says, command, askpass}
+use Rattle.passphrase_words.specs.Words as reading
 
 abbrev prompt_name : List ℕ
 prompt_name = codes "--prompt"

@@ -1,22 +1,11 @@
 -- The note of a pinentry comes to the inquiry that it is.
-use Rattle.std.proofs.Common.{◌≡◌, ℕ, ◌+◌, ◌%◌, ◌^◌, ◌<◌, ◌≤◌, ◌==◌, ◌||◌, Bool, false, cond, List, [], ◌∷◌, ◌++◌, length, codes, decimal, refl, ap, sym, subst, ◌∙◌, arith}
-use Rattle.std.specs.List.{list_any}
-use Rattle.std.proofs.lemmas.Bool.{le-leb, ne_eqb}
-use Rattle.std.proofs.lemmas.Fmt.{decimal_by_steps, length-decimal-le}
-use Rattle.std.proofs.lemmas.List.Folds.{list_any-append}
-use Rattle.assuan_client.proofs.OnlyAnswer.{by_form}
-use Rattle.assuan_client.specs.Forms as form
-use Rattle.assuan_client.specs.Forms.{answer_form}
-use Rattle.assuan_client.specs.Skipping.{Tally, with_lines, skips}
-use Rattle.assuan_client.specs.declared.answer.Answer.TheVariants as answer
-use Rattle.assuan_client.specs.declared.tally.TheConstants.{MAX_NOTES}
-use Rattle.assuan_escape.specs.DataLines.{carried}
-use Rattle.assuan_server.specs.Inquiries.{inquire_text}
+use Rattle.std.proofs.{Common.{◌≡◌, ℕ, ◌+◌, ◌%◌, ◌^◌, ◌<◌, ◌≤◌, ◌==◌, ◌||◌, Bool, false, cond, List, [], ◌∷◌, ◌++◌, length, codes, decimal, refl, ap, sym, subst, ◌∙◌, arith}, lemmas.Bool.{le-leb, ne_eqb}}
+use Rattle.std.{proofs.lemmas.{Fmt.{decimal_by_steps, length-decimal-le}, List.Folds.list_any-append}, specs.List.list_any}
+use Rattle.{assuan_client.{proofs.OnlyAnswer.by_form, specs.{Forms.answer_form, Skipping.{Tally, with_lines, skips}, declared.tally.TheConstants.MAX_NOTES}}, assuan_escape.specs.DataLines.carried, assuan_server.specs.Inquiries.inquire_text}
 use Rattle.assuan_text.specs.LineEnds.{has_lf, line_of}
-use Rattle.passphrase_laws.specs.Readings.{IsBegun}
-use Rattle.passphrase_laws.proofs.Finding.{ComesTo}
-use Rattle.passphrase_laws.proofs.Pieces.{no_cr_stays}
-use Rattle.passphrase_laws.proofs.Walking.{IsSent}
+use Rattle.passphrase_laws.{specs.Readings.IsBegun, proofs.{Finding.ComesTo, Pieces.no_cr_stays, Walking.IsSent}}
+use Rattle.assuan_client.specs.Forms as form
+use Rattle.assuan_client.specs.declared.answer.Answer.TheVariants as answer
 
 -- parameters that end no line, and are short
 pub record IsParams (params : List ℕ) : Type 0 where

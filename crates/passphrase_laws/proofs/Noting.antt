@@ -1,38 +1,17 @@
 -- Before its last line, a request for a passphrase tells its client at most that a pinentry was launched, and once.
-use Rattle.std.specs.List.{AllByRecursion}
-use Rattle.std.specs.Prelude.{⊤}
-use Rattle.std.proofs.Common.{◌≢◌, ℕ, zero, suc, Bool, true, false, List, [], ◌∷◌, ◌++◌, Option, Some, None, Result, Ok, Err, refl, sym, subst, append_assoc}
-use Rattle.agent_ask.specs.Events.{PromptEvent, Called, Notified, OutOfMemory, Shut}
-use Rattle.agent_ask.specs.PortCalls.{Prompt}
-use Rattle.agent_ask.specs.Actions.{◌>>=◌, Follows, goes_on, stops, Returns, returns, Refuses, refuses, needed, or_else}
-use Rattle.agent_ask.specs.PinActions.{PromptsPin}
-use Rattle.agent_ask.specs.Prompts.{AsksBefore, Opens, Tries, IsTry, Repeats, repeated}
-use Rattle.agent_ask.specs.SessionEvents.{Port}
-use Rattle.agent_ask.specs.SessionPrompts.{AnyInSession, note}
-use Rattle.agent_ask.specs.SessionPrompts as session
-use Rattle.agent_ask.specs.Tests.{PinTest}
-use Rattle.agent_ask.specs.TurnActions.{Asks, Seats, Closes}
-use Rattle.agent_ask.specs.TurnActions as turning
-use Rattle.agent_ask.specs.declared.ask.Asked.{Asked}
-use Rattle.agent_ask.specs.declared.spec.AskPlan.{AskPlan}
-use Rattle.agent_ask.specs.declared.spec.PromptSpec.{PromptSpec}
-use Rattle.agent_commands.specs.Actions.{CacheEvent, CacheAction}
-use Rattle.agent_commands.specs.Passphrases.{Passphrase, passphrase_by, as_wanted, WithoutPrompt, ByUser, ByCache, LooksFor, WantsPrompt, Prompts, PromptsAny, Uncached}
-use Rattle.agent_commands.specs.Passphrases as passphrases
-use Rattle.agent_commands.specs.Requests.{GetFields}
-use Rattle.agent_commands.specs.declared.request.Texts.{Texts}
-use Rattle.assuan_server.specs.Clients.{session_lines}
-use Rattle.cache_policy.specs.declared.mark.MarkStep.{MarkStep}
-use Rattle.cache_policy.specs.declared.mark.MarkStep.TheVariants.{Seat}
-use Rattle.session_client.specs.declared.code.Code.{Code}
-use Rattle.session_client.specs.declared.code.Code.TheVariants as code
-use Rattle.session_client.specs.declared.refusal.Refusal.{Refusal}
-use Rattle.session_client.specs.declared.refusal.Refusal.TheVariants.{Agent}
-use Rattle.session_options.specs.OptionValues.{OptionValues}
-use Rattle.session_options.specs.declared.options.PinMode.{PinMode}
-use Rattle.session_options.specs.declared.options.PinMode.TheVariants as mode
-use Rattle.session_options.specs.declared.rules.Rules.{Rules}
+use Rattle.std.{specs.{List.AllByRecursion, Prelude.⊤}, proofs.Common.{◌≢◌, ℕ, zero, suc, Bool, true, false, List, [], ◌∷◌, ◌++◌, Option, Some, None, Result, Ok, Err, refl, sym, subst, append_assoc}}
+use Rattle.agent_ask.specs.{Events.{PromptEvent, Called, Notified, OutOfMemory, Shut}, Session.{PortCalls.Prompt, Actions.{◌>>=◌, Follows, goes_on, stops, Returns, returns, Refuses, refuses, needed, or_else}, SessionEvents.Port}}
+use Rattle.agent_ask.specs.{Session.TurnActions.{Asks, Seats, Closes}, PinActions.PromptsPin, Prompts.{AsksBefore, Opens, Tries, IsTry, Repeats, repeated}, SessionPrompts.{AnyInSession, note}, Tests.PinTest, declared.prompt.ask.Asked.Asked}
+use Rattle.{agent_ask.specs.declared.prompt.spec.{AskPlan.AskPlan, PromptSpec.PromptSpec}, agent_commands.specs.Actions.{CacheEvent, CacheAction}}
+use Rattle.agent_commands.specs.{Passphrases.{Passphrase, passphrase_by, as_wanted, WithoutPrompt, ByUser, ByCache, LooksFor, WantsPrompt, Prompts, PromptsAny, Uncached}, Requests.GetFields, declared.request.Texts.Texts}
+use Rattle.{assuan_server.specs.Clients.session_lines, cache_policy.specs.declared.mark.MarkStep.{MarkStep, TheVariants.Seat}, session_client.specs.declared.{code.Code.Code, refusal.Refusal.{Refusal, TheVariants.Agent}}}
+use Rattle.session_options.specs.{OptionValues.OptionValues, declared.{options.PinMode.PinMode, rules.Rules.Rules}}
 use Rattle.passphrase_laws.specs.Exchanges.{IsSilent, Notes, none, once}
+use Rattle.agent_ask.specs.SessionPrompts as session
+use Rattle.agent_ask.specs.Session.TurnActions as turning
+use Rattle.agent_commands.specs.Passphrases as passphrases
+use Rattle.session_client.specs.declared.code.Code.TheVariants as code
+use Rattle.session_options.specs.declared.options.PinMode.TheVariants as mode
 
 abbrev pub Silent : List CacheEvent → Type 0
 Silent events = AllByRecursion IsSilent events

@@ -1,35 +1,15 @@
 -- The options that the command says are taken or refused.
-use Rattle.std.specs.List.{AllByRecursion}
-use Rattle.std.specs.Prelude.{if◌then◌else◌}
-use Rattle.std.proofs.Common.{◌≡◌, ℕ, Bool, true, false, List, [], ◌∷◌, ◌++◌, codes, refl, ap, subst, ◌∙◌}
-use Rattle.agent_ask.specs.ActionExchanges.{AnyExchange, answered, refused}
-use Rattle.agent_ask.specs.Actions.{returns, refuses}
-use Rattle.agent_ask.specs.TurnActions as turn
-use Rattle.agent_commands.specs.Endings.{went_after}
-use Rattle.agent_commands.specs.Exchanges.{CacheExchange, option_replies}
-use Rattle.command_table.specs.Commands.{command_named}
-use Rattle.agent_commands.specs.Actions.{CacheEvent}
-use Rattle.agent_commands.specs.Requests.{request_of}
-use Rattle.agent_commands.specs.declared.request.CacheCommand.{CacheCommand}
-use Rattle.agent_commands.specs.declared.request.Request.{Request}
-use Rattle.agent_commands.specs.declared.request.Request.TheVariants.{Cache}
-use Rattle.agent_commands.specs.declared.went.Went.{Went}
-use Rattle.agent_origin.specs.SessionExchanges.{RequestExchange, cache, keys}
-use Rattle.agent_origin.specs.declared.session_state.SessionState.{SessionState}
-use Rattle.assuan_server.specs.Written.{refusal_line}
-use Rattle.assuan_server.specs.declared.errors.Origin.TheVariants.{Agent}
-use Rattle.assuan_text.specs.Blanks.{without_blanks}
-use Rattle.passphrase_talk.specs.Dialogues.{option_with, options_of}
-use Rattle.passphrase_talk.specs.declared.connector.Waits.{Waits}
+use Rattle.std.{specs.{List.AllByRecursion, Prelude.if◌then◌else◌}, proofs.Common.{◌≡◌, ℕ, Bool, true, false, List, [], ◌∷◌, ◌++◌, codes, refl, ap, subst, ◌∙◌}}
+use Rattle.{agent_ask.specs.Session.{ActionExchanges.{AnyExchange, answered, refused}, Actions.{returns, refuses}}, agent_commands.specs.{Endings.went_after, Exchanges.{CacheExchange, option_replies}, Actions.CacheEvent}}
+use Rattle.{agent_commands.specs.{Requests.request_of, declared.{request.{CacheCommand.CacheCommand, Request.{Request, TheVariants.Cache}}, went.Went.Went}}, command_table.specs.Commands.command_named}
+use Rattle.{agent_origin.specs.{SessionExchanges.{RequestExchange, cache, keys}, declared.session_state.SessionState.SessionState}, assuan_server.specs.{Written.refusal_line, declared.errors.Origin.TheVariants.Agent}}
+use Rattle.{assuan_text.specs.Blanks.without_blanks, passphrase_talk.specs.{Dialogues.{option_with, options_of}, declared.connector.Waits.Waits}}
+use Rattle.session_options.specs.{OptionValues.{Applied, EnvWords, OptionValues, applied, refused as left_so, set_to}, Table.named, Text.can_be_kept, declared.{options.OptionAnswer.OptionAnswer, rules.Rules.Rules}}
+use Rattle.passphrase_laws.specs.Served.{IsPassed, Passes, SaysTerminal, SetInTurn, Sets}
+use Rattle.agent_ask.specs.Session.TurnActions as turn
 use Rattle.passphrase_talk.specs.declared.connector.Waits.TheVariants as waits
 use Rattle.session_client.specs.declared.code.Code.TheVariants as code
-use Rattle.session_options.specs.OptionValues.{Applied, EnvWords, OptionValues, applied, refused as left_so, set_to}
-use Rattle.session_options.specs.Table.{named}
-use Rattle.session_options.specs.Text.{can_be_kept}
-use Rattle.session_options.specs.declared.options.OptionAnswer.{OptionAnswer}
 use Rattle.session_options.specs.declared.options.OptionAnswer.TheVariants as option
-use Rattle.session_options.specs.declared.rules.Rules.{Rules}
-use Rattle.passphrase_laws.specs.Served.{IsPassed, Passes, SaysTerminal, SetInTurn, Sets}
 use Rattle.passphrase_laws.specs.Served as served
 
 -- by each answer to an option

@@ -1,21 +1,11 @@
 -- The data lines of a passphrase and the OK behind them come to it.
 use Rattle.std.proofs.Common.{◌≡◌, ℕ, ◌+◌, ◌-◌, ◌<◌, ◌≤◌, ◌||◌, Bool, true, false, ◌==◌, slice_index, List, [], ◌∷◌, ◌++◌, length, map, inl, inr, All, refl, ap, sym, subst, ◌∙◌, arith, append-nil, length-append}
-use Rattle.std.specs.List.{flat_map, list_any}
-use Rattle.std.proofs.lemmas.Bool.{false≢true, le-leb, cases_Bool, cond-true, cond-false}
-use Rattle.std.proofs.lemmas.Bool.Decides.{nat_tests}
-use Rattle.std.proofs.lemmas.List.Concat.{flat_map-append}
-use Rattle.std.proofs.lemmas.List.Elements.{All-head, All-tail, All-cons, All-take, All-drop}
-use Rattle.std.proofs.lemmas.List.Folds.{list_any-append, list_any_at, flat_map-map}
-use Rattle.std.proofs.Math.Seq.{take-append_seam, drop-append_seam}
-use Rattle.assuan_client.specs.Forms as form
-use Rattle.assuan_client.specs.Forms.{answer_form}
-use Rattle.assuan_client.specs.Skipping.{Tally, with_lines, skips_after, skips}
-use Rattle.assuan_escape.proofs.EscapeLemmas.{percent_decode_escapes, has_lf_escapes, escape_of_escaped, escape_of_plain}
-use Rattle.assuan_escape.specs.DataLines.{data_line, data_text, carried, IsPiece}
-use Rattle.assuan_escape.specs.Escapes.{escapes, escape_of, hex_digits, is_escaped}
-use Rattle.assuan_text.specs.Forms.{is_data}
-use Rattle.assuan_text.specs.LineEnds.{line_of, without_cr}
+use Rattle.std.proofs.lemmas.{Bool.{false≢true, le-leb, cases_Bool, cond-true, cond-false, Decides.nat_tests}, List.{Concat.flat_map-append, Elements.{All-head, All-tail, All-cons, All-take, All-drop}}}
+use Rattle.std.{proofs.{lemmas.List.Folds.{list_any-append, list_any_at, flat_map-map}, Math.Seq.{take-append_seam, drop-append_seam}}, specs.List.{flat_map, list_any}}
+use Rattle.{assuan_client.specs.{Forms.answer_form, Skipping.{Tally, with_lines, skips_after, skips}}, assuan_escape.proofs.EscapeLemmas.{percent_decode_escapes, has_lf_escapes, escape_of_escaped, escape_of_plain}}
+use Rattle.{assuan_escape.specs.{DataLines.{data_line, data_text, carried, IsPiece}, Escapes.{escapes, escape_of, hex_digits, is_escaped}}, assuan_text.specs.{Forms.is_data, LineEnds.{line_of, without_cr}}}
 use Rattle.passphrase_laws.proofs.Walking.{IsSent, AreSkipped}
+use Rattle.assuan_client.specs.Forms as form
 
 abbrev pub IsByte : ℕ → Type 0
 IsByte byte = byte < 256

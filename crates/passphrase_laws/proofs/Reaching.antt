@@ -1,23 +1,8 @@
 -- The whole road: what a dialogue tells of the exchange of its request.
-use Rattle.std.specs.List.{AllByRecursion}
-use Rattle.std.proofs.Common.{◌≡◌, ◌≢◌, ◌≤◌, ℕ, true, List, ◌++◌, length, Option, Some, None, Ok, subst}
-use Rattle.agent_commands.specs.Exchanges.{LineExchange, CacheExchange}
-use Rattle.agent_commands.specs.Actions.{CacheEvent}
-use Rattle.agent_commands.specs.Requests.{GetFields, get_passphrase, request_of}
-use Rattle.agent_commands.specs.declared.request.Request.{Request}
-use Rattle.agent_commands.specs.declared.request.Request.TheVariants.{Cache}
-use Rattle.agent_commands.specs.declared.went.Went.{Went}
-use Rattle.passphrase_talk.specs.Dialogues.{told_of}
-use Rattle.passphrase_talk.specs.Turns.{Turn}
-use Rattle.passphrase_talk.specs.Visits.{Talk}
-use Rattle.passphrase_talk.specs.declared.visits.TheConstants.{BUDGET}
-use Rattle.session_options.specs.OptionValues.{OptionValues}
-use Rattle.session_options.specs.declared.options.PinMode.TheVariants.{Loopback}
-use Rattle.session_options.specs.declared.rules.Rules.{Rules}
-use Rattle.passphrase_laws.specs.Roads.{AreReplies, IsWhole, Reaches, session_text}
-use Rattle.passphrase_laws.proofs.Dialogue.{hears_it}
-use Rattle.passphrase_laws.proofs.Noting.{passphrase_notes, turn_closes}
-use Rattle.passphrase_laws.proofs.Telling.{told}
+use Rattle.std.{specs.List.AllByRecursion, proofs.Common.{◌≡◌, ◌≢◌, ◌≤◌, ℕ, true, List, ◌++◌, length, Option, Some, None, Ok, subst}}
+use Rattle.agent_commands.specs.{Exchanges.{LineExchange, CacheExchange}, Actions.CacheEvent, Requests.{GetFields, get_passphrase, request_of}, declared.{request.Request.{Request, TheVariants.Cache}, went.Went.Went}}
+use Rattle.{passphrase_talk.specs.{Dialogues.told_of, Turns.Turn, Visits.Talk, declared.visits.TheConstants.BUDGET}, session_options.specs.{OptionValues.OptionValues, declared.{options.PinMode.TheVariants.Loopback, rules.Rules.Rules}}}
+use Rattle.passphrase_laws.{specs.Roads.{AreReplies, IsWhole, Reaches, session_text}, proofs.{Dialogue.hears_it, Noting.{passphrase_notes, turn_closes}, Telling.told}}
 
 pub reaches : (rules : Rules) (values after : OptionValues) (fields : GetFields) (line replies behind : List ℕ) (events : List CacheEvent) (went : Went) (options : List (List ℕ)) (turns : List Turn)
     (left written : Option (List ℕ)) → LineExchange rules values line events after went → request_of line ≡ Cache (get_passphrase fields) → fields.plain ≡ true → values.mode ≢ Loopback

@@ -1,15 +1,9 @@
 -- What the agent writes is read as it was meant.
 use Rattle.std.proofs.Common.{ℕ, List}
-use Rattle.assuan_client.specs.Answers.{success_of}
-use Rattle.assuan_client.specs.declared.answer.Answer.TheVariants as answer
-use Rattle.assuan_server.specs.Errors.{error_text, error_number}
-use Rattle.assuan_server.specs.Written.{IsDataAnswer}
-use Rattle.assuan_server.specs.declared.errors.Origin.{Origin}
-use Rattle.assuan_text.specs.LineEnds.{line_of}
+use Rattle.{assuan_client.specs.Answers.success_of, assuan_server.specs.{Errors.{error_text, error_number}, Written.IsDataAnswer, declared.errors.Origin.Origin}, assuan_text.specs.LineEnds.line_of}
 use Rattle.session_client.specs.declared.code.Code.{Code}
-use Rattle.passphrase_laws.specs.Readings.{IsSecret, IsReadAs}
-use Rattle.passphrase_laws.proofs.Finding.{finds}
-use Rattle.passphrase_laws.proofs.Replying.{data_comes, error_comes}
+use Rattle.passphrase_laws.{specs.Readings.{IsSecret, IsReadAs}, proofs.{Finding.finds, Replying.{data_comes, error_comes}}}
+use Rattle.assuan_client.specs.declared.answer.Answer.TheVariants as answer
 
 pub passphrase_read : (secret text : List ℕ) → IsSecret secret → IsDataAnswer secret text → IsReadAs text (success_of secret)
 passphrase_read secret text is answers behind tally found before after begun comes read =

@@ -1,23 +1,10 @@
 -- What the agent writes comes to its answers.
-use Rattle.std.proofs.Common.{◌≡◌, ℕ, ◌≤◌, List, [], ◌++◌, length, codes, map, All, refl, ap, sym, subst, ◌∙◌, arith}
-use Rattle.std.specs.List.{flat_map}
-use Rattle.assuan_client.proofs.OnlyAnswer.{by_form}
-use Rattle.assuan_client.specs.Answers.{success_of}
+use Rattle.std.{proofs.Common.{◌≡◌, ℕ, ◌≤◌, List, [], ◌++◌, length, codes, map, All, refl, ap, sym, subst, ◌∙◌, arith}, specs.List.flat_map}
+use Rattle.{assuan_client.{proofs.OnlyAnswer.by_form, specs.{Answers.success_of, Forms.answer_form, Skipping.{Tally, with_lines, skips}}}, assuan_escape.specs.DataLines.{data_line, carried}}
+use Rattle.{assuan_server.specs.{Errors.{error_text, error_number}, Written.{IsDataAnswer, ok, greeting}, declared.errors.Origin.Origin}, assuan_text.specs.LineEnds.line_of, session_client.specs.declared.code.Code.Code}
+use Rattle.passphrase_laws.{specs.Readings.IsBegun, proofs.{Finding.ComesTo, ErrorRows.error_row, Pieces.{pieces_skipped, carry_all, texts_are, small_pieces, IsByte}, Walking.IsSent}}
 use Rattle.assuan_client.specs.Forms as form
-use Rattle.assuan_client.specs.Forms.{answer_form}
-use Rattle.assuan_client.specs.Skipping.{Tally, with_lines, skips}
 use Rattle.assuan_client.specs.declared.answer.Answer.TheVariants as answer
-use Rattle.assuan_escape.specs.DataLines.{data_line, carried}
-use Rattle.assuan_server.specs.Errors.{error_text, error_number}
-use Rattle.assuan_server.specs.Written.{IsDataAnswer, ok, greeting}
-use Rattle.assuan_server.specs.declared.errors.Origin.{Origin}
-use Rattle.assuan_text.specs.LineEnds.{line_of}
-use Rattle.session_client.specs.declared.code.Code.{Code}
-use Rattle.passphrase_laws.specs.Readings.{IsBegun}
-use Rattle.passphrase_laws.proofs.Finding.{ComesTo}
-use Rattle.passphrase_laws.proofs.ErrorRows.{error_row}
-use Rattle.passphrase_laws.proofs.Pieces.{pieces_skipped, carry_all, texts_are, small_pieces, IsByte}
-use Rattle.passphrase_laws.proofs.Walking.{IsSent}
 
 ok_sent : IsSent (codes "OK")
 ok_sent = record { short = omega arith; whole = refl; no_cr = refl }

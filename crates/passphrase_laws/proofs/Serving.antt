@@ -1,45 +1,17 @@
 -- What a session of this agent writes for the lines that it was said.
-use Rattle.std.specs.List.{AllByRecursion}
-use Rattle.std.proofs.Common.{◌≡◌, ℕ, List, [], ◌∷◌, ◌++◌, Option, Some, None, refl, ap, sym, subst, ◌∙◌, append-nil, append_assoc}
-use Rattle.std.proofs.lemmas.List.Concat.{flat_map-append}
-use Rattle.agent_ask.specs.Answering.{whole, cut}
-use Rattle.agent_ask.specs.Events.{Call}
-use Rattle.agent_ask.specs.SessionEvents.{Sent, CutAtLast}
-use Rattle.agent_ask.specs.SessionEvents as event
-use Rattle.agent_ask.specs.Worlds.{Does, Outside}
-use Rattle.agent_ask.specs.Worlds as does
-use Rattle.agent_commands.specs.Exchanges.{LineExchange}
-use Rattle.agent_commands.specs.Actions.{CacheEvent}
-use Rattle.agent_commands.specs.Requests.{request_of}
-use Rattle.agent_commands.specs.Talks.{Session, Talk}
+use Rattle.std.{specs.List.AllByRecursion, proofs.{Common.{◌≡◌, ℕ, List, [], ◌∷◌, ◌++◌, Option, Some, None, refl, ap, sym, subst, ◌∙◌, append-nil, append_assoc}, lemmas.List.Concat.flat_map-append}}
+use Rattle.{agent_ask.specs.{Session.{Answering.{whole, cut}, SessionEvents.{Sent, CutAtLast}, Worlds.{Does, Outside}}, Events.Call}, agent_commands.specs.{Exchanges.LineExchange, Actions.CacheEvent, Requests.request_of}}
+use Rattle.{agent_commands.specs.{Talks.{Session, Talk}, declared.{request.{CacheCommand.CacheCommand, Request.TheVariants.Cache}, went.{SessionEnd.SessionEnd, Went.{Went, TheVariants.{End, On}}}}}, agent_origin.specs.PortStates.PortWorld}
+use Rattle.{agent_origin.specs.{SessionExchanges.{SessionExchange, kept_at_start}, declared.session_state.SessionState.SessionState}, agent_ports.specs.{Leads.Leads, Sides.with_bytes}}
+use Rattle.{assuan_line.specs.declared.reader.Took.TheVariants.Line, assuan_server.specs.{Reading.Supply, Written.greeting}, assuan_text.specs.LineEnds.line_of, cache_policy.specs.{Turns.Turn, declared.mark.MarkStep.MarkStep}}
+use Rattle.session_options.specs.{OptionValues.OptionValues, declared.{options.PinMode.PinMode, rules.Rules.Rules}}
+use Rattle.passphrase_laws.{specs.{Exchanges.{text_of, texts_of}, Roads.{AreReplies, IsWhole}, Served.{IsPassed, IsReply, Passes, Serves, lines_read}}, proofs.{Passing.on_cache, Texts.{whole_at, whole_front}}}
+use Rattle.agent_ask.specs.Session.SessionEvents as event
+use Rattle.agent_ask.specs.Session.Worlds as does
 use Rattle.agent_commands.specs.Talks as talks
-use Rattle.agent_commands.specs.declared.request.CacheCommand.{CacheCommand}
-use Rattle.agent_commands.specs.declared.request.Request.TheVariants.{Cache}
-use Rattle.agent_commands.specs.declared.went.SessionEnd.{SessionEnd}
-use Rattle.agent_commands.specs.declared.went.Went.{Went}
-use Rattle.agent_commands.specs.declared.went.Went.TheVariants.{End, On}
-use Rattle.agent_origin.specs.PortStates.{PortWorld}
-use Rattle.agent_origin.specs.SessionExchanges.{SessionExchange, kept_at_start}
-use Rattle.agent_origin.specs.declared.session_state.SessionState.{SessionState}
-use Rattle.agent_ports.specs.Leads.{Leads}
 use Rattle.agent_ports.specs.Leads as leads
-use Rattle.agent_ports.specs.Sides.{with_bytes}
-use Rattle.assuan_line.specs.declared.reader.Took.TheVariants.{Line}
-use Rattle.assuan_server.specs.Reading.{Supply}
-use Rattle.assuan_server.specs.Written.{greeting}
-use Rattle.assuan_text.specs.LineEnds.{line_of}
-use Rattle.cache_policy.specs.Turns.{Turn}
-use Rattle.cache_policy.specs.declared.mark.MarkStep.{MarkStep}
-use Rattle.session_options.specs.OptionValues.{OptionValues}
-use Rattle.session_options.specs.declared.options.PinMode.{PinMode}
-use Rattle.session_options.specs.declared.rules.Rules.{Rules}
-use Rattle.passphrase_laws.specs.Exchanges.{text_of, texts_of}
-use Rattle.passphrase_laws.specs.Roads.{AreReplies, IsWhole}
 use Rattle.passphrase_laws.specs.Roads as road
-use Rattle.passphrase_laws.specs.Served.{IsPassed, IsReply, Passes, Serves, lines_read}
 use Rattle.passphrase_laws.specs.Served as served
-use Rattle.passphrase_laws.proofs.Passing.{on_cache}
-use Rattle.passphrase_laws.proofs.Texts.{whole_at, whole_front}
 
 abbrev Whole : List CacheEvent → Type 0
 Whole events = AllByRecursion IsWhole events

@@ -1,32 +1,16 @@
 -- What an exchange of a request for a passphrase tells the client last.
 use Rattle.std.proofs.Common.{◌≡◌, ℕ, Bool, true, List, ◌++◌, Option, Some, None, Ok, Err, refl, ap, sym, subst, append-nil}
-use Rattle.agent_ask.specs.ActionExchanges.{AnyExchange, answered, refused}
-use Rattle.agent_ask.specs.Actions.{goes_on, stops, Returns, returns}
-use Rattle.agent_ask.specs.SessionEvents.{said_last}
-use Rattle.agent_ask.specs.TurnActions.{Closes}
-use Rattle.agent_commands.specs.Answers.{IsPassphrase}
-use Rattle.agent_commands.specs.Endings.{went_after}
-use Rattle.agent_commands.specs.Exchanges.{CacheReply, GetReplies, TellsPassphrase, tells}
-use Rattle.agent_commands.specs.Actions.{CacheEvent}
-use Rattle.agent_commands.specs.Passphrases.{Passphrase}
-use Rattle.agent_commands.specs.Requests.{GetFields}
-use Rattle.agent_commands.specs.declared.went.Went.{Went}
-use Rattle.assuan_server.specs.Errors.{error_text}
-use Rattle.assuan_server.specs.Written.{IsDataAnswer, refusal_line}
-use Rattle.assuan_server.specs.declared.errors.Origin.{Origin}
+use Rattle.{agent_ask.specs.Session.{ActionExchanges.{AnyExchange, answered, refused}, Actions.{goes_on, stops, Returns, returns}, SessionEvents.said_last, TurnActions.Closes}, agent_commands.specs.Answers.IsPassphrase}
+use Rattle.agent_commands.specs.{Endings.went_after, Exchanges.{CacheReply, GetReplies, TellsPassphrase, tells}, Actions.CacheEvent, Passphrases.Passphrase, Requests.GetFields, declared.went.Went.Went}
+use Rattle.{assuan_server.specs.{Errors.error_text, Written.{IsDataAnswer, refusal_line}, declared.errors.Origin.Origin}, assuan_text.specs.LineEnds.line_of, session_client.specs.declared.{code.Code.Code, refusal.Refusal.Refusal}}
+use Rattle.session_options.specs.{OptionValues.OptionValues, declared.rules.Rules.Rules}
+use Rattle.passphrase_laws.{specs.Exchanges.{TellsLast, passphrase, gone, IsTold}, proofs.ReadAs.{passphrase_read, error_read}}
 use Rattle.assuan_server.specs.declared.errors.Origin.TheVariants as origin
-use Rattle.assuan_text.specs.LineEnds.{line_of}
-use Rattle.session_client.specs.declared.code.Code.{Code}
 use Rattle.session_client.specs.declared.code.Code.TheVariants as code
-use Rattle.session_client.specs.declared.refusal.Refusal.{Refusal}
 use Rattle.session_client.specs.declared.refusal.Refusal.TheVariants as refusal
 use Rattle.session_client.specs.declared.client_error.Gone.TheVariants as gone_as
 use Rattle.session_client.specs.declared.client_error.ClientError.TheVariants as client_error
-use Rattle.session_options.specs.OptionValues.{OptionValues}
-use Rattle.session_options.specs.declared.rules.Rules.{Rules}
-use Rattle.passphrase_laws.specs.Exchanges.{TellsLast, passphrase, gone, IsTold}
 use Rattle.passphrase_laws.specs.Exchanges as exchanges
-use Rattle.passphrase_laws.proofs.ReadAs.{passphrase_read, error_read}
 
 -- a refusal has the line of an error, or none
 pub data Refused (why : Refusal) : Type 0 where

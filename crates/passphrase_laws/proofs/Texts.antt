@@ -1,17 +1,8 @@
 -- What the events of an exchange write, one after another.
-use Rattle.std.specs.List.{AllByRecursion}
-use Rattle.std.proofs.Common.{◌≡◌, ℕ, List, [], ◌∷◌, ◌++◌, decimal, refl, ap, sym, subst, ◌∙◌, append-nil}
-use Rattle.std.proofs.lemmas.List.Concat.{flat_map-append}
-use Rattle.agent_ask.specs.SessionEvents.{Received, Sent, Cut, Inquiry, CacheTurn, Port}
-use Rattle.agent_ask.specs.SessionPrompts.{note}
-use Rattle.agent_commands.specs.Events.{Inquired}
-use Rattle.agent_commands.specs.Actions.{CacheEvent}
-use Rattle.assuan_server.specs.Inquiries.{inquire_text}
-use Rattle.assuan_text.specs.LineEnds.{line_of}
-use Rattle.session_client.specs.Asking.{Asked, NotAsked}
-use Rattle.passphrase_laws.specs.Exchanges.{IsSilent, text_of, texts_of}
-use Rattle.passphrase_laws.specs.Roads.{IsWhole}
-use Rattle.passphrase_laws.proofs.NoteLines.{launched, IsParams, are_params}
+use Rattle.std.{specs.List.AllByRecursion, proofs.{Common.{◌≡◌, ℕ, List, [], ◌∷◌, ◌++◌, decimal, refl, ap, sym, subst, ◌∙◌, append-nil}, lemmas.List.Concat.flat_map-append}}
+use Rattle.{agent_ask.specs.{Session.SessionEvents.{Received, Sent, Cut, Inquiry, CacheTurn, Port}, SessionPrompts.note}, agent_commands.specs.{Events.Inquired, Actions.CacheEvent}, assuan_server.specs.Inquiries.inquire_text}
+use Rattle.{assuan_text.specs.LineEnds.line_of, session_client.specs.Asking.{Asked, NotAsked}}
+use Rattle.passphrase_laws.{specs.{Exchanges.{IsSilent, text_of, texts_of}, Roads.IsWhole}, proofs.NoteLines.{launched, IsParams, are_params}}
 
 pub silent_texts : (events : List CacheEvent) → AllByRecursion IsSilent events → texts_of events ≡ []
 silent_texts [] silent = refl

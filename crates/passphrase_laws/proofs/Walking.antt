@@ -1,20 +1,8 @@
 -- Lines that are written one after another are read again, whatever comes behind them.
 use Rattle.std.proofs.Common.{◌≡◌, ℕ, suc, ◌+◌, ◌-◌, ◌<◌, ◌≤◌, ◌||◌, Bool, true, false, cond, leb, List, [], ◌∷◌, ◌++◌, length, take, drop, inl, inr, refl, ap, sym, subst, ◌∙◌, arith, append_assoc, append-nil, length-append}
-use Rattle.std.specs.List.{flat_map, position_or_len}
-use Rattle.std.proofs.lemmas.Bool.{false≢true, le-leb, cases_lt}
-use Rattle.std.proofs.lemmas.List.{take-append-drop, take-append-le}
-use Rattle.std.proofs.lemmas.List.Folds.{list_any-append}
-use Rattle.std.proofs.Math.Seq.{take-append_seam, drop-append_seam, take-append-add}
-use Rattle.assuan_line.proofs.Decided.{stays}
-use Rattle.assuan_line.proofs.Parts.{end_tells}
-use Rattle.assuan_line.proofs.Places.{place_after}
-use Rattle.assuan_line.specs.Lines.{first_line, after_line}
-use Rattle.assuan_line.specs.Next.{Reader, next_of}
-use Rattle.assuan_line.specs.Skipping.{Skipped, none, one, Stops, ReadsNext}
-use Rattle.assuan_line.specs.declared.buffer.TheConstants.{MAX_UNDECIDED}
-use Rattle.assuan_line.specs.declared.reader.Took.{Took}
-use Rattle.assuan_line.specs.declared.reader.Took.TheVariants.{Line, TooLong, End, Spent, ReadFault}
-use Rattle.assuan_text.specs.LineEnds.{is_lf, has_lf, line_of, without_cr}
+use Rattle.std.{proofs.{lemmas.{Bool.{false≢true, le-leb, cases_lt}, List.{take-append-drop, take-append-le, Folds.list_any-append}}, Math.Seq.{take-append_seam, drop-append_seam, take-append-add}}, specs.List.{flat_map, position_or_len}}
+use Rattle.assuan_line.{proofs.{Decided.stays, Parts.end_tells, Places.place_after}, specs.{Lines.{first_line, after_line}, Next.{Reader, next_of}, Skipping.{Skipped, none, one, Stops, ReadsNext}}}
+use Rattle.{assuan_line.specs.declared.{buffer.TheConstants.MAX_UNDECIDED, reader.Took.{Took, TheVariants.{Line, TooLong, End, Spent, ReadFault}}}, assuan_text.specs.LineEnds.{is_lf, has_lf, line_of, without_cr}}
 
 -- a line that is read as it was written: short, without a line feed, and no carriage return at its end
 pub record IsSent (line : List ℕ) : Type 0 where

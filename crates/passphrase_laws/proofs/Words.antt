@@ -1,19 +1,9 @@
 -- Words behind one another are read as they were written, and texts as they were meant.
 use Rattle.std.proofs.Common.{◌≡◌, ◌≢◌, ℕ, ◌≤◌, ◌==◌, Bool, true, false, cond, List, [], ◌∷◌, ◌++◌, length, map, codes, inl, inr, refl, ap, sym, ◌∙◌, arith, length-append}
-use Rattle.std.specs.Prelude.{nat_le, if◌then◌else◌}
-use Rattle.std.specs.List.{flat_map, list_any, filter, slice_split, onto_first}
-use Rattle.std.specs.Str.{bytes_eq}
-use Rattle.std.proofs.lemmas.Bool.{le-leb, cases_Bool, cond-true, cond-false, or_parts, or_from, eqb-true, eqb-false, false_from_ne_true, false≢true}
-use Rattle.std.proofs.lemmas.List.Folds.{list_any-append}
-use Rattle.std.proofs.lemmas.List.Splits.{slice_split-cons_yes, slice_split-cons_no}
-use Rattle.std.proofs.lemmas.List.{map-append}
-use Rattle.std.proofs.lemmas.Slice.Eq.{bytes_eq-Decides}
-use Rattle.assuan_escape.specs.Escapes.{unescaped, with_blanks}
-use Rattle.assuan_text.specs.Blanks.{is_blank}
-use Rattle.assuan_text.specs.Words.{words}
-use Rattle.passphrase_words.specs.Texts.{escape_of, word_of}
-use Rattle.percent_encoding.proofs.PercentLemmas.{percent_decode-nil, percent_decode_not_percent, percent_decode-percent_encode_byte}
-use Rattle.percent_encoding.specs.Percent.{percent_decode, percent_encode_byte}
+use Rattle.std.proofs.lemmas.{Bool.{le-leb, cases_Bool, cond-true, cond-false, or_parts, or_from, eqb-true, eqb-false, false_from_ne_true, false≢true}, List.{map-append, Folds.list_any-append}}
+use Rattle.std.{proofs.lemmas.{List.Splits.{slice_split-cons_yes, slice_split-cons_no}, Slice.Eq.bytes_eq-Decides}, specs.{Prelude.{nat_le, if◌then◌else◌}, List.{flat_map, list_any, filter, slice_split, onto_first}, Str.bytes_eq}}
+use Rattle.{assuan_escape.specs.Escapes.{unescaped, with_blanks}, assuan_text.specs.{Blanks.is_blank, Words.words}, passphrase_words.specs.Texts.{escape_of, word_of}}
+use Rattle.percent_encoding.{proofs.PercentLemmas.{percent_decode-nil, percent_decode_not_percent, percent_decode-percent_encode_byte}, specs.Percent.{percent_decode, percent_encode_byte}}
 
 -- a word: some bytes, and no blank among them
 pub record IsWord (word : List ℕ) : Type 0 where

@@ -1,49 +1,20 @@
 -- A request of the command on a worked example: its line, how the agent reads it, what is written for it, and what that is read as.
-use Rattle.std.specs.List.{AllByRecursion}
-use Rattle.std.proofs.Common.{◌≡◌, ◌<◌, ℕ, true, List, [], ◌∷◌, ◌++◌, codes, All, None, refl, sym, subst, arith}
-use Rattle.std.proofs.lemmas.List.Elements.{All-cons, All-nil}
-use Rattle.agent_ask.specs.ActionExchanges.{answered}
-use Rattle.agent_ask.specs.Actions.{goes_on, returns}
-use Rattle.agent_ask.specs.Answering as answering
-use Rattle.agent_ask.specs.SessionEvents.{Received, Sent, cache_turn}
-use Rattle.agent_ask.specs.TurnActions as turn
-use Rattle.agent_commands.specs.Exchanges.{CacheExchange, LineExchange, reply, tells}
-use Rattle.agent_commands.specs.Actions.{CacheEvent}
-use Rattle.agent_commands.specs.Passphrases.{ask}
-use Rattle.agent_commands.specs.Requests.{get_passphrase}
-use Rattle.agent_commands.specs.Talks.{Session}
-use Rattle.agent_commands.specs.Talks as talks
-use Rattle.agent_commands.specs.declared.request.Request.{Request}
-use Rattle.agent_commands.specs.declared.request.Request.TheVariants.{Cache}
-use Rattle.agent_commands.specs.declared.went.SessionEnd.TheVariants.{Ended}
-use Rattle.agent_commands.specs.declared.went.Went.TheVariants.{On}
-use Rattle.agent_origin.specs.SessionExchanges.{SessionExchange, cache, kept_at_start}
-use Rattle.assuan_client.specs.declared.answer.Answer.TheVariants as answer
-use Rattle.assuan_escape.specs.DataLines.{IsPiece}
-use Rattle.assuan_line.specs.declared.reader.Took.TheVariants as took
-use Rattle.assuan_server.specs.Written.{IsDataAnswer, greeting}
-use Rattle.assuan_text.specs.LineEnds.{line_of}
-use Rattle.cache_policy.specs.Turns.{Given}
-use Rattle.cache_policy.specs.declared.grant.Grant.{Grant}
-use Rattle.cache_policy.specs.declared.mode.Mode.TheVariants.{User}
-use Rattle.passphrase_words.specs.Options.{form_of}
-use Rattle.passphrase_words.specs.Requests.{Looks, line_of_request}
-use Rattle.passphrase_words.specs.Spelling as spelling
-use Rattle.passphrase_words.specs.Tasks.{TaskValue}
-use Rattle.passphrase_words.specs.Texts.{texts_of as words_of}
-use Rattle.passphrase_words.specs.declared.task.Act.TheVariants.{Cached}
-use Rattle.session_options.specs.OptionValues.{OptionValues}
-use Rattle.session_options.specs.declared.rules.Rules.{Rules}
-use Rattle.passphrase_laws.specs.Asking.{Means, Says, command, fields_of}
-use Rattle.passphrase_laws.specs.Exchanges.{texts_of}
-use Rattle.passphrase_laws.specs.Readings.{IsSecret, IsReadAs}
-use Rattle.passphrase_laws.specs.Roads.{IsWhole, AreReplies, session_text}
-use Rattle.passphrase_laws.specs.Roads as road
-use Rattle.passphrase_laws.specs.Served.{Serves}
-use Rattle.passphrase_laws.proofs.Asked.{looks_read}
-use Rattle.passphrase_laws.proofs.Meaning as meaning
-use Rattle.passphrase_laws.proofs.ReadAs.{passphrase_read}
+use Rattle.std.{specs.List.AllByRecursion, proofs.{Common.{◌≡◌, ◌<◌, ℕ, true, List, [], ◌∷◌, ◌++◌, codes, All, None, refl, sym, subst, arith}, lemmas.List.Elements.{All-cons, All-nil}}}
+use Rattle.{agent_ask.specs.Session.{ActionExchanges.answered, Actions.{goes_on, returns}, SessionEvents.{Received, Sent, cache_turn}}, agent_commands.specs.{Exchanges.{CacheExchange, LineExchange, reply, tells}, Actions.CacheEvent}}
+use Rattle.agent_commands.specs.{Passphrases.ask, Requests.get_passphrase, Talks.Session, declared.{request.Request.{Request, TheVariants.Cache}, went.{SessionEnd.TheVariants.Ended, Went.TheVariants.On}}}
+use Rattle.{agent_origin.specs.SessionExchanges.{SessionExchange, cache, kept_at_start}, assuan_escape.specs.DataLines.IsPiece, assuan_server.specs.Written.{IsDataAnswer, greeting}, assuan_text.specs.LineEnds.line_of}
+use Rattle.{cache_policy.specs.{Turns.Given, declared.{grant.Grant.Grant, mode.Mode.TheVariants.User}}, passphrase_words.specs.{Options.form_of, Requests.{Looks, line_of_request}, Tasks.TaskValue, Texts.texts_of as words_of}}
+use Rattle.{passphrase_words.specs.declared.task.Act.TheVariants.Cached, session_options.specs.{OptionValues.OptionValues, declared.rules.Rules.Rules}}
+use Rattle.passphrase_laws.{specs.{Asking.{Means, Says, command, fields_of}, Exchanges.texts_of, Readings.{IsSecret, IsReadAs}, Roads.{IsWhole, AreReplies, session_text}, Served.Serves}, proofs.{Asked.looks_read, ReadAs.passphrase_read}}
 use Rattle.passphrase_laws.proofs.Serving.{serves}
+use Rattle.agent_ask.specs.Session.Answering as answering
+use Rattle.agent_ask.specs.Session.TurnActions as turn
+use Rattle.agent_commands.specs.Talks as talks
+use Rattle.assuan_client.specs.declared.answer.Answer.TheVariants as answer
+use Rattle.assuan_line.specs.declared.reader.Took.TheVariants as took
+use Rattle.passphrase_words.specs.Spelling as spelling
+use Rattle.passphrase_laws.specs.Roads as road
+use Rattle.passphrase_laws.proofs.Meaning as meaning
 
 -- what is kept as mail is looked for
 abbrev task : TaskValue

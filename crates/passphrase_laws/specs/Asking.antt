@@ -1,16 +1,7 @@
 -- The requests of the command `passphrase` as the agent reads them (GnuPG manual, "Agent GET_PASSPHRASE").
 use Rattle.std.specs.Prelude.{◌≡◌, ◌≢◌, ℕ, Bool, true, false, List, [], ◌∷◌, map, codes, get_or, Option, Some, None, if◌then◌else◌}
-use Rattle.arrayvec.specs.ArrayVec.{ArrayVec}
-use Rattle.agent_ask.specs.Plans.{text}
-use Rattle.agent_commands.specs.Requests.{GetFields}
-use Rattle.assuan_text.specs.Blanks.{is_blank}
-use Rattle.passphrase_words.specs.Ids.{is_id}
-use Rattle.passphrase_words.specs.Rules.{IsTask, askpass_task}
-use Rattle.passphrase_words.specs.Spelling.{Setting, Spells, operands_of, value_given}
-use Rattle.passphrase_words.specs.Tasks.{TaskValue}
-use Rattle.passphrase_words.specs.Texts.{Fits, texts_of, description_or}
-use Rattle.passphrase_words.specs.declared.task.Act.{Act}
-use Rattle.passphrase_words.specs.declared.task.Act.TheVariants.{Give}
+use Rattle.{arrayvec.specs.ArrayVec.ArrayVec, agent_ask.specs.Plans.text, agent_commands.specs.Requests.GetFields, assuan_text.specs.Blanks.is_blank, passphrase_words.specs.{Ids.is_id, Rules.{IsTask, askpass_task}}}
+use Rattle.passphrase_words.specs.{Spelling.{Setting, Spells, operands_of, value_given}, Tasks.TaskValue, Texts.{Fits, texts_of, description_or}, declared.task.Act.{Act, TheVariants.Give}}
 
 -- a text as the agent has it: a tab counts as a blank
 abbrev pub as_read : List ℕ → ArrayVec ℕ

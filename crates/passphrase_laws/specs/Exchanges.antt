@@ -1,26 +1,11 @@
 -- The exchange of a request for a passphrase (GnuPG manual, "Agent GET_PASSPHRASE"), as its client reads it.
-use Rattle.std.specs.List.{AllByRecursion, flat_map}
-use Rattle.std.specs.Prelude.{◌≡◌, ℕ, Bool, true, false, List, [], ◌∷◌, ◌++◌, Option, Some, None, Result, Ok, Err, ⊤}
-use Rattle.agent_ask.specs.SessionEvents.{Sent, Cut, Inquiry, CacheTurn, Port, said_last}
-use Rattle.agent_ask.specs.SessionPrompts.{note}
-use Rattle.agent_ask.specs.TurnActions.{Closes}
-use Rattle.agent_commands.specs.Events.{Inquired}
-use Rattle.agent_commands.specs.Actions.{CacheEvent}
-use Rattle.agent_commands.specs.Passphrases.{Passphrase}
-use Rattle.agent_commands.specs.Requests.{GetFields}
-use Rattle.assuan_client.specs.Answers.{success_of}
-use Rattle.assuan_client.specs.declared.answer.Answer.TheVariants as answer
-use Rattle.assuan_server.specs.Errors.{error_text, error_number}
-use Rattle.assuan_server.specs.Inquiries.{inquire_text}
-use Rattle.assuan_server.specs.Written.{IsDataAnswer, refusal_line}
-use Rattle.assuan_server.specs.declared.errors.Origin.{Origin}
-use Rattle.assuan_text.specs.LineEnds.{line_of}
-use Rattle.session_client.specs.Asking.{Asked, NotAsked}
-use Rattle.session_client.specs.declared.code.Code.{Code}
-use Rattle.session_client.specs.declared.refusal.Refusal.{Refusal}
-use Rattle.session_options.specs.OptionValues.{OptionValues}
-use Rattle.session_options.specs.declared.rules.Rules.{Rules}
+use Rattle.std.specs.{List.{AllByRecursion, flat_map}, Prelude.{◌≡◌, ℕ, Bool, true, false, List, [], ◌∷◌, ◌++◌, Option, Some, None, Result, Ok, Err, ⊤}}
+use Rattle.{agent_ask.specs.{Session.{SessionEvents.{Sent, Cut, Inquiry, CacheTurn, Port, said_last}, TurnActions.Closes}, SessionPrompts.note}, agent_commands.specs.{Events.Inquired, Actions.CacheEvent, Passphrases.Passphrase}}
+use Rattle.{agent_commands.specs.Requests.GetFields, assuan_client.specs.Answers.success_of, assuan_server.specs.{Errors.{error_text, error_number}, Inquiries.inquire_text, Written.{IsDataAnswer, refusal_line}}}
+use Rattle.{assuan_server.specs.declared.errors.Origin.Origin, assuan_text.specs.LineEnds.line_of, session_client.specs.{Asking.{Asked, NotAsked}, declared.{code.Code.Code, refusal.Refusal.Refusal}}}
+use Rattle.session_options.specs.{OptionValues.OptionValues, declared.rules.Rules.Rules}
 use Rattle.passphrase_laws.specs.Readings.{IsSecret, IsReadAs}
+use Rattle.assuan_client.specs.declared.answer.Answer.TheVariants as answer
 
 -- The last line, if there is one, by what the request came to: the passphrase in data lines, and read so; or the error by which it is
 -- refused, and read as that. A client that is gone is told nothing.

@@ -1,15 +1,7 @@
 -- What a client reads of what an agent writes, in whatever pieces that comes, and whatever comes behind it.
 use Rattle.std.specs.Prelude.{◌≡◌, ◌≤◌, ◌<◌, ◌+◌, ℕ, List, ◌++◌, [], length, All, Option, Some}
-use Rattle.agent_ports.specs.Counts.{Rose}
-use Rattle.agent_ports.specs.Sides.{followed_by}
-use Rattle.assuan_client.specs.Answers.{ReadOn}
-use Rattle.assuan_client.specs.Connections.{Connection}
-use Rattle.assuan_client.specs.Skipping.{Tally}
-use Rattle.assuan_client.specs.declared.answer.Answer.{Answer}
-use Rattle.assuan_client.specs.declared.answer.Answer.TheVariants.{ReadFault}
-use Rattle.assuan_client.specs.declared.tally.TheConstants.{MAX_NOTES}
-use Rattle.assuan_line.specs.Next.{held}
-use Rattle.cache_policy.specs.declared.secret.TheConstants.{MAX_SECRET_LEN}
+use Rattle.{agent_ports.specs.{Counts.Rose, Sides.followed_by}, assuan_client.specs.{Answers.ReadOn, Connections.Connection, Skipping.Tally, declared.{answer.Answer.{Answer, TheVariants.ReadFault}, tally.TheConstants.MAX_NOTES}}}
+use Rattle.{assuan_line.specs.Next.held, cache_policy.specs.declared.secret.TheConstants.MAX_SECRET_LEN}
 
 -- the bytes that a connection has still to read, where they are known
 abbrev pub unread : Connection → Option (List ℕ)

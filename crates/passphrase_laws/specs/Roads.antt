@@ -1,23 +1,12 @@
 -- The road of a passphrase: what a session of this agent writes to its client, and what the client's dialogue tells of it (Assuan manual,
 -- "server responses").
 use Rattle.std.specs.Prelude.{◌≡◌, ◌<◌, ◌^◌, ℕ, Bool, List, [], ◌∷◌, ◌++◌, decimal, Some, None, Result, Ok, Err, ⊤}
-use Rattle.agent_ask.specs.SessionEvents.{Cut, Inquiry}
-use Rattle.agent_commands.specs.Actions.{CacheEvent}
-use Rattle.agent_commands.specs.Requests.{GetFields}
-use Rattle.assuan_server.specs.Errors.{error_text, error_number}
-use Rattle.assuan_server.specs.Written.{greeting, ok, refusal_line}
-use Rattle.assuan_server.specs.declared.errors.Origin.{Origin}
-use Rattle.assuan_text.specs.LineEnds.{line_of}
+use Rattle.{agent_ask.specs.Session.SessionEvents.{Cut, Inquiry}, agent_commands.specs.{Actions.CacheEvent, Requests.GetFields}, assuan_server.specs.{Errors.{error_text, error_number}, Written.{greeting, ok, refusal_line}}}
+use Rattle.{assuan_server.specs.declared.errors.Origin.Origin, assuan_text.specs.LineEnds.line_of, passphrase_talk.specs.declared.told.Told.Told, session_client.specs.{Asking.{Asked, NotAsked}, declared.code.Code.Code}}
+use Rattle.{session_client.specs.declared.refusal.Refusal.Refusal, session_options.specs.{OptionValues.OptionValues, declared.rules.Rules.Rules}}
+use Rattle.passphrase_laws.specs.{Exchanges.{IsTold, Notes, texts_of}, Readings.IsSecret}
 use Rattle.passphrase_talk.specs.declared.told.Loss.TheVariants as loss
-use Rattle.passphrase_talk.specs.declared.told.Told.{Told}
 use Rattle.passphrase_talk.specs.declared.told.Told.TheVariants as told
-use Rattle.session_client.specs.Asking.{Asked, NotAsked}
-use Rattle.session_client.specs.declared.code.Code.{Code}
-use Rattle.session_client.specs.declared.refusal.Refusal.{Refusal}
-use Rattle.session_options.specs.OptionValues.{OptionValues}
-use Rattle.session_options.specs.declared.rules.Rules.{Rules}
-use Rattle.passphrase_laws.specs.Exchanges.{IsTold, Notes, texts_of}
-use Rattle.passphrase_laws.specs.Readings.{IsSecret}
 
 -- An event whose write didn't fail. The note of a pinentry has the number of its process, which is below 2^64.
 abbrev pub IsWhole : CacheEvent → Type 0

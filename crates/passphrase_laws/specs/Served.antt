@@ -1,33 +1,12 @@
 -- What a session of this agent does for the lines of a dialogue: each option is answered by one line, and then the request is. How an option is
 -- answered is this project's own.
-use Rattle.std.specs.List.{AllByRecursion}
-use Rattle.std.specs.Prelude.{◌≡◌, ℕ, true, List, [], ◌∷◌, ◌++◌, if◌then◌else◌}
-use Rattle.agent_ask.specs.Plans.{text}
-use Rattle.agent_ask.specs.SessionEvents.{Received, Sent}
-use Rattle.agent_commands.specs.Exchanges.{LineExchange}
-use Rattle.agent_commands.specs.Actions.{CacheEvent}
-use Rattle.agent_commands.specs.Requests.{GetFields, request_of}
-use Rattle.agent_commands.specs.declared.request.CacheCommand.TheVariants.{SetOption}
-use Rattle.agent_commands.specs.declared.request.Request.TheVariants.{Cache}
-use Rattle.agent_commands.specs.declared.went.Went.{Went}
-use Rattle.agent_commands.specs.declared.went.Went.TheVariants.{On}
-use Rattle.agent_origin.specs.SessionExchanges.{SessionExchange}
-use Rattle.agent_origin.specs.declared.session_state.SessionState.{SessionState}
-use Rattle.assuan_line.specs.declared.reader.Took.TheVariants.{Line}
-use Rattle.assuan_server.specs.Errors.{error_text}
-use Rattle.assuan_server.specs.Written.{ok}
-use Rattle.assuan_server.specs.declared.errors.Origin.{Origin}
-use Rattle.assuan_text.specs.Blanks.{without_blanks}
-use Rattle.assuan_text.specs.LineEnds.{line_of}
-use Rattle.passphrase_talk.specs.declared.told.Told.{Told}
-use Rattle.session_client.specs.declared.code.Code.{Code}
-use Rattle.session_options.specs.OptionValues.{EnvWords, OptionValues, applied, refused as left_as, set_to}
-use Rattle.session_options.specs.Text.{can_be_kept}
-use Rattle.session_options.specs.declared.options.OptionAnswer.TheVariants.{Parameter}
-use Rattle.session_options.specs.declared.options.PinMode.TheVariants.{Ask}
-use Rattle.session_options.specs.declared.rules.Rules.{Rules}
-use Rattle.passphrase_laws.specs.Exchanges.{texts_of}
-use Rattle.passphrase_laws.specs.Roads.{AreReplies, IsWhole, Reaches, session_text}
+use Rattle.std.specs.{List.AllByRecursion, Prelude.{◌≡◌, ℕ, true, List, [], ◌∷◌, ◌++◌, if◌then◌else◌}}
+use Rattle.{agent_ask.specs.{Plans.text, Session.SessionEvents.{Received, Sent}}, agent_commands.specs.{Exchanges.LineExchange, Actions.CacheEvent, Requests.{GetFields, request_of}, declared.request.CacheCommand.TheVariants.SetOption}}
+use Rattle.{agent_commands.specs.declared.{request.Request.TheVariants.Cache, went.Went.{Went, TheVariants.On}}, agent_origin.specs.{SessionExchanges.SessionExchange, declared.session_state.SessionState.SessionState}}
+use Rattle.{assuan_line.specs.declared.reader.Took.TheVariants.Line, assuan_server.specs.{Errors.error_text, Written.ok, declared.errors.Origin.Origin}, assuan_text.specs.{Blanks.without_blanks, LineEnds.line_of}}
+use Rattle.{passphrase_talk.specs.declared.told.Told.Told, session_client.specs.declared.code.Code.Code, session_options.specs.{OptionValues.{EnvWords, OptionValues, applied, refused as left_as, set_to}, Text.can_be_kept}}
+use Rattle.session_options.specs.declared.{options.{OptionAnswer.TheVariants.Parameter, PinMode.TheVariants.Ask}, rules.Rules.Rules}
+use Rattle.passphrase_laws.specs.{Exchanges.texts_of, Roads.{AreReplies, IsWhole, Reaches, session_text}}
 
 -- a line by which an option is taken, or refused
 pub data IsReply : List ℕ → Type 0 where

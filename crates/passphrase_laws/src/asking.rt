@@ -2,12 +2,11 @@
 //! mean it. Nothing runs. Definitions are in `specs/Asking`; the line is `line_of_request` of
 //! `passphrase_words`, and its reader `request_of` of `agent_commands`.
 
+ghost use Rattle.std.specs.Prelude.{List, Option, true, ◌≡◌, ℕ};
 ghost use Rattle.agent_commands.specs.Requests.{get_passphrase, request_of};
 ghost use Rattle.agent_commands.specs.declared.request.Request.TheVariants.{Cache};
+ghost use Rattle.passphrase_words.specs.{Requests.{Asks, Looks, line_of_request}, Tasks.TaskValue};
 ghost use Rattle.passphrase_laws.specs.Asking.{Says, fields_of, is_quiet, repeats_of};
-ghost use Rattle.passphrase_words.specs.Requests.{Asks, Looks, line_of_request};
-ghost use Rattle.passphrase_words.specs.Tasks.{TaskValue};
-ghost use Rattle.std.specs.Prelude.{List, Option, true, ◌≡◌, ℕ};
 
 /// The line by which the command looks for a passphrase, and that by which it has the user asked,
 /// is read by the agent as a request for one under the task's id, in data lines, with the prompt

@@ -1,15 +1,12 @@
 //! A law on the agent's exchange for a GET_PASSPHRASE with `--data`: by which line it ends, to its
 //! client's reader. Nothing runs. Definitions are in `specs/Exchanges`.
 
-ghost use Rattle.agent_commands.specs.Exchanges.{LineExchange};
-ghost use Rattle.agent_commands.specs.Actions.{CacheEvent};
-ghost use Rattle.agent_commands.specs.Requests.{GetFields, get_passphrase, request_of};
-ghost use Rattle.agent_commands.specs.declared.request.Request.TheVariants.{Cache};
-ghost use Rattle.agent_commands.specs.declared.went.Went.{Went};
-ghost use Rattle.passphrase_laws.specs.Exchanges.{IsTold};
-ghost use Rattle.session_options.specs.OptionValues.{OptionValues};
-ghost use Rattle.session_options.specs.declared.rules.Rules.{Rules};
 ghost use Rattle.std.specs.Prelude.{List, true, ◌≡◌, ℕ};
+ghost use Rattle.agent_commands.specs.{Exchanges.LineExchange, Actions.CacheEvent};
+ghost use Rattle.agent_commands.specs.Requests.{GetFields, get_passphrase, request_of};
+ghost use Rattle.agent_commands.specs.declared.{request.Request.TheVariants.Cache, went.Went.Went};
+ghost use Rattle.session_options.specs.{OptionValues.OptionValues, declared.rules.Rules.Rules};
+ghost use Rattle.passphrase_laws.specs.Exchanges.{IsTold};
 
 /// The exchange of a request with `--data` ends by a line that its client reads as the passphrase
 /// that the request came by, or as the error by which it was refused.

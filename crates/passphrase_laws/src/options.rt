@@ -1,13 +1,11 @@
 //! Laws on the options that the command says: how this agent reads each, and answers it. Nothing
 //! runs. Definitions are in `specs/Served`; the lines are `options_of` of `passphrase_talk`.
 
-ghost use Rattle.passphrase_laws.specs.Served.{IsPassed, SaysTerminal};
-ghost use Rattle.passphrase_talk.specs.Dialogues.{options_of};
-ghost use Rattle.passphrase_talk.specs.declared.connector.Waits.{Waits};
-ghost use Rattle.passphrase_talk.specs.declared.connector.Waits.TheVariants.{Prompt};
-ghost use Rattle.session_options.specs.OptionValues.{EnvWords};
-ghost use Rattle.session_options.specs.declared.rules.Rules.{Rules};
 ghost use Rattle.std.specs.List.{AllByRecursion};
+ghost use Rattle.passphrase_talk.specs.{Dialogues.options_of, declared.connector.Waits.Waits};
+ghost use Rattle.passphrase_talk.specs.declared.connector.Waits.TheVariants.{Prompt};
+ghost use Rattle.session_options.specs.{OptionValues.EnvWords, declared.rules.Rules.Rules};
+ghost use Rattle.passphrase_laws.specs.Served.{IsPassed, SaysTerminal};
 
 /// Each option that the command says, this agent answers by one line: it is taken, or refused by an
 /// error. Its session goes on, and in the pinentry-mode that it was in.

@@ -3,13 +3,11 @@
 
 ghost use Rattle.std.specs.Prelude.{List, true, ℕ};
 ghost use Rattle.agent_commands.specs.Answers.{IsPassphrase};
-ghost use Rattle.assuan_client.specs.Answers.{success_of};
-ghost use Rattle.assuan_client.specs.declared.answer.Answer.TheVariants.{Err};
+ghost use Rattle.assuan_client.specs.{Answers.success_of, declared.answer.Answer.TheVariants.Err};
 ghost use Rattle.assuan_server.specs.Errors.{error_number, error_text};
 ghost use Rattle.assuan_server.specs.declared.errors.Origin.{Origin};
-ghost use Rattle.assuan_text.specs.LineEnds.{line_of};
+ghost use Rattle.{assuan_text.specs.LineEnds.line_of, session_client.specs.declared.code.Code.Code};
 ghost use Rattle.passphrase_laws.specs.Readings.{IsReadAs, IsSecret};
-ghost use Rattle.session_client.specs.declared.code.Code.{Code};
 
 /// What the agent writes where a request with `--data` is answered by a passphrase, a client reads
 /// as this passphrase, whatever comes behind it; one without a byte as `Ok`.

@@ -2,25 +2,19 @@
 //! `exchange.rt` and `reading.rt`, joined. Nothing runs. Begin with
 //! `a_task_is_told_what_its_request_came_to`; definitions are in `specs/Roads`.
 
-ghost use Rattle.agent_commands.specs.Exchanges.{LineExchange};
-ghost use Rattle.agent_commands.specs.Actions.{CacheEvent};
+ghost use Rattle.std.specs.List.{AllByRecursion};
+ghost use Rattle.std.specs.Prelude.{List, Option, Some, length, true, ◌++◌, ◌≡◌, ◌≢◌, ◌≤◌, ℕ};
+ghost use Rattle.agent_commands.specs.{Exchanges.LineExchange, Actions.CacheEvent};
 ghost use Rattle.agent_commands.specs.Requests.{GetFields, get_passphrase, request_of};
-ghost use Rattle.agent_commands.specs.declared.request.Request.TheVariants.{Cache};
-ghost use Rattle.agent_commands.specs.declared.went.Went.{Went};
-ghost use Rattle.passphrase_laws.specs.Asking.{Says, fields_of, is_quiet, repeats_of};
-ghost use Rattle.passphrase_laws.specs.Roads.{AreReplies, IsWhole, Reaches, session_text};
-ghost use Rattle.passphrase_talk.specs.Dialogues.{told_of};
-ghost use Rattle.passphrase_talk.specs.Turns.{Turn};
-ghost use Rattle.passphrase_talk.specs.Visits.{Talk};
+ghost use Rattle.agent_commands.specs.declared.{request.Request.TheVariants.Cache, went.Went.Went};
+ghost use Rattle.passphrase_talk.specs.{Dialogues.told_of, Turns.Turn, Visits.Talk};
 ghost use Rattle.passphrase_talk.specs.declared.visits.TheConstants.{BUDGET};
-ghost use Rattle.passphrase_words.specs.Requests.{Asks, Looks, line_of_request};
-ghost use Rattle.passphrase_words.specs.Tasks.{TaskValue};
+ghost use Rattle.passphrase_words.specs.{Requests.{Asks, Looks, line_of_request}, Tasks.TaskValue};
 ghost use Rattle.session_options.specs.OptionValues.{OptionValues};
 ghost use Rattle.session_options.specs.declared.options.PinMode.TheVariants.{Loopback};
 ghost use Rattle.session_options.specs.declared.rules.Rules.{Rules};
-ghost use Rattle.std.specs.List.{AllByRecursion};
-ghost use Rattle.std.specs.Prelude.{List, Option, Some, length, true};
-ghost use Rattle.std.specs.Prelude.{◌++◌, ◌≡◌, ◌≢◌, ◌≤◌, ℕ};
+ghost use Rattle.passphrase_laws.specs.Asking.{Says, fields_of, is_quiet, repeats_of};
+ghost use Rattle.passphrase_laws.specs.Roads.{AreReplies, IsWhole, Reaches, session_text};
 
 /// A client that asks this agent for a passphrase is told what the request came to: the passphrase
 /// that its exchange came by, or the error by which it was refused, unless its link failed. A note

@@ -1,10 +1,9 @@
 //! Laws on the words of the command line: what they say is what the task's requests say. Nothing
 //! runs. Definitions are in `specs/Asking`; how words are read is `Reads` of `passphrase_words`.
 
-ghost use Rattle.passphrase_laws.specs.Asking.{HasTexts, Means, Says};
-ghost use Rattle.passphrase_words.specs.Tasks.{TaskValue, WantsTask};
-ghost use Rattle.passphrase_words.specs.Words.{Reads, ReadsAskpass};
 ghost use Rattle.std.specs.Prelude.{List, Option, ℕ};
+ghost use Rattle.passphrase_words.specs.{Tasks.{TaskValue, WantsTask}, Words.{Reads, ReadsAskpass}};
+ghost use Rattle.passphrase_laws.specs.Asking.{HasTexts, Means, Says};
 
 /// A task that words ask for, and that of an askpass, says the prompt and the description that the
 /// words give it, and its id is one.

@@ -2,6 +2,8 @@
 //! client is told. Nothing runs. Begin with `a_run_is_told_what_its_session_answered`; definitions
 //! are in `specs/Served`.
 
+ghost use Rattle.std.specs.List.{AllByRecursion};
+ghost use Rattle.std.specs.Prelude.{List, Option, Some, length, true, [], ◌++◌, ◌≡◌, ◌≤◌, ◌∷◌, ℕ};
 ghost use Rattle.agent_commands.specs.Requests.{request_of};
 ghost use Rattle.agent_commands.specs.declared.request.CacheCommand.{CacheCommand};
 ghost use Rattle.agent_commands.specs.declared.request.Request.TheVariants.{Cache};
@@ -10,22 +12,13 @@ ghost use Rattle.agent_origin.specs.PortStates.{PortWorld};
 ghost use Rattle.agent_origin.specs.SessionExchanges.{SessionExchange, kept_at_start};
 ghost use Rattle.agent_origin.specs.Sessions.{ServesSession, Surroundings};
 ghost use Rattle.agent_ports.specs.Sides.{with_bytes};
+ghost use Rattle.passphrase_talk.specs.{Dialogues.{options_of, told_of}, Turns.Turn, Visits.Talk};
+ghost use Rattle.passphrase_talk.specs.declared.{connector.Waits.Waits, visits.TheConstants.BUDGET};
+ghost use Rattle.passphrase_words.specs.{Requests.{Asks, Looks, line_of_request}, Tasks.TaskValue};
+ghost use Rattle.session_options.specs.{OptionValues.EnvWords, declared.rules.Rules.Rules};
 ghost use Rattle.passphrase_laws.specs.Asking.{Means, fields_of, is_quiet, repeats_of};
-ghost use Rattle.passphrase_laws.specs.Exchanges.{texts_of};
-ghost use Rattle.passphrase_laws.specs.Roads.{IsWhole};
+ghost use Rattle.passphrase_laws.specs.{Exchanges.texts_of, Roads.IsWhole};
 ghost use Rattle.passphrase_laws.specs.Served.{AnswersRequest, IsPassed, Serves, lines_read};
-ghost use Rattle.passphrase_talk.specs.Dialogues.{options_of, told_of};
-ghost use Rattle.passphrase_talk.specs.Turns.{Turn};
-ghost use Rattle.passphrase_talk.specs.Visits.{Talk};
-ghost use Rattle.passphrase_talk.specs.declared.connector.Waits.{Waits};
-ghost use Rattle.passphrase_talk.specs.declared.visits.TheConstants.{BUDGET};
-ghost use Rattle.passphrase_words.specs.Requests.{Asks, Looks, line_of_request};
-ghost use Rattle.passphrase_words.specs.Tasks.{TaskValue};
-ghost use Rattle.session_options.specs.OptionValues.{EnvWords};
-ghost use Rattle.session_options.specs.declared.rules.Rules.{Rules};
-ghost use Rattle.std.specs.List.{AllByRecursion};
-ghost use Rattle.std.specs.Prelude.{List, Option, Some, length, true};
-ghost use Rattle.std.specs.Prelude.{[], ◌++◌, ◌≡◌, ◌≤◌, ◌∷◌, ℕ};
 
 use agent_ask::Prompter;
 use cache_policy::Desk;

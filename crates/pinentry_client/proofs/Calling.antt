@@ -1,13 +1,13 @@
 -- What each call of a pinentry does to what a prompter shows.
 use Rattle.std.proofs.Common.{◌≡◌, ◌≤◌, ◌+◌, ◌-◌, ◌^◌, ℕ, Bool, true, false, cond, min, List, is_some, is_ok, Option, Some, None, Result, Ok, Err, refl, ap, sym, ◌∙◌, subst, arith}
-use Rattle.agent_ask.specs.{Events.{Call, Start, GetPin, Confirm, Shut}, Prompters.{AtPrompter, IsCall, is_failed, is_ready_after}, declared.{prompter.{Consent.Consent, Opened.Opened, Outcome.Outcome}, spec.PromptSpec.PromptSpec}}
+use Rattle.agent_ask.specs.{Events.{Call, Start, GetPin, Confirm, Shut}, Prompters.{AtPrompter, IsCall, is_failed, is_ready_after}, declared.prompt.{prompter.{Consent.Consent, Opened.Opened, Outcome.Outcome}, spec.PromptSpec.PromptSpec}}
 use Rattle.{agent_ports.specs.{Counts.{Rose, RoseBy}, Launches.Launches, Sides.Side}, assuan_client.specs.Connections.Connection}
 use Rattle.pinentry_client.specs.Dialogues.{HasNoChild, HasChild, HasFinished, SaysBye, opened_of, stays_ready, stays_open, PinentryDoes, unlaunched, started, pin_asked, consent_asked, shut, shut_alone, PinentryCall}
 use Rattle.pinentry_client.specs.{States.{PinentryState, AtPinentry, at_pinentry, at_prompter}, Talking.{StartTalk, PinTalk, ConsentTalk}, declared.answers.Trouble.{Trouble, TheVariants.{Failed, Broken}}}
 use Rattle.pinentry_client.proofs.Faults.{faults, fails_by, start_grew, pin_failed, pin_grew, consent_failed, consent_grew, counts_grew}
-use Rattle.agent_ask.specs.declared.prompter.Consent.TheVariants as consent
-use Rattle.agent_ask.specs.declared.prompter.Opened.TheVariants as opened
-use Rattle.agent_ask.specs.declared.prompter.Outcome.TheVariants as outcome
+use Rattle.agent_ask.specs.declared.prompt.prompter.Consent.TheVariants as consent
+use Rattle.agent_ask.specs.declared.prompt.prompter.Opened.TheVariants as opened
+use Rattle.agent_ask.specs.declared.prompt.prompter.Outcome.TheVariants as outcome
 
 pin_ready_after : (error : List ℕ) (what : Outcome) → stays_ready what ≡ is_ready_after (GetPin error what)
 pin_ready_after error (outcome.Pin pin) = refl

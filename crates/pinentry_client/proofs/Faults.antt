@@ -1,12 +1,12 @@
 -- Where reads and writes fail, the count of faults rises.
 use Rattle.std.{proofs.Common.{◌≡◌, ◌≢◌, ◌≤◌, ◌+◌, ◌-◌, ◌^◌, ◌%◌, ◌==◌, ◌&&◌, codes, ℕ, Bool, true, false, cond, min, nat_lt, List, Option, Some, None, Result, Ok, Err, refl, ap, arith}, specs.Str.bytes_eq}
-use Rattle.{agent_ask.specs.declared.{spec.PromptSpec.PromptSpec, prompter.{Consent.Consent, Outcome.Outcome}}, agent_ports.specs.{Counts.{Rose, RoseBy}, Sides.Side}, assuan_client.specs.{Answers.ReadOn, Connections.Connection}}
+use Rattle.{agent_ask.specs.declared.prompt.{spec.PromptSpec.PromptSpec, prompter.{Consent.Consent, Outcome.Outcome}}, agent_ports.specs.{Counts.{Rose, RoseBy}, Sides.Side}, assuan_client.specs.{Answers.ReadOn, Connections.Connection}}
 use Rattle.{assuan_client.{specs.{Skipping.Tally, Writing.{Command, IsUnanswered}, declared.answer.Answer.Answer}, proofs.Alike.is_fault}, assuan_text.specs.Numbers.number_of}
 use Rattle.pinentry_client.specs.Answers.{greeted, accepted, pid_after, data_of, process_of, pin_outcome, pin_error, consent_of, consent_error}
 use Rattle.pinentry_client.specs.Talking.{TellsSetting, unsent, sent, Sets, done, next, StartTalk, greets, Settles, answered, inquired, ErrorTalk, none, shown, PinTalk, ConsentTalk, outcome_by, ChildReplies}
 use Rattle.pinentry_client.specs.declared.{answers.Trouble.{Trouble, TheVariants.{Failed, Broken}}, settings.Setting.Setting}
-use Rattle.agent_ask.specs.declared.prompter.Consent.TheVariants as consent
-use Rattle.agent_ask.specs.declared.prompter.Outcome.TheVariants as outcome
+use Rattle.agent_ask.specs.declared.prompt.prompter.Consent.TheVariants as consent
+use Rattle.agent_ask.specs.declared.prompt.prompter.Outcome.TheVariants as outcome
 use Rattle.assuan_client.specs.declared.answer.Answer.TheVariants as answer
 use Rattle.pinentry_client.specs.declared.settings.Setting.TheVariants as setting
 use Rattle.assuan_line.specs.declared.breach.Breach.TheVariants as breach

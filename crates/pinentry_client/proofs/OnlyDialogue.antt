@@ -1,11 +1,11 @@
 -- A child's bytes decide what the calls of a prompt are answered.
 use Rattle.std.proofs.Common.{◌≡◌, ◌+◌, ℕ, Bool, true, false, List, ◌∷◌, ◌++◌, length, is_ok, Option, Some, Result, Ok, Err, refl, ap, sym, subst, ◌∙◌}
-use Rattle.{agent_ask.specs.{Events.{Call, Start}, declared.{prompter.{Consent.Consent, Outcome.Outcome}, spec.PromptSpec.PromptSpec}}, agent_ports.specs.Sides.Side, assuan_client.{specs.Connections.Connection, proofs.Alike.Alike}}
+use Rattle.{agent_ask.specs.{Events.{Call, Start}, declared.prompt.{prompter.{Consent.Consent, Outcome.Outcome}, spec.PromptSpec.PromptSpec}}, agent_ports.specs.Sides.Side, assuan_client.{specs.Connections.Connection, proofs.Alike.Alike}}
 use Rattle.assuan_line.specs.Next.{Reader}
 use Rattle.pinentry_client.specs.{Dialogues.{opened_of, stays_ready, stays_open}, Talking.{StartTalk, PinTalk, ConsentTalk}, Whole.{Questions, Dialogue, AskAlike}, declared.answers.Trouble.{Trouble, TheVariants.{Failed, Broken}}}
 use Rattle.pinentry_client.proofs.{Calling.{pin_is_failed, consent_is_failed, start_is_failed}, Faults.{fails_by, pin_failed, consent_failed}, OnlyTalk.{CameAlike, start_alike, pin_alike, consent_alike}}
-use Rattle.agent_ask.specs.declared.prompter.Consent.TheVariants as consent
-use Rattle.agent_ask.specs.declared.prompter.Outcome.TheVariants as outcome
+use Rattle.agent_ask.specs.declared.prompt.prompter.Consent.TheVariants as consent
+use Rattle.agent_ask.specs.declared.prompt.prompter.Outcome.TheVariants as outcome
 
 -- what failed came to the same
 failed_pin : (what : Outcome) → pin_failed what ≡ true → what ≡ outcome.Failed

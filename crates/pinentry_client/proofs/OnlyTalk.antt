@@ -1,6 +1,6 @@
 -- To connections to which the same bytes come, what is said is answered the same, unless it failed.
 use Rattle.std.{proofs.Common.{◌≡◌, ◌&&◌, codes, ℕ, Bool, true, false, List, [], ◌∷◌, is_ok, Option, Some, None, Result, Ok, Err, refl, ap, sym, subst, ◌∙◌}, specs.Str.bytes_eq}
-use Rattle.{agent_ask.specs.declared.{prompter.{Consent.Consent, Outcome.Outcome}, spec.PromptSpec.PromptSpec}, assuan_client.specs.{Connections.Connection, Skipping.Tally, Writing.{Command, reply_text, cancel_text}}}
+use Rattle.{agent_ask.specs.declared.prompt.{prompter.{Consent.Consent, Outcome.Outcome}, spec.PromptSpec.PromptSpec}, assuan_client.specs.{Connections.Connection, Skipping.Tally, Writing.{Command, reply_text, cancel_text}}}
 use Rattle.assuan_client.{specs.declared.answer.Answer.Answer, proofs.Alike.{Alike, is_fault, goes_on, SaidAlike, answered_alike, exchanged_alike}}
 use Rattle.pinentry_client.specs.{Answers.{greeted, accepted, pid_after, pin_outcome, consent_of}, Dialogues.{stays_ready, stays_open}, Settings.{IsSettingLine, IsWhereGiven}}
 use Rattle.pinentry_client.specs.Talking.{TellsSetting, unsent, sent, Sets, done, next, StartTalk, greets, Settles, answered, inquired, ErrorTalk, none, shown, PinTalk, ConsentTalk, outcome_by, ChildReplies}

@@ -1,13 +1,13 @@
 -- A child is spent only where so many bytes of it were taken as its connection may take.
 use Rattle.std.{proofs.Common.{◌≡◌, ◌≢◌, ◌+◌, ◌%◌, ◌==◌, ◌&&◌, codes, ℕ, Bool, true, false, cond, nat_lt, List, ◌∷◌, length, is_ok, Option, Some, None, Result, Ok, Err, refl, ap, sym, subst, ◌∙◌, arith}, specs.Str.bytes_eq}
-use Rattle.{agent_ports.specs.Sides.Side, agent_ask.specs.{Events.{Call, Start, GetPin, Confirm}, declared.{prompter.{Consent.Consent, Outcome.Outcome}, spec.PromptSpec.PromptSpec}}, assuan_client.specs.Answers.{ReadOn, ended_of}}
+use Rattle.{agent_ports.specs.Sides.Side, agent_ask.specs.{Events.{Call, Start, GetPin, Confirm}, declared.prompt.{prompter.{Consent.Consent, Outcome.Outcome}, spec.PromptSpec.PromptSpec}}, assuan_client.specs.Answers.{ReadOn, ended_of}}
 use Rattle.{assuan_client.{specs.{Connections.Connection, Skipping.Tally, Writing.{Command, IsUnanswered}, declared.answer.Answer.Answer}, proofs.Alike.both_known}, assuan_line.specs.Next.{Reader, ended_by}}
 use Rattle.{assuan_line.specs.declared.reader.{Took.Took as Took', TheConstants.BUDGET}, assuan_text.specs.Numbers.number_of}
 use Rattle.pinentry_client.specs.Answers.{greeted, accepted, pid_after, data_of, process_of, pin_outcome, consent_of}
 use Rattle.pinentry_client.specs.Talking.{TellsSetting, unsent, sent, Sets, done, next, StartTalk, greets, Settles, answered, inquired, ErrorTalk, none, shown, PinTalk, ConsentTalk, outcome_by, ChildReplies}
 use Rattle.pinentry_client.specs.{Dialogues.{opened_of, stays_ready, stays_open}, Whole.{Questions, Dialogue, IsSpent, HasSpent, here, later}, declared.{answers.Trouble.{Trouble, TheVariants.{Failed, Broken}}, settings.Setting.Setting}}
-use Rattle.agent_ask.specs.declared.prompter.Consent.TheVariants as consent
-use Rattle.agent_ask.specs.declared.prompter.Outcome.TheVariants as outcome
+use Rattle.agent_ask.specs.declared.prompt.prompter.Consent.TheVariants as consent
+use Rattle.agent_ask.specs.declared.prompt.prompter.Outcome.TheVariants as outcome
 use Rattle.assuan_client.specs.declared.answer.Answer.TheVariants as answer
 use Rattle.assuan_line.specs.declared.breach.Breach.TheVariants as breach
 use Rattle.assuan_line.specs.declared.reader.Took.TheVariants as took

@@ -1,10 +1,10 @@
 -- Worked examples: two prompts, the launch of the first of which failed, and whose second one has a child that ends without a word.
 use Rattle.std.proofs.Common.{◌≡◌, ℕ, List, [], ◌∷◌, Some, None, Err, refl, inl, arith}
-use Rattle.{agent_ask.specs.{Events.{Call, Start, Shut}, declared.spec.PromptSpec.PromptSpec}, agent_ports.specs.{Launches.Launches, Leads.{Leads, none, one}, Sides.Side}, assuan_client.specs.{Answers.ReadOn, Connections.Connection}}
+use Rattle.{agent_ask.specs.{Events.{Call, Start, Shut}, declared.prompt.spec.PromptSpec.PromptSpec}, agent_ports.specs.{Launches.Launches, Leads.{Leads, none, one}, Sides.Side}, assuan_client.specs.{Answers.ReadOn, Connections.Connection}}
 use Rattle.{assuan_client.specs.Skipping.nothing, assuan_line.specs.{Next.next_of, declared.reader.TheConstants.BUDGET}}
 use Rattle.pinentry_client.specs.{Children.{ArePrompts, next, HaveTheirChildren}, Dialogues.{PinentryDoes, unlaunched, started, shut, shut_alone}, States.idle, Whole.{AreQuestions, IsOnePrompt}, declared.answers.Trouble.TheVariants.Broken}
 use Rattle.pinentry_client.proofs.Children.{their_children}
-use Rattle.agent_ask.specs.declared.prompter.Opened.TheVariants as opened
+use Rattle.agent_ask.specs.declared.prompt.prompter.Opened.TheVariants as opened
 use Rattle.assuan_client.specs.Answers as answers
 use Rattle.assuan_client.specs.declared.answer.Answer.TheVariants as answer
 use Rattle.assuan_client.specs.declared.answer.State.TheVariants as state

@@ -1,10 +1,10 @@
 -- What a pinentry's answers mean (pinentry manual, "protocol"; the errors' numbers are those of libgpg-error). Which of them break the
 -- protocol is this project's own.
 use Rattle.std.specs.Prelude.{ℕ, ◌%◌, ◌^◌, ◌==◌, nat_lt, List, [], if◌then◌else◌, Option, Some, None, Result, Ok, Err}
-use Rattle.{agent_ask.specs.declared.prompter.{Consent.Consent, Outcome.Outcome}, assuan_client.specs.declared.answer.Answer.Answer, assuan_text.specs.Numbers.number_of}
+use Rattle.{agent_ask.specs.declared.prompt.prompter.{Consent.Consent, Outcome.Outcome}, assuan_client.specs.declared.answer.Answer.Answer, assuan_text.specs.Numbers.number_of}
 use Rattle.pinentry_client.specs.declared.{answers.Trouble.{Trouble, TheVariants.{Failed, Broken}}, settings.Setting.Setting}
-use Rattle.agent_ask.specs.declared.prompter.Consent.TheVariants as consent
-use Rattle.agent_ask.specs.declared.prompter.Outcome.TheVariants as outcome
+use Rattle.agent_ask.specs.declared.prompt.prompter.Consent.TheVariants as consent
+use Rattle.agent_ask.specs.declared.prompt.prompter.Outcome.TheVariants as outcome
 use Rattle.assuan_client.specs.declared.answer.Answer.TheVariants as answer
 use Rattle.assuan_line.specs.declared.breach.Breach.TheVariants as breach
 use Rattle.pinentry_client.specs.declared.settings.Setting.TheVariants as setting

@@ -1,8 +1,8 @@
 -- Prompts one after another, and the children that they have (pinentry manual, "protocol"). Which prompts have one is this project's own.
 use Rattle.std.specs.Prelude.{◌≡◌, ℕ, List, [], ◌∷◌, ◌++◌, Option}
-use Rattle.{agent_ask.specs.{Events.{Call, Start, Shut}, declared.spec.PromptSpec.PromptSpec}, agent_ports.specs.Launches.{Launches, Finished, child_then, then_launched, then_finished}}
+use Rattle.{agent_ask.specs.{Events.{Call, Start, Shut}, declared.prompt.spec.PromptSpec.PromptSpec}, agent_ports.specs.Launches.{Launches, Finished, child_then, then_launched, then_finished}}
 use Rattle.pinentry_client.specs.Whole.{IsOnePrompt, Dialogue}
-use Rattle.agent_ask.specs.declared.prompter.Opened.TheVariants as opened
+use Rattle.agent_ask.specs.declared.prompt.prompter.Opened.TheVariants as opened
 
 -- some calls are those of these prompts, one after another
 pub data ArePrompts : List (List Call) → List Call → Type 0 where

@@ -1,12 +1,12 @@
 -- What a pinentry does by each call of a prompter: what is launched, said, answered and finished (pinentry manual, "protocol").
 use Rattle.std.specs.Prelude.{◌≡◌, ◌≤◌, ◌+◌, ℕ, Bool, true, false, List, [], codes, is_ok, None, Result, Ok, Err}
-use Rattle.{agent_ask.specs.{Events.{Call, Start, GetPin, Confirm, Shut}, Prompters.IsCall, declared.{prompter.{Consent.Consent, Opened.Opened, Outcome.Outcome}, spec.PromptSpec.PromptSpec}}, agent_ports.specs.Counts.{Rose, RoseBy}}
+use Rattle.{agent_ask.specs.{Events.{Call, Start, GetPin, Confirm, Shut}, Prompters.IsCall, declared.prompt.{prompter.{Consent.Consent, Opened.Opened, Outcome.Outcome}, spec.PromptSpec.PromptSpec}}, agent_ports.specs.Counts.{Rose, RoseBy}}
 use Rattle.{agent_ports.specs.{Launches.{Launches, IsFresh, child_then, then_launched, then_finished}, Sides.{Side, with_bytes, sent_part, IsCut}, declared.link.Sent.Sent}, assuan_client.specs.{Connections.Connection, Skipping.nothing}}
 use Rattle.{assuan_text.specs.LineEnds.line_of, assuan_line.specs.declared.reader.TheConstants.BUDGET}
 use Rattle.pinentry_client.specs.{States.{PinentryState, AtPinentry, idle, asked, at_pinentry, at_prompter}, Talking.{StartTalk, PinTalk, ConsentTalk}, declared.answers.Trouble.{Trouble, TheVariants.{Failed, Broken}}}
-use Rattle.agent_ask.specs.declared.prompter.Consent.TheVariants as consent
-use Rattle.agent_ask.specs.declared.prompter.Opened.TheVariants as opened
-use Rattle.agent_ask.specs.declared.prompter.Outcome.TheVariants as outcome
+use Rattle.agent_ask.specs.declared.prompt.prompter.Consent.TheVariants as consent
+use Rattle.agent_ask.specs.declared.prompt.prompter.Opened.TheVariants as opened
+use Rattle.agent_ask.specs.declared.prompt.prompter.Outcome.TheVariants as outcome
 use Rattle.assuan_client.specs.declared.answer.State.TheVariants as state
 
 -- a launch gave no child

@@ -1,7 +1,7 @@
 -- The lines that a pinentry is sent before a prompt (pinentry manual, "protocol"). Their order, and where a text that is too long is cut,
 -- is this project's own.
 use Rattle.std.specs.Prelude.{◌≡◌, ◌≢◌, ◌≤◌, ◌+◌, ℕ, if◌then◌else◌, List, [], ◌∷◌, ◌++◌, length, take, codes, decimal, Option, Some, None, ⊤}
-use Rattle.{agent_ask.specs.declared.spec.PromptSpec.PromptSpec, assuan_escape.specs.Escapes.escapes, assuan_text.specs.declared.TheConstants.MAX_LINE_LEN}
+use Rattle.{agent_ask.specs.declared.prompt.spec.PromptSpec.PromptSpec, assuan_escape.specs.Escapes.escapes, assuan_text.specs.declared.TheConstants.MAX_LINE_LEN}
 use Rattle.pinentry_client.specs.declared.settings.Setting.{Setting}
 use Rattle.pinentry_client.specs.declared.settings.Setting.TheVariants as setting
 

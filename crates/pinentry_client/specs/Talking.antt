@@ -1,11 +1,11 @@
 -- What is said to a pinentry, and answered, command by command (pinentry manual, "protocol"; Assuan manual, "client requests"). Each
 -- command is written as a line, and its answer is what the child's lines up to the next end come to.
 use Rattle.std.specs.{Prelude.{◌≡◌, ◌≢◌, ◌*◌, ◌&&◌, ℕ, Bool, true, false, List, [], ◌∷◌, length, min, codes, decimal, Some, None, Result, Ok, Err}, Str.bytes_eq}
-use Rattle.{agent_ask.specs.declared.{prompter.{Consent.Consent, Outcome.Outcome}, spec.PromptSpec.PromptSpec}, assuan_client.specs.{Answers.ReadOn, Connections.Connection, Skipping.nothing, Writing.{Command, Reply, cancel_text}}}
+use Rattle.{agent_ask.specs.declared.prompt.{prompter.{Consent.Consent, Outcome.Outcome}, spec.PromptSpec.PromptSpec}, assuan_client.specs.{Answers.ReadOn, Connections.Connection, Skipping.nothing, Writing.{Command, Reply, cancel_text}}}
 use Rattle.{assuan_client.specs.declared.answer.Answer.Answer, assuan_escape.specs.Escapes.unescaped, assuan_text.specs.LineEnds.line_of}
 use Rattle.pinentry_client.specs.{Answers.{greeted, accepted, pid_after, pin_outcome, consent_of}, Settings.{IsSettingLine, IsTextLine, all_settings}, declared.answers.Trouble.{Trouble, TheVariants.{Failed, Broken}}}
 use Rattle.pinentry_client.specs.declared.settings.Setting.{Setting}
-use Rattle.agent_ask.specs.declared.prompter.Outcome.TheVariants as outcome
+use Rattle.agent_ask.specs.declared.prompt.prompter.Outcome.TheVariants as outcome
 use Rattle.assuan_client.specs.declared.answer.Answer.TheVariants as answer
 
 -- a command was written, and answered, or its write failed

@@ -1,12 +1,12 @@
 -- One prompt from its start to its end, as a dialogue with one child (pinentry manual, "protocol").
 use Rattle.std.specs.Prelude.{◌≡◌, ℕ, Bool, true, List, [], ◌∷◌, is_ok, Option, None, Result, ⊤}
-use Rattle.{agent_ask.specs.{Events.{Call, Start, GetPin, Confirm, Shut}, Prompters.is_failed, declared.{prompter.{Consent.Consent, Opened.Opened, Outcome.Outcome}, spec.PromptSpec.PromptSpec}}, agent_ports.specs.Counts.Rose}
+use Rattle.{agent_ask.specs.{Events.{Call, Start, GetPin, Confirm, Shut}, Prompters.is_failed, declared.prompt.{prompter.{Consent.Consent, Opened.Opened, Outcome.Outcome}, spec.PromptSpec.PromptSpec}}, agent_ports.specs.Counts.Rose}
 use Rattle.{agent_ports.specs.{Launches.{Launches, IsFresh, child_then, then_launched, then_finished}, Sides.Side}, assuan_client.specs.{Connections.Connection, Skipping.nothing, declared.answer.State.TheVariants.Ready}}
 use Rattle.assuan_line.specs.declared.reader.TheConstants.{BUDGET}
 use Rattle.pinentry_client.specs.{Dialogues.{SaysBye, opened_of, stays_ready, stays_open}, Talking.{StartTalk, PinTalk, ConsentTalk}, declared.answers.Trouble.Trouble}
-use Rattle.agent_ask.specs.declared.prompter.Consent.TheVariants as agreed
-use Rattle.agent_ask.specs.declared.prompter.Opened.TheVariants as opened
-use Rattle.agent_ask.specs.declared.prompter.Outcome.TheVariants as outcome
+use Rattle.agent_ask.specs.declared.prompt.prompter.Consent.TheVariants as agreed
+use Rattle.agent_ask.specs.declared.prompt.prompter.Opened.TheVariants as opened
+use Rattle.agent_ask.specs.declared.prompt.prompter.Outcome.TheVariants as outcome
 use Rattle.assuan_line.specs.declared.breach.Breach.TheVariants as breach
 
 -- the questions of a prompt, and its end

@@ -3,7 +3,7 @@
 //! with `mark_trusted`; its events are `Marked` (`specs/TrustExchanges`).
 
 ghost use Rattle.std.specs.Prelude.{◌≡◌, None, Some};
-ghost use Rattle.agent_ask.specs.{ActionStates.NoTurn, Prompters.IsShut, Seats.IsReady};
+ghost use Rattle.agent_ask.specs.{Session.ActionStates.NoTurn, Prompters.IsShut, Seats.IsReady};
 ghost use Rattle.assuan_server.specs.Connections.{IsOpen};
 ghost use Rattle.agent_origin.specs.TrustExchanges.{Consented, Marked, asked_in};
 ghost use Rattle.agent_origin.specs.TrustStates.{LeavesKeys};

@@ -1,6 +1,6 @@
 -- Requests on the cache and on the session, each of whose refusals has its cause.
 use Rattle.std.proofs.Common.{◌≡◌, ℕ, Bool, true, false, List, [], ◌++◌, codes, Option, Some, None, Result, Ok, refl, sym, subst, inl}
-use Rattle.{arrayvec.specs.ArrayVec.ArrayVec, agent_ask.specs.{SessionEvents.said_last, PortCalls.PortCall, Actions.{◌>>=◌, Returns}, Plans.plan_of}, assuan_server.specs.{Clients.session_lines, Written.{refusal_line, limit_line}}}
+use Rattle.{arrayvec.specs.ArrayVec.ArrayVec, agent_ask.specs.{Session.{SessionEvents.said_last, PortCalls.PortCall, Actions.{◌>>=◌, Returns}}, Plans.plan_of}, assuan_server.specs.{Clients.session_lines, Written.{refusal_line, limit_line}}}
 use Rattle.session_client.specs.{Asking.gone_of, Refusals.gone_by, declared.{code.Code.Code, refusal.Refusal.{Refusal, TheVariants.{Agent, Pinentry, Client}}, client_error.ClientError.ClientError}}
 use Rattle.{cache_policy.specs.{Turns.{closes, Empty}, declared.{mark.MarkStep.MarkStep, secret.TheConstants.MAX_SECRET_LEN}}, session_options.specs.{OptionValues.{OptionValues, applied}, declared.options.OptionAnswer.OptionAnswer}}
 use Rattle.{session_options.specs.declared.{options.PinMode.PinMode, rules.Rules.Rules}, agent_commands.specs.{Answers.IsInfo, Endings.went_after, Events.EventWith}}
@@ -13,9 +13,9 @@ use Rattle.agent_session.{specs.Causes.{without_id, passphrase}, proofs.Causes.{
 use Rattle.agent_session.proofs.Causes.Explaining.{Caused, CausedRefusal, ClientSays, cut, client_said, Comes, IsExplained, Explains, Anything, bind, whatever, returned, refused, or_otherwise, is_wanted, interrupts, looks, seats, changes}
 use Rattle.agent_session.proofs.Causes.{Explaining.closes_explained, KeyActions.{Either, prompt_silent, refused_any, agrees}, KeyRequests.{if_needed, or_else_explained}}
 use Rattle.agent_session.proofs.{Causes.Replying.{IsReply, reply_ok, reply_closing, reply_help, reply_cache, reply_passphrase}, Standing.{has_first, stand_left, stand_right}}
-use Rattle.agent_ask.specs.ClientActions as client
-use Rattle.agent_ask.specs.ActionExchanges as exchange
-use Rattle.agent_ask.specs.TurnActions as taken
+use Rattle.agent_ask.specs.Session.ClientActions as client
+use Rattle.agent_ask.specs.Session.ActionExchanges as exchange
+use Rattle.agent_ask.specs.Session.TurnActions as taken
 use Rattle.assuan_server.specs.declared.errors.Origin.TheVariants as origin
 use Rattle.session_client.specs.declared.code.Code.TheVariants as code
 use Rattle.session_client.specs.declared.client_error.Gone.TheVariants as gone

@@ -1,6 +1,6 @@
 -- Exchanges in which the request has its one answer, and the error line its cause.
 use Rattle.std.{specs.{List.AllByRecursion, Prelude.⊤}, proofs.Common.{◌≡◌, ◌⊎◌, List, [], ◌∷◌, ◌++◌, ℕ, refl, sym, subst, append_assoc, inl, inr}}
-use Rattle.{agent_ask.specs.{PortCalls.PortCall, SessionEvents.Sent}, assuan_server.specs.{Errors.error_text, declared.errors.Origin.Origin}, session_client.specs.declared.code.Code.Code, assuan_text.specs.LineEnds.line_of}
+use Rattle.{agent_ask.specs.Session.{PortCalls.PortCall, SessionEvents.Sent}, assuan_server.specs.{Errors.error_text, declared.errors.Origin.Origin}, session_client.specs.declared.code.Code.Code, assuan_text.specs.LineEnds.line_of}
 use Rattle.{agent_commands.specs.{Events.EventWith, declared.went.{SessionEnd.TheVariants.{Bye, Killed, Ended, TooLong, Spent, ReadFault, WriteFault}, Went.{Went, TheVariants.{On, End}}}}, key_commands.proofs.EachEvent.each_append}
 use Rattle.agent_session.{specs.{Causes.{IsSaid, Has, here, later}, Completeness.{AnswersNothing, AnswersAtLast, IsAnsweredBy, HasError, EndsInOk, done, error}}, proofs.Causes.ErrorLines.{same_code, same_origin, no_reply, no_status}}
 use Rattle.agent_session.proofs.{Causes.Replying.{IsReply, begins}, Standing.each_has}

@@ -1,7 +1,7 @@
 -- Actions of a request on keys each of whose refusals has its cause among the events of the request.
 use Rattle.std.{specs.{List.AllByRecursion, Prelude.{⊤, ◌<◌, ◌^◌}}, proofs.Common.{◌≡◌, ℕ, Bool, true, false, List, ◌∷◌, Option, Some, None, Result, Ok, Err, refl}}
-use Rattle.agent_ask.specs.{PortCalls.{PortCall, Keys, Read, Dice, NotDrawn, NoMemory}, SessionEvents.{Port, cache_turn}, ClientActions.{Writes, Inquires, AsksClient}}
-use Rattle.agent_ask.{specs.{Actions.{◌>>=◌, Returns, returns, Refuses, refuses, needed, or_else, unless, wanted}, Interrupts.Interrupts, TurnActions.{Asks, Seats, Changes, Peeks, Closes}}, proofs.Within.Joins}
+use Rattle.agent_ask.specs.Session.{PortCalls.{PortCall, Keys, Read, Dice, NotDrawn, NoMemory}, SessionEvents.{Port, cache_turn}, ClientActions.{Writes, Inquires, AsksClient}}
+use Rattle.agent_ask.{specs.{Session.{Actions.{◌>>=◌, Returns, returns, Refuses, refuses, needed, or_else, unless, wanted}, TurnActions.{Asks, Seats, Changes, Peeks, Closes}}, Interrupts.Interrupts}, proofs.Within.Joins}
 use Rattle.{agent_ports.specs.declared.grip.Grip.Grip, session_client.specs.declared.{code.Code.Code, client_error.ClientError.ClientError, refusal.Refusal.{Refusal, TheVariants.{Agent, Pinentry, Client}}}}
 use Rattle.{assuan_server.specs.{Clients.session_lines, declared.errors.Origin.{Origin, TheVariants.{Agent as OfAgent, Pinentry as OfPinentry}}, Written.limit_line}, cache_policy.specs.declared.mode.Mode.TheVariants.Normal}
 use Rattle.{cache_policy.specs.{declared.{grant.Grant.Grant, mark.MarkStep.MarkStep}, Turns.{Turn, Refused, closes, Given, Empty, Open}}, session_options.specs.declared.rules.Rules.Rules, agent_commands.specs.Events.EventWith}
@@ -14,8 +14,8 @@ use Rattle.session_client.specs.declared.client_error.Gone.TheVariants as gone
 use Rattle.session_client.specs.declared.client_error.ClientError.TheVariants as client_error
 use Rattle.agent_ask.proofs.Within as within
 use Rattle.agent_ask.specs.Interrupts as turns
-use Rattle.agent_ask.specs.TurnActions as taken
-use Rattle.agent_ask.specs.ClientActions as client_actions
+use Rattle.agent_ask.specs.Session.TurnActions as taken
+use Rattle.agent_ask.specs.Session.ClientActions as client_actions
 use Rattle.key_commands.specs.Actions as actions
 
 -- whatever value

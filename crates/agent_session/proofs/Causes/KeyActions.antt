@@ -1,7 +1,7 @@
 -- The actions of requests on keys, each of whose refusals has its cause.
 use Rattle.std.{specs.{List.AllByRecursion, Prelude.⊤, Option.option_map}, proofs.Common.{false, ◌≡◌, ℕ, List, ◌∷◌, Option, Some, None, Result, Ok, Err, refl, sym, subst, inl, inr}}
-use Rattle.agent_ask.specs.{Callers.unheard_of, Events.{OutOfMemory, PromptEvent, Called, Notified}, PortCalls.{PortCall, Keys, Read, Replaced, Removed, Prompt}, SessionEvents.{Port, cache_turn}, SessionPrompts.AnyInSession}
-use Rattle.agent_ask.specs.{declared.{ask.Asked.Asked, caller.Heard.Heard, consent.Agreed.Agreed, spec.{AskPlan.AskPlan, PromptSpec.PromptSpec}}, ConsentActions.{AgreesTo, consent_refusal}, PinActions.{PromptsPin, pin_refusal}}
+use Rattle.agent_ask.specs.{Callers.unheard_of, Events.{OutOfMemory, PromptEvent, Called, Notified}, Session.{PortCalls.{PortCall, Keys, Read, Replaced, Removed, Prompt}, SessionEvents.{Port, cache_turn}}, SessionPrompts.AnyInSession}
+use Rattle.agent_ask.specs.{declared.{prompt.{ask.Asked.Asked, consent.Agreed.Agreed, spec.{AskPlan.AskPlan, PromptSpec.PromptSpec}}, client.caller.Heard.Heard}, ConsentActions.{AgreesTo, consent_refusal}, PinActions.{PromptsPin, pin_refusal}}
 use Rattle.{agent_ports.specs.declared.{grip.Grip.Grip, keys.{KeyDone.KeyDone, KeyRead.KeyRead}}, assuan_server.specs.Clients.session_lines, session_client.specs.declared.{code.Code.Code, client_error.ClientError.ClientError}}
 use Rattle.{session_client.specs.declared.refusal.Refusal.{Refusal, TheVariants.Client}, cache_policy.specs.{Turns.Given, declared.{grant.Grant.Grant, mark.MarkStep.MarkStep}}, session_options.specs.declared.rules.Rules.Rules}
 use Rattle.{sexp_keys.specs.{Key.Key, declared.fault.KeyFault.KeyFault}, secret_file.specs.Opens.LockedKey, agent_commands.specs.{Events.EventWith, declared.request.Request.Request}, key_commands.specs.Faults.fault_code}
@@ -12,9 +12,9 @@ use Rattle.agent_session.specs.{Causes.{HasPrompt, AsksAny, old_plan, new_plan, 
 use Rattle.agent_session.proofs.Causes.Explaining.{Caused, CausedRefusal, client_said, Comes, Explains, Anything, returned, FoundBy, found, found_none, looks, seats, changes, closes_explained, out_of_memory_first, out_of_memory_second}
 use Rattle.agent_session.proofs.{Causes.{Faulty.{file_fault_said, locked_fault_said}, Prompted.{has_prompt, PinShows, ConsentShows, HasCalled, HasHeard, pin_shows, consent_shows, shown_as, note_says}}, Standing.{has_first, has_in}}
 use Rattle.agent_ask.specs.SessionPrompts as session
-use Rattle.agent_ask.specs.declared.ask.Asked.TheVariants as asked
-use Rattle.agent_ask.specs.declared.caller.Heard.TheVariants as heard_as
-use Rattle.agent_ask.specs.declared.consent.Agreed.TheVariants as agreed
+use Rattle.agent_ask.specs.declared.prompt.ask.Asked.TheVariants as asked
+use Rattle.agent_ask.specs.declared.client.caller.Heard.TheVariants as heard_as
+use Rattle.agent_ask.specs.declared.prompt.consent.Agreed.TheVariants as agreed
 use Rattle.agent_ports.specs.declared.keys.KeyDone.TheVariants as key_done
 use Rattle.agent_ports.specs.declared.keys.KeyRead.TheVariants as key_read
 use Rattle.session_client.specs.declared.code.Code.TheVariants as code

@@ -1,6 +1,6 @@
 -- What a session does for a line has one answer, and each error line in it its cause.
 use Rattle.std.proofs.Common.{◌≡◌, ◌++◌, ℕ, List, [], ◌∷◌, Option, Some, None, Ok, refl, sym, subst}
-use Rattle.{agent_ask.specs.{PortCalls.{PortCall, Keys, Replaced}, SessionEvents.{Sent, Port}, ActionExchanges.{answered, refused}}, agent_ports.specs.declared.grip.Grip.Grip, session_client.specs.declared.code.Code.Code}
+use Rattle.{agent_ask.specs.Session.{PortCalls.{PortCall, Keys, Replaced}, SessionEvents.{Sent, Port}, ActionExchanges.{answered, refused}}, agent_ports.specs.declared.grip.Grip.Grip, session_client.specs.declared.code.Code.Code}
 use Rattle.{session_client.specs.{declared.{client_error.Gone.Gone, refusal.Refusal.Refusal}, Refusals.gone_by}, assuan_server.specs.declared.errors.Origin.Origin, session_options.specs.declared.rules.Rules.Rules}
 use Rattle.{agent_commands.specs.{Endings.went_after, Events.EventWith, Requests.request_of, declared.{request.Request.Request, went.Went.{Went, TheVariants.On}}}, key_commands.specs.Exchanges.KeyExchange}
 use Rattle.key_commands.specs.{Actions.{refusal_events, key_went_after as key_went}, declared.{request.KeyRequest.KeyRequest, went.KeyWent.KeyWent, keywrap_key.WrapKeys.WrapKeys}}

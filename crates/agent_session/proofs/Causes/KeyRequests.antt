@@ -1,7 +1,7 @@
 -- Requests on keys, each of whose refusals has its cause.
 use Rattle.std.proofs.Common.{◌≡◌, ◌≢◌, ◌==◌, ℕ, Bool, true, false, List, [], ◌∷◌, ◌++◌, length, codes, Option, Some, None, Result, Ok, Err, refl, sym, ap, ◌∙◌, subst, append_assoc, append-nil, inl, inr, arith}
 use Rattle.std.{proofs.lemmas.{Bool.Decides.nat_tests, List.{map-append, nil_from_length}}, specs.Prelude.{⊤, not, map, take, drop}}
-use Rattle.{agent_ask.specs.{PortCalls.{PortCall, Keys, Read, Replaced}, SessionEvents.{Port, cache_turn}, Actions.{Returns, needed, or_else, wanted}}, agent_ports.specs.declared.{grip.Grip.Grip, keys.KeyRead.KeyRead}}
+use Rattle.{agent_ask.specs.Session.{PortCalls.{PortCall, Keys, Read, Replaced}, SessionEvents.{Port, cache_turn}, Actions.{Returns, needed, or_else, wanted}}, agent_ports.specs.declared.{grip.Grip.Grip, keys.KeyRead.KeyRead}}
 use Rattle.{session_client.specs.declared.{code.Code.Code, refusal.Refusal.{Refusal, TheVariants.Agent}}, assuan_server.specs.{declared.errors.Origin.TheVariants.Agent as OfAgent, Written.limit_line}}
 use Rattle.{cache_policy.specs.{Turns.{Refused, Empty, Stopping}, declared.secret.TheConstants.MAX_SECRET_LEN}, secret_file.specs.{Opens.LockedKey, Protects.{ocb_protection, protected_file}}, session_options.specs.OptionValues.OptionValues}
 use Rattle.{session_options.specs.declared.{options.PinMode.PinMode, rules.Rules.Rules}, sexp_keys.specs.{Key.Key, Lists.grip_of}, agent_commands.specs.{Events.EventWith, declared.request.Request.Request}}
@@ -24,7 +24,7 @@ use Rattle.session_client.specs.declared.code.Code.TheVariants as code
 use Rattle.session_options.specs.declared.options.PinMode.TheVariants as mode
 use Rattle.key_commands.specs.Files as files
 use Rattle.key_commands.specs.KeyActions as actions
-use Rattle.agent_ask.specs.Actions as chain
+use Rattle.agent_ask.specs.Session.Actions as chain
 use Rattle.key_commands.specs.Actions as small
 use Rattle.key_commands.specs.Wrapping as wrapping
 use Rattle.key_commands.specs.declared.request.KeyRequest.TheVariants as on
@@ -280,7 +280,8 @@ module _ (rules : Rules) (kept : SessionState) (request : Request) (whole : List
     renews : Explains whole (IsCaused whole rules kept request) (RenewsPassphrase rules kept.options grip new) Anything
     renews =
         bind (looks_for_nonce rules kept request whole new)
-        (λ found by. or_otherwise Anything found _ (λ some is. tt) (λ none. new_passphrase rules kept request whole grip kept.options.mode (λ values. of_new asked) (renewed asked (nonce_none rules kept request whole new (subst (FoundByNonce rules kept request whole new) none by)))))
+        (λ found by. or_otherwise Anything found _ (λ some is. tt) (λ none. new_passphrase rules kept request whole grip kept.options.mode (λ values. of_new asked)
+        (renewed asked (nonce_none rules kept request whole new (subst (FoundByNonce rules kept request whole new) none by)))))
 
     module _ (key : Key) (opens : OpensRead whole rules kept.options request grip key) where
       is_short : Explains whole (IsCaused whole rules kept request) (IsShort key) Anything
@@ -350,7 +351,8 @@ module _ (rules : Rules) (kept : SessionState) (request : Request) (whole : List
           (λ opened opens. bind (closes_explained opened.by) (λ closed any. replied _ reply_ok)))
       replies (on.Passwd grip old new false) asked =
           bind (reads_file rules kept request whole grip (causes.unlocks (causes.changes asked)) (λ absent. subst (LacksKeys whole) (sym asked) absent))
-          (λ file is_read. bind (old_passphrase rules kept request whole grip (causes.changes asked) file.key.is_clear file.key old (λ nonce same. of_change (subst (λ n. on_keys request ≡ Some (on.Passwd grip n new false)) same asked)) is_read.1
+          (λ file is_read. bind (old_passphrase rules kept request whole grip (causes.changes asked) file.key.is_clear file.key old
+          (λ nonce same. of_change (subst (λ n. on_keys request ≡ Some (on.Passwd grip n new false)) same asked)) is_read.1
           (λ locked is_locked by_nonce by_key. changed _ asked is_locked by_nonce by_key))
           (λ opened opens. bind (changes_opened grip asked file.bytes is_read.0 opened.key opens) (λ changed_so any. replied _ reply_ok)))
       replies (on.DeleteKey grip force) asked =

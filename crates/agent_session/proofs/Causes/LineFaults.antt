@@ -1,6 +1,6 @@
 -- By which codes lines are refused.
 use Rattle.std.{proofs.Common.{rules, ◌≡◌, ℕ, Bool, true, false, List, [], ◌∷◌, codes, Option, Some, None, Result, Ok, Err, subst, inl, inr}, specs.Prelude.{if◌then◌else◌, ⊤}}
-use Rattle.{agent_ask.specs.PortCalls.PortCall, session_client.specs.declared.code.Code.Code, assuan_server.specs.declared.errors.Origin.TheVariants.Agent}
+use Rattle.{agent_ask.specs.Session.PortCalls.PortCall, session_client.specs.declared.code.Code.Code, assuan_server.specs.declared.errors.Origin.TheVariants.Agent}
 use Rattle.{assuan_text.specs.{Options.{options_of, arguments_of, has_option, last_option, last_value}, Words.{rest_of, words}}, session_options.specs.declared.rules.Rules.Rules, agent_commands.specs.Events.EventWith}
 use Rattle.agent_commands.specs.{Fields.{cache_id, repeats, texts, life, cleared_mode, given_passphrase}, Requests.request_of, declared.request.{CacheCommand.CacheCommand, Request.{Request, TheVariants.{Cache, Key, Bad}}}}
 use Rattle.{command_table.specs.{Commands.command_in, declared.commands.{Command.Command, CommandName.CommandName, KeyCommandName.KeyCommandName}}, key_commands.specs.{Requests.key_request_of, declared.request.KeyRequest.KeyRequest}}

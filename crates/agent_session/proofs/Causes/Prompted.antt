@@ -1,17 +1,17 @@
 -- What the events of a prompt say of its answer.
 use Rattle.std.{proofs.Common.{◌≡◌, ◌⊎◌, ℕ, Bool, true, List, ◌∷◌, Some, Result, Ok, Err, refl, sym, subst, inl, inr}, specs.Prelude.⊤}
-use Rattle.agent_ask.specs.{Callers.{SaysNote, unheard_of}, Consents.{AsksConsent, ConsentBefore, agreed_of}, Events.{Call, GetPin, Confirm, Called, Notified, OutOfMemory, PromptEvent}, PortCalls.{PortCall, Prompt}, Prompters.is_failed}
-use Rattle.agent_ask.specs.{Prompts.{AsksPin, AsksBefore, Tries, repeated, repeat_text}, SessionEvents.Port, Tests.PinTest, SessionPrompts.{AnyInSession, note}, declared.{ask.Asked.Asked, caller.Heard.Heard, consent.Agreed.Agreed}}
-use Rattle.{agent_ask.specs.{declared.{prompter.Consent.Consent, spec.{AskPlan.AskPlan, PromptSpec.PromptSpec}}, PinActions.PromptsPin}, assuan_server.specs.Clients.session_lines, session_client.specs.Asking.{said_by, without_data}}
+use Rattle.agent_ask.specs.{Callers.{SaysNote, unheard_of}, Consents.{AsksConsent, ConsentBefore, agreed_of}, Events.{Call, GetPin, Confirm, Called, Notified, OutOfMemory, PromptEvent}, Session.PortCalls.{PortCall, Prompt}, Prompters.is_failed}
+use Rattle.agent_ask.specs.{Prompts.{AsksPin, AsksBefore, Tries, repeated, repeat_text}, Session.SessionEvents.Port, Tests.PinTest, SessionPrompts.{AnyInSession, note}, declared.{prompt.{ask.Asked.Asked, consent.Agreed.Agreed}, client.caller.Heard.Heard}}
+use Rattle.{agent_ask.specs.{declared.prompt.{prompter.Consent.Consent, spec.{AskPlan.AskPlan, PromptSpec.PromptSpec}}, PinActions.PromptsPin}, assuan_server.specs.Clients.session_lines, session_client.specs.Asking.{said_by, without_data}}
 use Rattle.{session_client.specs.declared.client_error.ClientError.ClientError, agent_commands.specs.Events.{EventWith, Inquired}}
 use Rattle.agent_session.{specs.Causes.{Has, here, later, HasPrompt, StandIn, is_cancelled, is_timed_out, is_disagreed, is_broken}, proofs.Standing.{has_left, has_right}}
 use Rattle.agent_ask.specs.Consents as consents
 use Rattle.agent_ask.specs.Prompts as prompts
 use Rattle.agent_ask.specs.SessionPrompts as session
-use Rattle.agent_ask.specs.declared.ask.Asked.TheVariants as asked
-use Rattle.agent_ask.specs.declared.consent.Agreed.TheVariants as agreed
-use Rattle.agent_ask.specs.declared.prompter.Consent.TheVariants as consent
-use Rattle.agent_ask.specs.declared.prompter.Outcome.TheVariants as outcome
+use Rattle.agent_ask.specs.declared.prompt.ask.Asked.TheVariants as asked
+use Rattle.agent_ask.specs.declared.prompt.consent.Agreed.TheVariants as agreed
+use Rattle.agent_ask.specs.declared.prompt.prompter.Consent.TheVariants as consent
+use Rattle.agent_ask.specs.declared.prompt.prompter.Outcome.TheVariants as outcome
 
 -- it is among the events of its request
 pub has_prompt : {spec : PromptSpec} {plan : AskPlan} {Rule : List ℕ → Type 0} {shown whole : List (EventWith PortCall)} {answer : Asked} → PromptsPin session_lines spec plan Rule shown answer → StandIn shown whole

@@ -1,8 +1,8 @@
 -- What a session does for a request on the trust list has one answer, and each error line in it its cause.
 use Rattle.std.specs.{List.AllByRecursion, Option.option_map, Prelude.{⊤, IfSome}}
 use Rattle.std.proofs.Common.{◌≡◌, ◌<◌, ℕ, Bool, true, false, List, [], ◌∷◌, ◌++◌, length, Option, Some, None, Result, Ok, Err, refl, sym, ap, subst, append_assoc, inl, inr}
-use Rattle.agent_ask.specs.{Callers.unheard_of, Events.PromptEvent, PortCalls.NoMemory, SessionEvents.{Port, cache_turn, said_last}, TrustCalls.{Read, Replaced}, SessionPrompts.AnyInSession, declared.caller.Heard.Heard}
-use Rattle.{agent_ask.specs.{declared.consent.Agreed.Agreed, Interrupts.Interrupts, ConsentActions.{consent_refusal, AgreesTo}, TurnActions.{Seats, Closes}}, assuan_server.specs.{Written.ok, Clients.session_lines}}
+use Rattle.agent_ask.specs.{Callers.unheard_of, Events.PromptEvent, Session.{PortCalls.NoMemory, SessionEvents.{Port, cache_turn, said_last}, TrustCalls.{Read, Replaced}}, SessionPrompts.AnyInSession, declared.client.caller.Heard.Heard}
+use Rattle.{agent_ask.specs.{declared.prompt.consent.Agreed.Agreed, Interrupts.Interrupts, ConsentActions.{consent_refusal, AgreesTo}, Session.TurnActions.{Seats, Closes}}, assuan_server.specs.{Written.ok, Clients.session_lines}}
 use Rattle.{assuan_server.specs.declared.errors.Origin.{Origin, TheVariants.{Agent, Pinentry}}, agent_commands.specs.{Endings.went_after, declared.{request.Request.Request, went.Went.Went}}, agent_ports.specs.declared.grip.Grip.Grip}
 use Rattle.{arrayvec.specs.ArrayVec.ArrayVec, session_client.specs.{Refusals.{refusal_code, gone_by}, declared.{code.Code.Code, refusal.Refusal.{Refusal, TheVariants.Client}, client_error.ClientError.ClientError}, Fields.in_form}}
 use Rattle.{session_client.specs.Asking.gone_of, cache_policy.specs.{Turns.{Turn, Refused, closes}, declared.mark.MarkStep.{MarkStep, TheVariants.Seat}}, assuan_text.specs.{Options.arguments_of, Words.{rest_of, words}}}
@@ -17,8 +17,8 @@ use Rattle.agent_session.specs.DoorCauses.{IsReadTrust, read_trust, IsReadAgain,
 use Rattle.agent_session.proofs.Causes.{Explained.{Explained, replied, failed, silent, after_these}, Explaining.{Anything, ClientSays, cut, client_said, CausedRefusal, IsExplained, Comes, Explains, bind, returned, refused}}
 use Rattle.agent_session.proofs.{Causes.{KeyActions.{has_call, heard_caused, prompt_silent}, Prompted.{ConsentShows, HasHeard, consent_shows}, Replying.reply_ok}, Standing.{has_first, has_in, stand_all, stand_left}}
 use Rattle.agent_session.proofs.Decisions.TrustTold.{Told, told}
-use Rattle.agent_ask.specs.declared.caller.Heard.TheVariants as heard_as
-use Rattle.agent_ask.specs.declared.consent.Agreed.TheVariants as agreed
+use Rattle.agent_ask.specs.declared.client.caller.Heard.TheVariants as heard_as
+use Rattle.agent_ask.specs.declared.prompt.consent.Agreed.TheVariants as agreed
 use Rattle.agent_ask.specs.Interrupts as turns
 use Rattle.agent_ports.specs.declared.trust.TrustDone.TheVariants as done
 use Rattle.agent_ports.specs.declared.trust.TrustRead.TheVariants as read
@@ -30,8 +30,8 @@ use Rattle.session_client.specs.declared.client_error.Gone.TheVariants as gone
 use Rattle.session_client.specs.declared.client_error.ClientError.TheVariants as client_error
 use Rattle.session_options.specs.declared.options.PinMode.TheVariants as mode
 use Rattle.agent_ask.specs.ConsentActions as consent
-use Rattle.agent_ask.specs.Actions as chain
-use Rattle.agent_ask.specs.TurnActions as taken
+use Rattle.agent_ask.specs.Session.Actions as chain
+use Rattle.agent_ask.specs.Session.TurnActions as taken
 use Rattle.agent_origin.specs.TrustActions as actions
 use Rattle.command_table.specs.declared.commands.Command.TheVariants as at_table
 use Rattle.command_table.specs.declared.commands.TrustCommandName.TheVariants as name

@@ -1,6 +1,6 @@
 -- A request none of whose errors has a cause is answered by OK.
 use Rattle.std.proofs.Common.{ℕ, List, sym, subst}
-use Rattle.{agent_ask.specs.{PortCalls.PortCall, SessionEvents.Sent}, session_client.specs.declared.code.Code.Code, assuan_server.specs.declared.errors.Origin.Origin, agent_commands.specs.Events.EventWith}
+use Rattle.{agent_ask.specs.Session.{PortCalls.PortCall, SessionEvents.Sent}, session_client.specs.declared.code.Code.Code, assuan_server.specs.declared.errors.Origin.Origin, agent_commands.specs.Events.EventWith}
 use Rattle.agent_commands.specs.declared.went.{SessionEnd.TheVariants.{Bye, Killed, Ended, TooLong, Spent, ReadFault, WriteFault}, Went.{Went, TheVariants.{On, End}}}
 use Rattle.agent_session.{specs.{Causes.{Has, here}, Completeness.{AnswersAtLast, IsAnswer, done, error, IsAnsweredBy, HasError, HasOk, IsAnsweredOk}}, proofs.Standing.has_right}
 

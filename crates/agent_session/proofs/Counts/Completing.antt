@@ -1,13 +1,13 @@
 -- Whole sessions: each of their exchanges is caused, and where no count of faults rose each request is answered.
 use Rattle.std.{specs.{List.AllByRecursion, Prelude.⊤}, proofs.Common.{◌≡◌, ◌≤◌, true, List, refl, arith, ◌⊎◌, ℕ, inl, inr}}
 use Rattle.agent_ask.specs.{Doing.{DoesCall, called, out_of_memory}, Events.{Call, PromptEvent, Called}}
-use Rattle.agent_ask.specs.{PortCalls.{PortCall, PortEnds, KeyCall, Read, Listed, Replaced, Removed, Draw, Drew, NotDrawn, Prompt, Keys, Dice, Trust, DoesPort, DoesKeys, DoesDraw}, Prompters.{AtPrompter, IsCall, is_failed}}
-use Rattle.{agent_ask.specs.{SessionEvents.Port, TrustCalls.{TrustCall, DoesTrust}, Worlds.{Outside, Does}}, agent_ports.specs.{Counts.Rose, KeyFiles.KeyFiles, Leads.{Leads, none, one}, Sides.Side, TrustFiles.TrustState}}
+use Rattle.agent_ask.specs.{Session.PortCalls.{PortCall, PortEnds, KeyCall, Read, Listed, Replaced, Removed, Draw, Drew, NotDrawn, Prompt, Keys, Dice, Trust, DoesPort, DoesKeys, DoesDraw}, Prompters.{AtPrompter, IsCall, is_failed}}
+use Rattle.{agent_ask.specs.Session.{SessionEvents.Port, TrustCalls.{TrustCall, DoesTrust}, Worlds.{Outside, Does}}, agent_ports.specs.{Counts.Rose, KeyFiles.KeyFiles, Leads.{Leads, none, one}, Sides.Side, TrustFiles.TrustState}}
 use Rattle.{assuan_server.specs.Reading.Supply, cache_policy.specs.{declared.mark.MarkStep.MarkStep, Turns.Turn}, agent_commands.specs.Events.EventWith, agent_origin.specs.PortStates.PortWorld}
 use Rattle.agent_session.{specs.{Causes.{Has, here, later, FailsAtKeys, FailsAtTrust, FailsAtKeysOrDice, HasOne, HasCall, HasTrustCall}, Completeness.FailuresRise}, proofs.{Causes.KeyExplained.NeverAbsent, Standing.each_has}}
-use Rattle.agent_ask.specs.PortCalls as ported
-use Rattle.agent_ask.specs.TrustCalls as trust_call
-use Rattle.agent_ask.specs.Worlds as worlds
+use Rattle.agent_ask.specs.Session.PortCalls as ported
+use Rattle.agent_ask.specs.Session.TrustCalls as trust_call
+use Rattle.agent_ask.specs.Session.Worlds as worlds
 use Rattle.agent_ports.specs.declared.keys.KeyDone.TheVariants as key_done
 use Rattle.agent_ports.specs.declared.keys.KeyNames.TheVariants as key_names
 use Rattle.agent_ports.specs.declared.keys.KeyRead.TheVariants as key_read

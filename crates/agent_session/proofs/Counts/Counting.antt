@@ -1,12 +1,12 @@
 -- At most as many events fail on an end as its count rises by.
 use Rattle.std.{proofs.{Common.{◌≡◌, ◌≤◌, ℕ, Bool, cond, true, false, List, ◌∷◌, length, refl, sym, arith}, lemmas.List.Sums.length-filter}, specs.List.{count_by, filter}}
-use Rattle.agent_ask.specs.{Doing.{DoesCall, called, out_of_memory}, Events.{Call, PromptEvent}, PortCalls.{KeyCall, Read, Listed, Replaced, Removed, Draw, Drew, NotDrawn, Prompt, Keys, Dice, Trust, DoesDraw}}
-use Rattle.{agent_ask.specs.{Prompters.{AtPrompter, IsCall}, SessionEvents.Port, TrustCalls.TrustCall, Worlds.{Outside, Does}}, agent_ports.specs.{Counts.{RoseBy, Rose}, Leads.{Leads, none, one}, Sides.Side}}
+use Rattle.agent_ask.specs.{Doing.{DoesCall, called, out_of_memory}, Events.{Call, PromptEvent}, Session.PortCalls.{KeyCall, Read, Listed, Replaced, Removed, Draw, Drew, NotDrawn, Prompt, Keys, Dice, Trust, DoesDraw}}
+use Rattle.{agent_ask.specs.{Prompters.{AtPrompter, IsCall}, Session.{SessionEvents.Port, TrustCalls.TrustCall, Worlds.{Outside, Does}}}, agent_ports.specs.{Counts.{RoseBy, Rose}, Leads.{Leads, none, one}, Sides.Side}}
 use Rattle.{assuan_server.specs.Reading.Supply, cache_policy.specs.{declared.mark.MarkStep.MarkStep, Turns.Turn}, key_commands.specs.Events.Event, agent_origin.specs.PortStates.PortWorld}
 use Rattle.agent_session.{specs.{Causes.{FailsAtKeys, FailsAtTrust}, Counting.{fails_at_prompter, fails_at_keys, fails_at_dice, fails_at_trust, CountsFailures}}, proofs.Counts.Completing.{keys_rise, trust_rises, event_moves}}
-use Rattle.agent_ask.specs.PortCalls as ported
-use Rattle.agent_ask.specs.TrustCalls as trust_call
-use Rattle.agent_ask.specs.Worlds as worlds
+use Rattle.agent_ask.specs.Session.PortCalls as ported
+use Rattle.agent_ask.specs.Session.TrustCalls as trust_call
+use Rattle.agent_ask.specs.Session.Worlds as worlds
 use Rattle.agent_ports.specs.declared.keys.KeyDone.TheVariants as key_done
 use Rattle.agent_ports.specs.declared.keys.KeyNames.TheVariants as key_names
 use Rattle.agent_ports.specs.declared.keys.KeyRead.TheVariants as key_read

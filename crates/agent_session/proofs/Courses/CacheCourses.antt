@@ -1,6 +1,6 @@
 -- Requests on the cache and on the session: their work, and what ends them.
 use Rattle.std.proofs.Common.{◌≡◌, ℕ, Bool, true, false, List, [], Option, Some, None, Result, Ok, Err, refl, sym, ap, subst}
-use Rattle.{agent_ask.{specs.{ActionExchanges.AnyExchange, Actions.{◌>>=◌, goes_on, stops, Returns, returns, or_else}, TurnActions.Closes}, proofs.Within.values_so}, assuan_server.specs.Written.{refusal_line, ok}}
+use Rattle.{agent_ask.{specs.Session.{ActionExchanges.AnyExchange, Actions.{◌>>=◌, goes_on, stops, Returns, returns, or_else}, TurnActions.Closes}, proofs.Within.values_so}, assuan_server.specs.Written.{refusal_line, ok}}
 use Rattle.{cache_policy.specs.declared.mode.Mode.TheVariants.User, session_client.specs.{Refusals.gone_by, declared.{refusal.Refusal.{Refusal, TheVariants.{Agent, Client}}, client_error.Gone.Gone}}}
 use Rattle.{session_options.specs.{OptionValues.{OptionValues, applied}, declared.{options.{OptionAnswer.OptionAnswer, PinMode.PinMode}, rules.Rules.Rules}}, agent_commands.specs.{Answers.IsInfo, Endings.{went_after, end_of}}}
 use Rattle.agent_commands.specs.{Exchanges.{CacheExchange, CacheReply, CacheReplies, TellsPassphrase, TellsInfo, option_replies, reply}, Actions.CacheAction, Passphrases.{Prompts, passphrase_by, as_wanted}, Requests.GetFields}
@@ -11,8 +11,8 @@ use Rattle.agent_session.specs.{Causes.IsSaid, Completeness.EndsInOk, Refusals.{
 use Rattle.agent_session.proofs.Courses.CacheWorks.{FitsCache, wants_prompt, changes, by_cache, without_prompt, prompts_any, confirmed, presets, tells_info}
 use Rattle.agent_session.proofs.Courses.Courses.{AnyNonce, Ends, ends_with, EndsSo, working_ends, ends_working, bind_ends, made, closed, RepliesOk, ok_returns, ok_refuses, ok_then, reply_ends_in_ok, ok_course, err_course, ends_said}
 use Rattle.agent_session.proofs.{Courses.{Courses.{gone_only, said_before, answer_heard}, Works.{works, WorksSo, bind, returned, refuses_by}}, Causes.Replying.{IsReply, reply_ok, reply_closing, reply_help, reply_cache, reply_passphrase}}
-use Rattle.agent_ask.specs.ActionExchanges as exchange
-use Rattle.agent_ask.specs.TurnActions as taken
+use Rattle.agent_ask.specs.Session.ActionExchanges as exchange
+use Rattle.agent_ask.specs.Session.TurnActions as taken
 use Rattle.session_client.specs.declared.code.Code.TheVariants as code
 use Rattle.session_client.specs.declared.client_error.ClientError.TheVariants as client_error
 use Rattle.session_options.specs.declared.options.OptionAnswer.TheVariants as option_answer

@@ -1,6 +1,6 @@
 -- In a request on the cache a prompt is opened before the prompter is called, and once; and so in each exchange of a session.
 use Rattle.std.proofs.Common.{ℕ, Bool, true, false, List, Option, Some, None, Result, Ok, Err, refl}
-use Rattle.{arrayvec.specs.ArrayVec.ArrayVec, agent_ask.specs.{PortCalls.PortCall, ActionExchanges.AnyExchange, Actions.{◌>>=◌, Returns}, TurnActions.Changes}}
+use Rattle.{arrayvec.specs.ArrayVec.ArrayVec, agent_ask.specs.Session.{PortCalls.PortCall, ActionExchanges.AnyExchange, Actions.{◌>>=◌, Returns}, TurnActions.Changes}}
 use Rattle.agent_origin.{proofs.EachCache.{wants_prompt, without_prompt, by_cache, presets, tells_passphrase, tells_info, option_so}, specs.{SessionExchanges.{RequestExchange, cache, keys}, declared.session_state.SessionState.SessionState}}
 use Rattle.{cache_policy.specs.declared.mark.MarkStep.MarkStep, assuan_server.specs.Written.refusal_line, session_client.specs.declared.refusal.Refusal.{Refusal, TheVariants.Agent}}
 use Rattle.{session_options.specs.{OptionValues.{OptionValues, applied}, declared.{options.PinMode.PinMode, rules.Rules.Rules}}, agent_commands.specs.{Endings.went_after, Events.EventWith}}
@@ -9,7 +9,7 @@ use Rattle.agent_commands.specs.declared.request.CacheCommand.{CacheCommand, The
 use Rattle.{agent_commands.specs.declared.{request.{Request.{Request, TheVariants.{Cache, Key, Bad}}, Texts.Texts}, went.Went.Went}, key_commands.specs.Events.IsUncalled}
 use Rattle.key_commands.proofs.EachEvent.{still_uncalled, agrees_to, each_shown, each_bind, each_returned, each_refused, each_otherwise, each_seats, each_changes, each_closes}
 use Rattle.agent_session.{specs.Refusals.{IsUnopening, OpensFirst}, proofs.Courses.{Opens.{Unopening, UnopeningSo, answer_unopening, OpensSo, still_unopening, then_unopening, calls_nobody, behind_opens}, KeyCourses.key_opens}}
-use Rattle.agent_ask.specs.ActionExchanges as exchange
+use Rattle.agent_ask.specs.Session.ActionExchanges as exchange
 use Rattle.session_client.specs.declared.code.Code.TheVariants as code
 use Rattle.session_options.specs.declared.options.PinMode.TheVariants as mode
 use Rattle.agent_commands.specs.Passphrases as passphrases

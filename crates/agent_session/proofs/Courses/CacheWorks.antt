@@ -1,6 +1,6 @@
 -- Actions of requests on the cache that are work of the one form, where each of their events is fit.
 use Rattle.std.proofs.Common.{◌≡◌, ℕ, Bool, List, [], codes, Option, Some, None, Result, refl}
-use Rattle.{arrayvec.specs.ArrayVec.ArrayVec, agent_ask.specs.{Events.PromptEvent, PortCalls.Prompt, SessionEvents.{Sent, Cut, Inquiry, Port, cache_turn}, SessionPrompts.note, TurnActions.Changes}, cache_policy.specs.Turns.{Turn, closes}}
+use Rattle.{arrayvec.specs.ArrayVec.ArrayVec, agent_ask.specs.{Events.PromptEvent, Session.{PortCalls.Prompt, SessionEvents.{Sent, Cut, Inquiry, Port, cache_turn}, TurnActions.Changes}, SessionPrompts.note}, cache_policy.specs.Turns.{Turn, closes}}
 use Rattle.cache_policy.specs.declared.{life.Life.{Life, TheVariants.Default}, mark.MarkStep.{MarkStep, TheVariants.{Seat, Put}}, mode.Mode.TheVariants.User, secret.TheConstants.MAX_SECRET_LEN}
 use Rattle.{session_client.specs.declared.refusal.Refusal.{Refusal, TheVariants.Agent}, session_options.specs.{OptionValues.OptionValues, declared.{options.PinMode.PinMode, rules.Rules.Rules}}}
 use Rattle.agent_commands.specs.{Exchanges.{TellsInfo, put, confirms_by, Presets}, Actions.{CacheAction, AsksPassphrase}, Passphrases.{LooksFor, WantsPrompt, KeepsUnder, ByCache, Uncached, WithoutPrompt, PromptsAny, ask, ask_or_open}}

@@ -1,14 +1,14 @@
 -- How a request ends, once its work is done: what its last action does, and the course that this makes of its exchange. So a client that is gone ends it.
 use Rattle.std.{specs.{List.AllByRecursion, Option.option_map, Prelude.⊤}, proofs.Common.{◌≡◌, ℕ, List, [], ◌∷◌, ◌++◌, Option, Some, None, Result, Ok, Err, refl, sym, ap, ◌∙◌, subst, append_assoc, append-nil, inl, inr, ◌⊎◌}}
-use Rattle.agent_ask.specs.{PortCalls.{Prompt, Keys, NoMemory, Replaced, Removed}, Interrupts.Interrupts, Actions.{◌>>=◌, Returns, Refuses}, SessionEvents.{Received, Sent, Cut, Inquiry, CacheTurn, Port, cache_turn, said_last}}
-use Rattle.{agent_ask.{specs.TurnActions.Closes, proofs.Within.{Within, Joins, weaker, bind, returned_so, refused_so, Yields, yields_then}}, agent_ports.specs.declared.grip.Grip.Grip, assuan_server.specs.Written.{failed, refusal_line}}
+use Rattle.agent_ask.specs.{Session.{PortCalls.{Prompt, Keys, NoMemory, Replaced, Removed}, Actions.{◌>>=◌, Returns, Refuses}, SessionEvents.{Received, Sent, Cut, Inquiry, CacheTurn, Port, cache_turn, said_last}}, Interrupts.Interrupts}
+use Rattle.{agent_ask.{specs.Session.TurnActions.Closes, proofs.Within.{Within, Joins, weaker, bind, returned_so, refused_so, Yields, yields_then}}, agent_ports.specs.declared.grip.Grip.Grip, assuan_server.specs.Written.{failed, refusal_line}}
 use Rattle.{cache_policy.specs.{Turns.{Turn, Done}, declared.{mark.MarkStep.TheVariants.{Close, Clear}, mode.Mode.TheVariants.Normal}}, session_client.specs.{Refusals.refusal_code, declared.{code.Code.Code, refusal.Refusal.Refusal}}}
 use Rattle.{session_client.specs.declared.{refusal.Refusal.TheVariants.{Agent, Pinentry, Client}, client_error.{Gone.Gone, ClientError.ClientError}}, agent_commands.specs.declared.request.Request.Request, key_commands.specs.Events.Event}
 use Rattle.key_commands.{specs.{Lines.grip_text, Actions.Action, Passphrases.put_key}, proofs.EachEvent.{each_append, each_answer}}
 use Rattle.agent_session.specs.{Causes.{here, later, IsSaid, said as says_so}, Completeness.{EndsInOk, error, done}}
 use Rattle.agent_session.{specs.Refusals.{refuses, shuts, IsAllowed, IsWork, AreWork, IsLast, said, gone, GivesBack, no_ticket, with_ticket, settled, interrupted, IsEnd, CourseBy}, proofs.Causes.Explained.has_split}
 use Rattle.agent_session.proofs.{Causes.Replying.{IsReply, begins}, Standing.each_has, Courses.Works.{unsaid, unheard_by, lost_goes, GoesOn, WorkEnd, no_more, refused, lost, forgot, WorksTo, ok_works, err_works, WorkLaw, WorksSo}}
-use Rattle.agent_ask.specs.TurnActions as taken
+use Rattle.agent_ask.specs.Session.TurnActions as taken
 use Rattle.agent_ports.specs.declared.keys.KeyDone.TheVariants as key_done
 use Rattle.assuan_server.specs.declared.errors.Origin.TheVariants as origin
 use Rattle.session_client.specs.declared.code.Code.TheVariants as code

@@ -1,6 +1,6 @@
 -- What an IMPORT_KEY hands to the cache, in its order.
 use Rattle.std.{specs.Prelude.drop, proofs.Common.{◌≡◌, ◌⊎◌, ℕ, Bool, List, [], ◌∷◌, ◌++◌, length, inl, inr, Option, Some, None, Result, Ok, Err, refl, sym, ap, ◌∙◌, subst, append_assoc}}
-use Rattle.agent_ask.{specs.{PortCalls.{PortCall, Replaced}, SessionEvents.{Sent, CacheTurn, cache_turn, said_last}, Actions.{◌>>=◌, goes_on, stops}, TurnActions.Closes}, proofs.Within.{Within, Does, does_join, bind}}
+use Rattle.agent_ask.{specs.Session.{PortCalls.{PortCall, Replaced}, SessionEvents.{Sent, CacheTurn, cache_turn, said_last}, Actions.{◌>>=◌, goes_on, stops}, TurnActions.Closes}, proofs.Within.{Within, Does, does_join, bind}}
 use Rattle.{agent_ports.specs.declared.{grip.Grip.Grip, keys.KeyDone.KeyDone}, assuan_escape.specs.Escapes.hex_text, cache_policy.specs.{Turns.Turn, declared.{life.Life.Life, mark.MarkStep.{MarkStep, TheVariants.{Close, Put}}}}}
 use Rattle.{cache_policy.specs.declared.mode.Mode.TheVariants.Nonce, session_client.specs.declared.{code.Code.Code, refusal.Refusal.{Refusal, TheVariants.Agent}}, session_options.specs.OptionValues.OptionValues}
 use Rattle.{session_options.specs.declared.{options.PinMode.PinMode, rules.Rules.Rules}, sexp_keys.specs.Key.Key, agent_commands.specs.{Events.EventWith, declared.request.Request.{Request, TheVariants.{Cache, Key as OnKeys, Bad}}}}
@@ -13,10 +13,10 @@ use Rattle.agent_session.{specs.OwnPassphrases.{puts, IsNonceOf, nonce_of}, proo
 use Rattle.agent_ports.specs.declared.keys.KeyDone.TheVariants as key_done
 use Rattle.session_client.specs.declared.code.Code.TheVariants as code
 use Rattle.session_options.specs.declared.options.PinMode.TheVariants as mode
-use Rattle.agent_ask.specs.ActionExchanges as action_exchanges
+use Rattle.agent_ask.specs.Session.ActionExchanges as action_exchanges
 use Rattle.key_commands.specs.KeyActions as actions
-use Rattle.agent_ask.specs.Actions as chain
-use Rattle.agent_ask.specs.TurnActions as turning
+use Rattle.agent_ask.specs.Session.Actions as chain
+use Rattle.agent_ask.specs.Session.TurnActions as turning
 use Rattle.key_commands.specs.Actions as small
 use Rattle.key_commands.specs.Passphrases as passphrases
 use Rattle.key_commands.specs.declared.request.KeyRequest.TheVariants as on

@@ -1,6 +1,6 @@
 -- Requests on keys: their work, and what is done once a ticket was given back or a key's file changed.
 use Rattle.std.{proofs.Common.{◌≡◌, ℕ, Bool, true, false, List, ◌∷◌, ◌++◌, Option, Some, None, Result, Ok, Err, refl, ap, []}, specs.Prelude.{not, drop}}
-use Rattle.agent_ask.specs.{PortCalls.{Keys, Replaced, Removed, Listed, Draw, Dice}, Actions.{◌>>=◌, goes_on, stops, Returns, returns}, SessionEvents.Port, TurnActions.{Changes, Closes}}
+use Rattle.agent_ask.specs.Session.{PortCalls.{Keys, Replaced, Removed, Listed, Draw, Dice}, Actions.{◌>>=◌, goes_on, stops, Returns, returns}, SessionEvents.Port, TurnActions.{Changes, Closes}}
 use Rattle.{agent_ask.proofs.Within.{Within, Yields, yields_then, returned_so, refused_so, values_so}, agent_ports.specs.declared.{grip.Grip.Grip, keys.{KeyDone.KeyDone, KeyRead.KeyRead, KeyNames.KeyNames}}}
 use Rattle.{assuan_server.specs.Written.{refusal_line, ok}, session_client.specs.{declared.{code.Code.Code, refusal.Refusal.{Refusal, TheVariants.{Agent, Client}}, client_error.Gone.Gone}, Refusals.gone_by}, cache_policy.specs.Turns.closes}
 use Rattle.{cache_policy.specs.declared.{mark.MarkStep.{MarkStep, TheVariants.Clear}, mode.Mode.TheVariants.{Normal, Nonce}}, session_options.specs.{OptionValues.OptionValues, declared.rules.Rules.Rules}, sexp_keys.specs.Key.Key}
@@ -16,10 +16,10 @@ use Rattle.agent_session.proofs.Courses.{Courses.{ends_said, gone_only, said_bef
 use Rattle.agent_session.proofs.Courses.Works.{WorksTo, works, WorksSo, Keeps, keeps_works, bind, returned, refuses_by, is_needed, or_otherwise, is_wanted, turns_of}
 use Rattle.agent_session.proofs.Courses.Opens.{OpensSo, calls_nobody, before_opens, before_prompts, behind_opens, prompts_opens, otherwise_prompts, agrees_opens, old_by_prompts, verified_prompts, new_by_prompts, both_of, still_unopening}
 use Rattle.agent_session.proofs.Courses.Opens.{then_unopening, answer_unopening}
-use Rattle.agent_ask.specs.TurnActions as taken
+use Rattle.agent_ask.specs.Session.TurnActions as taken
 use Rattle.session_client.specs.declared.code.Code.TheVariants as code
 use Rattle.session_client.specs.declared.client_error.ClientError.TheVariants as client_error
-use Rattle.agent_ask.specs.ActionExchanges as action_exchanges
+use Rattle.agent_ask.specs.Session.ActionExchanges as action_exchanges
 use Rattle.key_commands.specs.Exchanges as exchange
 use Rattle.key_commands.specs.KeyActions as actions
 use Rattle.key_commands.specs.declared.request.KeyRequest.TheVariants as on

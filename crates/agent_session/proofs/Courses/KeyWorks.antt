@@ -1,6 +1,6 @@
 -- Actions of requests on keys that are work of the one form, where each of their events is fit.
 use Rattle.std.{proofs.Common.{◌==◌, ℕ, Bool, true, false, List, [], ◌∷◌, length, codes, Option, Some, None, Result, Ok, refl}, specs.Prelude.not}
-use Rattle.{agent_ask.specs.{Events.PromptEvent, PortCalls.Prompt, Actions.{goes_on, stops, returns}, SessionEvents.{Sent, Cut, Inquiry, Port, cache_turn}, SessionPrompts.note}, agent_ports.specs.declared.grip.Grip.Grip}
+use Rattle.{agent_ask.specs.{Events.PromptEvent, Session.{PortCalls.Prompt, Actions.{goes_on, stops, returns}, SessionEvents.{Sent, Cut, Inquiry, Port, cache_turn}}, SessionPrompts.note}, agent_ports.specs.declared.grip.Grip.Grip}
 use Rattle.{agent_ports.specs.declared.keys.KeyRead.KeyRead, cache_policy.specs.{Turns.Turn, declared.{mark.{MarkStep.TheVariants.{Peek, Seat}, Way.Way}, mode.Mode.TheVariants.Normal, secret.TheConstants.MAX_SECRET_LEN}}}
 use Rattle.{secret_file.specs.Opens.LockedKey, session_client.specs.declared.refusal.Refusal.{Refusal, TheVariants.Agent}, session_options.specs.{OptionValues.OptionValues, declared.{options.PinMode.PinMode, rules.Rules.Rules}}}
 use Rattle.{sexp_keys.specs.Key.Key, key_commands.specs.{Events.{Event, read, out_of_memory}, KeyActions.{Consents, HasOne, TellsKeyInfo, WritesInfo, WritesInfos}, Lines.{grip_text, info_line}, Actions.Action}}

@@ -1,6 +1,6 @@
 -- In a request a prompt is opened before the prompter is called, and once.
 use Rattle.std.{specs.{List.AllByRecursion, Prelude.⊤}, proofs.Common.{◌≡◌, ℕ, Bool, true, false, List, ◌∷◌, ◌++◌, Option, Some, None, Result, Ok, Err, refl, subst, inl, inr, append-nil, []}}
-use Rattle.agent_ask.{specs.{PortCalls.{PortCall, Trust}, SessionEvents.{CacheTurn, Port, said_last}, Actions.{◌>>=◌, goes_on, stops, Returns, or_else}, TurnActions.Closes}, proofs.Within.{Within, Does, does_join, weaker, bind, or_otherwise}}
+use Rattle.agent_ask.{specs.Session.{PortCalls.{PortCall, Trust}, SessionEvents.{CacheTurn, Port, said_last}, Actions.{◌>>=◌, goes_on, stops, Returns, or_else}, TurnActions.Closes}, proofs.Within.{Within, Does, does_join, weaker, bind, or_otherwise}}
 use Rattle.{agent_ports.specs.declared.grip.Grip.Grip, secret_file.specs.Opens.LockedKey, session_options.specs.{OptionValues.OptionValues, declared.{options.PinMode.PinMode, rules.Rules.Rules}}, sexp_keys.specs.Key.Key}
 use Rattle.{agent_commands.specs.Events.EventWith, key_commands.specs.{Events.IsUncalled, Exchanges.{KeyReply, RenewsPassphrase, ChangesOpened}, KeyActions.{IsShort, Consents}, Actions.Action}}
 use Rattle.key_commands.specs.{Passphrases.{PromptsOld, PromptsNew, UncachedOld, OpensLocked, OldPassphrase, LooksForNonce, TakesSeat}, declared.keywrap_key.WrapKeys.WrapKeys}
@@ -11,8 +11,8 @@ use Rattle.session_client.specs.declared.code.Code.TheVariants as code
 use Rattle.session_options.specs.declared.options.PinMode.TheVariants as mode
 use Rattle.key_commands.specs.Exchanges as exchange
 use Rattle.key_commands.specs.KeyActions as actions
-use Rattle.agent_ask.specs.Actions as chain
-use Rattle.agent_ask.specs.TurnActions as taken
+use Rattle.agent_ask.specs.Session.Actions as chain
+use Rattle.agent_ask.specs.Session.TurnActions as taken
 use Rattle.key_commands.specs.Passphrases as passphrases
 
 abbrev pub Uncalled : List (EventWith PortCall) → Type 0

@@ -1,8 +1,8 @@
 -- Prompts in which each event goes on, but one by which the request is refused or its client is gone, which is the last before the prompter is shut.
 use Rattle.std.{specs.{List.AllByRecursion, Option.option_map}, proofs.Common.{◌≡◌, ◌≢◌, ℕ, zero, suc, List, [], ◌∙◌, ◌∷◌, ◌++◌, Option, Some, None, Result, Ok, Err, refl, sym, ap, subst, append_assoc}}
 use Rattle.agent_ask.specs.{Callers.{SaysNote, unheard_of}, ConsentActions.{AgreesTo, consent_refusal}, PinActions.pin_refusal, Consents.{AsksConsent, ConsentBefore, agreed_of}}
-use Rattle.agent_ask.specs.{Events.{Call, Start, Confirm, Shut, PromptEvent, Called, Notified, OutOfMemory}, PortCalls.Prompt, Prompts.{AsksPin, AsksBefore, Tries, repeated}, SessionEvents.Port, SessionPrompts.AnyInSession}
-use Rattle.{agent_ask.specs.declared.{ask.Asked.Asked, caller.Heard.Heard, consent.Agreed.Agreed, prompter.Consent.Consent, spec.{AskPlan.AskPlan, PromptSpec.PromptSpec}}, assuan_server.specs.Clients.session_lines}
+use Rattle.agent_ask.specs.{Events.{Call, Start, Confirm, Shut, PromptEvent, Called, Notified, OutOfMemory}, Session.{PortCalls.Prompt, SessionEvents.Port}, Prompts.{AsksPin, AsksBefore, Tries, repeated}, SessionPrompts.AnyInSession}
+use Rattle.{agent_ask.specs.declared.{prompt.{ask.Asked.Asked, consent.Agreed.Agreed, prompter.Consent.Consent, spec.{AskPlan.AskPlan, PromptSpec.PromptSpec}}, client.caller.Heard.Heard}, assuan_server.specs.Clients.session_lines}
 use Rattle.{session_client.specs.{Asking.{said_by, without_data}, declared.{code.Code.Code, refusal.Refusal.{Refusal, TheVariants.{Agent, Client}}, client_error.ClientError.ClientError}}, session_options.specs.OptionValues.OptionValues}
 use Rattle.{session_options.specs.declared.rules.Rules.Rules, key_commands.{specs.Events.Event, proofs.EachEvent.each_append}}
 use Rattle.agent_session.{specs.Refusals.call_refuses, proofs.Courses.Works.{unsaid, GoesOn, refused, lost, WorksTo, works, WorksSo}}
@@ -10,12 +10,12 @@ use Rattle.agent_ask.specs.ConsentActions as consenting
 use Rattle.agent_ask.specs.Consents as consents
 use Rattle.agent_ask.specs.Prompts as prompts
 use Rattle.agent_ask.specs.SessionPrompts as session
-use Rattle.agent_ask.specs.declared.ask.Asked.TheVariants as asked
-use Rattle.agent_ask.specs.declared.caller.Heard.TheVariants as heard_as
-use Rattle.agent_ask.specs.declared.consent.Agreed.TheVariants as agreed
-use Rattle.agent_ask.specs.declared.prompter.Consent.TheVariants as consent
-use Rattle.agent_ask.specs.declared.prompter.Opened.TheVariants as opened
-use Rattle.agent_ask.specs.declared.prompter.Outcome.TheVariants as outcome
+use Rattle.agent_ask.specs.declared.prompt.ask.Asked.TheVariants as asked
+use Rattle.agent_ask.specs.declared.client.caller.Heard.TheVariants as heard_as
+use Rattle.agent_ask.specs.declared.prompt.consent.Agreed.TheVariants as agreed
+use Rattle.agent_ask.specs.declared.prompt.prompter.Consent.TheVariants as consent
+use Rattle.agent_ask.specs.declared.prompt.prompter.Opened.TheVariants as opened
+use Rattle.agent_ask.specs.declared.prompt.prompter.Outcome.TheVariants as outcome
 use Rattle.session_client.specs.declared.code.Code.TheVariants as code
 
 -- ---- single events

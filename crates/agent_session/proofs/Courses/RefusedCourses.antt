@@ -1,13 +1,13 @@
 -- Requests that are answered for want of memory, or for a failure of the keys or of the dice: an event refused them.
 use Rattle.std.{specs.List.AllByRecursion, proofs.Common.{◌≡◌, List, [], ◌∷◌, ◌++◌, ℕ, Option, Some, None, refl, sym, ap, subst, inl, inr}}
-use Rattle.agent_ask.specs.{Events.OutOfMemory, PortCalls.{PortCall, Read, Listed, Replaced, Removed, NotDrawn, Prompt, Keys, Dice, NoMemory, Trust}, SessionEvents.{Sent, CacheTurn, Port, cache_turn}}
+use Rattle.agent_ask.specs.{Events.OutOfMemory, Session.{PortCalls.{PortCall, Read, Listed, Replaced, Removed, NotDrawn, Prompt, Keys, Dice, NoMemory, Trust}, SessionEvents.{Sent, CacheTurn, Port, cache_turn}}}
 use Rattle.{agent_ports.specs.declared.grip.Grip.Grip, assuan_server.specs.{Written.failed, declared.errors.Origin.TheVariants.Agent}, session_client.specs.declared.code.Code.Code, cache_policy.specs.Turns.{Turn, Refused, FitsStep, closes}}
 use Rattle.{cache_policy.specs.declared.{mark.MarkStep.{MarkStep, TheVariants.{Clear, Close}}, mode.Mode.TheVariants.Normal}, session_options.specs.declared.rules.Rules.Rules, agent_commands.specs.Events.EventWith}
 use Rattle.{agent_commands.specs.declared.request.Request.Request, key_commands.specs.{Lines.grip_text, Passphrases.put_key}, agent_origin.specs.declared.session_state.SessionState.SessionState}
 use Rattle.agent_session.specs.Causes.{Has, here, later, HasOne, one, WantsMemory, FailsAtKeysOrDice, IsCaused}
 use Rattle.agent_session.specs.Refusals.{refuses, turn_refuses, AreWork, IsWork, IsEnd, Course, GivesBack, IsLast, RefusedEnd, at_work, at_answer, at_store, at_clear, RefusedCourse, IsOwnCode, memory, fault, shuts}
 use Rattle.agent_session.{specs.OwnPassphrases.IsNonceOf, proofs.{AtOnce.FitsTurn, Causes.Explained.has_split, Courses.Refusing.no_close, Standing.each_has}}
-use Rattle.agent_ask.specs.TrustCalls as trust_call
+use Rattle.agent_ask.specs.Session.TrustCalls as trust_call
 use Rattle.agent_ask.specs.Interrupts as turns
 use Rattle.agent_ports.specs.declared.keys.KeyDone.TheVariants as key_done
 use Rattle.agent_ports.specs.declared.keys.KeyNames.TheVariants as key_names

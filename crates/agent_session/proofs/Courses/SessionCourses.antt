@@ -1,6 +1,6 @@
 -- Each exchange of a session is a course.
 use Rattle.std.proofs.Common.{◌≡◌, List, [], ◌∷◌, ℕ, refl, sym, subst, Some}
-use Rattle.{agent_ask.specs.{PortCalls.{PortCall, Replaced, Keys}, SessionEvents.{CacheTurn, Port, cache_turn}}, cache_policy.specs.{Turns.Turn, declared.{life.Life.Life, mark.MarkStep.{MarkStep, TheVariants.Put}, mode.Mode.Mode}}}
+use Rattle.{agent_ask.specs.Session.{PortCalls.{PortCall, Replaced, Keys}, SessionEvents.{CacheTurn, Port, cache_turn}}, cache_policy.specs.{Turns.Turn, declared.{life.Life.Life, mark.MarkStep.{MarkStep, TheVariants.Put}, mode.Mode.Mode}}}
 use Rattle.{cache_policy.specs.declared.mode.Mode.TheVariants.Nonce, session_options.specs.declared.rules.Rules.Rules, agent_commands.specs.{Events.EventWith, declared.{request.Request.Request, went.Went.Went}}}
 use Rattle.agent_origin.specs.{SessionExchanges.{RequestExchange, cache, keys}, declared.session_state.SessionState.SessionState}
 use Rattle.agent_session.specs.{Causes.{Has, here, later, on_keys}, Refusals.{IsWorkStep, IsAllowed, AreWork, IsEnd, answered, given_back, unanswered, refused, kept, stored, cleared, CourseBy, Course}}

@@ -1,6 +1,6 @@
 -- A call of the trust file that decides its request is the last thing that is done for it.
 use Rattle.std.{specs.List.AllByRecursion, proofs.Common.{◌≡◌, ◌∙◌, ℕ, List, [], ◌∷◌, ◌++◌, Option, Some, None, Result, Ok, Err, refl, sym, ap, subst, append_assoc}}
-use Rattle.agent_ask.{specs.{PortCalls.{Keys, Dice, NoMemory, Prompt, Trust}, SessionEvents.{Received, Sent, Cut, Inquiry, CacheTurn, Port, cache_turn, said_last}, TrustCalls.Read, TurnActions.Closes}, proofs.Within.{Within, weaker}}
+use Rattle.agent_ask.{specs.Session.{PortCalls.{Keys, Dice, NoMemory, Prompt, Trust}, SessionEvents.{Received, Sent, Cut, Inquiry, CacheTurn, Port, cache_turn, said_last}, TrustCalls.Read, TurnActions.Closes}, proofs.Within.{Within, weaker}}
 use Rattle.{assuan_server.specs.Written.{ok, refusal_line}, agent_commands.specs.{Requests.request_of, declared.went.Went.Went}, agent_ports.specs.declared.trust.TrustRead.TrustRead, cache_policy.specs.Turns.Turn}
 use Rattle.{cache_policy.specs.declared.mark.MarkStep.TheVariants.Close, session_client.specs.declared.refusal.Refusal.Refusal, session_options.specs.{OptionValues.OptionValues, declared.rules.Rules.Rules}}
 use Rattle.agent_origin.specs.{DoorSessions.{AllowedExchange, DoorExchange}, TrustExchanges.{Carried, TrustExchange}, TrustActions.{ReadsFile, Replaces, file_in, trust_called}, declared.door.Door.Door}
@@ -9,7 +9,7 @@ use Rattle.key_commands.{specs.{Actions.{Action, refusal_events}, Events.Event},
 use Rattle.agent_session.{specs.TrustCalls.{decided_line, IsLastLine, alone, given_back, EndsAtCalls}, proofs.Decisions.TrustTold.{Told, answered, refused, told}}
 use Rattle.agent_ports.specs.declared.trust.TrustRead.TheVariants as read
 use Rattle.agent_origin.specs.DoorSessions as doors
-use Rattle.agent_ask.specs.TurnActions as taken
+use Rattle.agent_ask.specs.Session.TurnActions as taken
 use Rattle.agent_origin.specs.TrustActions as actions
 
 -- ---- lists

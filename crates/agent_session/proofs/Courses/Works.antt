@@ -1,8 +1,8 @@
 -- The one form of what is done for a request: each event goes on, but a last one by which the request is refused or its client is gone. It is so of nothing, of a
 -- action and what follows on its value, and of the smallest actions of a request.
 use Rattle.std.{specs.List.AllByRecursion, proofs.Common.{codes, ◌≡◌, ◌≢◌, ℕ, Bool, List, [], ◌∷◌, ◌++◌, Option, Some, None, Result, Ok, Err, refl, sym, ap, ◌∙◌, subst, append_assoc, append-nil}}
-use Rattle.agent_ask.specs.{ClientActions.{Writes, Inquires, AsksClient}, Events.{Called, Shut}, PortCalls.{Listed, Replaced, Dice, Draw, Prompt}, Interrupts.Interrupts, Actions.{◌>>=◌, Returns, Refuses, needed, or_else, unless, wanted}}
-use Rattle.{agent_ask.{specs.{SessionEvents.{Received, Sent, Cut, Inquiry, CacheTurn, Port, cache_turn}, TurnActions.{Asks, Seats, Changes, Peeks, Closes}}, proofs.Within.{Within, Joins, OfNothing}}, agent_ports.specs.declared.grip.Grip.Grip}
+use Rattle.agent_ask.specs.{Session.{ClientActions.{Writes, Inquires, AsksClient}, PortCalls.{Listed, Replaced, Dice, Draw, Prompt}, Actions.{◌>>=◌, Returns, Refuses, needed, or_else, unless, wanted}}, Events.{Called, Shut}, Interrupts.Interrupts}
+use Rattle.{agent_ask.{specs.Session.{SessionEvents.{Received, Sent, Cut, Inquiry, CacheTurn, Port, cache_turn}, TurnActions.{Asks, Seats, Changes, Peeks, Closes}}, proofs.Within.{Within, Joins, OfNothing}}, agent_ports.specs.declared.grip.Grip.Grip}
 use Rattle.{agent_ports.specs.declared.keys.{KeyDone.KeyDone, KeyNames.KeyNames, KeyRead.KeyRead}, assuan_server.specs.{Clients.session_lines, Inquiries.{Outcome, IsAtEnd}}, cache_policy.specs.Turns.{Turn, closes}}
 use Rattle.{cache_policy.specs.declared.{mark.MarkStep.{MarkStep, TheVariants.{Peek, Close}}, mode.Mode.Mode}, secret_file.specs.Opens.LockedKey, session_client.specs.{Asking.{Asked, said_by}, declared.code.Code.Code}}
 use Rattle.{session_client.specs.declared.{refusal.Refusal.{Refusal, TheVariants.{Agent, Client}}, client_error.ClientError.ClientError}, sexp_keys.specs.Key.Key, key_commands.specs.Lines.max_key_data}
@@ -10,10 +10,10 @@ use Rattle.key_commands.specs.{Events.{Event, called, read, out_of_memory}, File
 use Rattle.key_commands.specs.KeyActions.{Tells, tells, ReadsFile, Replaces, KeepsNew, Protects, IsShort, ListsGrips, ReadsListed, AsksKeyData, Unwraps, NamesKey, LooksOver, WrapsKey, file_in, grips_in, change_fault}
 use Rattle.key_commands.{specs.{Actions.{Action, Finds, Draws, read_fault}, Passphrases.{LooksForNonce, TakesSeat, Locks, TriesPassphrase, TriesFound, ask_nonce, put_key, seat_for}}, proofs.EachEvent.each_append}
 use Rattle.agent_session.specs.Refusals.{turn_refuses, change_refuses, refuses, shuts}
-use Rattle.agent_ask.specs.ClientActions as client
+use Rattle.agent_ask.specs.Session.ClientActions as client
 use Rattle.agent_ask.specs.Interrupts as turns
 use Rattle.agent_ask.proofs.Within as within
-use Rattle.agent_ask.specs.TurnActions as taken
+use Rattle.agent_ask.specs.Session.TurnActions as taken
 use Rattle.agent_ports.specs.declared.keys.KeyDone.TheVariants as key_done
 use Rattle.agent_ports.specs.declared.keys.KeyNames.TheVariants as key_names
 use Rattle.agent_ports.specs.declared.keys.KeyRead.TheVariants as key_read

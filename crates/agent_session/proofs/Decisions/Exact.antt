@@ -1,6 +1,6 @@
 -- Each code is answered wherever its cause stands, in a session and at a door.
 use Rattle.std.{specs.{List.AllByRecursion, Prelude.{drop, map}}, proofs.Common.{◌≡◌, ◌⊎◌, ℕ, Bool, true, false, List, Option, Some, None, Result, refl, subst, inl, inr, ◌+◌, ◌<◌, ◌∷◌, ◌++◌, length, Ok, Err, arith, sym, ap, [], ◌∙◌}}
-use Rattle.agent_ask.specs.{Actions.{Follows, goes_on, stops, needed}, ActionExchanges.{answered, refused}, PortCalls.{Keys, Read, Removed}, SessionEvents.{Sent, Port, said_last, Inquiry}, TurnActions.Closes}
+use Rattle.agent_ask.specs.Session.{Actions.{Follows, goes_on, stops, needed}, ActionExchanges.{answered, refused}, PortCalls.{Keys, Read, Removed}, SessionEvents.{Sent, Port, said_last, Inquiry}, TurnActions.Closes}
 use Rattle.{agent_ports.specs.declared.grip.Grip.Grip, assuan_server.specs.{Written.{failed, refusal_line}, declared.errors.Origin.TheVariants.Agent as OfAgent}, cache_policy.specs.{Turns.closes, declared.mark.MarkStep.MarkStep}}
 use Rattle.{key_lines.specs.Canon.Canon, session_client.specs.{declared.{code.Code.Code, refusal.Refusal.{Refusal, TheVariants.Agent}, client_error.ClientError.ClientError}, Refusals.refusal_code}}
 use Rattle.{session_options.specs.{OptionValues.OptionValues, declared.{rules.Rules.Rules, options.OptionAnswer.OptionAnswer}}, sexp_keys.specs.{Key.Key, declared.fault.KeyFault.KeyFault}, key_commands.specs.Events.Event}
@@ -22,13 +22,13 @@ use Rattle.agent_session.proofs.Decisions.ExactReads.{SentRefuses, IsUnlockable,
 use Rattle.agent_session.proofs.Decisions.{ExactReads.{by_said, NoFault}, ExactCache.{option_due, cache_due, cache_answered, none_without, none_cached}, ExactLong.long_answered, ExactTrust.{ByLong, marked_long, due_trust, trust_answered}}
 use Rattle.agent_session.proofs.{Decisions.{TrustDenied.denial_is_said, TrustTold.{Told, told}}, Courses.KeyWorks.{looks_nonce, uncached_old, opens_locked, new_here, consents, tells_info}}
 use Rattle.agent_session.proofs.{Courses.{Works.{WorksSo, Keeps, keeps_works, returned, or_otherwise, turns_of}, KeyCourses.plain_works}, DoorAnswering.door_is_session, Standing.each_left}
-use Rattle.agent_ask.specs.Actions as chain
+use Rattle.agent_ask.specs.Session.Actions as chain
 use Rattle.session_client.specs.declared.code.Code.TheVariants as code
 use Rattle.session_client.specs.declared.refusal.Refusal.TheVariants as refusals
 use Rattle.key_commands.specs.declared.request.KeyRequest.TheVariants as on
 use Rattle.agent_session.proofs.Courses.Works as work
 use Rattle.agent_ports.specs.declared.keys.KeyRead.TheVariants as key_read
-use Rattle.agent_ask.specs.TurnActions as turning
+use Rattle.agent_ask.specs.Session.TurnActions as turning
 use Rattle.key_commands.specs.Actions as small
 use Rattle.agent_ports.specs.declared.keys.KeyDone.TheVariants as key_done
 use Rattle.session_client.specs.declared.client_error.Gone.TheVariants as gone

@@ -1,14 +1,14 @@
 -- Actions of a request: what decides the request among their events is what they are refused by.
 use Rattle.std.{specs.{List.AllByRecursion, Option.option_map}, proofs.Common.{◌≡◌, ◌≢◌, ◌∙◌, ◌⊎◌, ℕ, List, [], ◌∷◌, ◌++◌, Option, Some, None, Result, Ok, Err, arith, refl, sym, ap, subst, inl, inr}}
-use Rattle.agent_ask.specs.{PortCalls.{Keys, Read, Removed, Trust}, Actions.{◌>>=◌, Refuses, refuses as refusing, returns, needed, or_else}, SessionEvents.{Received, Sent, Cut, Inquiry, CacheTurn, Port, said_last}, TrustCalls.TrustCall}
-use Rattle.{agent_ask.{specs.{TurnActions.Closes, ClientActions.Inquires}, proofs.Within.Joins}, agent_ports.specs.declared.{grip.Grip.Grip, keys.{KeyDone.KeyDone, KeyRead.KeyRead}}, assuan_server.specs.Clients.session_lines}
+use Rattle.agent_ask.specs.Session.{PortCalls.{Keys, Read, Removed, Trust}, Actions.{◌>>=◌, Refuses, refuses as refusing, returns, needed, or_else}, SessionEvents.{Received, Sent, Cut, Inquiry, CacheTurn, Port, said_last}, TrustCalls.TrustCall}
+use Rattle.{agent_ask.{specs.Session.{TurnActions.Closes, ClientActions.Inquires}, proofs.Within.Joins}, agent_ports.specs.declared.{grip.Grip.Grip, keys.{KeyDone.KeyDone, KeyRead.KeyRead}}, assuan_server.specs.Clients.session_lines}
 use Rattle.{assuan_server.specs.{Written.{failed, refusal_line}, declared.errors.Origin.TheVariants.Agent as OfAgent}, cache_policy.specs.declared.secret.TheConstants.MAX_SECRET_LEN, session_client.specs.Asking.said_by}
 use Rattle.session_client.specs.{Refusals.refusal_code, declared.{client.TheConstants.MAX_NOTE_LEN, code.Code.Code, refusal.Refusal.{Refusal, TheVariants.{Agent, Client}}, client_error.ClientError.ClientError}}
 use Rattle.key_commands.{specs.{Lines.max_key_data, Events.Event, Actions.Action}, proofs.EachEvent.each_answer}
 use Rattle.agent_session.{specs.{Causes.{Has, here, later}, Completeness.{Remembers, HasError}, Refusals.{refuses, shuts}}, proofs.Courses.{CacheWorks.FitsCache, KeyWorks.FitsKeys}}
 use Rattle.agent_session.proofs.{Courses.Works.{unsaid, unheard_by, GoesOn, WorkEnd, no_more, refused, lost, forgot, WorksTo, WorksSo, shuts_fit}, Causes.Explained.has_split, Standing.{each_left, each_right, each_has, has_right}}
 use Rattle.agent_ask.proofs.Within as within
-use Rattle.agent_ask.specs.ClientActions as client_actions
+use Rattle.agent_ask.specs.Session.ClientActions as client_actions
 
 -- the bytes of a key that a client sent, the reads of a key's file, the removals of one, and the calls of the trust file by which a request is refused by a code
 pub record Deciding : Type 1 where

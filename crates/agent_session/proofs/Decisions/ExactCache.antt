@@ -1,6 +1,6 @@
 -- Requests on the cache and on the session: what decides one is what it is refused by.
 use Rattle.std.{specs.List.AllByRecursion, proofs.Common.{◌≡◌, ◌⊎◌, ℕ, Bool, true, false, List, Option, Some, None, Result, refl, subst}}
-use Rattle.{agent_ask.specs.{ActionExchanges.{AnyExchange, answered, refused}, SessionEvents.cache_turn}, assuan_server.specs.{Written.refusal_line, declared.errors.Origin.TheVariants.Agent as OfAgent}}
+use Rattle.{agent_ask.specs.Session.{ActionExchanges.{AnyExchange, answered, refused}, SessionEvents.cache_turn}, assuan_server.specs.{Written.refusal_line, declared.errors.Origin.TheVariants.Agent as OfAgent}}
 use Rattle.{session_client.specs.declared.{code.Code.Code, refusal.Refusal.Refusal}, cache_policy.specs.{Turns.{Empty, closes}, declared.mark.MarkStep.MarkStep}, session_options.specs.OptionValues.{OptionValues, applied}}
 use Rattle.{session_options.specs.declared.{options.{OptionAnswer.{OptionAnswer, TheVariants.{Set, Unknown, Parameter, NotSupported}}, PinMode.PinMode}, rules.Rules.Rules}, agent_commands.specs.Endings.went_after}
 use Rattle.agent_commands.specs.{Exchanges.{CacheExchange, CacheReply, CacheReplies, ChangeReplies, TellsPassphrase, option_replies, is_quiet}, Actions.CacheAction, Passphrases.{WithoutPrompt, as_wanted, passphrase_by, ask}}

@@ -1,6 +1,6 @@
 -- A session that ends since a line was too long has told its client so.
 use Rattle.std.proofs.Common.{◌≡◌, ◌∙◌, ◌++◌, ℕ, List, Option, Some, None, Ok, refl, sym, ap}
-use Rattle.{agent_ask.specs.{SessionEvents.said_last, ActionExchanges.{answered, refused}, Actions.goes_on}, agent_commands.specs.{Endings.went_after, Exchanges.{CacheExchange, CacheReply, CacheReplies, option_replies}}}
+use Rattle.{agent_ask.specs.Session.{SessionEvents.said_last, ActionExchanges.{answered, refused}, Actions.goes_on}, agent_commands.specs.{Endings.went_after, Exchanges.{CacheExchange, CacheReply, CacheReplies, option_replies}}}
 use Rattle.agent_commands.specs.declared.request.CacheCommand.{CacheCommand, TheVariants.{Nop, Reset, Bye, Help, SetOption, GetInfo, GetPassphrase, PresetPassphrase, ClearPassphrase, GetConfirmation, ReloadAgent, KillAgent, SetKeyDesc}}
 use Rattle.{agent_commands.specs.declared.{request.Request.{Request, TheVariants.{Cache, Key as OnKeys, Bad}}, went.{SessionEnd.TheVariants.TooLong, Went.{Went, TheVariants.{On, End}}}}, assuan_server.specs.Written.refusal_line}
 use Rattle.{assuan_server.specs.declared.errors.Origin.TheVariants.Agent, key_commands.specs.{Events.Event, Exchanges.KeyExchange, Actions.key_went_after, declared.{request.KeyRequest.KeyRequest, went.KeyWent.KeyWent}}}
@@ -8,8 +8,8 @@ use Rattle.{key_commands.specs.declared.keywrap_key.WrapKeys.WrapKeys, session_c
 use Rattle.{session_options.specs.declared.{options.OptionAnswer.{OptionAnswer, TheVariants.{Set, Unknown, Parameter, NotSupported}}, rules.Rules.Rules}, agent_origin.specs.SessionExchanges.{RequestExchange, cache, keys, went_after_key}}
 use Rattle.agent_origin.specs.declared.session_state.SessionState.{SessionState}
 use Rattle.agent_session.{specs.{Causes.here, Completeness.HasError}, proofs.{Standing.has_right, Courses.KeyCourses.replies_ok}}
-use Rattle.agent_ask.specs.Actions as chain
-use Rattle.agent_ask.specs.ActionExchanges as action_exchanges
+use Rattle.agent_ask.specs.Session.Actions as chain
+use Rattle.agent_ask.specs.Session.ActionExchanges as action_exchanges
 use Rattle.session_client.specs.declared.code.Code.TheVariants as code
 use Rattle.session_client.specs.declared.refusal.Refusal.TheVariants as refusals
 use Rattle.session_client.specs.declared.client_error.Gone.TheVariants as gone

@@ -1,7 +1,7 @@
 -- PASSWD of a key whose list is too long is answered Bad secret key, and so is one whose new file is too long.
 use Rattle.std.{specs.{List.AllByRecursion, Prelude.⊤}, proofs.Common.{◌≡◌, ◌<◌, ◌∙◌, ℕ, Bool, true, false, List, [], ◌∷◌, ◌++◌, length, Option, Some, None, Result, Ok, Err, arith, refl, sym, ap, subst, inl, inr, ◌⊎◌}}
-use Rattle.agent_ask.specs.{Events.{PromptEvent, Called, OutOfMemory, GetPin}, PortCalls.{Prompt, Keys, Read, Dice, Drew}, Interrupts.Interrupts, Actions.{◌>>=◌, goes_on, stops, returns}, Prompts.{AsksPin, AsksBefore, Tries, IsTry, Repeats}}
-use Rattle.agent_ask.specs.{SessionEvents.{CacheTurn, Port, cache_turn, said_last}, SessionPrompts.AnyInSession, TurnActions.Closes, declared.{ask.Asked.Asked, prompter.Outcome.Outcome, spec.{AskPlan.AskPlan, PromptSpec.PromptSpec}}}
+use Rattle.agent_ask.specs.{Events.{PromptEvent, Called, OutOfMemory, GetPin}, Session.{PortCalls.{Prompt, Keys, Read, Dice, Drew}, Actions.{◌>>=◌, goes_on, stops, returns}}, Interrupts.Interrupts, Prompts.{AsksPin, AsksBefore, Tries, IsTry, Repeats}}
+use Rattle.agent_ask.specs.{Session.{SessionEvents.{CacheTurn, Port, cache_turn, said_last}, TurnActions.Closes}, SessionPrompts.AnyInSession, declared.prompt.{ask.Asked.Asked, prompter.Outcome.Outcome, spec.{AskPlan.AskPlan, PromptSpec.PromptSpec}}}
 use Rattle.{agent_ports.specs.declared.{grip.Grip.Grip, keys.KeyRead.KeyRead}, assuan_server.specs.{Clients.session_lines, Written.{failed, refusal_line}, declared.errors.Origin.TheVariants.Agent as OfAgent}}
 use Rattle.{cache_policy.specs.{Turns.{Turn, Given, Done}, declared.{mark.{MarkStep.{MarkStep, TheVariants.{Ask, Put}}, Way.TheVariants.Quiet}, mode.Mode.TheVariants.{Normal, Nonce}}}, key_lines.specs.Canon.Canon}
 use Rattle.{secret_file.specs.Opens.LockedKey, session_client.specs.declared.{code.Code.Code, refusal.Refusal.Refusal}, session_options.specs.{OptionValues.OptionValues, declared.{options.PinMode.PinMode, rules.Rules.Rules}}}
@@ -15,18 +15,18 @@ use Rattle.agent_session.proofs.Courses.{KeyWorks.{FitsKeys, looks_nonce, old_he
 use Rattle.agent_session.proofs.{Decisions.{ExactActions.{Deciding, IsDecided, IsFree, NoneOwed, SaysTo, answer_free, decided_before, said_error}, ExactReads.{by_file, reads_file, read_refuses, owes}}, Causes.KeyRequests.old_passphrase}
 use Rattle.agent_session.proofs.Standing.{each_left, each_right, each_has, has_first, stand_left, stand_right}
 use Rattle.agent_ask.specs.Interrupts as turns
-use Rattle.agent_ask.specs.Actions as chain
+use Rattle.agent_ask.specs.Session.Actions as chain
 use Rattle.agent_ask.specs.Prompts as prompts
 use Rattle.agent_ask.specs.SessionPrompts as session
-use Rattle.agent_ask.specs.TurnActions as taken
-use Rattle.agent_ask.specs.declared.ask.Asked.TheVariants as asked
-use Rattle.agent_ask.specs.declared.prompter.Outcome.TheVariants as outcome
+use Rattle.agent_ask.specs.Session.TurnActions as taken
+use Rattle.agent_ask.specs.declared.prompt.ask.Asked.TheVariants as asked
+use Rattle.agent_ask.specs.declared.prompt.prompter.Outcome.TheVariants as outcome
 use Rattle.session_client.specs.declared.code.Code.TheVariants as code
 use Rattle.session_options.specs.declared.options.PinMode.TheVariants as mode
-use Rattle.agent_ask.specs.ActionExchanges as action_exchanges
+use Rattle.agent_ask.specs.Session.ActionExchanges as action_exchanges
 use Rattle.key_commands.specs.Files as files
 use Rattle.key_commands.specs.KeyActions as actions
-use Rattle.agent_ask.specs.ClientActions as client_actions
+use Rattle.agent_ask.specs.Session.ClientActions as client_actions
 use Rattle.key_commands.specs.Actions as small
 use Rattle.agent_ask.specs.PinActions as pin_actions
 use Rattle.key_commands.specs.Passphrases as passphrases

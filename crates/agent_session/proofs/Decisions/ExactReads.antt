@@ -3,7 +3,7 @@ use Rattle.std.{specs.{List.AllByRecursion, Prelude.not}, proofs.Common.{◌≡�
 use Rattle.{agent_ports.specs.declared.{grip.Grip.Grip, keys.{KeyDone.KeyDone, KeyRead.KeyRead}}, assuan_server.specs.Written.{failed, refusal_line}, session_client.specs.declared.{code.Code.Code, refusal.Refusal.Refusal}}
 use Rattle.{session_client.specs.declared.refusal.Refusal.TheVariants.Agent, key_lines.specs.Canon.Canon, secret_file.specs.Answers.IsLockedFault, sexp_keys.specs.{Key.Key, declared.fault.KeyFault.KeyFault}}
 use Rattle.key_commands.specs.{Lines.max_key_data, Events.Event, Faults.fault_code, Files.FileSays, KeyActions.{ReadsFile, Removes, IsFree, AsksKeyData, Unwraps, ReceivesKey, file_in, change_fault}, Actions.{Finds, read_fault}}
-use Rattle.{key_commands.specs.{Passphrases.Locks, Wrapping.WrappedSays}, agent_ask.specs.Actions.{wanted, refuses, returns}}
+use Rattle.{key_commands.specs.{Passphrases.Locks, Wrapping.WrappedSays}, agent_ask.specs.Session.Actions.{wanted, refuses, returns}}
 use Rattle.agent_session.{specs.Completeness.Remembers, proofs.Decisions.ExactFiles.{one_says, one_locked_fault, no_locked_fault, one_wrapped}}
 use Rattle.agent_session.proofs.Decisions.ExactActions.{Deciding, IsDecided, never_decided, NoneDue, NoneOwed, SaysTo, Heeds, bind, decided_only, inquires_of, IsSaidAlone, free, said_alone}
 use Rattle.agent_ports.specs.declared.keys.KeyDone.TheVariants as key_done

@@ -1,6 +1,6 @@
 -- Requests on the trust list: what decides one is what it is refused by.
 use Rattle.std.{specs.List.AllByRecursion, proofs.Common.{◌≡◌, ◌⊎◌, ◌∙◌, ◌<◌, ℕ, Bool, true, false, List, ◌∷◌, length, Option, Some, None, Result, Ok, arith, refl, sym, ap, subst, inl, inr, []}}
-use Rattle.{agent_ask.specs.{Actions.Refuses, TrustCalls.{TrustCall, Read, Replaced}, ConsentActions.AgreesTo}, assuan_server.specs.{Written.{ok, failed, refusal_line}, declared.errors.Origin.TheVariants.Agent as OfAgent}}
+use Rattle.{agent_ask.specs.{Session.{Actions.Refuses, TrustCalls.{TrustCall, Read, Replaced}}, ConsentActions.AgreesTo}, assuan_server.specs.{Written.{ok, failed, refusal_line}, declared.errors.Origin.TheVariants.Agent as OfAgent}}
 use Rattle.{assuan_server.specs.Clients.session_lines, agent_commands.specs.declared.went.Went.Went, agent_ports.specs.declared.{grip.Grip.Grip, trust.{TrustDone.TrustDone, TrustRead.TrustRead}}}
 use Rattle.{session_client.specs.declared.{code.Code.Code, refusal.Refusal.Refusal}, session_options.specs.{OptionValues.OptionValues, declared.{options.PinMode.PinMode, rules.Rules.Rules}}, trust_list.specs.Trust.{trust, with_entry}}
 use Rattle.trust_list.specs.declared.TheConstants.{MAX_TRUST_FILE_LEN}
@@ -10,7 +10,7 @@ use Rattle.key_commands.specs.{Events.Event, Actions.Action}
 use Rattle.agent_session.{specs.Completeness.{Remembers, HasError}, proofs.Decisions.ExactReads.by_said}
 use Rattle.agent_session.proofs.Decisions.ExactActions.{Deciding, IsDecided, never_decided, decided_only, NoneDue, NoneOwed, SaysTo, Heeds, bind, refuses_due, IsSaidAlone, free, said_alone, fits_keys, never_ok, error_said}
 use Rattle.agent_session.proofs.{Decisions.TrustTold.{Told, told}, Courses.{PromptWorks.agrees_to, Works.{WorksTo, works, one_works, refused_by, WorksSo, Keeps, keeps_works, returned, refuses_by, turns_of}}}
-use Rattle.agent_ask.specs.Actions as chain
+use Rattle.agent_ask.specs.Session.Actions as chain
 use Rattle.agent_ports.specs.declared.trust.TrustRead.TheVariants as trust_read
 use Rattle.session_client.specs.declared.code.Code.TheVariants as code
 use Rattle.session_options.specs.declared.options.PinMode.TheVariants as mode

@@ -1,6 +1,6 @@
 -- Sessions whose exchanges are each seen otherwise, by what holds of their events.
 use Rattle.std.proofs.Common.{◌≡◌, ℕ, List, [], ◌∷◌, ◌++◌, refl, sym, subst}
-use Rattle.{agent_ask.specs.{Answering.{WholeOrCut, whole, cut}, SessionEvents.CutAtLast}, agent_commands.specs.{Endings.went_after, Events.EventWith, Talks.{Talk, Session}, declared.went.SessionEnd.{SessionEnd, TheVariants.WriteFault}}}
+use Rattle.{agent_ask.specs.Session.{Answering.{WholeOrCut, whole, cut}, SessionEvents.CutAtLast}, agent_commands.specs.{Endings.went_after, Events.EventWith, Talks.{Talk, Session}, declared.went.SessionEnd.{SessionEnd, TheVariants.WriteFault}}}
 use Rattle.agent_commands.specs.declared.went.Went.{Went, TheVariants.End}
 use Rattle.agent_session.specs.Completeness.{WholeTalk, WholeSession, IsFaultless}
 use Rattle.agent_commands.specs.Talks as talks

@@ -1,6 +1,6 @@
 -- A request on the trust list is answered Not trusted wherever a read of the file says so.
 use Rattle.std.{specs.List.AllByRecursion, proofs.Common.{◌≡◌, ◌⊎◌, ◌∙◌, ℕ, Bool, true, false, List, [], ◌∷◌, ◌++◌, Option, Some, None, Result, Ok, Err, refl, sym, subst, inl, inr}}
-use Rattle.agent_ask.specs.{SessionEvents.said_last, TrustCalls.TrustCall, Actions.{◌>>=◌, Follows, Refuses}, ConsentActions.AgreesTo, TurnActions.Closes}
+use Rattle.agent_ask.specs.{Session.{SessionEvents.said_last, TrustCalls.TrustCall, Actions.{◌>>=◌, Follows, Refuses}, TurnActions.Closes}, ConsentActions.AgreesTo}
 use Rattle.{agent_ask.proofs.Within.{Within, Joins, OfNothing, Does, weaker, bind, returned, refused, refused_so}, assuan_server.specs.{Written.{ok, failed, refusal_line}, declared.errors.Origin.TheVariants.Agent, Clients.session_lines}}
 use Rattle.{agent_commands.specs.declared.went.Went.Went, agent_ports.specs.declared.grip.Grip.Grip, session_client.specs.declared.refusal.Refusal.Refusal, key_commands.specs.{Events.{Event, out_of_memory}, Actions.Action}}
 use Rattle.{key_commands.proofs.{EachEvent.{EachSo, each_seats, agrees_to}, EachRequest.{IsBesideTrust, still_beside}}, session_options.specs.{OptionValues.OptionValues, declared.{options.PinMode.PinMode, rules.Rules.Rules}}}
@@ -10,8 +10,8 @@ use Rattle.agent_session.{specs.{Causes.{Has, here, later}, Completeness.HasErro
 use Rattle.agent_session.proofs.Decisions.TrustTold.{Told, answered, refused as refused_then, told}
 use Rattle.session_client.specs.declared.code.Code.TheVariants as code
 use Rattle.session_options.specs.declared.options.PinMode.TheVariants as mode
-use Rattle.agent_ask.specs.Actions as chain
-use Rattle.agent_ask.specs.TurnActions as taken
+use Rattle.agent_ask.specs.Session.Actions as chain
+use Rattle.agent_ask.specs.Session.TurnActions as taken
 use Rattle.agent_origin.specs.TrustActions as actions
 
 -- no call of the trust file is among events that are beside it

@@ -1,9 +1,9 @@
 -- An exchange on the trust list by what its request came to: its work, the return of a ticket that it still holds, and its line.
 use Rattle.std.proofs.Common.{ℕ, List, [], ◌∷◌, ◌++◌, Option, None, Ok, Err, sym, subst, append-nil}
-use Rattle.{agent_ask.specs.{ActionExchanges.AnyExchange, Actions.{goes_on, stops, returns}, SessionEvents.{Sent, said_last}, TurnActions.Closes}, assuan_server.specs.Written.{ok, refusal_line}, session_client.specs.Refusals.gone_by}
+use Rattle.{agent_ask.specs.Session.{ActionExchanges.AnyExchange, Actions.{goes_on, stops, returns}, SessionEvents.{Sent, said_last}, TurnActions.Closes}, assuan_server.specs.Written.{ok, refusal_line}, session_client.specs.Refusals.gone_by}
 use Rattle.{session_client.specs.declared.refusal.Refusal.Refusal, session_options.specs.{OptionValues.OptionValues, declared.rules.Rules.Rules}, agent_commands.specs.{Endings.went_after, declared.went.Went.{Went, TheVariants.On}}}
 use Rattle.{key_commands.specs.Events.Event, agent_origin.specs.{TrustExchanges.{Carried, TrustReplies, TrustExchange}, declared.trust.request.TrustRequest.TrustRequest}}
-use Rattle.agent_ask.specs.ActionExchanges as exchange
+use Rattle.agent_ask.specs.Session.ActionExchanges as exchange
 
 module _ (rules : Rules) (options : OptionValues) (request : TrustRequest) where
   pub data Told : List Event → Went → Type 0 where

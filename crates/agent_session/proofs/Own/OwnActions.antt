@@ -1,6 +1,6 @@
 -- Actions of a request on keys, by which nothing is handed to the cache but the request's own: how they follow one another.
 use Rattle.std.{specs.{List.AllByRecursion, Prelude.⊤}, proofs.Common.{◌≡◌, ℕ, Bool, true, false, List, [], ◌∷◌, ◌++◌, Option, Some, None, Result, Ok, Err, refl, sym, subst, append_assoc, append-nil}}
-use Rattle.agent_ask.{specs.{PortCalls.PortCall, SessionEvents.{CacheTurn, cache_turn}, Actions.{◌>>=◌, Returns, Refuses, needed, wanted}}, proofs.Within.{HoldsOf, Within, Joins, weaker, bind, returned_so, refused_so}}
+use Rattle.agent_ask.{specs.Session.{PortCalls.PortCall, SessionEvents.{CacheTurn, cache_turn}, Actions.{◌>>=◌, Returns, Refuses, needed, wanted}}, proofs.Within.{HoldsOf, Within, Joins, weaker, bind, returned_so, refused_so}}
 use Rattle.{cache_policy.specs.{Turns.Turn, declared.mark.MarkStep.{MarkStep, TheVariants.Close}}, agent_commands.specs.Events.EventWith, session_client.specs.declared.{code.Code.Code, refusal.Refusal.{Refusal, TheVariants.Agent}}}
 use Rattle.key_commands.{specs.Actions.Action, proofs.EachEvent.EachSo}
 use Rattle.agent_session.{specs.{Imports.HandsNothing, OwnPassphrases.HandsIn}, proofs.{AtOnce.FitsTurn, Standing.{each_left, each_right}, Courses.Works.{Keeps, each_fits}}}

@@ -1,7 +1,7 @@
 -- What requests on the cache hand to it is their own, and so is the passphrase that they are answered; and so of what each request of a session hands in.
 use Rattle.std.{specs.{List.AllByRecursion, Prelude.⊤}, proofs.Common.{◌≡◌, ℕ, Bool, true, false, List, ◌∷◌, ◌++◌, Option, Some, None, Result, Ok, Err, refl, sym, ◌∙◌, subst, append_assoc, append-nil, codes, []}}
-use Rattle.agent_ask.specs.{ClientActions.{Writes, Inquires}, ConsentActions.AgreesTo, PortCalls.PortCall, ActionExchanges.AnyExchange, Actions.{◌>>=◌, Returns, Refuses, needed, or_else}, SessionEvents.{Sent, cache_turn, said_last}}
-use Rattle.{agent_ask.{specs.TurnActions.{Asks, Seats, Changes, Closes}, proofs.Within.{HoldsOf, Within, Joins, returned_so, refused_so}}, assuan_server.specs.{Clients.session_lines, Written.{refusal_line, limit_line}}}
+use Rattle.agent_ask.specs.{Session.{ClientActions.{Writes, Inquires}, PortCalls.PortCall, ActionExchanges.AnyExchange, Actions.{◌>>=◌, Returns, Refuses, needed, or_else}, SessionEvents.{Sent, cache_turn, said_last}}, ConsentActions.AgreesTo}
+use Rattle.{agent_ask.{specs.Session.TurnActions.{Asks, Seats, Changes, Closes}, proofs.Within.{HoldsOf, Within, Joins, returned_so, refused_so}}, assuan_server.specs.{Clients.session_lines, Written.{refusal_line, limit_line}}}
 use Rattle.cache_policy.specs.{Turns.{Given, FitsStep}, declared.{grant.Grant.Grant, life.Life.{Life, TheVariants.Default}, mark.MarkStep.{MarkStep, TheVariants.{Put, Seat}}, mode.Mode.TheVariants.User, secret.TheConstants.MAX_SECRET_LEN}}
 use Rattle.{session_client.specs.declared.refusal.Refusal.{Refusal, TheVariants.Agent}, session_options.specs.{OptionValues.{OptionValues, applied}, declared.options.OptionAnswer.OptionAnswer}}
 use Rattle.{session_options.specs.declared.{options.{OptionAnswer.TheVariants.{Set, Unknown, Parameter, NotSupported}, PinMode.PinMode}, rules.Rules.Rules}, agent_commands.specs.{Endings.went_after, Events.EventWith}}
@@ -15,11 +15,11 @@ use Rattle.agent_session.specs.OwnPassphrases.{IsPublic, done, closes, helps, te
 use Rattle.agent_session.{specs.OwnPassphrases.{HasTicket, has_ticket, IsAccepted, any, HandsIn, StoresOwn, directly, under_get, under_preset}, proofs.Own.OwnFacts.{ticket_more, accepted_more, sent_more}}
 use Rattle.agent_session.proofs.Own.{OwnLines.{IsOpen, IsPlain, Open, Plain, each_first, each_second, shown_plain, refusal_plain, back_plain, open_are_own, said_last_own}, OwnKeys.{stand_last, key_own}}
 use Rattle.agent_session.proofs.{Own.OwnActions.{IsQuiet, Fit, Fact, AreOwn, own_then, quiet_are_own, whatever, Anything}, Causes.Prompted.has_prompt, Standing.{has_left, has_right}}
-use Rattle.agent_ask.specs.ClientActions as client
+use Rattle.agent_ask.specs.Session.ClientActions as client
 use Rattle.agent_ask.specs.ConsentActions as consent
-use Rattle.agent_ask.specs.ActionExchanges as exchange
+use Rattle.agent_ask.specs.Session.ActionExchanges as exchange
 use Rattle.agent_ask.proofs.Within as within
-use Rattle.agent_ask.specs.TurnActions as turning
+use Rattle.agent_ask.specs.Session.TurnActions as turning
 use Rattle.cache_policy.specs.Turns as turns
 use Rattle.session_client.specs.declared.code.Code.TheVariants as code
 use Rattle.session_options.specs.declared.options.PinMode.TheVariants as mode

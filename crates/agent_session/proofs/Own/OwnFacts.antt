@@ -1,6 +1,6 @@
 -- What was done for a request stays so, whatever is done then; and the actions of requests on keys by which nothing is handed to the cache and the ticket stays.
 use Rattle.std.proofs.Common.{◌≡◌, ℕ, List, ◌++◌, codes, Option, Some, None, Ok, refl, ap, ◌∙◌, append_assoc}
-use Rattle.{agent_ask.specs.{PortCalls.PortCall, declared.{ask.Asked.Asked, spec.AskPlan.AskPlan}, ClientActions.Inquires, TurnActions.Asks}, cache_policy.specs.declared.mark.MarkStep.MarkStep, agent_ports.specs.declared.grip.Grip.Grip}
+use Rattle.{agent_ask.specs.{Session.{PortCalls.PortCall, ClientActions.Inquires, TurnActions.Asks}, declared.prompt.{ask.Asked.Asked, spec.AskPlan.AskPlan}}, cache_policy.specs.declared.mark.MarkStep.MarkStep, agent_ports.specs.declared.grip.Grip.Grip}
 use Rattle.{secret_file.specs.Opens.{LockedKey, IsLocked}, sexp_keys.specs.{Key.Key, Lists.grip_of}, agent_commands.specs.{Events.EventWith, declared.request.Request.Request}, key_commands.specs.{Lines.max_key_data, Wrapping.WrappedSays}}
 use Rattle.{key_commands.specs.{KeyActions.{ReadsFile, LooksOver, AsksKeyData, Unwraps, NamesKey}, Actions.Draws, Passphrases.{LooksForNonce, Locks, TriesPassphrase, OpensBy, ask_nonce}}, assuan_server.specs.Clients.session_lines}
 use Rattle.{agent_origin.specs.declared.session_state.SessionState.SessionState, session_options.specs.{OptionValues.OptionValues, declared.rules.Rules.Rules}}
@@ -8,9 +8,9 @@ use Rattle.agent_session.specs.Causes.{here, StandIn, HasPrompt, ComesBy, cached
 use Rattle.agent_session.{specs.OwnPassphrases.{IsAbout, named, brought, WantsTicket, by_id, by_key, by_seat, unkept, HasTicket, has_ticket, IsAccepted, any, opening, IsGivenNew, given, NamesNew}, proofs.Own.OwnActions.{Quiet, QuietWith}}
 use Rattle.agent_session.proofs.Standing.{has_left, has_right}
 use Rattle.key_commands.specs.KeyActions as actions
-use Rattle.agent_ask.specs.Actions as chain
-use Rattle.agent_ask.specs.TurnActions as turning
-use Rattle.agent_ask.specs.ClientActions as client_actions
+use Rattle.agent_ask.specs.Session.Actions as chain
+use Rattle.agent_ask.specs.Session.TurnActions as turning
+use Rattle.agent_ask.specs.Session.ClientActions as client_actions
 use Rattle.key_commands.specs.Actions as small
 use Rattle.key_commands.specs.Passphrases as passphrases
 

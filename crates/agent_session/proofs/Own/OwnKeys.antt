@@ -2,7 +2,7 @@
 -- one of a few.
 use Rattle.std.specs.{List.AllByRecursion, Prelude.{not, drop, ⊤}, Option.option_map}
 use Rattle.std.proofs.Common.{◌≡◌, ◌==◌, ℕ, Bool, true, false, List, [], ◌∷◌, ◌++◌, length, codes, Option, Some, None, Result, Ok, Err, refl, sym, ap, subst, append-nil, append_assoc}
-use Rattle.agent_ask.{specs.{PortCalls.PortCall, SessionEvents.{Sent, CacheTurn, cache_turn, said_last}, ClientActions.AsksClient, TurnActions.{Asks, Changes, Closes}, Actions.{needed, or_else, goes_on, returns}}, proofs.Within.HoldsOf}
+use Rattle.agent_ask.{specs.Session.{PortCalls.PortCall, SessionEvents.{Sent, CacheTurn, cache_turn, said_last}, ClientActions.AsksClient, TurnActions.{Asks, Changes, Closes}, Actions.{needed, or_else, goes_on, returns}}, proofs.Within.HoldsOf}
 use Rattle.{assuan_server.specs.{Clients.session_lines, Written.{refusal_line, limit_line, failed}}, agent_ports.specs.declared.grip.Grip.Grip, assuan_escape.specs.Escapes.hex_text, cache_policy.specs.Turns.Open}
 use Rattle.{cache_policy.specs.declared.{life.Life.TheVariants.Default, mark.MarkStep.{MarkStep, TheVariants.{Close, Put}}, mode.Mode.TheVariants.Nonce, secret.TheConstants.MAX_SECRET_LEN}, secret_file.specs.Opens.{LockedKey, IsLocked}}
 use Rattle.{session_options.specs.declared.{options.PinMode.PinMode, rules.Rules.Rules}, sexp_keys.specs.Key.Key, agent_commands.specs.{Events.EventWith, declared.request.Request.{Request, TheVariants.{Cache, Bad, Key as OnKeys}}}}
@@ -23,9 +23,9 @@ use Rattle.agent_session.proofs.{Own.{OwnActions.{own_refused, own_needed, own_w
 use Rattle.agent_session.proofs.Standing.{has_right, each_left, each_right, has_first, stand_all, stand_left, stand_right}
 use Rattle.session_client.specs.declared.code.Code.TheVariants as code
 use Rattle.session_options.specs.declared.options.PinMode.TheVariants as mode
-use Rattle.agent_ask.specs.ActionExchanges as action_exchanges
-use Rattle.agent_ask.specs.Actions as chain
-use Rattle.agent_ask.specs.TurnActions as turning
+use Rattle.agent_ask.specs.Session.ActionExchanges as action_exchanges
+use Rattle.agent_ask.specs.Session.Actions as chain
+use Rattle.agent_ask.specs.Session.TurnActions as turning
 use Rattle.key_commands.specs.Passphrases as passphrases
 use Rattle.key_commands.specs.declared.request.KeyRequest.TheVariants as on
 use Rattle.agent_session.specs.Causes as causes
@@ -438,7 +438,8 @@ module _ (rules : Rules) (kept : SessionState) (request : Request) where
   receives_at : (wrap : List ℕ) → OwnSo Mine (λ prior held. Unheld prior held × (kept.wraps.import ≡ Some wrap)) (ReceivesKey wrap) Brought
   receives_at wrap = record { of = λ before events result after does. record { so = λ prior fits pre. ((receives_key wrap pre.1).of before events result after does).so prior fits pre.0 } }
 
-  names_mine : {force : Bool} {nonce : Option (List ℕ)} → on_keys request ≡ Some (on.ImportKey force nonce) → (key : Key) → OwnSo Mine (Brought key) (NamesKey key) (λ grip prior held. IsAbout rules kept request prior grip × Unheld prior held)
+  names_mine : {force : Bool} {nonce : Option (List ℕ)} → on_keys request ≡ Some (on.ImportKey force nonce) → (key : Key)
+      → OwnSo Mine (Brought key) (NamesKey key) (λ grip prior held. IsAbout rules kept request prior grip × Unheld prior held)
   names_mine is key = own_weaker Mine (quiet_with Mine (brought_stays key) (quiet.names_quiet key)) (λ grip prior held so. (brought is so.0.1 so.1, so.0.0))
 
   delete_agrees : (grip : Grip) (way : PinMode) (force : Bool) → EachSo IsQuiet (Consents rules (record kept.options { mode = way }) force grip)
@@ -550,7 +551,8 @@ module _ (rules : Rules) (kept : SessionState) (request : Request) where
   reply_of (on.ExportKey grip id) asked _ _ _ (goes_on {first = a} {events = b} wants (goes_on {first = c} {events = d} (key_actions.is_key {key} found says) (goes_on {first = e} {events = f} {value = opened} does
       (goes_on closes (goes_on is_wrapped (goes_on (tells data_so) returns)))))) =
       let stands = stand_right a b (stand_all (a ++ b)) in
-      let comes = old_passphrase rules kept request (a ++ b) grip (causes.exports asked) key.is_clear key id (λ nonce same. of_export (subst (λ n. on_keys request ≡ Some (on.ExportKey grip n)) same asked)) (causes.read found says (has_first stands))
+      let comes = old_passphrase rules kept request (a ++ b) grip (causes.exports asked) key.is_clear key id
+      (λ nonce same. of_export (subst (λ n. on_keys request ≡ Some (on.ExportKey grip n)) same asked)) (causes.read found says (has_first stands))
       (λ locked is_locked by_id by_key. causes.exported _ asked is_locked by_id by_key) _ e (Ok opened) _ does
       (stand_left e f (stand_right c d stands)) in
       whose.wrapped opened.key asked (there_is _ kept.wraps.export _ _ _ wants) comes.explained data_so

@@ -1,10 +1,10 @@
 -- Lines of requests on the cache and on the session that have no passphrase in them, and the events beside them by which nothing is handed to the cache.
 use Rattle.std.{specs.{List.AllByRecursion, Option.option_map, Prelude.⊤}, proofs.Common.{◌≡◌, ℕ, List, ◌∷◌, ◌++◌, Option, Some, None, Ok, refl, sym, ap, ◌∙◌, subst, append-nil, []}}
-use Rattle.{agent_ask.specs.{Events.PromptEvent, PortCalls.PortCall, SessionEvents.{Sent, said_last}, TurnActions.Closes, SessionPrompts.AnyInSession}, assuan_server.specs.{Clients.session_lines, Written.{failed, refusal_line}}}
+use Rattle.{agent_ask.specs.{Events.PromptEvent, Session.{PortCalls.PortCall, SessionEvents.{Sent, said_last}, TurnActions.Closes}, SessionPrompts.AnyInSession}, assuan_server.specs.{Clients.session_lines, Written.{failed, refusal_line}}}
 use Rattle.{session_client.specs.{Refusals.refusal_code, declared.{code.Code.Code, refusal.Refusal.{Refusal, TheVariants.{Agent, Pinentry, Client}}}}, session_options.specs.{OptionValues.OptionValues, declared.rules.Rules.Rules}}
 use Rattle.agent_commands.specs.{Events.EventWith, declared.request.Request.Request}
 use Rattle.agent_session.{specs.OwnPassphrases.{IsPublic, error, SaysOwn, public, SaysOwnAlone}, proofs.{Own.OwnActions.{IsQuiet, kept_none}, Standing.each_right}}
-use Rattle.agent_ask.specs.TurnActions as turning
+use Rattle.agent_ask.specs.Session.TurnActions as turning
 use Rattle.agent_ask.specs.SessionPrompts as session
 use Rattle.assuan_server.specs.declared.errors.Origin.TheVariants as origin
 

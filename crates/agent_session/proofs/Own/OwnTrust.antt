@@ -1,6 +1,6 @@
 -- Requests on the trust list hand nothing to the cache.
 use Rattle.std.{specs.List.AllByRecursion, proofs.Common.{ℕ, List, ◌++◌, Option, Some, None, Ok, Err}}
-use Rattle.{agent_ask.{proofs.Within.{Does, does_join}, specs.{SessionEvents.{Received, Sent, Cut, Inquiry, CacheTurn, Port, said_last}, TurnActions.Closes}}, agent_commands.specs.declared.went.Went.Went}
+use Rattle.{agent_ask.{proofs.Within.{Does, does_join}, specs.Session.{SessionEvents.{Received, Sent, Cut, Inquiry, CacheTurn, Port, said_last}, TurnActions.Closes}}, agent_commands.specs.declared.went.Went.Went}
 use Rattle.{assuan_server.specs.Written.{ok, refusal_line}, key_commands.{specs.Events.Event, proofs.EachEvent.{IsStill, each_append, each_seats, agrees_to, each_answer}}, session_options.specs.OptionValues.OptionValues}
 use Rattle.{session_options.specs.declared.rules.Rules.Rules, agent_origin.specs.{TrustExchanges.TrustExchange, declared.trust.request.TrustRequest.TrustRequest}}
 use Rattle.agent_origin.proofs.EachTrust.{TrustLaws, carried_so, each_reads, each_adds, each_replaces}

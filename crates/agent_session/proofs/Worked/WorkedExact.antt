@@ -1,6 +1,6 @@
 -- Worked examples: exchanges in which a cause stands, and their answers.
 use Rattle.std.{specs.List.AllByRecursion, proofs.Common.{◌≡◌, ◌<◌, ◌≤◌, ◌⊎◌, ◌∙◌, ◌++◌, ℕ, Bool, true, false, List, [], ◌∷◌, length, take, drop, codes, Option, Some, None, Ok, refl, sym, ap, subst, inl, inr}}
-use Rattle.{arrayvec.specs.ArrayVec.ArrayVec, agent_ask.specs.{Answering.whole, PortCalls.Replaced, SessionEvents.{Received, Sent, Inquiry, cache_turn}}, agent_commands.specs.{Exchanges.CacheExchange, Passphrases.ask}}
+use Rattle.{arrayvec.specs.ArrayVec.ArrayVec, agent_ask.specs.Session.{Answering.whole, PortCalls.Replaced, SessionEvents.{Received, Sent, Inquiry, cache_turn}}, agent_commands.specs.{Exchanges.CacheExchange, Passphrases.ask}}
 use Rattle.agent_commands.specs.{Requests.{GetFields, get_passphrase, request_of}, declared.{request.{CacheCommand.TheVariants.PresetPassphrase, Request.{Request, TheVariants.{Cache, Key as OnKeys}}}, went.Went.Went}}
 use Rattle.{agent_commands.specs.declared.went.Went.TheVariants.{On, End}, assuan_server.specs.{Written.{limit_line, failed, greeting}, Inquiries.TooLong, declared.errors.Origin.TheVariants.Agent}, agent_ports.specs.declared.grip.Grip.Grip}
 use Rattle.{agent_ports.specs.declared.keys.KeyRead.KeyRead, assuan_text.specs.LineEnds.line_of, cache_policy.specs.{Turns.{Empty, Given, FitsStep}, declared.{grant.Grant.Grant, life.Life.Life, secret.TheConstants.MAX_SECRET_LEN}}}
@@ -12,8 +12,8 @@ use Rattle.{agent_origin.specs.declared.trust.request.TrustRequest.TheVariants.B
 use Rattle.agent_session.specs.{Causes.{Has, here, later, LacksKeys, empty, IsRead, IsReadOf, read_of, OpensRead, opens, protected, said}, Completeness.{Remembers, HasError}}
 use Rattle.agent_session.{specs.Exactly.{on_trust, clear, long, long_file, HasLongList, HasLongFile, EndsTooLong, at_inquiry}, proofs.Decisions.{Exact.{cause_answered, door_cause}, ExactEnds.end_told, ExactFiles.one_says}}
 use Rattle.agent_session.proofs.{Causes.KeyExplained.exchange_caused, LongLines.{session_long, long_session}}
-use Rattle.agent_ask.specs.ClientActions as client
-use Rattle.agent_ask.specs.ActionExchanges as exchanges
+use Rattle.agent_ask.specs.Session.ClientActions as client
+use Rattle.agent_ask.specs.Session.ActionExchanges as exchanges
 use Rattle.agent_commands.specs.Talks as talks
 use Rattle.agent_commands.specs.declared.went.SessionEnd.TheVariants as ends
 use Rattle.agent_ports.specs.declared.keys.KeyDone.TheVariants as key_done
@@ -23,8 +23,8 @@ use Rattle.session_client.specs.declared.code.Code.TheVariants as code
 use Rattle.key_commands.specs.Files as files
 use Rattle.key_commands.specs.KeyActions as key_actions
 use Rattle.key_commands.specs.Actions as small
-use Rattle.agent_ask.specs.Actions as chain
-use Rattle.agent_ask.specs.TurnActions as turning
+use Rattle.agent_ask.specs.Session.Actions as chain
+use Rattle.agent_ask.specs.Session.TurnActions as turning
 use Rattle.session_client.specs.declared.refusal.Refusal.TheVariants as refusals
 use Rattle.key_commands.specs.declared.request.KeyRequest.TheVariants as on
 use Rattle.key_commands.specs.declared.went.KeyWent.TheVariants as key_went
@@ -166,7 +166,8 @@ module _ (one_canon : (file : List ℕ) (a b : Option (List ℕ)) → Canon file
 
   -- PASSWD of a clear key in an extended file, which is too long with the list of that key, whatever passphrase that is under
   module _ (line : ArrayVec ℕ) (grip : Grip) (old : Option (List ℕ)) (fresh : List ℕ) (is : key_request_of line.items ≡ on.Passwd grip old (Some fresh) false) (answer : KeyRead) (file : List ℕ) (found : file_in answer ≡ Some file)
-      (key : Key) (says : FileSays file (Ok key)) (clear_one : key.is_clear ≡ true) (within : length (key_list_of key) ≤ MAX_LIST_LEN) (entry : Grant) (of_fresh : FitsStep (ask_nonce fresh) (Given entry)) (bytes : List ℕ) (twenty : length bytes ≡ 20) (extended : is_canonical file ≡ false)
+      (key : Key) (says : FileSays file (Ok key)) (clear_one : key.is_clear ≡ true) (within : length (key_list_of key) ≤ MAX_LIST_LEN) (entry : Grant) (of_fresh : FitsStep (ask_nonce fresh) (Given entry)) (bytes : List ℕ) (twenty : length bytes ≡ 20)
+      (extended : is_canonical file ≡ false)
       (much : (pass changed : List ℕ) → IsWithList file (list_under key bytes kept.options.s2k_count pass) changed → most_bytes < length changed)
       (made_file : List ℕ) (with_list : IsWithList file (list_under key bytes kept.options.s2k_count entry.entry.secret) made_file) where
     abbrev too_long_file : List Event

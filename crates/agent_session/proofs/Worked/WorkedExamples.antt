@@ -1,13 +1,13 @@
 -- Worked examples: error lines that have no cause.
 use Rattle.std.{specs.{List.{AllByRecursion, count_by}, Prelude.⊤}, proofs.Common.{◌≡◌, ℕ, false, List, [], ◌∷◌, Some, None, refl, inl, inr}}
-use Rattle.agent_ask.specs.{Events.{GetPin, Start, Shut, Called}, PortCalls.{PortCall, Prompt, Dice, Trust, Drew, NotDrawn}, Prompters.is_failed, SessionEvents.{Sent, Port, cache_turn}, TrustCalls.Read, declared.spec.PromptSpec.PromptSpec}
+use Rattle.agent_ask.specs.{Events.{GetPin, Start, Shut, Called}, Session.{PortCalls.{PortCall, Prompt, Dice, Trust, Drew, NotDrawn}, SessionEvents.{Sent, Port, cache_turn}, TrustCalls.Read}, Prompters.is_failed, declared.prompt.spec.PromptSpec.PromptSpec}
 use Rattle.{assuan_server.specs.{Written.failed, declared.errors.Origin.TheVariants.Agent}, cache_policy.specs.{Turns.{Given, Open, Done}, declared.{grant.Grant.Grant, mark.MarkStep.{MarkStep, TheVariants.Close}}}}
 use Rattle.{session_options.specs.declared.rules.Rules.Rules, agent_commands.specs.{Events.EventWith, Passphrases.{ask, ask_or_open}, Requests.{GetFields, get_passphrase}, declared.request.Request.{Request, TheVariants.Cache}}}
 use Rattle.agent_origin.specs.declared.session_state.SessionState.{SessionState}
 use Rattle.agent_session.{specs.{Causes.{here, later, IsCaused, HasNoEntry, GivesNone, HasCall, is_broken}, Counting.{fails_at_keys, fails_at_dice, fails_at_trust}}, proofs.Standing.each_has}
 use Rattle.agent_ports.specs.declared.trust.TrustRead.TheVariants as trust_read
-use Rattle.agent_ask.specs.declared.prompter.Opened.TheVariants as opened
-use Rattle.agent_ask.specs.declared.prompter.Outcome.TheVariants as outcome
+use Rattle.agent_ask.specs.declared.prompt.prompter.Opened.TheVariants as opened
+use Rattle.agent_ask.specs.declared.prompt.prompter.Outcome.TheVariants as outcome
 use Rattle.session_client.specs.declared.code.Code.TheVariants as code
 use Rattle.session_options.specs.declared.options.PinMode.TheVariants as mode
 use Rattle.agent_session.specs.Causes as causes

@@ -1,6 +1,6 @@
 -- Failures at a session's link, counted: a read that failed behind the greeting, and an inquiry whose line couldn't be written.
 use Rattle.std.{specs.{List.count_by, Prelude.codes}, proofs.Common.{◌≡◌, List, [], ◌∷◌, refl}}
-use Rattle.{agent_ask.specs.{LinkFaults.{fails_at_input, fails_at_output}, SessionEvents.{Received, Sent, Inquiry}}, assuan_line.specs.declared.reader.Took.TheVariants.{Line, ReadFault}, assuan_server.specs.Clients.session_lines}
+use Rattle.{agent_ask.specs.{LinkFaults.{fails_at_input, fails_at_output}, Session.SessionEvents.{Received, Sent, Inquiry}}, assuan_line.specs.declared.reader.Took.TheVariants.{Line, ReadFault}, assuan_server.specs.Clients.session_lines}
 use Rattle.{assuan_server.specs.Written.greeting, assuan_text.specs.LineEnds.line_of, session_client.specs.Asking.NotAsked, key_commands.specs.Events.Event}
 
 abbrev unread : List Event

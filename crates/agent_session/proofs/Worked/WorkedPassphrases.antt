@@ -1,8 +1,8 @@
 -- Worked exchanges: whose their passphrases are, and what stands after a refusal.
 use Rattle.std.{specs.Prelude.{⊤, take, drop}, proofs.Common.{◌≡◌, ◌≤◌, ℕ, false, true, List, ◌∷◌, ◌++◌, length, Some, None, Ok, Err, refl, sym, ap, subst, arith, codes, []}}
-use Rattle.{arrayvec.specs.ArrayVec.ArrayVec, agent_ask.specs.{Answering.whole, Events.{PromptEvent, Start, GetPin, Shut, Called}, PortCalls.{PortCall, Prompt, Replaced}, Plans.{IsSpec, plan_of}}}
-use Rattle.agent_ask.specs.{Prompts.{AsksPin, tried, quiet, good, accepted, same}, SessionEvents.{Received, Sent, Inquiry, Port, cache_turn}, Tests.test_of, SessionPrompts.AnyInSession, declared.spec.AskPlan.AskPlan}
-use Rattle.{agent_ask.specs.{declared.{spec.PromptSpec.PromptSpec, test.Tested.TheVariants.Yes}, Actions.{goes_on, stops, returns, wanted, or_else}}, agent_ports.specs.declared.grip.Grip.Grip, assuan_escape.specs.Escapes.hex_text}
+use Rattle.{arrayvec.specs.ArrayVec.ArrayVec, agent_ask.specs.{Session.{Answering.whole, PortCalls.{PortCall, Prompt, Replaced}}, Events.{PromptEvent, Start, GetPin, Shut, Called}, Plans.{IsSpec, plan_of}}}
+use Rattle.agent_ask.specs.{Prompts.{AsksPin, tried, quiet, good, accepted, same}, Session.SessionEvents.{Received, Sent, Inquiry, Port, cache_turn}, Tests.test_of, SessionPrompts.AnyInSession, declared.prompt.spec.AskPlan.AskPlan}
+use Rattle.{agent_ask.specs.{declared.prompt.{spec.PromptSpec.PromptSpec, test.Tested.TheVariants.Yes}, Session.Actions.{goes_on, stops, returns, wanted, or_else}}, agent_ports.specs.declared.grip.Grip.Grip, assuan_escape.specs.Escapes.hex_text}
 use Rattle.{assuan_server.specs.{Clients.session_lines, Inquiries.Data, Written.{failed, greeting, ok_text, limit_line, IsDataAnswer}, declared.errors.Origin.TheVariants.Agent as OfAgent}, assuan_text.specs.LineEnds.line_of}
 use Rattle.{cache_policy.specs.{Turns.{Given, Open, Done, Refused, FitsStep}, declared.{grant.Grant.Grant, life.Life.Life, mark.MarkStep.TheVariants.Close}}, secret_file.specs.Protects.{ocb_protection, protected_file}}
 use Rattle.{session_client.specs.{Asking.Asked, declared.refusal.Refusal.TheVariants.Agent}, session_options.specs.{OptionValues.OptionValues, declared.rules.Rules.Rules}, sexp_keys.specs.{Key.Key, Lists.grip_of}}
@@ -14,9 +14,9 @@ use Rattle.agent_origin.specs.declared.session_state.SessionState.{SessionState}
 use Rattle.agent_session.{specs.{Causes.{Has, here, later}, Imports.{put_nonce, ImportCourse}, OwnPassphrases.{SaysOwn, TellsOfKeys, StoresOwn, StoresOwnIn, keeps}}, proofs.Courses.ImportCourses.import_exchange}
 use Rattle.agent_session.proofs.{Causes.KeyExplained.exchange_goes_on, Own.{OwnCache.{cache_own, request_own}, OwnKeys.request_told, OwnActions.{Fit, own_at}}, OwnSessions.{exchange_own, session_own}}
 use Rattle.agent_ask.specs.SessionPrompts as under
-use Rattle.agent_ask.specs.declared.ask.Asked.TheVariants as asked
-use Rattle.agent_ask.specs.declared.prompter.Opened.TheVariants as opened
-use Rattle.agent_ask.specs.declared.prompter.Outcome.TheVariants as outcome
+use Rattle.agent_ask.specs.declared.prompt.ask.Asked.TheVariants as asked
+use Rattle.agent_ask.specs.declared.prompt.prompter.Opened.TheVariants as opened
+use Rattle.agent_ask.specs.declared.prompt.prompter.Outcome.TheVariants as outcome
 use Rattle.agent_ports.specs.declared.keys.KeyDone.TheVariants as key_done
 use Rattle.assuan_line.specs.declared.reader.Took.TheVariants as took
 use Rattle.session_client.specs.declared.code.Code.TheVariants as code
@@ -27,10 +27,10 @@ use Rattle.agent_commands.specs.Talks as talks
 use Rattle.key_commands.specs.declared.went.KeyWent.TheVariants as key_went
 use Rattle.key_commands.specs.KeyActions as actions
 use Rattle.agent_ask.specs.Interrupts as interrupts
-use Rattle.agent_ask.specs.TurnActions as turning
-use Rattle.agent_ask.specs.ClientActions as client_actions
+use Rattle.agent_ask.specs.Session.TurnActions as turning
+use Rattle.agent_ask.specs.Session.ClientActions as client_actions
 use Rattle.key_commands.specs.Actions as small
-use Rattle.agent_ask.specs.ActionExchanges as action_exchange
+use Rattle.agent_ask.specs.Session.ActionExchanges as action_exchange
 use Rattle.key_commands.specs.declared.request.KeyRequest.TheVariants as on
 
 -- ---- a passphrase is typed, and kept

@@ -1,15 +1,15 @@
 -- Worked lists of events that no request has: what a prompt didn't accept isn't kept, a file that was read once isn't too long, and a key that didn't come in is
 -- no request's.
 use Rattle.std.{specs.Prelude.if◌then◌else◌, proofs.Common.{◌≡◌, ℕ, true, List, [], ◌∷◌, Option, Some, None, Ok, ap, subst}}
-use Rattle.agent_ask.specs.{Prompts.{AsksPin, AsksBefore, Tries, IsTry, MeetsCheck}, SessionEvents.Sent, TrustCalls.Read, declared.spec.{AskPlan.AskPlan, PromptSpec.PromptSpec}, PortCalls.PortCall}
+use Rattle.agent_ask.specs.{Prompts.{AsksPin, AsksBefore, Tries, IsTry, MeetsCheck}, Session.{SessionEvents.Sent, TrustCalls.Read, PortCalls.PortCall}, declared.prompt.spec.{AskPlan.AskPlan, PromptSpec.PromptSpec}}
 use Rattle.{agent_ports.specs.declared.{grip.Grip.Grip, trust.TrustRead.TrustRead}, assuan_server.specs.Written.failed, cache_policy.specs.declared.mark.MarkStep.TheVariants.Close, secret_file.specs.Opens.LockedKey}
 use Rattle.{session_options.specs.{OptionValues.OptionValues, declared.rules.Rules.Rules}, agent_commands.specs.{Events.EventWith, Requests.{GetFields, get_passphrase}, declared.request.Request.{Request, TheVariants.Cache}}}
 use Rattle.{key_commands.specs.Passphrases.OpensBy, agent_origin.specs.{TrustActions.trust_called, declared.{session_state.SessionState.SessionState, trust.request.TrustRequest.TrustRequest}}}
 use Rattle.agent_session.specs.{Causes.{later, on_keys, IsReadLocked, exports, changes, wanted, of_new, of_import, data_says, sent, said}, DoorCauses.{IsTooMuch, inquired, too_long, read_again, read_trust}}
 use Rattle.agent_session.specs.OwnPassphrases.{IsAccepted, any, opening, verifies, StoresOwn, accepted, changed, IsAbout, named, brought, IsNonceOf, nonce_of}
 use Rattle.agent_ask.specs.Prompts as prompts
-use Rattle.agent_ask.specs.declared.ask.Asked.TheVariants as asked
-use Rattle.agent_ask.specs.declared.prompter.Outcome.TheVariants as outcome
+use Rattle.agent_ask.specs.declared.prompt.ask.Asked.TheVariants as asked
+use Rattle.agent_ask.specs.declared.prompt.prompter.Outcome.TheVariants as outcome
 use Rattle.session_client.specs.declared.code.Code.TheVariants as code
 use Rattle.key_commands.specs.declared.request.KeyRequest.TheVariants as on
 use Rattle.agent_session.specs.OwnPassphrases as whose

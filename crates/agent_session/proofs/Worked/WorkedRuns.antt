@@ -1,14 +1,14 @@
 -- Worked examples: a session with the one request NOP, of whose exchange the laws hold.
 use Rattle.std.{proofs.Common.{◌≡◌, List, [], ◌∷◌, None, refl, sym, subst}, specs.Prelude.{⊤, codes}}
-use Rattle.{agent_ask.specs.{Events.Call, Actions.returns, Prompters.AtPrompter, SessionEvents.{Received, Sent}, TurnActions.unheld, Worlds.{Outside, Does}}, assuan_server.specs.{Written.{ok, greeting}, Reading.Supply}}
+use Rattle.{agent_ask.specs.{Events.Call, Session.{Actions.returns, SessionEvents.{Received, Sent}, TurnActions.unheld, Worlds.{Outside, Does}}, Prompters.AtPrompter}, assuan_server.specs.{Written.{ok, greeting}, Reading.Supply}}
 use Rattle.{command_table.specs.Commands.command_named, agent_commands.specs.{Requests.request_of, Talks.Session, declared.{request.{CacheCommand.TheVariants.Nop, Request.{Request, TheVariants.Cache}}, went.SessionEnd.TheVariants.Ended}}}
 use Rattle.{agent_commands.specs.declared.went.Went.TheVariants.On, agent_origin.specs.{PortStates.PortWorld, SessionExchanges.{SessionExchange, RequestExchange, cache}, declared.session_state.SessionState.SessionState}}
 use Rattle.{agent_ports.specs.{KeyFiles.KeyFiles, Leads.{Leads, none, one}, Sides.Side, TrustFiles.TrustState}, assuan_text.specs.LineEnds.line_of, cache_policy.specs.{Desks.AtDesk, Turns.Turn, declared.mark.MarkStep.MarkStep}}
 use Rattle.{key_commands.specs.Events.Event, session_options.specs.declared.rules.Rules.Rules}
 use Rattle.agent_session.{specs.{Completeness.SessionCauses, RunExchanges.{ExchangeBetween, LawfulExchange}}, proofs.{Answering.in_session, RunExchanges.{between, session_between, lawful}}}
-use Rattle.agent_ask.specs.Answering as answering
-use Rattle.agent_ask.specs.ActionExchanges as whole
-use Rattle.agent_ask.specs.Worlds as worlds
+use Rattle.agent_ask.specs.Session.Answering as answering
+use Rattle.agent_ask.specs.Session.ActionExchanges as whole
+use Rattle.agent_ask.specs.Session.Worlds as worlds
 use Rattle.agent_commands.specs.Talks as talks
 use Rattle.assuan_line.specs.declared.reader.Took.TheVariants as took
 

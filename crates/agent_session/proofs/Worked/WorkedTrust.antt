@@ -1,6 +1,6 @@
 -- A worked exchange of a request on the trust list: MARKTRUSTED whose file is too long with one entry more, as it is read once the user consented.
 use Rattle.std.{specs.List.AllByRecursion, proofs.Common.{◌≡◌, ◌<◌, ℕ, Bool, true, List, [], ◌∷◌, ◌++◌, length, Option, Some, None, Result, Ok, Err, refl, sym, subst}}
-use Rattle.{agent_ask.specs.{ConsentActions.AgreesTo, SessionEvents.{Sent, cache_turn}, TrustCalls.Read}, agent_ports.specs.declared.{grip.Grip.Grip, trust.TrustRead.TrustRead}, arrayvec.specs.ArrayVec.ArrayVec}
+use Rattle.{agent_ask.specs.{ConsentActions.AgreesTo, Session.{SessionEvents.{Sent, cache_turn}, TrustCalls.Read}}, agent_ports.specs.declared.{grip.Grip.Grip, trust.TrustRead.TrustRead}, arrayvec.specs.ArrayVec.ArrayVec}
 use Rattle.{assuan_server.specs.{Clients.session_lines, Written.failed, declared.errors.Origin.TheVariants.Agent}, cache_policy.specs.{Turns.{Open, Done}, declared.mark.MarkStep.TheVariants.{Seat, Close}}, key_commands.specs.Events.Event}
 use Rattle.{key_commands.specs.Actions.Action, key_lines.specs.Canon.Canon, session_client.specs.declared.refusal.Refusal.Refusal, session_options.specs.declared.rules.Rules.Rules, trust_list.specs.Trust.{trust, with_entry}}
 use Rattle.{trust_list.specs.declared.TheConstants.MAX_TRUST_FILE_LEN, agent_commands.specs.declared.went.Went.TheVariants.On, agent_origin.specs.{DoorSessions.DoorExchange, Doors.allowed}}
@@ -8,9 +8,9 @@ use Rattle.agent_origin.specs.{TrustExchanges.{flag_of, trust_question, fingerpr
 use Rattle.agent_origin.specs.{TrustRequests.{trust_request_of, trust_command}, declared.{door.Door.Door, session_state.SessionState.SessionState, trust.request.{TrustPurpose.TrustPurpose, TrustRequest.TheVariants.MarkTrusted}}}
 use Rattle.command_table.specs.Commands.{command_in}
 use Rattle.agent_session.{specs.{Causes.{here, later}, Completeness.{Remembers, HasError}, DoorCauses.{IsTooMuch, too_long, read_again, read_trust}, Exactly.on_trust}, proofs.{Decisions.Exact.door_cause, Standing.{has_left, has_right}}}
-use Rattle.agent_ask.specs.ActionExchanges as exchanges
-use Rattle.agent_ask.specs.Actions as chain
-use Rattle.agent_ask.specs.TurnActions as turning
+use Rattle.agent_ask.specs.Session.ActionExchanges as exchanges
+use Rattle.agent_ask.specs.Session.Actions as chain
+use Rattle.agent_ask.specs.Session.TurnActions as turning
 use Rattle.session_client.specs.declared.code.Code.TheVariants as code
 use Rattle.session_client.specs.declared.refusal.Refusal.TheVariants as refusals
 use Rattle.session_options.specs.declared.options.PinMode.TheVariants as mode

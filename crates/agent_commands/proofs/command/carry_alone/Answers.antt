@@ -1,5 +1,5 @@
 use Rattle.std.proofs.{Common.refl, lemmas.Result.err_from_is_err_and}
-use Rattle.agent_ask.specs.{Actions.returns, ActionStates.NoEnd}
+use Rattle.agent_ask.specs.Session.{Actions.returns, ActionStates.NoEnd}
 use Rattle.agent_commands.{specs.declared.response.Response.TheVariants.{Ok, Bye, Help, Killed}, proofs.Carrying.{only_replies, option_carried, info_carried, change_done, change_refused}}
 use Rattle.agent_commands.proofs.command.carry_alone.Goals as goal
 

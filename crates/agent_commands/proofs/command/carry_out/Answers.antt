@@ -1,5 +1,5 @@
 use Rattle.std.proofs.{Common.refl, lemmas.Result.err_from_is_err_and}
-use Rattle.agent_ask.{specs.{ActionStates.DoesPrompts, Actions.{returns, goes_on}, ActionReplies.{comes_to, stops_at}}, proofs.ActionsDone.{action_then, action_stops, action_still}}
+use Rattle.agent_ask.{specs.Session.{ActionStates.DoesPrompts, Actions.{returns, goes_on}, ActionReplies.{comes_to, stops_at}}, proofs.ActionsDone.{action_then, action_stops, action_still}}
 use Rattle.agent_commands.{specs.Exchanges.tells, proofs.{Asking.asks_nobody, Carrying.{beside_desk, carries_beside, replies_ok}}}
 use Rattle.agent_commands.proofs.command.carry_out.Goals as goal
 

@@ -1,5 +1,5 @@
 use Rattle.std.proofs.Common.{refl}
-use Rattle.agent_ask.{specs.Actions.returns, proofs.ActionsDone.action_still}
+use Rattle.agent_ask.{specs.Session.Actions.returns, proofs.ActionsDone.action_still}
 use Rattle.agent_commands.proofs.command.given_or_asked.Goals as goal
 
 pub returns-in-Some : goal.returns-in-Some

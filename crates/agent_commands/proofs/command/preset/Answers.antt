@@ -1,5 +1,5 @@
 use Rattle.std.proofs.{Common.refl, lemmas.Result.err_from_is_err_and}
-use Rattle.agent_ask.{specs.Actions.{returns, refuses}, proofs.ActionsDone.{action_then, action_stops, action_still, action_turned, beside_client, open_after, cache_changed}}
+use Rattle.agent_ask.{specs.Session.Actions.{returns, refuses}, proofs.ActionsDone.{action_then, action_stops, action_still, action_turned, beside_client, open_after, cache_changed}}
 use Rattle.agent_commands.proofs.command.preset.Goals as goal
 
 pub returns-then-not-rules-clause-presets : goal.returns-then-not-rules-clause-presets

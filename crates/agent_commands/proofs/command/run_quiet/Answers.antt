@@ -1,5 +1,5 @@
 use Rattle.std.proofs.Common.{None}
-use Rattle.agent_ask.specs.{ActionStates.NoEnd, Seats.unheld}
+use Rattle.agent_ask.specs.{Session.ActionStates.NoEnd, Seats.unheld}
 use Rattle.agent_commands.{specs.{Exchanges.{CacheExchange, GetReplies}, Outside.world, Requests.request_of, States.{served_state, AnswersRequest}, declared.request.Request.Request}, proofs.{Carrying.quiet_carried, Quieting.of_quiet}}
 use Rattle.agent_commands.proofs.Replying.{answers}
 use Rattle.agent_commands.proofs.command.run_quiet.Goals as goal

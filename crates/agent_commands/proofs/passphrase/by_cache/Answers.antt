@@ -1,5 +1,5 @@
 use Rattle.std.proofs.{Common.refl, lemmas.Result.err_from_is_err_and}
-use Rattle.agent_ask.{specs.Actions.{returns, refuses}, proofs.ActionsDone.{turns_then, turns_stop}}
+use Rattle.agent_ask.{specs.Session.Actions.{returns, refuses}, proofs.ActionsDone.{turns_then, turns_stop}}
 use Rattle.agent_commands.proofs.passphrase.by_cache.Goals as goal
 
 pub returns-in_err-found-clause-turn : goal.returns-in_err-found-clause-turn

@@ -1,5 +1,5 @@
 use Rattle.std.proofs.{Common.refl, lemmas.Result.err_from_is_err_and}
-use Rattle.agent_ask.{specs.Actions.returns, proofs.ActionsDone.{action_then, action_stops, action_still, beside_client, open_after, action_turns}}
+use Rattle.agent_ask.{specs.Session.Actions.returns, proofs.ActionsDone.{action_then, action_stops, action_still, beside_client, open_after, action_turns}}
 use Rattle.agent_commands.proofs.passphrase.by_client.Goals as goal
 
 pub returns-in_err-secret-clause-comes : goal.returns-in_err-secret-clause-comes

@@ -1,5 +1,5 @@
 use Rattle.std.proofs.{Common.refl, lemmas.Result.err_from_is_err_and}
-use Rattle.agent_ask.{specs.Actions.returns, proofs.ActionsDone.{action_then, action_stops, action_still, action_turned, action_turns, ticket_given}}
+use Rattle.agent_ask.{specs.Session.Actions.returns, proofs.ActionsDone.{action_then, action_stops, action_still, action_turned, action_turns, ticket_given}}
 use Rattle.agent_commands.proofs.Carrying.{beside_prompter}
 use Rattle.agent_commands.proofs.passphrase.by_user.Goals as goal
 

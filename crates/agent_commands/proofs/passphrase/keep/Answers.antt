@@ -1,5 +1,5 @@
 use Rattle.std.proofs.Common.{refl}
-use Rattle.agent_ask.{specs.{Actions.returns, ActionStates.{still, one}}, proofs.ActionsDone.cache_changed}
+use Rattle.agent_ask.{specs.Session.{Actions.returns, ActionStates.{still, one}}, proofs.ActionsDone.cache_changed}
 use Rattle.agent_commands.proofs.passphrase.keep.Goals as goal
 
 pub returns-in_default-clause-turn : goal.returns-in_default-clause-turn

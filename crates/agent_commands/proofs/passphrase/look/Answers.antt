@@ -1,5 +1,5 @@
 use Rattle.std.proofs.Common.{refl}
-use Rattle.{agent_ask.specs.{Interrupts.{stopping, refused}, Actions.returns, ActionStates.{still, one}, TurnActions.{given, empty, interrupted}}, cache_policy.specs.Turns.{Given, Empty, Stopping, Refused}}
+use Rattle.{agent_ask.specs.{Interrupts.{stopping, refused}, Session.{Actions.returns, ActionStates.{still, one}, TurnActions.{given, empty, interrupted}}}, cache_policy.specs.Turns.{Given, Empty, Stopping, Refused}}
 use Rattle.agent_commands.specs.Passphrases.{ask}
 use Rattle.agent_commands.proofs.passphrase.look.Goals as goal
 

@@ -1,5 +1,5 @@
 use Rattle.std.{proofs.Common.{◌≢◌, ℕ, Bool, List, Some, Result, Ok, Err}, specs.Prelude.⊤}
-use Rattle.agent_ask.{specs.{ActionStates.{DoesPrompts, NoTurn}, PinActions.{IsGiven, PromptsPin}, Plans.{IsSpec, plan_of}, declared.{ask.Asked.{Asked, TheVariants.NoMemory}, spec.PromptSpec.PromptSpec}}, proofs.{ActionsAtClient.{prompt_answered, planned}, Trying.wants_no_memory}}
+use Rattle.agent_ask.{specs.{Session.ActionStates.{DoesPrompts, NoTurn}, PinActions.{IsGiven, PromptsPin}, Plans.{IsSpec, plan_of}, declared.prompt.{ask.Asked.{Asked, TheVariants.NoMemory}, spec.PromptSpec.PromptSpec}}, proofs.{ActionsAtClient.{prompt_answered, planned}, Trying.wants_no_memory}}
 use Rattle.{assuan_server.specs.Clients.{session_lines, connection_views}, session_client.specs.declared.refusal.Refusal.Refusal, session_options.specs.{OptionValues.OptionValues, declared.rules.Rules.Rules}}
 use Rattle.agent_commands.{specs.{Actions.CacheEvent, Passphrases.{PromptsAny, given, refused}, declared.request.Texts.Texts}, proofs.Carrying.each_prompted}
 use Rattle.agent_commands.proofs.passphrase.prompt.Goals as goal

@@ -1,5 +1,5 @@
 use Rattle.std.proofs.Common.{refl}
-use Rattle.agent_ask.{specs.Actions.refuses, proofs.ActionsDone.action_still}
+use Rattle.agent_ask.{specs.Session.Actions.refuses, proofs.ActionsDone.action_still}
 use Rattle.agent_commands.proofs.passphrase.uncached.Goals as goal
 
 pub returns-in-Cancel-clause-comes : goal.returns-in-Cancel-clause-comes

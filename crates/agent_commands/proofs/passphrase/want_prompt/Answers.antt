@@ -1,5 +1,5 @@
 use Rattle.std.proofs.{Common.refl, lemmas.Result.err_from_is_err_and}
-use Rattle.agent_ask.{specs.Actions.returns, proofs.ActionsDone.{ticket_taken, turn_then, turn_stops, cache_asked, seated_by_asking}}
+use Rattle.agent_ask.{specs.Session.Actions.returns, proofs.ActionsDone.{ticket_taken, turn_then, turn_stops, cache_asked, seated_by_asking}}
 use Rattle.agent_commands.proofs.passphrase.want_prompt.Goals as goal
 
 pub returns-in-Some-clause-turn : goal.returns-in-Some-clause-turn

@@ -1,5 +1,5 @@
 use Rattle.std.proofs.Common.{◌≡◌, ◌∙◌, sym, ap, [], None}
-use Rattle.{agent_ask.specs.{ActionExchanges.refused, Actions.refuses, Plans.text, TurnActions.unheld}, agent_commands.specs.{Requests.{either, request_of}, declared.request.Request.TheVariants.{Cache, Bad}}, key_commands.specs.States.KeyWorld}
+use Rattle.{agent_ask.specs.{Session.{ActionExchanges.refused, Actions.refuses, TurnActions.unheld}, Plans.text}, agent_commands.specs.{Requests.{either, request_of}, declared.request.Request.TheVariants.{Cache, Bad}}, key_commands.specs.States.KeyWorld}
 use Rattle.session_client.specs.declared.refusal.Refusal.TheVariants.{Agent}
 use Rattle.agent_origin.{specs.SessionExchanges.{RequestExchange, cache}, proofs.{Beside.{cached_beside, keyed_beside}, OuterKeys.{key_is_handed, other_is_read}, Serving.text_answers}}
 use Rattle.agent_origin.proofs.answering.answer_whole.Goals as goal

@@ -1,4 +1,4 @@
-use Rattle.agent_ask.specs.SessionEvents.{turns_in}
+use Rattle.agent_ask.specs.Session.SessionEvents.{turns_in}
 use Rattle.agent_origin.proofs.{OuterRuns.{steps_outer, give_nothing}, OuterSessions.outer_leaves, Turning.turns_lead}
 use Rattle.agent_origin.proofs.laws.an_outer_session_leaves_the_cache.Goals as goal
 

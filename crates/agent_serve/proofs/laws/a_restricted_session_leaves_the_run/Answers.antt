@@ -1,4 +1,4 @@
-use Rattle.{agent_ask.specs.SessionEvents.turns_in, agent_ports.specs.Readings.Readings, agent_origin.proofs.{OuterRuns.leaves_desk, OuterSessions.outer_leaves, Turning.turns_lead}}
+use Rattle.{agent_ask.specs.Session.SessionEvents.turns_in, agent_ports.specs.Readings.Readings, agent_origin.proofs.{OuterRuns.leaves_desk, OuterSessions.outer_leaves, Turning.turns_lead}}
 use Rattle.counted_lock.specs.Turns.{AtCountedDesk, CountedTurn, at_counted}
 use Rattle.agent_serve.proofs.laws.a_restricted_session_leaves_the_run.Goals as goal
 

@@ -1,4 +1,4 @@
-use Rattle.{agent_ask.specs.SessionEvents.turns_in, agent_origin.proofs.Turning.turns_lead}
+use Rattle.{agent_ask.specs.Session.SessionEvents.turns_in, agent_origin.proofs.Turning.turns_lead}
 use Rattle.agent_session.proofs.laws.a_session_extends_a_run.Goals as goal
 
 pub returns-clause-session : goal.returns-clause-session

@@ -1,5 +1,5 @@
 use Rattle.std.proofs.Common.{refl}
-use Rattle.agent_ask.{specs.Actions.returns, proofs.ActionsDone.action_still}
+use Rattle.agent_ask.{specs.Session.Actions.returns, proofs.ActionsDone.action_still}
 use Rattle.key_commands.proofs.Partial.{beside_prompts}
 use Rattle.key_commands.proofs.consent.consent.Goals as goal
 

@@ -1,5 +1,5 @@
 use Rattle.std.proofs.Common.{◌≡◌, ◌∙◌, ap, subst, ℕ, List, false, length, replicate, refl}
-use Rattle.{agent_ask.specs.PortCalls.{Drew, NotDrawn}, agent_ports.specs.{Draws.IsDrawn, Sides.Side}}
+use Rattle.{agent_ask.specs.Session.PortCalls.{Drew, NotDrawn}, agent_ports.specs.{Draws.IsDrawn, Sides.Side}}
 use Rattle.key_commands.{specs.Actions.{drawn, faulted}, proofs.Unwrapping.zeros_len}
 use Rattle.key_commands.proofs.drawing.draw.Goals as goal
 

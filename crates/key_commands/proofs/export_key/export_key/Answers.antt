@@ -1,6 +1,6 @@
 use Rattle.std.proofs.{Common.{None, refl, sym}, lemmas.Result.err_from_is_err_and}
 use Rattle.{session_client.specs.declared.code.Code.TheVariants.Parameter, agent_ask.proofs.{ActionsDone.{ticket_given, action_then, action_stops, action_still, action_turns}, ActionValues.{needed_there, needed_missing}}}
-use Rattle.agent_ask.specs.{Actions.returns as is_returned, ActionReplies.{comes_to, stops_at}}
+use Rattle.agent_ask.specs.Session.{Actions.returns as is_returned, ActionReplies.{comes_to, stops_at}}
 use Rattle.key_commands.{proofs.{Partial.beside_keys, Doing.{action_called, action_alone}}, specs.{Exchanges.ExportKeyReplies, KeyActions.tells, declared.reply.Reply.TheVariants.Data}}
 use Rattle.key_commands.proofs.export_key.export_key.Goals as goal
 

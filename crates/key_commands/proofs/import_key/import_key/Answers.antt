@@ -1,5 +1,5 @@
 use Rattle.std.proofs.{Common.{None, refl}, lemmas.Result.err_from_is_err_and}
-use Rattle.{session_client.specs.declared.code.Code.TheVariants.Parameter, agent_ask.{specs.{Actions.returns as is_returned, ActionReplies.{comes_to, stops_at}}, proofs.ActionsDone.{action_then, action_stops, action_still}}}
+use Rattle.{session_client.specs.declared.code.Code.TheVariants.Parameter, agent_ask.{specs.Session.{Actions.returns as is_returned, ActionReplies.{comes_to, stops_at}}, proofs.ActionsDone.{action_then, action_stops, action_still}}}
 use Rattle.agent_ask.proofs.ActionValues.{needed_there, needed_missing}
 use Rattle.key_commands.{proofs.{Doing.{action_alone, action_called}, Partial.{beside_memory, beside_keys, with_prompter}}, specs.{Exchanges.ImportKeyReplies, declared.reply.Reply.TheVariants.Status}}
 use Rattle.key_commands.proofs.import_key.import_key.Goals as goal

@@ -1,5 +1,5 @@
 use Rattle.std.proofs.Common.{refl}
-use Rattle.{agent_ask.specs.PortCalls.Listed, agent_ports.specs.declared.keys.KeyNames.TheVariants.{Names, Failed, NoMemory}}
+use Rattle.{agent_ask.specs.Session.PortCalls.Listed, agent_ports.specs.declared.keys.KeyNames.TheVariants.{Names, Failed, NoMemory}}
 use Rattle.key_commands.{specs.KeyActions.{listed, faulted, no_memory}, proofs.Doing.one_call}
 use Rattle.key_commands.proofs.key_calls.list_grips.Goals as goal
 

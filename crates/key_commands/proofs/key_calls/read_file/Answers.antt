@@ -1,5 +1,5 @@
 use Rattle.std.proofs.Common.{inl, inr, refl, ◌∙◌}
-use Rattle.{agent_ask.specs.PortCalls.Read, agent_ports.specs.declared.keys.KeyRead.TheVariants.{Found, Absent, Failed, NoMemory}}
+use Rattle.{agent_ask.specs.Session.PortCalls.Read, agent_ports.specs.declared.keys.KeyRead.TheVariants.{Found, Absent, Failed, NoMemory}}
 use Rattle.key_commands.{specs.KeyActions.{is_key, faulty, no_memory, unread}, proofs.Doing.{one_call, one_call_of_memory}}
 use Rattle.key_commands.proofs.key_calls.read_file.Goals as goal
 

@@ -1,5 +1,5 @@
 use Rattle.std.proofs.Common.{refl, ◌∙◌}
-use Rattle.{agent_ask.specs.PortCalls.Read, agent_ports.specs.declared.keys.KeyRead.TheVariants.{Found, Absent, Failed, NoMemory}}
+use Rattle.{agent_ask.specs.Session.PortCalls.Read, agent_ports.specs.declared.keys.KeyRead.TheVariants.{Found, Absent, Failed, NoMemory}}
 use Rattle.key_commands.{specs.KeyActions.{is_key, absent, unread}, proofs.{Doing.one_call, ListedKeys.fault_is_unlisted}}
 use Rattle.key_commands.proofs.key_calls.read_listed.Goals as goal
 

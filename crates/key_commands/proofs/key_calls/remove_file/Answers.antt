@@ -1,4 +1,4 @@
-use Rattle.agent_ask.specs.PortCalls.{Removed}
+use Rattle.agent_ask.specs.Session.PortCalls.{Removed}
 use Rattle.key_commands.{specs.KeyActions.{done, not_done}, proofs.Doing.change_made}
 use Rattle.key_commands.proofs.key_calls.remove_file.Goals as goal
 

@@ -1,4 +1,4 @@
-use Rattle.agent_ask.specs.PortCalls.{Replaced}
+use Rattle.agent_ask.specs.Session.PortCalls.{Replaced}
 use Rattle.key_commands.{specs.KeyActions.{done, not_done}, proofs.Doing.change_made}
 use Rattle.key_commands.proofs.key_calls.replace_file.Goals as goal
 

@@ -1,5 +1,5 @@
 use Rattle.std.proofs.{Common.refl, lemmas.Result.err_from_is_err_and}
-use Rattle.agent_ask.{specs.{Actions.returns as is_returned, ActionReplies.stops_at}, proofs.ActionsDone.{action_then, action_stops, action_still}}
+use Rattle.agent_ask.{specs.Session.{Actions.returns as is_returned, ActionReplies.stops_at}, proofs.ActionsDone.{action_then, action_stops, action_still}}
 use Rattle.key_commands.{proofs.{Doing.action_called, Requesting.replies_ok}, specs.Exchanges.ListKeysReplies}
 use Rattle.key_commands.proofs.key_info.list_keys.Goals as goal
 

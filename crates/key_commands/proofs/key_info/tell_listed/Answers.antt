@@ -1,5 +1,5 @@
 use Rattle.std.proofs.{Common.refl, lemmas.Result.err_from_is_err_and}
-use Rattle.agent_ask.{specs.Actions.returns, proofs.ActionsDone.{action_then, action_stops, action_still}}
+use Rattle.agent_ask.{specs.Session.Actions.returns, proofs.ActionsDone.{action_then, action_stops, action_still}}
 use Rattle.key_commands.proofs.{Partial.beside_keys, Doing.action_called}
 use Rattle.key_commands.proofs.key_info.tell_listed.Goals as goal
 

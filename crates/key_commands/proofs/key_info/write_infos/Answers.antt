@@ -1,5 +1,5 @@
 use Rattle.std.proofs.{Common.{refl, None}, lemmas.Result.err_from_is_err_and}
-use Rattle.agent_ask.{specs.Actions.returns, proofs.ActionsDone.action_still}
+use Rattle.agent_ask.{specs.Session.Actions.returns, proofs.ActionsDone.action_still}
 use Rattle.key_commands.proofs.ListedKeys.{tells_on, tells_in_vain, tells_none}
 use Rattle.key_commands.proofs.key_info.write_infos.Goals as goal
 

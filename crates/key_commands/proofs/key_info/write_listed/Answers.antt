@@ -1,5 +1,5 @@
 use Rattle.std.proofs.{Common.refl, lemmas.Result.err_from_is_err_and}
-use Rattle.agent_ask.{specs.Actions.returns, proofs.ActionsDone.{action_then, action_stops, action_turned, action_still, beside_client}}
+use Rattle.agent_ask.{specs.Session.Actions.returns, proofs.ActionsDone.{action_then, action_stops, action_turned, action_still, beside_client}}
 use Rattle.key_commands.proofs.key_info.write_listed.Goals as goal
 
 pub returns-in_err-cached-clause-writes : goal.returns-in_err-cached-clause-writes

@@ -1,5 +1,5 @@
 use Rattle.std.{proofs.Common.{◌≡◌, Some, None, sym, ap, ◌∙◌, refl}, specs.Option.option_copied}
-use Rattle.agent_ask.specs.Actions.{returns}
+use Rattle.agent_ask.specs.Session.Actions.{returns}
 use Rattle.key_commands.specs.{Exchanges.wrap_key, Steps.{no_draw, one_draw}}
 use Rattle.key_commands.proofs.keywrap_key.drawn_key.Goals as goal
 

@@ -1,5 +1,5 @@
 use Rattle.std.proofs.{Common.refl, lemmas.Result.err_from_is_err_and}
-use Rattle.agent_ask.{specs.{Actions.returns as is_returned, ActionReplies.{comes_to, stops_at}}, proofs.ActionsDone.{action_then, action_stops, action_still}}
+use Rattle.agent_ask.{specs.Session.{Actions.returns as is_returned, ActionReplies.{comes_to, stops_at}}, proofs.ActionsDone.{action_then, action_stops, action_still}}
 use Rattle.key_commands.{proofs.Doing.action_draws, specs.{Exchanges.KeyWrapReplies, KeyActions.tells, declared.reply.Reply.TheVariants.WrapKey}}
 use Rattle.key_commands.proofs.keywrap_key.wrapping_key.Goals as goal
 

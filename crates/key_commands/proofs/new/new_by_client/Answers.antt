@@ -1,5 +1,5 @@
 use Rattle.std.{proofs.{Common.{◌≡◌, ◌==◌, true, false, length, refl, ap}, lemmas.Result.err_from_is_err_and}, specs.Prelude.not}
-use Rattle.{session_client.specs.declared.code.Code.TheVariants.BadPass, agent_ask.{specs.Actions.returns as is_returned, proofs.{ActionsDone.{action_then, action_stops, action_still, open_after}, ActionValues.{wanted_there, wanted_missing}}}}
+use Rattle.{session_client.specs.declared.code.Code.TheVariants.BadPass, agent_ask.{specs.Session.Actions.returns as is_returned, proofs.{ActionsDone.{action_then, action_stops, action_still, open_after}, ActionValues.{wanted_there, wanted_missing}}}}
 use Rattle.key_commands.specs.Passphrases.{ClientNew}
 use Rattle.key_commands.proofs.new.new_by_client.Goals as goal
 

@@ -1,5 +1,5 @@
 use Rattle.std.proofs.Common.{refl, sym, ◌∙◌}
-use Rattle.agent_ask.{specs.Actions.refuses, proofs.ActionsDone.{action_still, beside_client}}
+use Rattle.agent_ask.{specs.Session.Actions.refuses, proofs.ActionsDone.{action_still, beside_client}}
 use Rattle.key_commands.proofs.new.new_passphrase.Goals as goal
 
 pub returns-in-Ask-clause-does : goal.returns-in-Ask-clause-does

@@ -1,5 +1,5 @@
 use Rattle.std.proofs.{Common.refl, lemmas.Result.err_from_is_err_and}
-use Rattle.agent_ask.{specs.Actions.returns as is_returned, proofs.ActionsDone.{action_then, action_stops, action_still, action_turns}}
+use Rattle.agent_ask.{specs.Session.Actions.returns as is_returned, proofs.ActionsDone.{action_then, action_stops, action_still, action_turns}}
 use Rattle.key_commands.proofs.new.renewed_passphrase.Goals as goal
 
 pub returns-in_err-pass-clause-does : goal.returns-in_err-pass-clause-does

@@ -1,5 +1,5 @@
 use Rattle.std.proofs.Common.{refl}
-use Rattle.agent_ask.{specs.{Actions.returns, ActionStates.{still, one}}, proofs.ActionsDone.cache_asked}
+use Rattle.agent_ask.{specs.Session.{Actions.returns, ActionStates.{still, one}}, proofs.ActionsDone.cache_asked}
 use Rattle.key_commands.proofs.nonces.look_for_nonce.Goals as goal
 
 pub returns-in-None-clause-turn : goal.returns-in-None-clause-turn

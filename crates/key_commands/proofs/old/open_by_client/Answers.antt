@@ -1,5 +1,5 @@
 use Rattle.std.proofs.{Common.refl, lemmas.Result.err_from_is_err_and}
-use Rattle.agent_ask.{specs.Actions.{returns as is_returned, refuses}, proofs.ActionsDone.{action_then, action_stops, action_turned, action_still, beside_client, open_after}}
+use Rattle.agent_ask.{specs.Session.Actions.{returns as is_returned, refuses}, proofs.ActionsDone.{action_then, action_stops, action_turned, action_still, beside_client, open_after}}
 use Rattle.key_commands.{proofs.Doing.leaves_alone, specs.Passphrases.ClientOld}
 use Rattle.key_commands.proofs.old.open_by_client.Goals as goal
 

@@ -1,5 +1,5 @@
 use Rattle.std.proofs.{Common.refl, lemmas.Result.err_from_is_err_and}
-use Rattle.agent_ask.{specs.Actions.returns as is_returned, proofs.ActionsDone.{action_then, action_stops, action_turned, action_still, cache_asked}}
+use Rattle.agent_ask.{specs.Session.Actions.returns as is_returned, proofs.ActionsDone.{action_then, action_stops, action_turned, action_still, cache_asked}}
 use Rattle.key_commands.proofs.Doing.{leaves_alone}
 use Rattle.key_commands.proofs.old.open_cached.Goals as goal
 

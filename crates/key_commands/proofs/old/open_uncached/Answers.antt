@@ -1,5 +1,5 @@
 use Rattle.std.proofs.Common.{refl, sym, ◌∙◌}
-use Rattle.agent_ask.{specs.Actions.refuses, proofs.ActionsDone.action_still}
+use Rattle.agent_ask.{specs.Session.Actions.refuses, proofs.ActionsDone.action_still}
 use Rattle.key_commands.proofs.Partial.{beside_desk}
 use Rattle.key_commands.proofs.old.open_uncached.Goals as goal
 

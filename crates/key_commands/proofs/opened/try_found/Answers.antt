@@ -1,5 +1,5 @@
 use Rattle.std.proofs.Common.{refl}
-use Rattle.agent_ask.specs.Actions.{returns}
+use Rattle.agent_ask.specs.Session.Actions.{returns}
 use Rattle.key_commands.specs.Steps.{nothing}
 use Rattle.key_commands.proofs.opened.try_found.Goals as goal
 

@@ -1,5 +1,5 @@
 use Rattle.std.proofs.{Common.refl, lemmas.Result.err_from_is_err_and}
-use Rattle.agent_ask.{proofs.ActionsDone.{ticket_given, action_then, action_stops, action_still, action_turns}, specs.{Actions.returns as is_returned, ActionReplies.stops_at}}
+use Rattle.agent_ask.{proofs.ActionsDone.{ticket_given, action_then, action_stops, action_still, action_turns}, specs.Session.{Actions.returns as is_returned, ActionReplies.stops_at}}
 use Rattle.key_commands.{proofs.{Partial.beside_keys, Doing.action_called, Requesting.replies_ok}, specs.Exchanges.VerifyReplies}
 use Rattle.key_commands.proofs.passwd.verify_key.Goals as goal
 

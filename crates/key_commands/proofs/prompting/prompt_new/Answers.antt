@@ -1,5 +1,5 @@
 use Rattle.std.{proofs.Common.{◌≢◌, ℕ, true, [], List, Some, Result, Ok, Err}, specs.Prelude.⊤}
-use Rattle.agent_ask.{specs.{ActionStates.NoTurn, PinActions.{IsGiven, PromptsPin}, Plans.{IsSpec, plan_of, text}, declared.{ask.Asked.{Asked, TheVariants.NoMemory}, spec.PromptSpec.PromptSpec}}, proofs.{ActionsAtClient.{prompt_answered, planned}, Trying.wants_no_memory}}
+use Rattle.agent_ask.{specs.{Session.ActionStates.NoTurn, PinActions.{IsGiven, PromptsPin}, Plans.{IsSpec, plan_of, text}, declared.prompt.{ask.Asked.{Asked, TheVariants.NoMemory}, spec.PromptSpec.PromptSpec}}, proofs.{ActionsAtClient.{prompt_answered, planned}, Trying.wants_no_memory}}
 use Rattle.{agent_ports.specs.declared.grip.Grip.Grip, assuan_server.specs.Clients.{session_lines, connection_views}, session_client.specs.declared.refusal.Refusal.Refusal, session_options.specs.{OptionValues.OptionValues, declared.rules.Rules.Rules}}
 use Rattle.key_commands.{proofs.{Partial.each_prompted, AtPrompt.{spec_says, plan_says}}, specs.{Events.Event, Lines.{new_description, field_text}, Partial.DoesBesideKeys, Passphrases.{PromptsNew, given, refused}}}
 use Rattle.key_commands.proofs.prompting.prompt_new.Goals as goal

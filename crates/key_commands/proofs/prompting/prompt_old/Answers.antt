@@ -1,5 +1,5 @@
 use Rattle.std.proofs.{Common.{false}, lemmas.Result.err_from_is_err_and}
-use Rattle.{assuan_server.specs.Clients.connection_views, agent_ask.{specs.ActionStates.NoTurn, proofs.{ActionsAtClient.{prompt_answered, planned}, Trying.accepted_by}}}
+use Rattle.{assuan_server.specs.Clients.connection_views, agent_ask.{specs.Session.ActionStates.NoTurn, proofs.{ActionsAtClient.{prompt_answered, planned}, Trying.accepted_by}}}
 use Rattle.key_commands.{proofs.{Partial.each_prompted, AtPrompt.{opened_last, opens_last, spec_says, plan_says}}, specs.{Partial.DoesBesideKeys, Passphrases.{opens_by, refused}}}
 use Rattle.key_commands.proofs.prompting.prompt_old.Goals as goal
 

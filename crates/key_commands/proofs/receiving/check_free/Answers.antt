@@ -1,5 +1,5 @@
 use Rattle.std.proofs.{Common.refl, lemmas.Result.err_from_is_err_and}
-use Rattle.agent_ask.specs.Actions.{returns as returns_so, refuses}
+use Rattle.agent_ask.specs.Session.Actions.{returns as returns_so, refuses}
 use Rattle.key_commands.proofs.Doing.{no_calls, calls_then, calls_stop}
 use Rattle.key_commands.proofs.receiving.check_free.Goals as goal
 

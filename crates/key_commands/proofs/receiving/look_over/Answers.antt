@@ -1,5 +1,5 @@
 use Rattle.std.proofs.Common.{refl}
-use Rattle.{cache_policy.specs.Turns.{Given, Empty, Stopping, Refused}, agent_ask.specs.ActionStates.{still, one}}
+use Rattle.{cache_policy.specs.Turns.{Given, Empty, Stopping, Refused}, agent_ask.specs.Session.ActionStates.{still, one}}
 use Rattle.key_commands.specs.{KeyActions.{no_nonce, given, empty, stopping, no_memory}, Passphrases.ask_nonce}
 use Rattle.key_commands.proofs.receiving.look_over.Goals as goal
 

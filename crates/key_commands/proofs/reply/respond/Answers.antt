@@ -1,4 +1,4 @@
-use Rattle.{agent_ask.specs.ActionReplies.{replied, refused}, assuan_server.proofs.Clients.{said_so, line_so}}
+use Rattle.{agent_ask.specs.Session.ActionReplies.{replied, refused}, assuan_server.proofs.Clients.{said_so, line_so}}
 use Rattle.key_commands.proofs.reply.respond.Goals as goal
 
 pub returns-in-Ok : goal.returns-in-Ok

@@ -1,5 +1,5 @@
 use Rattle.std.proofs.{Common.refl, lemmas.Result.err_from_is_err_and}
-use Rattle.agent_ask.{specs.{Actions.{returns as is_returned, refuses}, ActionReplies.stops_at}, proofs.ActionsDone.{action_then, action_stops, action_still}}
+use Rattle.agent_ask.{specs.Session.{Actions.{returns as is_returned, refuses}, ActionReplies.stops_at}, proofs.ActionsDone.{action_then, action_stops, action_still}}
 use Rattle.key_commands.{proofs.{Doing.action_called, Partial.{carries_beside, carries_beside_desk}, Requesting.replies_ok}, specs.Exchanges.HaveKeyReplies}
 use Rattle.key_commands.proofs.run.carry_out.Goals as goal
 

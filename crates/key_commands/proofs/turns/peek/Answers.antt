@@ -1,5 +1,5 @@
 use Rattle.std.proofs.Common.{refl}
-use Rattle.{cache_policy.specs.{declared.{mark.MarkStep.TheVariants.Peek, mode.Mode.TheVariants.Normal}, Turns.{Held, Stopping, Refused}}, agent_ask.specs.{TurnActions.{peeked, interrupted}, Interrupts.{stopping, refused}}}
+use Rattle.{cache_policy.specs.{declared.{mark.MarkStep.TheVariants.Peek, mode.Mode.TheVariants.Normal}, Turns.{Held, Stopping, Refused}}, agent_ask.specs.{Session.TurnActions.{peeked, interrupted}, Interrupts.{stopping, refused}}}
 use Rattle.key_commands.specs.Lines.{grip_text}
 use Rattle.key_commands.proofs.turns.peek.Goals as goal
 

@@ -1,5 +1,5 @@
 use Rattle.std.proofs.Common.{sym, ◌∙◌, refl}
-use Rattle.agent_ask.specs.ActionStates.{still}
+use Rattle.agent_ask.specs.Session.ActionStates.{still}
 use Rattle.key_commands.proofs.Seating.{keeps_seat, none_held, seat_taken}
 use Rattle.key_commands.proofs.turns.take_seat.Goals as goal
 

@@ -1,6 +1,5 @@
 use Rattle.std.proofs.Common.{subst}
-use Rattle.agent_commands.specs.Exchanges.{CacheExchange}
-use Rattle.agent_commands.specs.declared.request.Request.{Request}
+use Rattle.agent_commands.specs.{Exchanges.CacheExchange, declared.request.Request.Request}
 use Rattle.passphrase_laws.proofs.Telling.{told}
 use Rattle.passphrase_laws.proofs.exchange.a_request_for_a_passphrase_is_answered_so.Goals as goal
 

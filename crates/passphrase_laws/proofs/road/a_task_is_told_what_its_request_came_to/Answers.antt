@@ -1,8 +1,6 @@
 use Rattle.std.proofs.Common.{true, refl}
-use Rattle.passphrase_laws.proofs.Asked.{looks_read, asks_read}
-use Rattle.passphrase_laws.proofs.Reaching.{reaches}
-use Rattle.passphrase_laws.specs.Asking.{fields_of, is_quiet, repeats_of}
 use Rattle.passphrase_words.specs.Requests.{Looks, Asks, line_of_request}
+use Rattle.passphrase_laws.{proofs.{Asked.{looks_read, asks_read}, Reaching.reaches}, specs.Asking.{fields_of, is_quiet, repeats_of}}
 use Rattle.passphrase_laws.proofs.road.a_task_is_told_what_its_request_came_to.Goals as goal
 
 pub returns : goal.returns

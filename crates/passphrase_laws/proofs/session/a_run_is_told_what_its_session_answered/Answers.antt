@@ -1,15 +1,6 @@
 use Rattle.std.proofs.Common.{true, ap, refl, ◌∙◌}
-use Rattle.agent_commands.specs.Requests.{get_passphrase}
-use Rattle.agent_ports.specs.Sides.{with_bytes}
-use Rattle.passphrase_laws.specs.Asking.{fields_of, is_quiet, repeats_of}
-use Rattle.passphrase_laws.specs.Exchanges.{texts_of}
-use Rattle.passphrase_laws.proofs.Asked.{asks_read, looks_read}
-use Rattle.passphrase_laws.proofs.Closing.{answers}
-use Rattle.passphrase_laws.proofs.Meaning.{says}
-use Rattle.passphrase_laws.proofs.Passing.{options_passed}
-use Rattle.passphrase_laws.proofs.Serving.{serves, written as by_events}
-use Rattle.passphrase_talk.specs.Dialogues.{options_of}
-use Rattle.passphrase_words.specs.Requests.{Asks, Looks, line_of_request}
+use Rattle.{agent_commands.specs.Requests.get_passphrase, agent_ports.specs.Sides.with_bytes, passphrase_talk.specs.Dialogues.options_of, passphrase_words.specs.Requests.{Asks, Looks, line_of_request}}
+use Rattle.passphrase_laws.{specs.{Asking.{fields_of, is_quiet, repeats_of}, Exchanges.texts_of}, proofs.{Asked.{asks_read, looks_read}, Closing.answers, Meaning.says, Passing.options_passed, Serving.{serves, written as by_events}}}
 use Rattle.passphrase_laws.proofs.session.a_run_is_told_what_its_session_answered.Goals as goal
 
 pub returns-clause-looks : goal.returns-clause-looks

@@ -1,5 +1,5 @@
 use Rattle.std.proofs.Common.{refl}
-use Rattle.{agent_ask.specs.{PortCalls.Trust, TrustCalls.Read}, agent_ports.specs.declared.trust.TrustRead.TheVariants.{Found, Absent, Failed, NoMemory}}
+use Rattle.{agent_ask.specs.Session.{PortCalls.Trust, TrustCalls.Read}, agent_ports.specs.declared.trust.TrustRead.TheVariants.{Found, Absent, Failed, NoMemory}}
 use Rattle.agent_origin.{specs.{TrustActions.{has_read, faulted, no_memory}, TrustStates.called}, proofs.TrustDone.file_event_done}
 use Rattle.agent_origin.proofs.trust.calls.read_file.Goals as goal
 

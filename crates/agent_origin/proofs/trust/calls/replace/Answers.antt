@@ -1,5 +1,5 @@
 use Rattle.std.proofs.Common.{refl}
-use Rattle.{agent_ask.specs.{PortCalls.Trust, TrustCalls.Replaced}, agent_ports.specs.declared.trust.TrustDone.TheVariants.{Done, Failed, NoMemory}}
+use Rattle.{agent_ask.specs.Session.{PortCalls.Trust, TrustCalls.Replaced}, agent_ports.specs.declared.trust.TrustDone.TheVariants.{Done, Failed, NoMemory}}
 use Rattle.agent_origin.{specs.{TrustActions.{replaced, faulted, no_memory}, TrustStates.called}, proofs.TrustDone.file_event_done}
 use Rattle.agent_origin.proofs.trust.calls.replace.Goals as goal
 

@@ -1,5 +1,5 @@
 use Rattle.std.proofs.Common.{◌≡◌, ◌≤◌, ℕ, List, length, refl, arith, ◌∙◌, subst}
-use Rattle.{agent_ask.{specs.{PortCalls.NoMemory as WantsMemory, Actions.stops}, proofs.ActionsDone.action_then}, trust_list.specs.{Trust.with_entry, declared.TheConstants.MAX_TRUST_FILE_LEN}}
+use Rattle.{agent_ask.{specs.Session.{PortCalls.NoMemory as WantsMemory, Actions.stops}, proofs.ActionsDone.action_then}, trust_list.specs.{Trust.with_entry, declared.TheConstants.MAX_TRUST_FILE_LEN}}
 use Rattle.agent_origin.{specs.{TrustExchanges.{flag_of, Stores}, TrustActions.{added, too_long, no_memory}, TrustStates.no_memory as out_of_memory}, proofs.TrustDone.{file_event_done, file_left}}
 use Rattle.agent_origin.proofs.trust.calls.store.Goals as goal
 

@@ -1,5 +1,5 @@
 use Rattle.std.proofs.{Common.{◌≡◌, Some, None, true, false, refl, ap, sym, ◌∙◌}, lemmas.Result.err_from_is_err_and}
-use Rattle.{agent_ask.{specs.Actions.{returns as done, refuses}, proofs.ActionsDone.action_stops}, trust_list.specs.Trust.trust}
+use Rattle.{agent_ask.{specs.Session.Actions.{returns as done, refuses}, proofs.ActionsDone.action_stops}, trust_list.specs.Trust.trust}
 use Rattle.agent_origin.{specs.TrustExchanges.{Stores, StoresUnsaid}, proofs.TrustDone.{file_left, said_done}}
 use Rattle.agent_origin.proofs.trust.calls.store_unsaid.Goals as goal
 

@@ -1,5 +1,5 @@
 use Rattle.std.{proofs.{Common.{◌≡◌, Bool, Option, None, Some, Ok, Err, true, false, refl, sym, ◌∙◌}, lemmas.Result.err_from_is_err_and}, specs.Option.unwrap_or}
-use Rattle.{agent_ask.{specs.Actions.{Refuses, returns as nothing, refuses}, proofs.ActionsDone.action_stops}, agent_ports.specs.TrustFiles.TrustState, session_client.specs.declared.code.Code.TheVariants.NotTrusted}
+use Rattle.{agent_ask.{specs.Session.Actions.{Refuses, returns as nothing, refuses}, proofs.ActionsDone.action_stops}, agent_ports.specs.TrustFiles.TrustState, session_client.specs.declared.code.Code.TheVariants.NotTrusted}
 use Rattle.{session_client.specs.declared.refusal.Refusal.TheVariants.Agent, trust_list.specs.Trust.trust}
 use Rattle.agent_origin.{specs.{TrustExchanges.{unless_said, TrustedNow}, TrustStates.DoesAtFile}, proofs.TrustDone.{file_left, said_done}}
 use Rattle.agent_origin.proofs.trust.calls.trusted_now.Goals as goal

@@ -1,5 +1,5 @@
 use Rattle.std.proofs.{Common.Some, lemmas.Result.err_from_is_err_and}
-use Rattle.agent_ask.{specs.ActionStates.NoTurn, proofs.ActionsDone.{action_then, action_stops}}
+use Rattle.agent_ask.{specs.Session.ActionStates.NoTurn, proofs.ActionsDone.{action_then, action_stops}}
 use Rattle.agent_origin.{specs.TrustExchanges.Consented, proofs.TrustDone.{agreed_done, beside_all}}
 use Rattle.agent_origin.proofs.trust.marking.mark_consented.Goals as goal
 

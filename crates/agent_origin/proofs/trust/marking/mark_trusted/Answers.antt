@@ -1,5 +1,5 @@
 use Rattle.std.proofs.{Common.{◌≡◌, Some, None, true, false, refl, ap, sym, ◌∙◌}, lemmas.Result.err_from_is_err_and}
-use Rattle.{agent_ask.{specs.Actions.{returns, refuses}, proofs.ActionsDone.{action_then, action_stops}}, trust_list.specs.Trust.trust}
+use Rattle.{agent_ask.{specs.Session.Actions.{returns, refuses}, proofs.ActionsDone.{action_then, action_stops}}, trust_list.specs.Trust.trust}
 use Rattle.agent_origin.{specs.TrustExchanges.{asked_in, Marked}, proofs.TrustDone.{file_left, said_done, beside_all}}
 use Rattle.agent_origin.proofs.trust.marking.mark_trusted.Goals as goal
 

@@ -1,5 +1,5 @@
 use Rattle.std.proofs.Common.{refl}
-use Rattle.{agent_ask.specs.ActionReplies.{replied, refused}, assuan_server.proofs.{Clients.{said_so, line_so}, Saying.said}}
+use Rattle.{agent_ask.specs.Session.ActionReplies.{replied, refused}, assuan_server.proofs.{Clients.{said_so, line_so}, Saying.said}}
 use Rattle.agent_origin.proofs.trust.reply.respond.Goals as goal
 
 pub returns-in-Ok : goal.returns-in-Ok

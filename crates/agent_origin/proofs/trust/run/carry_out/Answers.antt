@@ -1,5 +1,5 @@
 use Rattle.std.proofs.Common.{refl}
-use Rattle.agent_ask.{specs.Actions.refuses, proofs.ActionsDone.action_still}
+use Rattle.agent_ask.{specs.Session.Actions.refuses, proofs.ActionsDone.action_still}
 use Rattle.agent_origin.proofs.TrustDone.{beside_all}
 use Rattle.agent_origin.proofs.trust.run.carry_out.Goals as goal
 
