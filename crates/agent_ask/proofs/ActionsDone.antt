@@ -55,7 +55,8 @@ module _ {lines : Lines} {C D E : Type 0} {views : Views lines C} {turned : D �
     }
 
     -- nothing
-    pub action_still : {desk : D} → gone_in result ≡ None → action before [] result after → DoesAction views turned ported action before (action_state views turned ported conn desk ends) result after (action_state views turned ported conn desk ends)
+    pub action_still : {desk : D} → gone_in result ≡ None → action before [] result after
+        → DoesAction views turned ported action before (action_state views turned ported conn desk ends) result after (action_state views turned ported conn desk ends)
     action_still {desk} on does = record {
       events = [];
       does = does;

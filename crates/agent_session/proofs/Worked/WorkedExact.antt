@@ -166,8 +166,8 @@ module _ (one_canon : (file : List ℕ) (a b : Option (List ℕ)) → Canon file
 
   -- PASSWD of a clear key in an extended file, which is too long with the list of that key, whatever passphrase that is under
   module _ (line : ArrayVec ℕ) (grip : Grip) (old : Option (List ℕ)) (fresh : List ℕ) (is : key_request_of line.items ≡ on.Passwd grip old (Some fresh) false) (answer : KeyRead) (file : List ℕ) (found : file_in answer ≡ Some file)
-      (key : Key) (says : FileSays file (Ok key)) (clear_one : key.is_clear ≡ true) (within : length (key_list_of key) ≤ MAX_LIST_LEN) (entry : Grant) (of_fresh : FitsStep (ask_nonce fresh) (Given entry)) (bytes : List ℕ) (twenty : length bytes ≡ 20)
-      (extended : is_canonical file ≡ false)
+      (key : Key) (says : FileSays file (Ok key)) (clear_one : key.is_clear ≡ true) (within : length (key_list_of key) ≤ MAX_LIST_LEN) (entry : Grant) (of_fresh : FitsStep (ask_nonce fresh) (Given entry))
+      (bytes : List ℕ) (twenty : length bytes ≡ 20) (extended : is_canonical file ≡ false)
       (much : (pass changed : List ℕ) → IsWithList file (list_under key bytes kept.options.s2k_count pass) changed → most_bytes < length changed)
       (made_file : List ℕ) (with_list : IsWithList file (list_under key bytes kept.options.s2k_count entry.entry.secret) made_file) where
     abbrev too_long_file : List Event
