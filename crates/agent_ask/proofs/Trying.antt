@@ -1,9 +1,12 @@
 -- Tests one after another, the last of them, and tries by rules that are the same.
-use Rattle.std.proofs.Common.{◌≡◌, ◌≢◌, ℕ, List, [], ◌∷◌, ◌++◌, Option, Result, Ok, Err, refl, ap, sym, ◌∙◌, subst, append_assoc}
+use Rattle.std.{proofs.Common.{◌≡◌, ◌≢◌, ℕ, List, [], ◌∷◌, ◌++◌, Option, Some, None, Result, Ok, Err, refl, ap, sym, ◌∙◌, subst, append_assoc}, specs.Option.option_map}
 use Rattle.agent_ports.{specs.Leads.{none, one}, proofs.Leading.leads_then}
 use Rattle.agent_ask.specs.{Doing.HasEvents, Events.PromptEvent, Prompts.{IsTry, ended, weak, bad, untested, accepted, Repeats, same, Tries, good, over, again, AsksBefore, tried, AsksPinBy}}
 use Rattle.agent_ask.specs.{Tests.{SameRule, IsTest, PinTest, test_of, Tests, WithTests, EndsBy, EndsAccepted, EndsOutOfMemory}, declared.{prompt.{ask.Asked.Asked, spec.{AskPlan.AskPlan, PromptSpec.PromptSpec}, test.Tested.{Tested, TheVariants.{Yes, NoMemory}}, tries.Failure.Failure}, client.caller.Heard.Heard}}
 use Rattle.agent_ask.{specs.declared.prompt.tries.Stop.Stop, proofs.{Making.made_then, Stopping.{never_stops, never_repeats}}}
+use Rattle.agent_ask.specs.{Callers.unheard_of, PinActions.IsGiven}
+use Rattle.session_client.specs.declared.{client_error.ClientError.ClientError, refusal.Refusal.TheVariants.{Agent, Client}}
+use Rattle.session_client.specs.declared.code.Code.TheVariants as code
 use Rattle.agent_ask.specs.declared.prompt.ask.Asked.TheVariants as asked
 use Rattle.agent_ask.specs.declared.prompt.tries.Stop.TheVariants as stop
 
@@ -92,6 +95,20 @@ module _ {plan : AskPlan} {Rule : List ℕ → Type 0} where
 
       pub memory_by : AsksPinBy tested before after spec plan Rule events asked.NoMemory → EndsOutOfMemory tested before after
       memory_by asks = let last = memory_last asks.asks.asks in (last.0, ends_by last.1 (subst (λ tests. Tests tested before tests after) last.2 asks.tested_so))
+
+-- a request that is refused for want of memory had a prompt that found none
+pub found_no_memory : (answer : Asked) → IsGiven answer (Err (Agent code.NoMemory)) → answer ≡ asked.NoMemory
+found_no_memory (asked.Pin pin) is = cc is
+found_no_memory asked.Cancelled is = cc is
+found_no_memory asked.TimedOut is = cc is
+found_no_memory asked.NoPinentry is = cc is
+found_no_memory asked.Bad is = cc is
+found_no_memory (asked.Heard heard) is = absurd (never (unheard_of heard) is)
+  where
+    never : (why : Option ClientError) → option_map Client why ≢ Some (Agent code.NoMemory)
+    never None is = cc is
+    never (Some other) is = cc is
+found_no_memory asked.NoMemory is = refl
 
 -- a test that every passphrase passes wants none
 pub wants_no_memory : {T : Type 0} {before after : T} {spec : PromptSpec} {plan : AskPlan} {Rule : List ℕ → Type 0} {events : List PromptEvent} {answer : Asked}

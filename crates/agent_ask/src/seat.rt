@@ -1,7 +1,7 @@
 //! The seat before the prompt (lock: the right to prompt): it is taken at a desk (cache handle), by
 //! a ticket (permit) that is given back. It takes turns at the desk, and calls nothing else. Begin
 //! with `take_seat` and `give_back`; `hold_seat` and `close` do the same for a request's `Held`.
-//! Definitions are in `specs/Seats` and `specs/TurnActions`.
+//! Definitions are in `specs/Seats` and `specs/Session/TurnActions`.
 
 pub(crate) mod held;
 pub(crate) mod turns;

@@ -2,11 +2,12 @@
 //! but a passphrase refuses the request. It calls the prompter, the test and the session's client.
 //! Begin with `ask_user`; `specs/PinActions` says which answer is which error (`IsGiven`).
 
-ghost use Rattle.std.specs.Prelude.{◌≡◌, ⊤};
+ghost use Rattle.std.specs.Prelude.{◌≡◌, ℕ, List, ⊤};
 ghost use Rattle.session_client.specs.Lines.{IsOpen};
 ghost use Rattle.agent_ask.specs.Clients.{Hears, LeftByAction};
 ghost use Rattle.agent_ask.specs.{Doing.{HasEvents, DoesPrompt, ends}, Prompters.IsShut};
 ghost use Rattle.agent_ask.specs.{PinActions.{AsksFor, IsGiven}, Trying.{IsTried, IsOwn}};
+ghost use Rattle.agent_ask.specs.Tests.{EndsAccepted, EndsOutOfMemory};
 
 use crate::prompt::ask::prompt_pin;
 use crate::{AskPlan, Asked, PromptSpec, Prompter, Test, Tested};
@@ -52,6 +53,10 @@ pub fn ask_user<C: Client<Secret>, P: Prompter, T: Test>(
         (ends prompter.old client.old) (ends prompter.new client.new) }
     ensures shut { IsShut (P.at prompter.new) }
     ensures left { LeftByAction C.views result client.old client.new }
+    ensures accepted { (pin : List ℕ) → result ≡ Ok pin
+        → EndsAccepted T.tested pin test.old test.new }
+    ensures no_memory { result ≡ Err (Refusal.Agent Code.NoMemory)
+        → EndsOutOfMemory T.tested test.old test.new }
 {
     given(prompt_pin(ticket, spec, plan, test, prompter, client)?)
 }

@@ -1,6 +1,6 @@
 //! Turns at a desk (cache handle) that ask the cache or change it. One that is interrupted refuses
 //! its request (`specs/Interrupts`). Begin with `change`; the actions of requests over these are
-//! `Changes` and `Asks` (`specs/TurnActions`).
+//! `Changes` and `Asks` (`specs/Session/TurnActions`).
 
 ghost use Rattle.std.specs.Prelude.{◌≡◌, true, false, None};
 ghost use Rattle.agent_ask.specs.Seats.{AsksCache, ChangesCache, IsChange};

@@ -1,12 +1,11 @@
-use Rattle.std.proofs.{Common.{false}, lemmas.Result.err_from_is_err_and}
-use Rattle.{assuan_server.specs.Clients.connection_views, agent_ask.{specs.Session.ActionStates.NoTurn, proofs.{ActionsAtClient.{prompt_answered, planned}, Trying.accepted_by}}}
+use Rattle.std.proofs.{Common.{false, refl}, lemmas.Result.err_from_is_err_and}
+use Rattle.{assuan_server.specs.Clients.connection_views, agent_ask.{specs.Session.ActionStates.NoTurn, proofs.ActionsAtClient.{prompt_answered, planned}}}
 use Rattle.key_commands.{proofs.{Partial.each_prompted, AtPrompt.{opened_last, opens_last, spec_says, plan_says}}, specs.{Partial.DoesBesideKeys, Passphrases.{opens_by, refused}}}
 use Rattle.key_commands.proofs.prompting.prompt_old.Goals as goal
 
 pub unreachable-requires : goal.unreachable-requires
 unreachable-requires g c =
-    let are = c.in_ok-pin.ensures.asked.are in
-    let last = opened_last (λ test. test.locked.now) (λ test. test.opened) (accepted_by (rw are.gives at are.asks)) in
+    let last = opened_last (λ test. test.locked.now) (λ test. test.opened) (c.in_ok-pin.ensures.accepted _ refl) in
     cc (last.is, c.into_opened.ensures, c.in-None.is)
 
 pub returns-in_err-pin-clause-prompts : goal.returns-in_err-pin-clause-prompts
@@ -22,7 +21,7 @@ returns-in_err-pin-clause-prompts g c =
 pub returns-clause-prompts : goal.returns-clause-prompts
 returns-clause-prompts g c =
     let asked = c.in_ok-pin.ensures.asked in
-    let last = opened_last (λ test. test.locked.now) (λ test. test.opened) (accepted_by (rw asked.are.gives at asked.are.asks)) in
+    let last = opened_last (λ test. test.locked.now) (λ test. test.opened) (c.in_ok-pin.ensures.accepted _ refl) in
     let spec = spec_says (rw c.old_description.ensures at c.described.ensures) c.field_text.ensures c.prompt_spec-spec.ensures in
     let plan = plan_says c.args.asking.now.rules.now c.args.asking.now.options.now false 0 c.ask_plan-plan.ensures c.new.ensures in
     rw (← c.ticket.ensures)
@@ -31,6 +30,5 @@ returns-clause-prompts g c =
 
 pub returns-clause-usable : goal.returns-clause-usable
 returns-clause-usable g c =
-    let are = c.in_ok-pin.ensures.asked.are in
-    let last = opened_last (λ test. test.locked.now) (λ test. test.opened) (accepted_by (rw are.gives at are.asks)) in
+    let last = opened_last (λ test. test.locked.now) (λ test. test.opened) (c.in_ok-pin.ensures.accepted _ refl) in
     (opens_last last c.in-Some.ensures).1
