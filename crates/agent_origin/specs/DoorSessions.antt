@@ -41,6 +41,11 @@ pub data DoorExchange (door : Door) (rules : Rules) (before : SessionState) (lin
   is_allowed : {events : List Event} {after : SessionState} {went : Went} → allowed door line ≡ true
       → AllowedExchange rules before line (door_command door line) events after went → DoorExchange door rules before line events after went
 
+-- the exchange of a line of a session that came in by this door, or by none
+abbrev pub exchange_at : Option Door → Rules → SessionState → List ℕ → List Event → SessionState → Went → Type 0
+exchange_at None = SessionExchange
+exchange_at (Some door) = DoorExchange door
+
 module _ {D P : Type 0} (turned : D → MarkStep → Turn → D → Type 0) (prompted : P → Call → P → Type 0) where
   -- a session that came in by this door, before whose first line nothing was kept
   abbrev pub ServesDoor : Door → Rules → Surroundings (PortWorld turned prompted) → SessionEnd → Surroundings (PortWorld turned prompted) → Type 0

@@ -10,6 +10,5 @@ pub mod TrustExchanges
 pub mod NewTrustFiles
 pub mod TrustStates
 pub mod DoorSessions
-pub mod Services
 pub mod Serving
 pub mod SessionExchanges

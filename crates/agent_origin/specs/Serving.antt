@@ -1,9 +1,9 @@
 -- Private: how far a session has come at some state of its code.
-use Rattle.std.specs.Prelude.{ℕ, Bool, true, false, List, Option, Some, Result}
+use Rattle.std.specs.Prelude.{ℕ, Bool, true, false, List, Option, Some, None, Result}
 use Rattle.{agent_ask.specs.Session.Answering.{unless_cut, FaultsCounted}, agent_commands.specs.{Endings.gone_of, Events.EventWith, Outside.World, States.{ServedState, EventsLead}, Talks.Talk, declared.went.SessionEnd.SessionEnd}}
 use Rattle.{agent_commands.specs.declared.went.{SessionEnd.TheVariants.WriteFault, Went.{Went, TheVariants.{On, End}}}, agent_ports.specs.declared.link.WriteFault.WriteFault as Fault, assuan_server.specs.Clients.connection_views}
 use Rattle.{assuan_server.specs.{Connections.Connection, Reading.unread, Written.WritesText}, command_table.specs.declared.commands.Command.Command}
-use Rattle.agent_origin.specs.Sessions.{Surroundings, Leaves, LineRelation}
+use Rattle.agent_origin.specs.{Doors.allowed, DoorSessions.door_command, Sessions.{Surroundings, Leaves, LineRelation}, declared.{door.Door.Door, door_session.DoorCommand.DoorCommand}}
 use Rattle.command_table.specs.declared.commands.Command.TheVariants as at_table
 
 -- the requests of a session were answered up to its end
@@ -26,3 +26,12 @@ pub data SaysText (text : List ℕ) (before : Connection) : Went → Connection 
 abbrev pub is_on_keys : Option Command → Bool
 is_on_keys (Some (at_table.Key name)) = true
 is_on_keys _ = false
+
+-- whether a session that came in by this door, or by none, may say a line, and what it does for itself with one
+abbrev pub may_say : Option Door → List ℕ → Bool
+may_say None line = true
+may_say (Some door) line = allowed door line
+
+abbrev pub command_at : Option Door → List ℕ → Option DoorCommand
+command_at None line = None
+command_at (Some door) line = door_command door line

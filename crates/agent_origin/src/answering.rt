@@ -1,7 +1,7 @@
-//! A request of any session, answered: on the cache, on the session or on keys. It works on all
-//! that a session has but the trust file, and overwrites the stack behind a request that may have
-//! had a passphrase. Begin with `EveryLine`; what it does is `SessionExchange`
-//! (`specs/SessionExchanges`).
+//! A request of any session, answered: first by the door that it came in by, where it did, else on
+//! the cache, on the session or on keys. It works on all that a session has, and overwrites the
+//! stack behind a request that may have had a passphrase. Begin with `answer`; what it does is
+//! `exchange_at` (`specs/DoorSessions`).
 
 ghost use Rattle.std.specs.Prelude.{◌≡◌, None};
 ghost use Rattle.{agent_ask.specs.Prompters.IsShut};
@@ -12,8 +12,10 @@ ghost use Rattle.command_table.specs.Commands.{command_in};
 ghost use Rattle.agent_origin.specs.SessionExchanges.{went_after_key, described_after};
 ghost use Rattle.agent_origin.specs.SessionExchanges.{RequestExchange};
 ghost use Rattle.agent_origin.specs.Serving.{SaysText, is_on_keys};
+ghost use Rattle.agent_origin.specs.{DoorSessions.exchange_at, PortStates.{PortWorld, port_state}};
 
-use crate::{RequestHandler, SessionState};
+use crate::door_session::{DoorCommand, answer_trust, door_command, help, may_say, say_ok};
+use crate::{Door, SessionState};
 use agent_ask::{Prompter, unless_cut};
 use agent_commands::{LineRequest, SessionEnd, Went, run_cache, run_quiet};
 use agent_ports::{Dice, Keys, Link, TrustFile};
@@ -25,46 +27,59 @@ use session_options::{Options, Rules};
 use std::alloc::Global;
 use wiping::wipe_stack;
 
-/// Answers requests on the cache, on the session and on keys, whatever trust file there is beside:
-/// none is called.
-#[derive(Drop)]
-pub struct EveryLine;
-
-impl RequestHandler for EveryLine {
-    ghost use Rattle.agent_origin.specs.SessionExchanges.{SessionExchange};
-
-    ghost exchange = { λ handler. SessionExchange };
-
-    /// Reads the line once; for a request that asks the cache alone the texts, which are long, are
-    /// not made.
-    ///
-    /// Behind any other one the stack that it used is overwritten: it may have had a passphrase in
-    /// hand. Behind one that asks the cache alone that would take longer than the request.
-    fn answer<L: Link, D: Desk, P: Prompter, K: Keys, R: Dice, T: TrustFile>(
-        &self,
-        alloc: Global,
-        line: &CutLine<'_>,
-        rules: &Rules,
-        kept: &mut SessionState,
-        conn: &mut Conn<'_, L>,
-        desk: &mut D,
-        prompter: &mut P,
-        keys: &mut K,
-        dice: &mut R,
-        _trust: &mut T,
-    ) -> Went {
-        let request = LineRequest::of_cut(line);
-        match request.quiet() {
-            Some(quiet) => run_quiet(&quiet, conn, desk),
-            None => {
-                let went = answer_whole(
-                    alloc, line, &request, rules, kept, conn, desk, prompter, keys, dice,
-                );
-                wipe_stack();
-                went
-            }
-        }
+/// Answers the request of a line, and says how the session goes on. One that came in by no door has
+/// neither its own commands nor what it forbids, and calls no trust file.
+///
+/// The line is read once; for a request that asks the cache alone the texts, which are long, are
+/// not made. Behind any other one the stack that it used is overwritten: it may have had a
+/// passphrase in hand. Behind one that asks the cache alone that would take longer than the
+/// request.
+pub(crate) fn answer<L: Link, D: Desk, P: Prompter, K: Keys, R: Dice, T: TrustFile>(
+    door: Option<Door>,
+    alloc: Global,
+    line: &CutLine<'_>,
+    rules: &Rules,
+    kept: &mut SessionState,
+    conn: &mut Conn<'_, L>,
+    desk: &mut D,
+    prompter: &mut P,
+    keys: &mut K,
+    dice: &mut R,
+    trust: &mut T,
+) -> Went
+    requires open { IsOpen conn.old }
+    requires free { (D.at desk.old).out ≡ None }
+    requires shut { IsShut (P.at prompter.old) }
+    ensures answers { AnswersRequest {w = PortWorld D.turned P.prompted}
+        (λ before. exchange_at door rules.now before line.now) kept.old
+        (port_state D.turned P.prompted conn.old desk.old prompter.old
+        (K.keys keys.old) (R.draws dice.old) (T.trust trust.old)) result kept.new
+        (port_state D.turned P.prompted conn.new desk.new prompter.new (K.keys keys.new)
+        (R.draws dice.new) (T.trust trust.new)) }
+    ensures free { (D.at desk.new).out ≡ None }
+    ensures shut { IsShut (P.at prompter.new) }
+{
+    if !may_say(door, line) {
+        return refuse(Code::Forbidden, conn);
     }
+    match door_command(door, line) {
+        Some(DoorCommand::Help) => return help(conn),
+        Some(DoorCommand::Terminal) => return say_ok(conn),
+        Some(DoorCommand::Trust) => {
+            let options = &kept.options;
+            return answer_trust(alloc, line, rules, options, conn, desk, prompter, trust);
+        }
+        None => {}
+    }
+    let request = LineRequest::of_cut(line);
+    if let Some(quiet) = request.quiet() {
+        return run_quiet(&quiet, conn, desk);
+    }
+    let went = answer_whole(
+        alloc, line, &request, rules, kept, conn, desk, prompter, keys, dice,
+    );
+    wipe_stack();
+    went
 }
 
 /// Answers one request by all that its line says.

@@ -6,18 +6,18 @@
 ghost use Rattle.std.specs.Prelude.{◌≡◌, None};
 ghost use Rattle.{agent_ask.specs.Prompters.IsShut, assuan_server.specs.Connections.IsOpen};
 ghost use Rattle.assuan_server.specs.Written.{ok};
-ghost use Rattle.agent_origin.specs.DoorSessions.{door_command, door_help, ServesDoor};
+ghost use Rattle.agent_origin.specs.DoorSessions.{door_help, ServesDoor};
 ghost use Rattle.agent_origin.specs.{TrustExchanges.AnswersTrust, PortStates.surroundings};
-ghost use Rattle.agent_origin.specs.{TrustRequests.trust_request_of, Serving.SaysText};
+ghost use Rattle.agent_origin.specs.TrustRequests.trust_request_of;
+ghost use Rattle.agent_origin.specs.Serving.{SaysText, may_say, command_at};
 
-use crate::answering::{EveryLine, refuse};
 use crate::door::{Door, allows, sets_terminal};
 use crate::trust::read_trust_cut;
-use crate::{RequestHandler, SessionState, run_trust, serve};
+use crate::{run_trust, serve};
 use agent_ask::{Prompter, unless_cut};
 use agent_commands::{LineRequest, SessionEnd, Went, write_help};
 use agent_ports::{Dice, Keys, Link, TrustFile};
-use assuan_server::{Code, Conn};
+use assuan_server::Conn;
 use cache_policy::Desk;
 use command_table::{Command, CommandName, CutLine};
 use session_options::{Options, Rules};
@@ -26,7 +26,7 @@ use std::alloc::Global;
 /// What a session that came in by a door does with a command for itself. All others are those of
 /// every session.
 #[derive(Clone, Copy, PartialEq, Eq)]
-enum DoorCommand {
+pub(crate) enum DoorCommand {
     /// HELP, which tells the commands on the trust list too.
     Help,
     /// One on the trust list.
@@ -36,13 +36,23 @@ enum DoorCommand {
     Terminal,
 }
 
-/// What a session at this door does for itself with a line.
+/// Whether a session that came in by this door, or by none, may say a line.
+pub(crate) fn may_say(door: Option<Door>, line: &CutLine<'_>) -> bool
+    ensures { result ≡ may_say door line.now }
+{
+    match door {
+        Some(door) => allows(door, line),
+        None => true,
+    }
+}
+
+/// What such a session does for itself with a line.
 // Apart from the session's loop, where a place for the request would be filled anew for each line.
 #[inline(never)]
-fn door_command(door: Door, line: &CutLine<'_>) -> Option<DoorCommand>
-    ensures { result ≡ door_command door line.now }
+pub(crate) fn door_command(door: Option<Door>, line: &CutLine<'_>) -> Option<DoorCommand>
+    ensures { result ≡ command_at door line.now }
 {
-    if door == Door::Outer && sets_terminal(&LineRequest::of_cut(line).whole()) {
+    if door? == Door::Outer && sets_terminal(&LineRequest::of_cut(line).whole()) {
         return Some(DoorCommand::Terminal);
     }
     match line.command() {
@@ -52,49 +62,8 @@ fn door_command(door: Door, line: &CutLine<'_>) -> Option<DoorCommand>
     }
 }
 
-impl RequestHandler for Door {
-    ghost use Rattle.agent_origin.specs.DoorSessions.{DoorExchange};
-
-    ghost exchange = { DoorExchange };
-
-    fn answer<L: Link, D: Desk, P: Prompter, K: Keys, R: Dice, T: TrustFile>(
-        &self,
-        alloc: Global,
-        line: &CutLine<'_>,
-        rules: &Rules,
-        kept: &mut SessionState,
-        conn: &mut Conn<'_, L>,
-        desk: &mut D,
-        prompter: &mut P,
-        keys: &mut K,
-        dice: &mut R,
-        trust: &mut T,
-    ) -> Went {
-        if !allows(*self, line) {
-            return refuse(Code::Forbidden, conn);
-        }
-        match door_command(*self, line) {
-            Some(DoorCommand::Help) => help(conn),
-            Some(DoorCommand::Terminal) => say_ok(conn),
-            Some(DoorCommand::Trust) => answer_trust(
-                alloc,
-                line,
-                rules,
-                &kept.options,
-                conn,
-                desk,
-                prompter,
-                trust,
-            ),
-            None => EveryLine.answer(
-                alloc, line, rules, kept, conn, desk, prompter, keys, dice, trust,
-            ),
-        }
-    }
-}
-
 /// HELP, which tells the commands on the trust list too.
-fn help<L: Link>(conn: &mut Conn<'_, L>) -> Went
+pub(crate) fn help<L: Link>(conn: &mut Conn<'_, L>) -> Went
     ensures { SaysText door_help conn.old result conn.new }
 {
     let cut = Went::End(SessionEnd::WriteFault);
@@ -102,7 +71,7 @@ fn help<L: Link>(conn: &mut Conn<'_, L>) -> Went
 }
 
 /// Says that all is well, as NOP does.
-fn say_ok<L: Link>(conn: &mut Conn<'_, L>) -> Went
+pub(crate) fn say_ok<L: Link>(conn: &mut Conn<'_, L>) -> Went
     ensures { SaysText ok conn.old result conn.new }
 {
     let cut = Went::End(SessionEnd::WriteFault);
@@ -112,7 +81,7 @@ fn say_ok<L: Link>(conn: &mut Conn<'_, L>) -> Went
 /// Reads a request on the trust list, and answers it.
 // Apart from the session's loop, where a place for the request would be filled anew for each line.
 #[inline(never)]
-fn answer_trust<L: Link, D: Desk, P: Prompter, T: TrustFile>(
+pub(crate) fn answer_trust<L: Link, D: Desk, P: Prompter, T: TrustFile>(
     alloc: Global,
     line: &CutLine<'_>,
     rules: &Rules,
@@ -163,5 +132,6 @@ pub fn serve_door<L: Link, D: Desk, P: Prompter, K: Keys, R: Dice, T: TrustFile>
     ensures free { (D.at desk.new).out ≡ None }
     ensures shut { IsShut (P.at prompter.new) }
 {
-    serve(&door, alloc, rules, link, desk, prompter, keys, dice, trust)
+    let door = Some(door);
+    serve(door, alloc, rules, link, desk, prompter, keys, dice, trust)
 }

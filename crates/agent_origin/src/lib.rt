@@ -18,7 +18,6 @@ mod service;
 mod session_state;
 mod trust;
 
-pub use answering::EveryLine;
 pub use door::{Door, allowed};
 pub use door_session::serve_door;
 pub use laws::{
@@ -27,6 +26,6 @@ pub use laws::{
     an_outer_session_leaves_the_cache, an_outer_session_leaves_the_run,
     the_outer_door_leaves_the_cache,
 };
-pub use service::{RequestHandler, serve};
+pub use service::serve;
 pub use session_state::SessionState;
 pub use trust::{MAX_NAME_LEN, OwnerName, TrustPurpose, TrustRequest, read_trust, run_trust};

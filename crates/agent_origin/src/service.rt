@@ -1,16 +1,15 @@
 //! The frame of every session: its greeting, its requests one after another, and its end. It works
 //! on all that a session has, and overwrites its wrapping keys and its stack at the end. Begin with
-//! `serve` and the trait `RequestHandler`, what its requests are answered by; definitions begin in
-//! `specs/Services` and `specs/Sessions`.
+//! `serve`; definitions begin in `specs/Sessions`.
 
 ghost use Rattle.std.specs.Prelude.{◌≡◌, None};
 ghost use Rattle.{agent_ask.specs.Prompters.IsShut, assuan_server.specs.Connections.IsOpen};
-ghost use Rattle.{agent_commands.specs.States.AnswersRequest};
 ghost use Rattle.agent_origin.specs.PortStates.{PortWorld, port_state, surroundings};
-ghost use Rattle.agent_origin.specs.{Services.Service, Serving.{ServesRequests}};
+ghost use Rattle.agent_origin.specs.{DoorSessions.exchange_at, Serving.{ServesRequests}};
 ghost use Rattle.agent_origin.specs.{SessionExchanges.kept_at_start, Sessions.ServesSession};
 
-use crate::SessionState;
+use crate::answering::answer;
+use crate::{Door, SessionState};
 use agent_ask::Prompter;
 use agent_commands::{SessionEnd, Went};
 use agent_ports::{Dice, Keys, Link, TrustFile, WriteFault};
@@ -22,43 +21,11 @@ use session_options::Rules;
 use std::alloc::Global;
 use wiping::wipe_stack;
 
-/// How the requests of a session are answered.
-pub trait RequestHandler {
-    ghost exchange: { Service Self };
-
-    /// Answers the request of a line, and says how the session goes on. No ticket is out and no
-    /// prompt is open when it returns.
-    fn answer<L: Link, D: Desk, P: Prompter, K: Keys, R: Dice, T: TrustFile>(
-        &self,
-        alloc: Global,
-        line: &CutLine<'_>,
-        rules: &Rules,
-        kept: &mut SessionState,
-        conn: &mut Conn<'_, L>,
-        desk: &mut D,
-        prompter: &mut P,
-        keys: &mut K,
-        dice: &mut R,
-        trust: &mut T,
-    ) -> Went
-        requires open { IsOpen conn.old }
-        requires free { (D.at desk.old).out ≡ None }
-        requires shut { IsShut (P.at prompter.old) }
-        ensures answers { AnswersRequest {w = PortWorld D.turned P.prompted}
-            (λ before. exchange self.now rules.now before line.now) kept.old
-            (port_state D.turned P.prompted conn.old desk.old prompter.old
-            (K.keys keys.old) (R.draws dice.old) (T.trust trust.old)) result kept.new
-            (port_state D.turned P.prompted conn.new desk.new prompter.new (K.keys keys.new)
-            (R.draws dice.new) (T.trust trust.new)) }
-        ensures free { (D.at desk.new).out ≡ None }
-        ensures shut { IsShut (P.at prompter.new) };
-}
-
-/// Serves a session on a link: greets, and answers request after request so until the session ends.
-/// No ticket of the session is out and no prompt is open when it returns. Its wrapping keys are
-/// overwritten in the end.
-pub fn serve<H: RequestHandler, L: Link, D: Desk, P: Prompter, K: Keys, R: Dice, T: TrustFile>(
-    handler: &H,
+/// Serves a session on a link: greets, and answers request after request until the session ends, as
+/// `serve_door` does where it came in by a door. No ticket of the session is out and no prompt is
+/// open when it returns. Its wrapping keys are overwritten in the end.
+pub fn serve<L: Link, D: Desk, P: Prompter, K: Keys, R: Dice, T: TrustFile>(
+    door: Option<Door>,
     alloc: Global,
     rules: &Rules,
     link: &mut L,
@@ -71,7 +38,7 @@ pub fn serve<H: RequestHandler, L: Link, D: Desk, P: Prompter, K: Keys, R: Dice,
     requires free { (D.at desk.old).out ≡ None }
     requires shut { IsShut (P.at prompter.old) }
     ensures serves { ServesSession {w = PortWorld D.turned P.prompted}
-        (H.exchange handler.now rules.now) (kept_at_start rules.now)
+        (exchange_at door rules.now) (kept_at_start rules.now)
         (surroundings D.turned P.prompted (L.input link.old) (L.output link.old)
         desk.old prompter.old (K.keys keys.old) (R.draws dice.old) (T.trust trust.old)) result
         (surroundings D.turned P.prompted (L.input link.new) (L.output link.new) desk.new
@@ -84,7 +51,7 @@ pub fn serve<H: RequestHandler, L: Link, D: Desk, P: Prompter, K: Keys, R: Dice,
         Ok(()) => {
             let mut kept = SessionState::new(rules);
             let end = serve_requests(
-                handler, alloc, rules, &mut kept, &mut conn, desk, prompter, keys, dice, trust,
+                door, alloc, rules, &mut kept, &mut conn, desk, prompter, keys, dice, trust,
             );
             kept.wraps.clear();
             wipe_stack();
@@ -100,8 +67,8 @@ pub fn serve<H: RequestHandler, L: Link, D: Desk, P: Prompter, K: Keys, R: Dice,
 }
 
 /// Answers requests up to the end of the session.
-fn serve_requests<H: RequestHandler, L: Link, D: Desk, P: Prompter, K: Keys, R: Dice, T: TrustFile>(
-    handler: &H,
+fn serve_requests<L: Link, D: Desk, P: Prompter, K: Keys, R: Dice, T: TrustFile>(
+    door: Option<Door>,
     alloc: Global,
     rules: &Rules,
     kept: &mut SessionState,
@@ -116,7 +83,7 @@ fn serve_requests<H: RequestHandler, L: Link, D: Desk, P: Prompter, K: Keys, R: 
     requires free { (D.at desk.old).out ≡ None }
     requires shut { IsShut (P.at prompter.old) }
     ensures serves { ServesRequests
-        {w = PortWorld D.turned P.prompted} (H.exchange handler.now rules.now) kept.old
+        {w = PortWorld D.turned P.prompted} (exchange_at door rules.now) kept.old
         (port_state D.turned P.prompted conn.old desk.old prompter.old
         (K.keys keys.old) (R.draws dice.old) (T.trust trust.old)) result
         (port_state D.turned P.prompted conn.new desk.new prompter.new (K.keys keys.new)
@@ -128,7 +95,8 @@ fn serve_requests<H: RequestHandler, L: Link, D: Desk, P: Prompter, K: Keys, R: 
         let mut took = conn.next_request();
         match &mut took {
             Took::Line(line) => {
-                let went = handler.answer(
+                let went = answer(
+                    door,
                     alloc,
                     &CutLine::of(line),
                     rules,

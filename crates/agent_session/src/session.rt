@@ -8,7 +8,7 @@ ghost use Rattle.agent_session.specs.Sessions.{no_trust, without_trust, ServesRu
 
 use agent_ask::Prompter;
 use agent_commands::SessionEnd;
-use agent_origin::{EveryLine, serve};
+use agent_origin::serve;
 use agent_ports::{Dice, Keys, Link, TrustDone, TrustFile, TrustRead};
 use cache_policy::Desk;
 use session_options::Rules;
@@ -53,7 +53,7 @@ pub fn serve_session<L: Link, D: Desk, P: Prompter, K: Keys, R: Dice>(
     ensures shut { IsShut (P.at prompter.new) }
 {
     serve(
-        &EveryLine,
+        None,
         alloc,
         rules,
         link,
