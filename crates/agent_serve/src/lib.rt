@@ -11,6 +11,7 @@ mod each;
 mod gated;
 mod laws;
 mod serving;
+mod shared;
 mod views;
 mod workers;
 
@@ -21,5 +22,6 @@ pub use laws::{
     the_calls_of_a_session_are_prompts,
 };
 pub use serving::serve_one;
+pub use shared::SharedHost;
 pub use views::ViewedHost;
 pub use workers::run_workers;

@@ -10,10 +10,11 @@ ghost use Rattle.agent_serve.specs.Working.{post_at};
 
 use crate::each::{Task, run_each};
 use crate::serving::serve_one;
+use crate::shared::SharedHost;
 use crate::views::ViewedHost;
 use agent_commands::SessionEnd;
 use agent_origin::Door;
-use agent_ports::{Ear, Host, Launcher, Listener, Next, SessionId};
+use agent_ports::{Ear, Host, Listener, Next, SessionId};
 use counted_lock::{Counted, CountedPass};
 use session_options::Rules;
 use std::alloc::Global;
@@ -160,7 +161,7 @@ where
 /// A worker takes links until its listener is stopped or fails, and hands each link back whose
 /// session has ended. It stops both listeners where its session has stopped the agent, or has seen
 /// that another one did.
-pub fn run_workers<W: Threads + Wait + time::Clock + Sync, H: Host + Sync>(
+pub fn run_workers<W: Threads + Wait + time::Clock + Sync, H: SharedHost>(
     rt: &W,
     alloc: Global,
     rules: &Rules,
@@ -171,17 +172,6 @@ pub fn run_workers<W: Threads + Wait + time::Clock + Sync, H: Host + Sync>(
     passes: Vec<CountedPass>,
     ears: Vec<H::Ear>,
 ) -> (Vec<CountedPass>, Vec<H::Ear>)
-where
-    H::Link: Send + Sync,
-    H::Ear: Send + Sync + Drop,
-    H::Listener: Send + Sync,
-    H::Launcher: Send + Sync + Drop,
-    <H::Launcher as Launcher>::Child: Send + Sync,
-    H::Clock: Send + Sync + Drop,
-    H::Dice: Send + Sync + Drop,
-    H::Keys: Send + Sync + Drop,
-    H::Trust: Send + Sync + Drop,
-    H::Gate: Send + Sync,
     requires own { AreOf counted.now.table passes.items }
     requires ears { vec_len passes ≡ vec_len ears }
     ensures own { AreOf counted.now.table result.0.items }

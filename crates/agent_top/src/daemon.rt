@@ -15,8 +15,8 @@ ghost use Rattle.agent_top.specs.Daemon.{workers_with};
 
 use crate::Status;
 use crate::top::limits_of;
-use agent_ports::{Ear, Host, Launcher, Link, Listener, Sent, Sink};
-use agent_serve::{ViewedHost, run_workers};
+use agent_ports::{Ear, Host, Link, Listener, Sent, Sink};
+use agent_serve::{SharedHost, ViewedHost, run_workers};
 use arrayvec::ArrayVec;
 use cache_policy::Tally;
 use counted_lock::{Counted, CountedPass};
@@ -39,7 +39,7 @@ pub(crate) const SUMMARY_ROOM: usize = 256;
 /// no memory for the workers, 4 where the line can't be written, and 5 where a listener is wanting,
 /// or where one failed before the agent was stopped. Sessions that are being served when the agent
 /// is stopped go on until their clients end them.
-pub fn run_daemon<W: Threads + Wait + rt::Clock + Sync, S: Link, H: Host + Sync>(
+pub fn run_daemon<W: Threads + Wait + rt::Clock + Sync, S: Link, H: SharedHost>(
     rt: &W,
     alloc: Global,
     rules: &Rules,
@@ -47,16 +47,7 @@ pub fn run_daemon<W: Threads + Wait + rt::Clock + Sync, S: Link, H: Host + Sync>
     host: &mut H,
 ) -> u8
 where
-    H::Link: Send + Sync,
-    H::Ear: Send + Sync + Drop,
-    H::Listener: Send + Sync + Drop,
-    H::Launcher: Send + Sync + Drop,
-    <H::Launcher as Launcher>::Child: Send + Sync,
-    H::Clock: Send + Sync + Drop,
-    H::Dice: Send + Sync + Drop,
-    H::Keys: Send + Sync + Drop,
-    H::Trust: Send + Sync + Drop,
-    H::Gate: Send + Sync,
+    H::Listener: Drop,
     ensures runs { RunsDaemon (⟦<H as ViewedHost>⟧.views (H.homedir host.old)) rules.now
         (H.listens host.old) (S.output stdio.old) result (H.listens host.new)
         (S.output stdio.new) }
@@ -144,7 +135,7 @@ fn with_ears<H: Host>(
 
 /// Has the workers serve links until the agent is stopped, or a listener failed. Where they came
 /// back for another reason they begin again.
-fn serve_rounds<W: Threads + Wait + rt::Clock + Sync, H: Host + Sync>(
+fn serve_rounds<W: Threads + Wait + rt::Clock + Sync, H: SharedHost>(
     rt: &W,
     alloc: Global,
     rules: &Rules,
@@ -155,17 +146,6 @@ fn serve_rounds<W: Threads + Wait + rt::Clock + Sync, H: Host + Sync>(
     mut passes: Vec<CountedPass>,
     mut ears: Vec<H::Ear>,
 ) -> (Vec<CountedPass>, Vec<H::Ear>)
-where
-    H::Link: Send + Sync,
-    H::Ear: Send + Sync + Drop,
-    H::Listener: Send + Sync,
-    H::Launcher: Send + Sync + Drop,
-    <H::Launcher as Launcher>::Child: Send + Sync,
-    H::Clock: Send + Sync + Drop,
-    H::Dice: Send + Sync + Drop,
-    H::Keys: Send + Sync + Drop,
-    H::Trust: Send + Sync + Drop,
-    H::Gate: Send + Sync,
     requires own { AreOf counted.now.table passes.items }
     requires ears { vec_len passes ≡ vec_len ears }
     requires some { 0 < vec_len passes }

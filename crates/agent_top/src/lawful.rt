@@ -11,7 +11,7 @@ use crate::daemon::run_daemon;
 use crate::load::run_load;
 use crate::top::run_server;
 use agent_ports::{Clock, Dice, Host, Keys, Launcher, Link, Sink, Source};
-use agent_serve::ViewedHost;
+use agent_serve::{SharedHost, ViewedHost};
 use session_options::Rules;
 use std::alloc::Global;
 use std::rt;
@@ -45,7 +45,7 @@ pub fn run_lawful_server<S: Link, H: Host>(
 /// worker ends for a cause. Of each session its requests are lawful, each error has its cause, what
 /// it stores is its own, prompts have their children, and where no count of its own rose each
 /// request is answered. A restricted one leaves the cache, and its prompts name no terminal.
-pub fn run_lawful_daemon<W: Threads + Wait + rt::Clock + Sync, S: Link, H: Host + Sync>(
+pub fn run_lawful_daemon<W: Threads + Wait + rt::Clock + Sync, S: Link, H: SharedHost>(
     rt: &W,
     alloc: Global,
     rules: &Rules,
@@ -53,16 +53,7 @@ pub fn run_lawful_daemon<W: Threads + Wait + rt::Clock + Sync, S: Link, H: Host 
     host: &mut H,
 ) -> u8
 where
-    H::Link: Send + Sync,
-    H::Ear: Send + Sync + Drop,
-    H::Listener: Send + Sync + Drop,
-    H::Launcher: Send + Sync + Drop,
-    <H::Launcher as Launcher>::Child: Send + Sync,
-    H::Clock: Send + Sync + Drop,
-    H::Dice: Send + Sync + Drop,
-    H::Keys: Send + Sync + Drop,
-    H::Trust: Send + Sync + Drop,
-    H::Gate: Send + Sync,
+    H::Listener: Drop,
     ensures lawful { LawfulDaemon (⟦<H as ViewedHost>⟧.views (H.homedir host.old)) rules.now
         (H.listens host.old) (S.output stdio.old) result (H.listens host.new)
         (S.output stdio.new) }

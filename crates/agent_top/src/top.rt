@@ -18,7 +18,7 @@ use crate::load::run_load;
 use crate::words::{WordsFault, read_words};
 use agent_core::{KnownCore, Solo};
 use agent_ports::{Clock, Dice, Host, Keys, Launcher, Link, SessionId};
-use agent_serve::ViewedHost;
+use agent_serve::{SharedHost, ViewedHost};
 use agent_session::serve_session;
 use cache_policy::Limits;
 use pinentry_client::Pinentry;
@@ -41,7 +41,7 @@ pub(crate) const SESSION: SessionId = SessionId { pass: 0, count: 0 };
 /// With `--daemon` it is as `run_daemon` says, and with `--load` as `run_load` does.
 /// `--extra-socket` beside `--daemon` has restricted sessions served too, at a listener of their
 /// own.
-pub fn run_agent<W: Threads + Wait + rt::Clock + Sync, S: Link, H: Host + Sync>(
+pub fn run_agent<W: Threads + Wait + rt::Clock + Sync, S: Link, H: SharedHost>(
     rt: &W,
     alloc: Global,
     words: &[String],
@@ -49,16 +49,7 @@ pub fn run_agent<W: Threads + Wait + rt::Clock + Sync, S: Link, H: Host + Sync>(
     host: &mut H,
 ) -> u8
 where
-    H::Link: Send + Sync,
-    H::Ear: Send + Sync + Drop,
-    H::Listener: Send + Sync + Drop,
-    H::Launcher: Send + Sync + Drop,
-    <H::Launcher as Launcher>::Child: Send + Sync,
-    H::Clock: Send + Sync + Drop,
-    H::Dice: Send + Sync + Drop,
-    H::Keys: Send + Sync + Drop,
-    H::Trust: Send + Sync + Drop,
-    H::Gate: Send + Sync,
+    H::Listener: Drop,
     requires { IsSome (H.server host.old) }
     // Words that it doesn't know, or has no memory to read: nothing is read or written.
     ensures refused { IfNone (rules_of (map string_bytes words.now))

@@ -11,7 +11,7 @@ use agent_ports::{
     MAX_KEY_FILE_LEN, MapKeys, MemHost, MemLauncher, MemLink, MemParts, MemSink, MemSource, NoGate,
     Parts, PlannedChild, PlannedLink, SessionId,
 };
-use agent_serve::{run_workers, serve_one};
+use agent_serve::{SharedHost, run_workers, serve_one};
 use cache_policy::{Limits, Tally};
 use counted_lock::{Counted, CountedPass};
 use session_options::Rules;
@@ -414,7 +414,7 @@ pub(crate) fn host_of<'l, W: Wait, G: Gate + Drop>(
 }
 
 /// Runs the workers of a daemon that has one listener.
-fn run_at_home<'a, W: Threads + Wait + Clock + Sync, H: Host + Sync>(
+fn run_at_home<'a, W: Threads + Wait + Clock + Sync, H: SharedHost>(
     rt: &'a W,
     alloc: Global,
     host: &'a H,
@@ -423,17 +423,6 @@ fn run_at_home<'a, W: Threads + Wait + Clock + Sync, H: Host + Sync>(
     passes: Vec<CountedPass>,
     ears: Vec<H::Ear>,
 ) -> Vec<CountedPass>
-where
-    H::Link: Send + Sync,
-    H::Ear: Send + Sync + Drop,
-    H::Listener: Send + Sync,
-    H::Launcher: Send + Sync + Drop,
-    <H::Launcher as Launcher>::Child: Send + Sync,
-    H::Clock: Send + Sync + Drop,
-    H::Dice: Send + Sync + Drop,
-    H::Keys: Send + Sync + Drop,
-    H::Trust: Send + Sync + Drop,
-    H::Gate: Send + Sync,
     requires own { AreOf counted.now.table passes.items }
     requires ears { vec_len passes ≡ vec_len ears }
     ensures own { AreOf counted.now.table result.items }
