@@ -1,5 +1,5 @@
-//! Key files of the tests, and their grips. Begin with `CLEAR`, the key that most of them have.
-//! Plain data, made by tools/key-sessions.
+//! Key files of the tests, their grips, and what rows on them begin from. Begin with `CLEAR`, the
+//! key that most of them have. Plain data, made by tools/key-sessions.
 
 use crate::rows::{KEYS, Row};
 
@@ -45,5 +45,34 @@ pub(crate) const EMPTY: &[u8] = b"";
 pub(crate) const WITH_A_KEY: Row = Row {
     files: &[(GRIP, CLEAR)],
     dice: b"wraps a key 2415a salt 8and an iv 12and a nonce.",
+    ..KEYS
+};
+
+/// A session with a key whose file stays as it is.
+pub(crate) const KEY_STAYS: Row = Row {
+    files: &[(GRIP, BY_CBC)],
+    files_after: Some(&[(GRIP, BY_CBC)]),
+    ..KEYS
+};
+
+/// One in which a key gets another passphrase.
+pub(crate) const KEY_CHANGES: Row = Row {
+    files: &[(GRIP, BY_CBC)],
+    files_after: Some(&[(GRIP, CHANGED)]),
+    dice: b" !\"#$%&'()*+,-./0123",
+    ..KEYS
+};
+
+/// One into which a key comes.
+pub(crate) const KEY_COMES_IN: Row = Row {
+    files_after: Some(&[(GRIP, BY_OCB)]),
+    dice: b"wraps a key 2415 !\"#$%&'()*+,-./0123\xa0\xa1\xa2\xa3\xa4\xa5\xa6\xa7\xa8\xa9\xaa\xab",
+    ..KEYS
+};
+
+/// One in which a key is deleted.
+pub(crate) const KEY_GOES: Row = Row {
+    files: &[(GRIP, BY_CBC)],
+    files_after: Some(&[]),
     ..KEYS
 };

@@ -1,9 +1,13 @@
 //! Keys are listed, exported, taken in and changed: what `keys.rt` serves. Begin with `LISTS`.
 //! Plain data, made by tools/key-sessions.
 
+use crate::key_children::{
+    AGREED, ASKED, KEPT, NEW_PROMPT, NEXT_TWICE, OLD_PROMPT, TWICE, UNASKED, VERIFIED,
+};
 use crate::key_files::{
     BY_CBC, BY_OCB, CHANGED, CHANGED_LATER, CLEAR, DSA, DSA_GRIP, EMPTY, EXTENDED,
-    EXTENDED_CHANGED, GRIP, IN_AGAIN, IN_LATER, SHADOWED, WITHOUT_KEY,
+    EXTENDED_CHANGED, GRIP, IN_AGAIN, IN_LATER, KEY_CHANGES, KEY_COMES_IN, KEY_GOES, KEY_STAYS,
+    SHADOWED, WITHOUT_KEY,
 };
 use crate::rows::{KEYS, Row};
 
@@ -80,160 +84,85 @@ pub(crate) const EXPORTS: &[Row] = &[
     Row {
         sent: "KEYWRAP_KEY --export\nEXPORT_KEY 81594C58EF1286E89015A30A5CC2072D343B3307\nKEYINFO 81594C58EF1286E89015A30A5CC2072D343B3307\nEXPORT_KEY 81594C58EF1286E89015A30A5CC2072D343B3307\n",
         answered: "D wraps a key 2415\nOK\nD %EE%8Fr%EDi=*?em%E4%D7%AFB;%B8G%D7%AC)%8B%85%D7%E14%CB%F3l&%D8GQ%FBcFg%BF%84%BFN%95%80%8D_.%AB%92%E0\nOK\nS KEYINFO 81594C58EF1286E89015A30A5CC2072D343B3307 D - - 1 P - - -\nOK\nD %EE%8Fr%EDi=*?em%E4%D7%AFB;%B8G%D7%AC)%8B%85%D7%E14%CB%F3l&%D8GQ%FBcFg%BF%84%BFN%95%80%8D_.%AB%92%E0\nOK\n",
-        files: &[(GRIP, BY_CBC)],
-        files_after: Some(&[(GRIP, BY_CBC)]),
         children: &[(
-            (
-                "OK Pleased to meet you\nD 9\nOK\nOK\nOK\nOK\n",
-                "GETINFO pid\nSETKEYINFO --clear\nSETDESC Please enter the passphrase for key 81594C58EF1286E89015A30A5CC2072D343B3307\nSETPROMPT Passphrase:\n",
-            ),
+            OLD_PROMPT,
             "D a\nOK\nOK\nD b\nOK\nOK\nD abcdefg1\nOK\n",
             "GETPIN\nSETERROR Bad passphrase (try 2 of 3)\nGETPIN\nSETERROR Bad passphrase (try 3 of 3)\nGETPIN\nBYE\n",
         )],
         dice: b"wraps a key 2415",
-        ..KEYS
+        ..KEY_STAYS
     },
     // Three wrong pins are an end, and none is kept. The seat is free.
     Row {
         sent: "KEYWRAP_KEY --export\nEXPORT_KEY 81594C58EF1286E89015A30A5CC2072D343B3307\nKEYINFO 81594C58EF1286E89015A30A5CC2072D343B3307\nEXPORT_KEY 81594C58EF1286E89015A30A5CC2072D343B3307\n",
         answered: "D wraps a key 2415\nOK\nERR 67108875 Bad passphrase <GPG Agent>\nS KEYINFO 81594C58EF1286E89015A30A5CC2072D343B3307 D - - - P - - -\nOK\nD %EE%8Fr%EDi=*?em%E4%D7%AFB;%B8G%D7%AC)%8B%85%D7%E14%CB%F3l&%D8GQ%FBcFg%BF%84%BFN%95%80%8D_.%AB%92%E0\nOK\n",
-        files: &[(GRIP, BY_CBC)],
-        files_after: Some(&[(GRIP, BY_CBC)]),
         children: &[
             (
-                (
-                    "OK Pleased to meet you\nD 9\nOK\nOK\nOK\nOK\n",
-                    "GETINFO pid\nSETKEYINFO --clear\nSETDESC Please enter the passphrase for key 81594C58EF1286E89015A30A5CC2072D343B3307\nSETPROMPT Passphrase:\n",
-                ),
+                OLD_PROMPT,
                 "D a\nOK\nOK\nD b\nOK\nOK\nD c\nOK\n",
                 "GETPIN\nSETERROR Bad passphrase (try 2 of 3)\nGETPIN\nSETERROR Bad passphrase (try 3 of 3)\nGETPIN\nBYE\n",
             ),
-            (
-                (
-                    "OK Pleased to meet you\nD 9\nOK\nOK\nOK\nOK\n",
-                    "GETINFO pid\nSETKEYINFO --clear\nSETDESC Please enter the passphrase for key 81594C58EF1286E89015A30A5CC2072D343B3307\nSETPROMPT Passphrase:\n",
-                ),
-                "D abcdefg1\nOK\n",
-                "GETPIN\nBYE\n",
-            ),
+            ASKED,
         ],
         dice: b"wraps a key 2415",
-        ..KEYS
+        ..KEY_STAYS
     },
     // A wrong passphrase in the cache is passed over, and the right one is kept in its place.
     Row {
         sent: "KEYWRAP_KEY --export\nPRESET_PASSPHRASE 81594C58EF1286E89015A30A5CC2072D343B3307 -1 61\nEXPORT_KEY 81594C58EF1286E89015A30A5CC2072D343B3307\nEXPORT_KEY 81594C58EF1286E89015A30A5CC2072D343B3307\n",
         answered: "D wraps a key 2415\nOK\nOK\nD %EE%8Fr%EDi=*?em%E4%D7%AFB;%B8G%D7%AC)%8B%85%D7%E14%CB%F3l&%D8GQ%FBcFg%BF%84%BFN%95%80%8D_.%AB%92%E0\nOK\nD %EE%8Fr%EDi=*?em%E4%D7%AFB;%B8G%D7%AC)%8B%85%D7%E14%CB%F3l&%D8GQ%FBcFg%BF%84%BFN%95%80%8D_.%AB%92%E0\nOK\n",
-        files: &[(GRIP, BY_CBC)],
-        files_after: Some(&[(GRIP, BY_CBC)]),
-        children: &[(
-            (
-                "OK Pleased to meet you\nD 9\nOK\nOK\nOK\nOK\n",
-                "GETINFO pid\nSETKEYINFO --clear\nSETDESC Please enter the passphrase for key 81594C58EF1286E89015A30A5CC2072D343B3307\nSETPROMPT Passphrase:\n",
-            ),
-            "D abcdefg1\nOK\n",
-            "GETPIN\nBYE\n",
-        )],
+        children: &[ASKED],
         dice: b"wraps a key 2415",
-        ..KEYS
+        ..KEY_STAYS
     },
     // The user cancels, or doesn't answer.
     Row {
         sent: "KEYWRAP_KEY --export\nEXPORT_KEY 81594C58EF1286E89015A30A5CC2072D343B3307\nEXPORT_KEY 81594C58EF1286E89015A30A5CC2072D343B3307\n",
         answered: "D wraps a key 2415\nOK\nERR 83886179 Operation cancelled <Pinentry>\nERR 83886142 Timeout <Pinentry>\n",
-        files: &[(GRIP, BY_CBC)],
-        files_after: Some(&[(GRIP, BY_CBC)]),
         children: &[
-            (
-                (
-                    "OK Pleased to meet you\nD 9\nOK\nOK\nOK\nOK\n",
-                    "GETINFO pid\nSETKEYINFO --clear\nSETDESC Please enter the passphrase for key 81594C58EF1286E89015A30A5CC2072D343B3307\nSETPROMPT Passphrase:\n",
-                ),
-                "ERR 83886179\n",
-                "GETPIN\nBYE\n",
-            ),
-            (
-                (
-                    "OK Pleased to meet you\nD 9\nOK\nOK\nOK\nOK\n",
-                    "GETINFO pid\nSETKEYINFO --clear\nSETDESC Please enter the passphrase for key 81594C58EF1286E89015A30A5CC2072D343B3307\nSETPROMPT Passphrase:\n",
-                ),
-                "ERR 62\n",
-                "GETPIN\nBYE\n",
-            ),
+            (OLD_PROMPT, "ERR 83886179\n", "GETPIN\nBYE\n"),
+            (OLD_PROMPT, "ERR 62\n", "GETPIN\nBYE\n"),
         ],
         dice: b"wraps a key 2415",
-        ..KEYS
+        ..KEY_STAYS
     },
     // Nobody is prompted in other modes.
     Row {
         sent: "KEYWRAP_KEY --export\nOPTION pinentry-mode=cancel\nEXPORT_KEY 81594C58EF1286E89015A30A5CC2072D343B3307\nPASSWD 81594C58EF1286E89015A30A5CC2072D343B3307\nPASSWD --verify 81594C58EF1286E89015A30A5CC2072D343B3307\nDELETE_KEY 81594C58EF1286E89015A30A5CC2072D343B3307\nOPTION pinentry-mode=error\nEXPORT_KEY 81594C58EF1286E89015A30A5CC2072D343B3307\nPASSWD 81594C58EF1286E89015A30A5CC2072D343B3307\nPASSWD --verify 81594C58EF1286E89015A30A5CC2072D343B3307\nDELETE_KEY 81594C58EF1286E89015A30A5CC2072D343B3307\nOPTION pinentry-mode=loopback\nDELETE_KEY 81594C58EF1286E89015A30A5CC2072D343B3307\n",
         answered: "D wraps a key 2415\nOK\nOK\nERR 67108963 Operation cancelled <GPG Agent>\nERR 67108963 Operation cancelled <GPG Agent>\nERR 67108963 Operation cancelled <GPG Agent>\nERR 67108963 Operation cancelled <GPG Agent>\nOK\nERR 67108950 No pinentry <GPG Agent>\nERR 67108950 No pinentry <GPG Agent>\nERR 67108950 No pinentry <GPG Agent>\nERR 67108950 No pinentry <GPG Agent>\nOK\nERR 67108950 No pinentry <GPG Agent>\n",
-        files: &[(GRIP, BY_CBC)],
-        files_after: Some(&[(GRIP, BY_CBC)]),
         dice: b"wraps a key 2415",
-        ..KEYS
+        ..KEY_STAYS
     },
     // The client gives the passphrase; one that opens the key is kept.
     Row {
         sent: "OPTION pinentry-mode=loopback\nKEYWRAP_KEY --export\nEXPORT_KEY 81594C58EF1286E89015A30A5CC2072D343B3307\nD a\nEND\nEXPORT_KEY 81594C58EF1286E89015A30A5CC2072D343B3307\nCAN\nEXPORT_KEY 81594C58EF1286E89015A30A5CC2072D343B3307\nD abcdefg1\nEND\nEXPORT_KEY 81594C58EF1286E89015A30A5CC2072D343B3307\n",
         answered: "OK\nD wraps a key 2415\nOK\nS INQUIRE_MAXLEN 255\nINQUIRE PASSPHRASE\nERR 67108875 Bad passphrase <GPG Agent>\nS INQUIRE_MAXLEN 255\nINQUIRE PASSPHRASE\nERR 67108963 Operation cancelled <GPG Agent>\nS INQUIRE_MAXLEN 255\nINQUIRE PASSPHRASE\nD %EE%8Fr%EDi=*?em%E4%D7%AFB;%B8G%D7%AC)%8B%85%D7%E14%CB%F3l&%D8GQ%FBcFg%BF%84%BFN%95%80%8D_.%AB%92%E0\nOK\nD %EE%8Fr%EDi=*?em%E4%D7%AFB;%B8G%D7%AC)%8B%85%D7%E14%CB%F3l&%D8GQ%FBcFg%BF%84%BFN%95%80%8D_.%AB%92%E0\nOK\n",
-        files: &[(GRIP, BY_CBC)],
-        files_after: Some(&[(GRIP, BY_CBC)]),
         dice: b"wraps a key 2415",
-        ..KEYS
+        ..KEY_STAYS
     },
     // By the nonce that its import drew nobody is asked, and nothing is kept for the key.
     Row {
         sent: "OPTION s2k-count=65536\nKEYWRAP_KEY --import\nIMPORT_KEY\nD %EE%8F%72%ED%69%3D%2A%3F%65%6D%E4%D7%AF%42%3B%B8%47%D7%AC%29%8B%85%D7%E1%34%CB%F3%6C%26%D8%47%51%FB%63%46%67%BF%84%BF%4E%95%80%8D%5F%2E%AB%92%E0\nEND\nCLEAR_PASSPHRASE --mode=normal 81594C58EF1286E89015A30A5CC2072D343B3307\nKEYWRAP_KEY --export\nEXPORT_KEY --cache-nonce=A0A1A2A3A4A5A6A7A8A9AAAB 81594C58EF1286E89015A30A5CC2072D343B3307\nKEYINFO 81594C58EF1286E89015A30A5CC2072D343B3307\nEXPORT_KEY 81594C58EF1286E89015A30A5CC2072D343B3307\n",
         answered: "OK\nD wraps a key 2415\nOK\nS INQUIRE_MAXLEN 65544\nINQUIRE KEYDATA\nS CACHE_NONCE A0A1A2A3A4A5A6A7A8A9AAAB\nOK\nOK\nD defghijklmnopqrs\nOK\nD %BEB%E9\x05\x18%BC7+%EE,C%C4%C9%9Bz\x01B|%85%FC%E0\x06`^z%FF%B5%C0%92\x7f a\x10%F1%B9%FC%D1%A1%D1\x1b%D3*%A8%C9Y%D1s%F0\nOK\nS KEYINFO 81594C58EF1286E89015A30A5CC2072D343B3307 D - - - P - - -\nOK\nD %BEB%E9\x05\x18%BC7+%EE,C%C4%C9%9Bz\x01B|%85%FC%E0\x06`^z%FF%B5%C0%92\x7f a\x10%F1%B9%FC%D1%A1%D1\x1b%D3*%A8%C9Y%D1s%F0\nOK\n",
-        files_after: Some(&[(GRIP, BY_OCB)]),
-        children: &[
-            (
-                (
-                    "OK Pleased to meet you\nD 9\nOK\nOK\nOK\nOK\nOK\n",
-                    "GETINFO pid\nSETKEYINFO --clear\nSETDESC Please enter a new passphrase for key 81594C58EF1286E89015A30A5CC2072D343B3307\nSETPROMPT Passphrase:\nSETQUALITYBAR\n",
-                ),
-                "D abcdefg1\nOK\nOK\nD abcdefg1\nOK\n",
-                "GETPIN\nSETERROR Please repeat the passphrase\nGETPIN\nBYE\n",
-            ),
-            (
-                (
-                    "OK Pleased to meet you\nD 9\nOK\nOK\nOK\nOK\n",
-                    "GETINFO pid\nSETKEYINFO --clear\nSETDESC Please enter the passphrase for key 81594C58EF1286E89015A30A5CC2072D343B3307\nSETPROMPT Passphrase:\n",
-                ),
-                "D abcdefg1\nOK\n",
-                "GETPIN\nBYE\n",
-            ),
-        ],
+        children: &[TWICE, ASKED],
         dice: b"wraps a key 2415 !\"#$%&'()*+,-./0123\xa0\xa1\xa2\xa3\xa4\xa5\xa6\xa7\xa8\xa9\xaa\xabdefghijklmnopqrs",
-        ..KEYS
+        ..KEY_COMES_IN
     },
     // A nonce that is unknown, or under which a wrong passphrase is cached, gives way to what is
     // cached for the key.
     Row {
         sent: "KEYWRAP_KEY --export\nPRESET_PASSPHRASE wrong -1 61\nPRESET_PASSPHRASE 81594C58EF1286E89015A30A5CC2072D343B3307 -1 6162636465666731\nEXPORT_KEY --cache-nonce=unknown 81594C58EF1286E89015A30A5CC2072D343B3307\nEXPORT_KEY --cache-nonce=wrong 81594C58EF1286E89015A30A5CC2072D343B3307\n",
         answered: "D wraps a key 2415\nOK\nOK\nOK\nD %EE%8Fr%EDi=*?em%E4%D7%AFB;%B8G%D7%AC)%8B%85%D7%E14%CB%F3l&%D8GQ%FBcFg%BF%84%BFN%95%80%8D_.%AB%92%E0\nOK\nD %EE%8Fr%EDi=*?em%E4%D7%AFB;%B8G%D7%AC)%8B%85%D7%E14%CB%F3l&%D8GQ%FBcFg%BF%84%BFN%95%80%8D_.%AB%92%E0\nOK\n",
-        files: &[(GRIP, BY_CBC)],
-        files_after: Some(&[(GRIP, BY_CBC)]),
         dice: b"wraps a key 2415",
-        ..KEYS
+        ..KEY_STAYS
     },
     // And to a prompt where nothing is. What is typed is kept for the key, and not under the nonce.
     Row {
         sent: "KEYWRAP_KEY --export\nPRESET_PASSPHRASE wrong -1 61\nEXPORT_KEY --cache-nonce=wrong 81594C58EF1286E89015A30A5CC2072D343B3307\nKEYINFO 81594C58EF1286E89015A30A5CC2072D343B3307\nEXPORT_KEY --cache-nonce=unknown 81594C58EF1286E89015A30A5CC2072D343B3307\nGET_PASSPHRASE --no-ask wrong\nGET_PASSPHRASE --no-ask unknown\n",
         answered: "D wraps a key 2415\nOK\nOK\nD %EE%8Fr%EDi=*?em%E4%D7%AFB;%B8G%D7%AC)%8B%85%D7%E14%CB%F3l&%D8GQ%FBcFg%BF%84%BFN%95%80%8D_.%AB%92%E0\nOK\nS KEYINFO 81594C58EF1286E89015A30A5CC2072D343B3307 D - - 1 P - - -\nOK\nD %EE%8Fr%EDi=*?em%E4%D7%AFB;%B8G%D7%AC)%8B%85%D7%E14%CB%F3l&%D8GQ%FBcFg%BF%84%BFN%95%80%8D_.%AB%92%E0\nOK\nOK 61\nERR 67108922 No data <GPG Agent>\n",
-        files: &[(GRIP, BY_CBC)],
-        files_after: Some(&[(GRIP, BY_CBC)]),
-        children: &[(
-            (
-                "OK Pleased to meet you\nD 9\nOK\nOK\nOK\nOK\n",
-                "GETINFO pid\nSETKEYINFO --clear\nSETDESC Please enter the passphrase for key 81594C58EF1286E89015A30A5CC2072D343B3307\nSETPROMPT Passphrase:\n",
-            ),
-            "D abcdefg1\nOK\n",
-            "GETPIN\nBYE\n",
-        )],
+        children: &[ASKED],
         dice: b"wraps a key 2415",
-        ..KEYS
+        ..KEY_STAYS
     },
 ];
 
@@ -245,24 +174,7 @@ pub(crate) const IMPORTS: &[Row] = &[
         sent: "OPTION s2k-count=65536\nKEYWRAP_KEY --import\nIMPORT_KEY\nD %EE%8F%72%ED%69%3D%2A%3F%65%6D%E4%D7%AF%42%3B%B8%47%D7%AC%29%8B%85%D7%E1%34%CB%F3%6C%26%D8%47%51%FB%63%46%67%BF%84%BF%4E%95%80%8D%5F%2E%AB%92%E0\nEND\nKEYINFO 81594C58EF1286E89015A30A5CC2072D343B3307\nPASSWD --cache-nonce=A0A1A2A3A4A5A6A7A8A9AAAB --passwd-nonce=A0A1A2A3A4A5A6A7A8A9AAAB 81594C58EF1286E89015A30A5CC2072D343B3307\nPASSWD --verify 81594C58EF1286E89015A30A5CC2072D343B3307\nIMPORT_KEY\nD %EE%8F%72%ED%69%3D%2A%3F%65%6D%E4%D7%AF%42%3B%B8%47%D7%AC%29%8B%85%D7%E1%34%CB%F3%6C%26%D8%47%51%FB%63%46%67%BF%84%BF%4E%95%80%8D%5F%2E%AB%92%E0\nEND\n",
         answered: "OK\nD wraps a key 2415\nOK\nS INQUIRE_MAXLEN 65544\nINQUIRE KEYDATA\nS CACHE_NONCE A0A1A2A3A4A5A6A7A8A9AAAB\nOK\nS KEYINFO 81594C58EF1286E89015A30A5CC2072D343B3307 D - - 1 P - - -\nOK\nOK\nOK\nS INQUIRE_MAXLEN 65544\nINQUIRE KEYDATA\nERR 67141667 File exists <GPG Agent>\n",
         files_after: Some(&[(GRIP, IN_LATER)]),
-        children: &[
-            (
-                (
-                    "OK Pleased to meet you\nD 9\nOK\nOK\nOK\nOK\nOK\n",
-                    "GETINFO pid\nSETKEYINFO --clear\nSETDESC Please enter a new passphrase for key 81594C58EF1286E89015A30A5CC2072D343B3307\nSETPROMPT Passphrase:\nSETQUALITYBAR\n",
-                ),
-                "D abcdefg1\nOK\nOK\nD abcdefg1\nOK\n",
-                "GETPIN\nSETERROR Please repeat the passphrase\nGETPIN\nBYE\n",
-            ),
-            (
-                (
-                    "OK Pleased to meet you\nD 9\nOK\nOK\nOK\nOK\n",
-                    "GETINFO pid\nSETKEYINFO --clear\nSETDESC Please enter the passphrase for key 81594C58EF1286E89015A30A5CC2072D343B3307\nSETPROMPT Passphrase:\n",
-                ),
-                "D abcdefg1\nOK\n",
-                "GETPIN\nBYE\n",
-            ),
-        ],
+        children: &[TWICE, ASKED],
         dice: b"wraps a key 2415 !\"#$%&'()*+,-./0123\xa0\xa1\xa2\xa3\xa4\xa5\xa6\xa7\xa8\xa9\xaa\xab'&%$#\"! 3210/.-,+*)(",
         ..KEYS
     },
@@ -271,24 +183,7 @@ pub(crate) const IMPORTS: &[Row] = &[
         sent: "OPTION s2k-count=65536\nKEYWRAP_KEY --import\nIMPORT_KEY\nD %EE%8F%72%ED%69%3D%2A%3F%65%6D%E4%D7%AF%42%3B%B8%47%D7%AC%29%8B%85%D7%E1%34%CB%F3%6C%26%D8%47%51%FB%63%46%67%BF%84%BF%4E%95%80%8D%5F%2E%AB%92%E0\nEND\nIMPORT_KEY --force A0A1A2A3A4A5A6A7A8A9AAAB\nD %EE%8F%72%ED%69%3D%2A%3F%65%6D%E4%D7%AF%42%3B%B8%47%D7%AC%29%8B%85%D7%E1%34%CB%F3%6C%26%D8%47%51%FB%63%46%67%BF%84%BF%4E%95%80%8D%5F%2E%AB%92%E0\nEND\nIMPORT_KEY --force other\nD %EE%8F%72%ED%69%3D%2A%3F%65%6D%E4%D7%AF%42%3B%B8%47%D7%AC%29%8B%85%D7%E1%34%CB%F3%6C%26%D8%47%51%FB%63%46%67%BF%84%BF%4E%95%80%8D%5F%2E%AB%92%E0\nEND\n",
         answered: "OK\nD wraps a key 2415\nOK\nS INQUIRE_MAXLEN 65544\nINQUIRE KEYDATA\nS CACHE_NONCE A0A1A2A3A4A5A6A7A8A9AAAB\nOK\nS INQUIRE_MAXLEN 65544\nINQUIRE KEYDATA\nS CACHE_NONCE ACADAEAFB0B1B2B3B4B5B6B7\nOK\nS INQUIRE_MAXLEN 65544\nINQUIRE KEYDATA\nERR 83886179 Operation cancelled <Pinentry>\n",
         files_after: Some(&[(GRIP, IN_AGAIN)]),
-        children: &[
-            (
-                (
-                    "OK Pleased to meet you\nD 9\nOK\nOK\nOK\nOK\nOK\n",
-                    "GETINFO pid\nSETKEYINFO --clear\nSETDESC Please enter a new passphrase for key 81594C58EF1286E89015A30A5CC2072D343B3307\nSETPROMPT Passphrase:\nSETQUALITYBAR\n",
-                ),
-                "D abcdefg1\nOK\nOK\nD abcdefg1\nOK\n",
-                "GETPIN\nSETERROR Please repeat the passphrase\nGETPIN\nBYE\n",
-            ),
-            (
-                (
-                    "OK Pleased to meet you\nD 9\nOK\nOK\nOK\nOK\nOK\n",
-                    "GETINFO pid\nSETKEYINFO --clear\nSETDESC Please enter a new passphrase for key 81594C58EF1286E89015A30A5CC2072D343B3307\nSETPROMPT Passphrase:\nSETQUALITYBAR\n",
-                ),
-                "ERR 83886179\n",
-                "GETPIN\nBYE\n",
-            ),
-        ],
+        children: &[TWICE, (NEW_PROMPT, "ERR 83886179\n", "GETPIN\nBYE\n")],
         dice: b"wraps a key 2415 !\"#$%&'()*+,-./0123\xa0\xa1\xa2\xa3\xa4\xa5\xa6\xa7\xa8\xa9\xaa\xab'&%$#\"! ()*+,-./0123\xac\xad\xae\xaf\xb0\xb1\xb2\xb3\xb4\xb5\xb6\xb7",
         ..KEYS
     },
@@ -296,17 +191,12 @@ pub(crate) const IMPORTS: &[Row] = &[
     Row {
         sent: "OPTION s2k-count=65536\nKEYWRAP_KEY --import\nIMPORT_KEY\nD %EE%8F%72%ED%69%3D%2A%3F%65%6D%E4%D7%AF%42%3B%B8%47%D7%AC%29%8B%85%D7%E1%34%CB%F3%6C%26%D8%47%51%FB%63%46%67%BF%84%BF%4E%95%80%8D%5F%2E%AB%92%E0\nEND\n",
         answered: "OK\nD wraps a key 2415\nOK\nS INQUIRE_MAXLEN 65544\nINQUIRE KEYDATA\nS CACHE_NONCE A0A1A2A3A4A5A6A7A8A9AAAB\nOK\n",
-        files_after: Some(&[(GRIP, BY_OCB)]),
         children: &[(
-            (
-                "OK Pleased to meet you\nD 9\nOK\nOK\nOK\nOK\nOK\n",
-                "GETINFO pid\nSETKEYINFO --clear\nSETDESC Please enter a new passphrase for key 81594C58EF1286E89015A30A5CC2072D343B3307\nSETPROMPT Passphrase:\nSETQUALITYBAR\n",
-            ),
+            NEW_PROMPT,
             "D abcdefgh\nOK\nOK\nD abcdefg1\nOK\nOK\nD abcdefg1\nOK\n",
             "GETPIN\nSETERROR This passphrase is too weak (try 2 of 3)\nGETPIN\nSETERROR Please repeat the passphrase\nGETPIN\nBYE\n",
         )],
-        dice: b"wraps a key 2415 !\"#$%&'()*+,-./0123\xa0\xa1\xa2\xa3\xa4\xa5\xa6\xa7\xa8\xa9\xaa\xab",
-        ..KEYS
+        ..KEY_COMES_IN
     },
     // What comes in has to be a wrapped clear key.
     Row {
@@ -321,14 +211,7 @@ pub(crate) const IMPORTS: &[Row] = &[
         sent: "OPTION s2k-count=65536\nKEYWRAP_KEY --import\nIMPORT_KEY\nD %EE%8F%72%ED%69%3D%2A%3F%65%6D%E4%D7%AF%42%3B%B8%47%D7%AC%29%8B%85%D7%E1%34%CB%F3%6C%26%D8%47%51%FB%63%46%67%BF%84%BF%4E%95%80%8D%5F%2E%AB%92%E0\nEND\nHAVEKEY 81594C58EF1286E89015A30A5CC2072D343B3307\nGETINFO version\n",
         answered: "OK\nD wraps a key 2415\nOK\nS INQUIRE_MAXLEN 65544\nINQUIRE KEYDATA\nERR 67108865 General error <GPG Agent>\nERR 67108881 No secret key <GPG Agent>\nD 2.4.0\nOK\n",
         files_after: Some(&[]),
-        children: &[(
-            (
-                "OK Pleased to meet you\nD 9\nOK\nOK\nOK\nOK\nOK\n",
-                "GETINFO pid\nSETKEYINFO --clear\nSETDESC Please enter a new passphrase for key 81594C58EF1286E89015A30A5CC2072D343B3307\nSETPROMPT Passphrase:\nSETQUALITYBAR\n",
-            ),
-            "D abcdefg1\nOK\nOK\nD abcdefg1\nOK\n",
-            "GETPIN\nSETERROR Please repeat the passphrase\nGETPIN\nBYE\n",
-        )],
+        children: &[TWICE],
         dice: b"wraps a key 2415",
         ..KEYS
     },
@@ -338,14 +221,7 @@ pub(crate) const IMPORTS: &[Row] = &[
         sent: "OPTION s2k-count=65536\nKEYWRAP_KEY --import\nIMPORT_KEY\nD %EE%8F%72%ED%69%3D%2A%3F%65%6D%E4%D7%AF%42%3B%B8%47%D7%AC%29%8B%85%D7%E1%34%CB%F3%6C%26%D8%47%51%FB%63%46%67%BF%84%BF%4E%95%80%8D%5F%2E%AB%92%E0\nEND\nIMPORT_KEY A0A1A2A3A4A5A6A7A8A9AAAB\nD %EE%8F%72%ED%69%3D%2A%3F%65%6D%E4%D7%AF%42%3B%B8%47%D7%AC%29%8B%85%D7%E1%34%CB%F3%6C%26%D8%47%51%FB%63%46%67%BF%84%BF%4E%95%80%8D%5F%2E%AB%92%E0\nEND\n",
         answered: "OK\nD wraps a key 2415\nOK\nS INQUIRE_MAXLEN 65544\nINQUIRE KEYDATA\nERR 67108865 General error <GPG Agent>\nS INQUIRE_MAXLEN 65544\nINQUIRE KEYDATA\nS CACHE_NONCE ABAAA9A8A7A6A5A4A3A2A1A0\nOK\n",
         files_after: Some(&[(GRIP, IN_LATER)]),
-        children: &[(
-            (
-                "OK Pleased to meet you\nD 9\nOK\nOK\nOK\nOK\nOK\n",
-                "GETINFO pid\nSETKEYINFO --clear\nSETDESC Please enter a new passphrase for key 81594C58EF1286E89015A30A5CC2072D343B3307\nSETPROMPT Passphrase:\nSETQUALITYBAR\n",
-            ),
-            "D abcdefg1\nOK\nOK\nD abcdefg1\nOK\n",
-            "GETPIN\nSETERROR Please repeat the passphrase\nGETPIN\nBYE\n",
-        )],
+        children: &[TWICE],
         dice: b"wraps a key 2415 !\"#$%&'()*+,-./0123\xa0\xa1\xa2\xa3\xa4\xa5\xa6\xa7\xa8\xa9\xaa\xab'&%$#\"! 3210/.-,+*)(\xab\xaa\xa9\xa8\xa7\xa6\xa5\xa4\xa3\xa2\xa1\xa0",
         key_faults: &[1],
         ..KEYS
@@ -358,52 +234,18 @@ pub(crate) const CHANGES: &[Row] = &[
     Row {
         sent: "OPTION s2k-count=65536\nPASSWD 81594C58EF1286E89015A30A5CC2072D343B3307\nPASSWD --verify 81594C58EF1286E89015A30A5CC2072D343B3307\nHAVEKEY 81594C58EF1286E89015A30A5CC2072D343B3307\nDELETE_KEY 81594C58EF1286E89015A30A5CC2072D343B3307\nPASSWD --verify 81594C58EF1286E89015A30A5CC2072D343B3307\n",
         answered: "OK\nOK\nOK\nOK\nERR 83886194 Not confirmed <Pinentry>\nERR 67108875 Bad passphrase <GPG Agent>\n",
-        files: &[(GRIP, BY_CBC)],
-        files_after: Some(&[(GRIP, CHANGED)]),
         children: &[
+            ASKED,
+            NEXT_TWICE,
+            VERIFIED,
+            KEPT,
             (
-                (
-                    "OK Pleased to meet you\nD 9\nOK\nOK\nOK\nOK\n",
-                    "GETINFO pid\nSETKEYINFO --clear\nSETDESC Please enter the passphrase for key 81594C58EF1286E89015A30A5CC2072D343B3307\nSETPROMPT Passphrase:\n",
-                ),
-                "D abcdefg1\nOK\n",
-                "GETPIN\nBYE\n",
-            ),
-            (
-                (
-                    "OK Pleased to meet you\nD 9\nOK\nOK\nOK\nOK\nOK\n",
-                    "GETINFO pid\nSETKEYINFO --clear\nSETDESC Please enter a new passphrase for key 81594C58EF1286E89015A30A5CC2072D343B3307\nSETPROMPT Passphrase:\nSETQUALITYBAR\n",
-                ),
-                "D hijklmn2\nOK\nOK\nD hijklmn2\nOK\n",
-                "GETPIN\nSETERROR Please repeat the passphrase\nGETPIN\nBYE\n",
-            ),
-            (
-                (
-                    "OK Pleased to meet you\nD 9\nOK\nOK\nOK\nOK\n",
-                    "GETINFO pid\nSETKEYINFO --clear\nSETDESC Please enter the passphrase for key 81594C58EF1286E89015A30A5CC2072D343B3307\nSETPROMPT Passphrase:\n",
-                ),
-                "D hijklmn2\nOK\n",
-                "GETPIN\nBYE\n",
-            ),
-            (
-                (
-                    "OK\nD 9\nOK\nOK\nOK\n",
-                    "GETINFO pid\nSETKEYINFO --clear\nSETDESC Delete key 81594C58EF1286E89015A30A5CC2072D343B3307?\n",
-                ),
-                "ERR 83886194\n",
-                "CONFIRM\nBYE\n",
-            ),
-            (
-                (
-                    "OK Pleased to meet you\nD 9\nOK\nOK\nOK\nOK\n",
-                    "GETINFO pid\nSETKEYINFO --clear\nSETDESC Please enter the passphrase for key 81594C58EF1286E89015A30A5CC2072D343B3307\nSETPROMPT Passphrase:\n",
-                ),
+                OLD_PROMPT,
                 "D abcdefg1\nOK\nOK\nD abcdefg1\nOK\nOK\nD abcdefg1\nOK\n",
                 "GETPIN\nSETERROR Bad passphrase (try 2 of 3)\nGETPIN\nSETERROR Bad passphrase (try 3 of 3)\nGETPIN\nBYE\n",
             ),
         ],
-        dice: b" !\"#$%&'()*+,-./0123",
-        ..KEYS
+        ..KEY_CHANGES
     },
     // So is the file of a key that came in, whose passphrase is cached. The user verifies the new
     // one, and doesn't let the key go.
@@ -412,32 +254,7 @@ pub(crate) const CHANGES: &[Row] = &[
         answered: "OK\nOK\nOK\nOK\nOK\nERR 83886194 Not confirmed <Pinentry>\nOK\n",
         files: &[(GRIP, BY_OCB)],
         files_after: Some(&[(GRIP, CHANGED_LATER)]),
-        children: &[
-            (
-                (
-                    "OK Pleased to meet you\nD 9\nOK\nOK\nOK\nOK\nOK\n",
-                    "GETINFO pid\nSETKEYINFO --clear\nSETDESC Please enter a new passphrase for key 81594C58EF1286E89015A30A5CC2072D343B3307\nSETPROMPT Passphrase:\nSETQUALITYBAR\n",
-                ),
-                "D hijklmn2\nOK\nOK\nD hijklmn2\nOK\n",
-                "GETPIN\nSETERROR Please repeat the passphrase\nGETPIN\nBYE\n",
-            ),
-            (
-                (
-                    "OK Pleased to meet you\nD 9\nOK\nOK\nOK\nOK\n",
-                    "GETINFO pid\nSETKEYINFO --clear\nSETDESC Please enter the passphrase for key 81594C58EF1286E89015A30A5CC2072D343B3307\nSETPROMPT Passphrase:\n",
-                ),
-                "D hijklmn2\nOK\n",
-                "GETPIN\nBYE\n",
-            ),
-            (
-                (
-                    "OK\nD 9\nOK\nOK\nOK\n",
-                    "GETINFO pid\nSETKEYINFO --clear\nSETDESC Delete key 81594C58EF1286E89015A30A5CC2072D343B3307?\n",
-                ),
-                "ERR 83886194\n",
-                "CONFIRM\nBYE\n",
-            ),
-        ],
+        children: &[NEXT_TWICE, VERIFIED, KEPT],
         dice: b"'&%$#\"! 3210/.-,+*)(",
         ..KEYS
     },
@@ -448,32 +265,7 @@ pub(crate) const CHANGES: &[Row] = &[
         answered: "OK\nOK\nOK\nS KEYINFO 81594C58EF1286E89015A30A5CC2072D343B3307 D - - 1 P - - -\nOK\nOK\nOK\n",
         files: &[(GRIP, BY_CBC)],
         files_after: Some(&[(GRIP, IN_LATER)]),
-        children: &[
-            (
-                (
-                    "OK Pleased to meet you\nD 9\nOK\nOK\nOK\nOK\n",
-                    "GETINFO pid\nSETKEYINFO --clear\nSETDESC Please enter the passphrase for key 81594C58EF1286E89015A30A5CC2072D343B3307\nSETPROMPT Passphrase:\n",
-                ),
-                "D abcdefg1\nOK\n",
-                "GETPIN\nBYE\n",
-            ),
-            (
-                (
-                    "OK Pleased to meet you\nD 9\nOK\nOK\nOK\nOK\nOK\n",
-                    "GETINFO pid\nSETKEYINFO --clear\nSETDESC Please enter a new passphrase for key 81594C58EF1286E89015A30A5CC2072D343B3307\nSETPROMPT Passphrase:\nSETQUALITYBAR\n",
-                ),
-                "D abcdefg1\nOK\nOK\nD abcdefg1\nOK\n",
-                "GETPIN\nSETERROR Please repeat the passphrase\nGETPIN\nBYE\n",
-            ),
-            (
-                (
-                    "OK Pleased to meet you\nD 9\nOK\nOK\nOK\nOK\n",
-                    "GETINFO pid\nSETKEYINFO --clear\nSETDESC Please enter the passphrase for key 81594C58EF1286E89015A30A5CC2072D343B3307\nSETPROMPT Passphrase:\n",
-                ),
-                "D abcdefg1\nOK\n",
-                "GETPIN\nBYE\n",
-            ),
-        ],
+        children: &[ASKED, TWICE, ASKED],
         dice: b" !\"#$%&'()*+,-./0123'&%$#\"! 3210/.-,+*)(",
         ..KEYS
     },
@@ -481,18 +273,9 @@ pub(crate) const CHANGES: &[Row] = &[
     Row {
         sent: "OPTION s2k-count=65536\nPRESET_PASSPHRASE 81594C58EF1286E89015A30A5CC2072D343B3307 -1 6162636465666731\nPASSWD 81594C58EF1286E89015A30A5CC2072D343B3307\nKEYWRAP_KEY --export\nEXPORT_KEY 81594C58EF1286E89015A30A5CC2072D343B3307\n",
         answered: "OK\nOK\nOK\nD wraps a key 2415\nOK\nD %EE%8Fr%EDi=*?em%E4%D7%AFB;%B8G%D7%AC)%8B%85%D7%E14%CB%F3l&%D8GQ%FBcFg%BF%84%BFN%95%80%8D_.%AB%92%E0\nOK\n",
-        files: &[(GRIP, BY_CBC)],
-        files_after: Some(&[(GRIP, CHANGED)]),
-        children: &[(
-            (
-                "OK Pleased to meet you\nD 9\nOK\nOK\nOK\nOK\nOK\n",
-                "GETINFO pid\nSETKEYINFO --clear\nSETDESC Please enter a new passphrase for key 81594C58EF1286E89015A30A5CC2072D343B3307\nSETPROMPT Passphrase:\nSETQUALITYBAR\n",
-            ),
-            "D hijklmn2\nOK\nOK\nD hijklmn2\nOK\n",
-            "GETPIN\nSETERROR Please repeat the passphrase\nGETPIN\nBYE\n",
-        )],
+        children: &[NEXT_TWICE],
         dice: b" !\"#$%&'()*+,-./0123wraps a key 2415",
-        ..KEYS
+        ..KEY_CHANGES
     },
     // A clear key gets a passphrase. Without one the file stays.
     Row {
@@ -500,24 +283,7 @@ pub(crate) const CHANGES: &[Row] = &[
         answered: "OK\nOK\nERR 83886142 Timeout <Pinentry>\nOK\n",
         files: &[(GRIP, CLEAR)],
         files_after: Some(&[(GRIP, CHANGED)]),
-        children: &[
-            (
-                (
-                    "OK Pleased to meet you\nD 9\nOK\nOK\nOK\nOK\nOK\n",
-                    "GETINFO pid\nSETKEYINFO --clear\nSETDESC Please enter a new passphrase for key 81594C58EF1286E89015A30A5CC2072D343B3307\nSETPROMPT Passphrase:\nSETQUALITYBAR\n",
-                ),
-                "ERR 62\n",
-                "GETPIN\nBYE\n",
-            ),
-            (
-                (
-                    "OK Pleased to meet you\nD 9\nOK\nOK\nOK\nOK\nOK\n",
-                    "GETINFO pid\nSETKEYINFO --clear\nSETDESC Please enter a new passphrase for key 81594C58EF1286E89015A30A5CC2072D343B3307\nSETPROMPT Passphrase:\nSETQUALITYBAR\n",
-                ),
-                "D hijklmn2\nOK\nOK\nD hijklmn2\nOK\n",
-                "GETPIN\nSETERROR Please repeat the passphrase\nGETPIN\nBYE\n",
-            ),
-        ],
+        children: &[(NEW_PROMPT, "ERR 62\n", "GETPIN\nBYE\n"), NEXT_TWICE],
         dice: b" !\"#$%&'()*+,-./0123",
         ..KEYS
     },
@@ -525,38 +291,17 @@ pub(crate) const CHANGES: &[Row] = &[
     Row {
         sent: "OPTION s2k-count=65536\nOPTION pinentry-mode=loopback\nPASSWD 81594C58EF1286E89015A30A5CC2072D343B3307\nD abcdefg1\nEND\nEND\nPASSWD 81594C58EF1286E89015A30A5CC2072D343B3307\nD hijklmn2\nEND\nKEYWRAP_KEY --export\nEXPORT_KEY 81594C58EF1286E89015A30A5CC2072D343B3307\n",
         answered: "OK\nOK\nS INQUIRE_MAXLEN 255\nINQUIRE PASSPHRASE\nS INQUIRE_MAXLEN 255\nINQUIRE NEW_PASSPHRASE\nERR 67108875 Bad passphrase <GPG Agent>\nS INQUIRE_MAXLEN 255\nINQUIRE NEW_PASSPHRASE\nOK\nD wraps a key 2415\nOK\nD %EE%8Fr%EDi=*?em%E4%D7%AFB;%B8G%D7%AC)%8B%85%D7%E14%CB%F3l&%D8GQ%FBcFg%BF%84%BFN%95%80%8D_.%AB%92%E0\nOK\n",
-        files: &[(GRIP, BY_CBC)],
-        files_after: Some(&[(GRIP, CHANGED)]),
         dice: b" !\"#$%&'()*+,-./0123wraps a key 2415",
-        ..KEYS
+        ..KEY_CHANGES
     },
     // Where the new file can't be written, the old one stays, and the new passphrase isn't kept.
     Row {
         sent: "OPTION s2k-count=65536\nPASSWD 81594C58EF1286E89015A30A5CC2072D343B3307\nKEYINFO 81594C58EF1286E89015A30A5CC2072D343B3307\n",
         answered: "OK\nERR 67108865 General error <GPG Agent>\nS KEYINFO 81594C58EF1286E89015A30A5CC2072D343B3307 D - - - P - - -\nOK\n",
-        files: &[(GRIP, BY_CBC)],
-        files_after: Some(&[(GRIP, BY_CBC)]),
-        children: &[
-            (
-                (
-                    "OK Pleased to meet you\nD 9\nOK\nOK\nOK\nOK\n",
-                    "GETINFO pid\nSETKEYINFO --clear\nSETDESC Please enter the passphrase for key 81594C58EF1286E89015A30A5CC2072D343B3307\nSETPROMPT Passphrase:\n",
-                ),
-                "D abcdefg1\nOK\n",
-                "GETPIN\nBYE\n",
-            ),
-            (
-                (
-                    "OK Pleased to meet you\nD 9\nOK\nOK\nOK\nOK\nOK\n",
-                    "GETINFO pid\nSETKEYINFO --clear\nSETDESC Please enter a new passphrase for key 81594C58EF1286E89015A30A5CC2072D343B3307\nSETPROMPT Passphrase:\nSETQUALITYBAR\n",
-                ),
-                "D hijklmn2\nOK\nOK\nD hijklmn2\nOK\n",
-                "GETPIN\nSETERROR Please repeat the passphrase\nGETPIN\nBYE\n",
-            ),
-        ],
+        children: &[ASKED, NEXT_TWICE],
         dice: b" !\"#$%&'()*+,-./0123",
         key_faults: &[1],
-        ..KEYS
+        ..KEY_STAYS
     },
 ];
 
@@ -567,50 +312,28 @@ pub(crate) const OTHERS: &[Row] = &[
     Row {
         sent: "HAVEKEY 0000000000000000000000000000000000000001 81594C58EF1286E89015A30A5CC2072D343B3307\nKEYINFO 81594C58EF1286E89015A30A5CC2072D343B3307\nKEYINFO --list\nDELETE_KEY --force 81594C58EF1286E89015A30A5CC2072D343B3307\nKEYINFO 81594C58EF1286E89015A30A5CC2072D343B3307\n",
         answered: "ERR 67108865 General error <GPG Agent>\nERR 67108865 General error <GPG Agent>\nERR 67108865 General error <GPG Agent>\nERR 67108865 General error <GPG Agent>\nS KEYINFO 81594C58EF1286E89015A30A5CC2072D343B3307 D - - - P - - -\nOK\n",
-        files: &[(GRIP, BY_CBC)],
-        files_after: Some(&[(GRIP, BY_CBC)]),
         key_faults: &[1, 2, 3, 4],
-        ..KEYS
+        ..KEY_STAYS
     },
     // A nonce has 1 to 50 bytes, and DELETE_KEY no stubs.
     Row {
         sent: "PASSWD --cache-nonce= 81594C58EF1286E89015A30A5CC2072D343B3307\nPASSWD --passwd-nonce=aaaaaaaaaaaaaaaaaaaaaaaaaaaaaaaaaaaaaaaaaaaaaaaaaaa 81594C58EF1286E89015A30A5CC2072D343B3307\nEXPORT_KEY --cache-nonce= 81594C58EF1286E89015A30A5CC2072D343B3307\nDELETE_KEY --stub-only 81594C58EF1286E89015A30A5CC2072D343B3307\nDELETE_KEY\n",
         answered: "ERR 67109144 IPC parameter error <GPG Agent>\nERR 67109144 IPC parameter error <GPG Agent>\nERR 67109144 IPC parameter error <GPG Agent>\nERR 67108924 Not supported <GPG Agent>\nERR 67109144 IPC parameter error <GPG Agent>\n",
-        files: &[(GRIP, BY_CBC)],
-        files_after: Some(&[(GRIP, BY_CBC)]),
-        ..KEYS
+        ..KEY_STAYS
     },
     // The user agrees that a key is deleted. What was cached for it is cleared.
     Row {
         sent: "PRESET_PASSPHRASE 81594C58EF1286E89015A30A5CC2072D343B3307 -1 61\nDELETE_KEY 81594C58EF1286E89015A30A5CC2072D343B3307\nGET_PASSPHRASE --no-ask 81594C58EF1286E89015A30A5CC2072D343B3307\n",
         answered: "OK\nOK\nERR 67108922 No data <GPG Agent>\n",
-        files: &[(GRIP, BY_CBC)],
-        files_after: Some(&[]),
-        children: &[(
-            (
-                "OK\nD 9\nOK\nOK\nOK\n",
-                "GETINFO pid\nSETKEYINFO --clear\nSETDESC Delete key 81594C58EF1286E89015A30A5CC2072D343B3307?\n",
-            ),
-            "OK\n",
-            "CONFIRM\nBYE\n",
-        )],
-        ..KEYS
+        children: &[AGREED],
+        ..KEY_GOES
     },
     // The client's input ends while it is told of a prompt.
     Row {
         sent: "OPTION allow-pinentry-notify\nDELETE_KEY 81594C58EF1286E89015A30A5CC2072D343B3307\n",
         answered: "OK\nINQUIRE PINENTRY_LAUNCHED 9\n",
-        files: &[(GRIP, BY_CBC)],
-        files_after: Some(&[(GRIP, BY_CBC)]),
-        children: &[(
-            (
-                "OK\nD 9\nOK\nOK\nOK\n",
-                "GETINFO pid\nSETKEYINFO --clear\nSETDESC Delete key 81594C58EF1286E89015A30A5CC2072D343B3307?\n",
-            ),
-            "",
-            "BYE\n",
-        )],
-        ..KEYS
+        children: &[UNASKED],
+        ..KEY_STAYS
     },
     // A key in GnuPG's extended format.
     Row {
@@ -618,14 +341,7 @@ pub(crate) const OTHERS: &[Row] = &[
         answered: "OK\nS KEYINFO 81594C58EF1286E89015A30A5CC2072D343B3307 D - - - C - - -\nOK\nD wraps a key 2415\nOK\nD %EE%8Fr%EDi=*?em%E4%D7%AFB;%B8G%D7%AC)%8B%85%D7%E14%CB%F3l&%D8GQ%FBcFg%BF%84%BFN%95%80%8D_.%AB%92%E0\nOK\nOK\nS KEYINFO 81594C58EF1286E89015A30A5CC2072D343B3307 D - - 1 P - - -\nOK\nD %EE%8Fr%EDi=*?em%E4%D7%AFB;%B8G%D7%AC)%8B%85%D7%E14%CB%F3l&%D8GQ%FBcFg%BF%84%BFN%95%80%8D_.%AB%92%E0\nOK\n",
         files: &[(GRIP, EXTENDED)],
         files_after: Some(&[(GRIP, EXTENDED_CHANGED)]),
-        children: &[(
-            (
-                "OK Pleased to meet you\nD 9\nOK\nOK\nOK\nOK\nOK\n",
-                "GETINFO pid\nSETKEYINFO --clear\nSETDESC Please enter a new passphrase for key 81594C58EF1286E89015A30A5CC2072D343B3307\nSETPROMPT Passphrase:\nSETQUALITYBAR\n",
-            ),
-            "D hijklmn2\nOK\nOK\nD hijklmn2\nOK\n",
-            "GETPIN\nSETERROR Please repeat the passphrase\nGETPIN\nBYE\n",
-        )],
+        children: &[NEXT_TWICE],
         dice: b"wraps a key 2415 !\"#$%&'()*+,-./0123",
         ..KEYS
     },

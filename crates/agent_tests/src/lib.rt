@@ -15,6 +15,8 @@ mod faults;
 #[cfg(test)]
 mod filled_keys;
 #[cfg(test)]
+mod key_children;
+#[cfg(test)]
 mod key_faults;
 #[cfg(test)]
 mod key_files;
