@@ -2,17 +2,16 @@
 //! whether a passphrase is cached, and writes status lines. Begin with `key_info` and `list_keys`;
 //! these are `KeyInfoReplies` and `ListKeysReplies` (`specs/Exchanges`).
 
-ghost use Rattle.std.specs.Prelude.{◌≡◌, false, None, Some};
-ghost use Rattle.{agent_ports.specs.Sides.Side, assuan_server.specs.Clients.connection_views};
+ghost use Rattle.std.specs.Prelude.{◌≡◌, false, None};
+ghost use Rattle.agent_ports.specs.Sides.{Side};
 ghost use Rattle.assuan_server.specs.Connections.{Connection, IsOpen};
-ghost use Rattle.agent_ask.specs.Session.{ClientActions.Writes, ActionStates.DoesWithClient};
 ghost use Rattle.session_options.specs.OptionValues.{OptionValues};
 ghost use Rattle.session_options.specs.declared.rules.Rules.{Rules as TheRules};
 ghost use Rattle.assuan_text.specs.LineEnds.{has_lf};
 ghost use Rattle.key_commands.specs.Exchanges.{KeyInfoReplies, ListKeysReplies};
-ghost use Rattle.key_commands.specs.KeyActions.{TellsListed, WritesInfo, WritesInfos};
+ghost use Rattle.key_commands.specs.KeyActions.{TellsListed, WritesInfos};
 ghost use Rattle.key_commands.specs.Lines.{info_line, info_text};
-ghost use Rattle.key_commands.specs.{Partial.{DoesKeyAction, NoCall, DoesAtDesk}, Replies.CarriesOut};
+ghost use Rattle.key_commands.specs.{Partial.{DoesKeyAction, NoCall}, Replies.CarriesOut};
 ghost use Rattle.key_commands.specs.{States.key_state, declared.keywrap_key.WrapKeys.WrapKeys};
 
 use crate::key_calls::{list_grips, read_file, read_listed};
@@ -25,7 +24,6 @@ use arrayvec::ArrayVec;
 use assuan_server::Conn;
 use cache_policy::Desk;
 use session_client::Refusal;
-use sexp_keys::KeyList;
 use std::alloc::Global;
 
 /// KEYINFO: what is known of a key.
@@ -112,41 +110,12 @@ fn tell_listed<L: Link, D: Desk, K: Keys>(
     ensures out { (D.at desk.new).out ≡ held.now }
 {
     match read_listed(alloc, grip, keys)? {
-        Some(key) => write_listed(grip, &key, held, conn, desk),
+        Some(key) => {
+            let cached = peek(grip, held, desk)?;
+            Ok(info_line(grip, cached, key.is_clear()).write(conn)?)
+        }
         None => Ok(()),
     }
-}
-
-/// Writes the line of a key that was listed and read.
-fn write_listed<L: Link, D: Desk>(
-    grip: &Grip,
-    key: &KeyList,
-    held: &Held,
-    conn: &mut Conn<'_, L>,
-    desk: &mut D,
-) -> Result<(), Refusal>
-    requires open { IsOpen conn.old }
-    requires out { (D.at desk.old).out ≡ held.now }
-    ensures writes { DoesAtDesk (WritesInfo grip.now (Some key.now)) D.turned held.now conn.old
-        desk.old result held.now conn.new desk.new }
-    ensures out { (D.at desk.new).out ≡ held.now }
-{
-    let cached = peek(grip, held, desk)?;
-    tell_info(grip, cached, key.is_clear(), conn)
-}
-
-/// Tells the client what is known of a key.
-fn tell_info<L: Link>(
-    grip: &Grip,
-    cached: bool,
-    clear: bool,
-    conn: &mut Conn<'_, L>,
-) -> Result<(), Refusal>
-    requires { IsOpen conn.old }
-    ensures { DoesWithClient connection_views (Writes (info_line grip.now cached clear))
-        conn.old result conn.new }
-{
-    Ok(info_line(grip, cached, clear).write(conn)?)
 }
 
 /// The line of a key: whether its passphrase is cached, and whether its file is clear.
