@@ -8,8 +8,8 @@ ghost use Rattle.agent_ask.specs.Seats.{IsReady};
 ghost use Rattle.assuan_server.specs.Connections.{Connection, IsOpen};
 ghost use Rattle.{assuan_escape.specs.Escapes.hex_text, sexp_keys.specs.Lists.key_list_of};
 ghost use Rattle.key_commands.specs.Lines.{nonce_line};
-ghost use Rattle.key_commands.specs.Exchanges.{FoundOrNew, ImportKeyReplies, StoresKey};
-ghost use Rattle.key_commands.specs.{Partial.{DoesKeyAction, NoCall, LeavesKeys}, Replies.CarriesOut};
+ghost use Rattle.key_commands.specs.Exchanges.{ImportKeyReplies, StoresKey};
+ghost use Rattle.key_commands.specs.{Partial.{DoesKeyAction, NoCall}, Replies.CarriesOut};
 ghost use Rattle.key_commands.specs.{States.key_state, Trials.IsUsable};
 ghost use Rattle.key_commands.specs.declared.wrapping.TheConstants.{MAX_LIST_LEN};
 
@@ -17,7 +17,7 @@ use crate::asking::Asking;
 use crate::drawing::draw;
 use crate::key_calls::replace_file;
 use crate::keywrap_key::WrapKeys;
-use crate::new::new_passphrase;
+use crate::new::found_or_new;
 use crate::protecting::{keep_new, protected_key};
 use crate::receiving::{check_free, look_over, name_key, receive_key};
 use crate::reply::Reply;
@@ -73,32 +73,10 @@ pub(crate) fn import_key<L: Link, D: Desk, P: Prompter, K: Keys, R: Dice>(
         rules,
         options,
     };
-    let pass = found_or_new(nonce, &asking, held, conn, desk, prompter)?;
+    let found = look_over(nonce, held, desk)?;
+    let pass = found_or_new(found, &asking, held, conn, desk, prompter)?;
     let cache_nonce = store_key(&key, &pass, &asking, held, desk, keys, dice)?;
     Ok(Reply::Status(nonce_line(&cache_nonce)))
-}
-
-/// The passphrase that protects a key that comes in: what is cached under the nonce, or else a new
-/// one.
-fn found_or_new<L: Link, D: Desk, P: Prompter>(
-    nonce: &Option<CacheId>,
-    asking: &Asking<'_>,
-    held: &mut Held,
-    conn: &mut Conn<'_, L>,
-    desk: &mut D,
-    prompter: &mut P,
-) -> Result<Secret, Refusal>
-    requires open { IsOpen conn.old }
-    requires ready { IsReady (D.at desk.old) (P.at prompter.old) held.old }
-    ensures does { LeavesKeys D.turned P.prompted
-        (FoundOrNew asking.now.rules.now asking.now.options.now nonce.now asking.now.grip.now)
-        held.old conn.old desk.old prompter.old result held.new conn.new desk.new prompter.new }
-    ensures ready { IsReady (D.at desk.new) (P.at prompter.new) held.new }
-{
-    match look_over(nonce, held, desk)? {
-        Some(pass) => Ok(pass),
-        None => new_passphrase(asking, held, conn, desk, prompter),
-    }
 }
 
 /// Writes a key to its file, protected by a passphrase, which is cached under a new nonce before.

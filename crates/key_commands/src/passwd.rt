@@ -7,8 +7,8 @@ ghost use Rattle.std.specs.Prelude.{◌≡◌, ◌≤◌, None, length};
 ghost use Rattle.{agent_ask.specs.Seats.IsReady, agent_ports.specs.Sides.Side};
 ghost use Rattle.assuan_server.specs.Connections.{Connection, IsOpen};
 ghost use Rattle.sexp_keys.specs.Lists.{key_list_of};
-ghost use Rattle.key_commands.specs.Exchanges.{VerifyReplies, PasswdReplies, ChangesOpened};
-ghost use Rattle.key_commands.specs.{Exchanges.RewritesFile, Files.IsSomeKey};
+ghost use Rattle.key_commands.specs.Exchanges.{VerifyReplies, PasswdReplies, RewritesFile};
+ghost use Rattle.key_commands.specs.Files.{IsSomeKey};
 ghost use Rattle.key_commands.specs.{Partial.{DoesKeyAction, NoCall}, Replies.CarriesOut};
 ghost use Rattle.key_commands.specs.{States.key_state, Trials.IsUsable};
 ghost use Rattle.key_commands.specs.declared.keywrap_key.WrapKeys.{WrapKeys as Wraps};
@@ -18,7 +18,8 @@ use crate::asking::Asking;
 use crate::drawing::{Drawn, draw};
 use crate::files::rewrite;
 use crate::key_calls::{read_file, replace_file};
-use crate::new::renewed_passphrase;
+use crate::new::found_or_new;
+use crate::nonces::look_for_nonce;
 use crate::old::{old_passphrase, verified_passphrase};
 use crate::protecting::{check_len, keep_new, protected_key, salt_and_iv};
 use crate::reply::Reply;
@@ -80,49 +81,12 @@ pub(crate) fn change_passphrase<L: Link, D: Desk, P: Prompter, K: Keys, R: Dice>
 {
     let file = read_file(asking.alloc, asking.grip, keys)?;
     let opened = old_passphrase(asking, nonce, file.key, held, conn, desk, prompter)?;
-    change_opened(
-        asking,
-        new_nonce,
-        file.bytes.as_slice(),
-        &opened.key,
-        held,
-        conn,
-        desk,
-        prompter,
-        keys,
-        dice,
-    )?;
+    check_len(&opened.key)?;
+    let found = look_for_nonce(new_nonce, held, desk)?;
+    let pass = found_or_new(found, asking, held, conn, desk, prompter)?;
+    let bytes = file.bytes.as_slice();
+    rewrite_file(asking, bytes, &opened.key, &pass, held, desk, keys, dice)?;
     Ok(Reply::Ok)
-}
-
-/// Protects an open key, whose file has these bytes, by a new passphrase.
-fn change_opened<L: Link, D: Desk, P: Prompter, K: Keys, R: Dice>(
-    asking: &Asking<'_>,
-    nonce: Option<CacheId>,
-    file: &[u8],
-    key: &KeyList,
-    held: &mut Held,
-    conn: &mut Conn<'_, L>,
-    desk: &mut D,
-    prompter: &mut P,
-    keys: &mut K,
-    dice: &mut R,
-) -> Result<(), Refusal>
-    requires file { IsSomeKey file.now }
-    requires usable { IsUsable key.now }
-    requires open { IsOpen conn.old }
-    requires ready { IsReady (D.at desk.old) (P.at prompter.old) held.old }
-    ensures does { DoesKeyAction D.turned P.prompted
-        (ChangesOpened asking.now.rules.now asking.now.options.now asking.now.grip.now nonce
-        file.now key.now) held.old (key_state D.turned P.prompted conn.old desk.old prompter.old
-        (K.keys keys.old) (R.draws dice.old)) result held.new
-        (key_state D.turned P.prompted conn.new desk.new prompter.new (K.keys keys.new)
-        (R.draws dice.new)) }
-    ensures ready { IsReady (D.at desk.new) (P.at prompter.new) held.new }
-{
-    check_len(key)?;
-    let pass = renewed_passphrase(asking, nonce, held, conn, desk, prompter)?;
-    rewrite_file(asking, file, key, &pass, held, desk, keys, dice)
 }
 
 /// Writes a key's file anew in its own format, protected by this passphrase, which is kept then.
