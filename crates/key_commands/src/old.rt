@@ -7,10 +7,9 @@ ghost use Rattle.std.specs.Prelude.{◌≡◌, IfOk, None};
 ghost use Rattle.{agent_ask.specs.Seats.IsReady, assuan_server.specs.Connections.IsOpen};
 ghost use Rattle.secret_file.specs.Opens.{FitsFile};
 ghost use Rattle.key_commands.specs.Partial.{DoesAtDesk, LeavesKeys};
-ghost use Rattle.key_commands.specs.Passphrases.{ClientOld, UncachedOld, CachedOld, OpensLocked};
-ghost use Rattle.key_commands.specs.Passphrases.{OldPassphrase, VerifiesPassphrase, way_of};
+ghost use Rattle.key_commands.specs.Passphrases.{ClientOld, UncachedOld, OldPassphrase};
+ghost use Rattle.key_commands.specs.Passphrases.{VerifiesPassphrase, way_of};
 ghost use Rattle.key_commands.specs.Trials.{IsUsable};
-ghost use Rattle.session_options.specs.declared.options.PinMode.TheVariants as pin_mode;
 
 use crate::asking::Asking;
 use crate::inquiries::ask_client;
@@ -54,7 +53,16 @@ pub(crate) fn old_passphrase<L: Link, D: Desk, P: Prompter>(
         return Ok(OpenedKey { key, by: None });
     }
     let locked = lock_of(asking.alloc, key)?;
-    open_locked(asking, nonce, &locked, held, conn, desk, prompter)
+    let found = look_for_nonce(nonce, held, desk)?;
+    if let Some(opened) = try_found(asking.alloc, &locked, found)? {
+        return Ok(opened);
+    }
+    let way = way_of(asking.options.mode());
+    let cached = ask_cache(key_id(asking.grip), Mode::Normal, way, held, desk)?;
+    if let Some(opened) = try_found(asking.alloc, &locked, cached)? {
+        return Ok(opened);
+    }
+    open_uncached(asking, &locked, held, conn, desk, prompter)
 }
 
 /// The clear key, by a passphrase that is asked for, whatever is cached. A clear one needs none.
@@ -80,59 +88,6 @@ pub(crate) fn verified_passphrase<L: Link, D: Desk, P: Prompter>(
     }
     let locked = lock_of(asking.alloc, key)?;
     open_uncached(asking, &locked, held, conn, desk, prompter)
-}
-
-/// Opens a locked key by what is cached under the nonce, or else under the key, or else as the
-/// client wants it.
-fn open_locked<L: Link, D: Desk, P: Prompter>(
-    asking: &Asking<'_>,
-    nonce: Option<CacheId>,
-    locked: &Locked,
-    held: &mut Held,
-    conn: &mut Conn<'_, L>,
-    desk: &mut D,
-    prompter: &mut P,
-) -> Result<OpenedKey, Refusal>
-    requires free { held.old ≡ None }
-    requires open { IsOpen conn.old }
-    requires ready { IsReady (D.at desk.old) (P.at prompter.old) held.old }
-    ensures does { LeavesKeys D.turned P.prompted (OpensLocked asking.now.rules.now
-        asking.now.options.now asking.now.grip.now nonce locked.now)
-        held.old conn.old desk.old prompter.old result held.new conn.new desk.new prompter.new }
-    ensures ready { IsReady (D.at desk.new) (P.at prompter.new) held.new }
-    ensures usable { IfOk result (λ opened. IsUsable opened.key) }
-{
-    let found = look_for_nonce(nonce, held, desk)?;
-    match try_found(asking.alloc, locked, found)? {
-        Some(opened) => Ok(opened),
-        None => open_cached(asking, locked, held, conn, desk, prompter),
-    }
-}
-
-/// Opens a locked key by what is cached under it, or else as the client wants it.
-fn open_cached<L: Link, D: Desk, P: Prompter>(
-    asking: &Asking<'_>,
-    locked: &Locked,
-    held: &mut Held,
-    conn: &mut Conn<'_, L>,
-    desk: &mut D,
-    prompter: &mut P,
-) -> Result<OpenedKey, Refusal>
-    requires free { held.old ≡ None }
-    requires open { IsOpen conn.old }
-    requires ready { IsReady (D.at desk.old) (P.at prompter.old) held.old }
-    ensures does { LeavesKeys D.turned P.prompted
-        (CachedOld asking.now.rules.now asking.now.options.now asking.now.grip.now locked.now)
-        held.old conn.old desk.old prompter.old result held.new conn.new desk.new prompter.new }
-    ensures ready { IsReady (D.at desk.new) (P.at prompter.new) held.new }
-    ensures usable { IfOk result (λ opened. IsUsable opened.key) }
-{
-    let way = way_of(asking.options.mode());
-    let found = ask_cache(key_id(asking.grip), Mode::Normal, way, held, desk)?;
-    match try_found(asking.alloc, locked, found)? {
-        Some(opened) => Ok(opened),
-        None => open_uncached(asking, locked, held, conn, desk, prompter),
-    }
 }
 
 /// Whether a request may open a prompt: where its client wants one.
@@ -163,32 +118,14 @@ fn open_uncached<L: Link, D: Desk, P: Prompter>(
     ensures usable { IfOk result (λ opened. IsUsable opened.key) }
 {
     match asking.options.mode() {
-        PinMode::Ask => open_by_user(asking, locked, held, conn, desk, prompter),
+        PinMode::Ask => {
+            take_seat(asking.grip, held, desk)?;
+            prompt_old(asking, locked, held, conn, prompter)
+        }
         PinMode::Cancel => Err(Refusal::Agent(Code::Cancelled)),
         PinMode::Error => Err(Refusal::Agent(Code::NoPinentry)),
         PinMode::Loopback => open_by_client(asking, locked, held, conn, desk),
     }
-}
-
-/// Opens a locked key by the user's passphrase, under the seat that the request has or takes.
-fn open_by_user<L: Link, D: Desk, P: Prompter>(
-    asking: &Asking<'_>,
-    locked: &Locked,
-    held: &mut Held,
-    conn: &mut Conn<'_, L>,
-    desk: &mut D,
-    prompter: &mut P,
-) -> Result<OpenedKey, Refusal>
-    requires open { IsOpen conn.old }
-    requires ready { IsReady (D.at desk.old) (P.at prompter.old) held.old }
-    ensures does { LeavesKeys D.turned P.prompted (UncachedOld asking.now.rules.now
-        asking.now.options.now asking.now.grip.now pin_mode.Ask locked.now)
-        held.old conn.old desk.old prompter.old result held.new conn.new desk.new prompter.new }
-    ensures ready { IsReady (D.at desk.new) (P.at prompter.new) held.new }
-    ensures usable { IfOk result (λ opened. IsUsable opened.key) }
-{
-    take_seat(asking.grip, held, desk)?;
-    prompt_old(asking, locked, held, conn, prompter)
 }
 
 /// Opens a locked key by the passphrase that the client itself gives, which is kept.
