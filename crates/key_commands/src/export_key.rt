@@ -31,7 +31,7 @@ use std::alloc::Global;
 /// the reply is written whole or cut by a fault of the link.
 pub(crate) fn export_key<L: Link, D: Desk, P: Prompter, K: Keys>(
     asking: &Asking<'_>,
-    nonce: Option<CacheId>,
+    nonce: &Option<CacheId>,
     wraps: &WrapKeys,
     held: &mut Held,
     conn: &mut Conn<'_, L>,
@@ -44,7 +44,7 @@ pub(crate) fn export_key<L: Link, D: Desk, P: Prompter, K: Keys>(
     requires ready { IsReady (D.at desk.old) (P.at prompter.old) held.old }
     ensures carries { (dice : Side)
         → CarriesOut D.turned P.prompted (ExportKeyReplies asking.now.rules.now
-        asking.now.options.now wraps.now asking.now.grip.now nonce) wraps.now
+        asking.now.options.now wraps.now asking.now.grip.now nonce.now) wraps.now
         (key_state D.turned P.prompted conn.old desk.old prompter.old (K.keys keys.old) dice)
         result wraps.now held.new
         (key_state D.turned P.prompted conn.new desk.new prompter.new (K.keys keys.new) dice) }

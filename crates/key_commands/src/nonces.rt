@@ -11,18 +11,18 @@ use session_client::Refusal;
 
 /// What is cached under a nonce, where there is one. It opens no prompt.
 pub(crate) fn look_for_nonce<D: Desk>(
-    nonce: Option<CacheId>,
+    nonce: &Option<CacheId>,
     held: &mut Held,
     desk: &mut D,
 ) -> Result<Option<Secret>, Refusal>
     requires out { (D.at desk.old).out ≡ held.old }
     ensures turn { TakesTurns D.turned
-        (LooksForNonce nonce) held.old desk.old result held.new desk.new }
+        (LooksForNonce nonce.now) held.old desk.old result held.new desk.new }
     ensures same { held.new ≡ held.old }
     ensures out { (D.at desk.new).out ≡ held.new }
 {
     match nonce {
         None => Ok(None),
-        Some(nonce) => ask_cache(nonce, Mode::Nonce, Way::Quiet, held, desk),
+        Some(nonce) => ask_cache(nonce.copy(), Mode::Nonce, Way::Quiet, held, desk),
     }
 }

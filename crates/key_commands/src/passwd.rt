@@ -59,8 +59,8 @@ pub(crate) fn verify_key<L: Link, D: Desk, P: Prompter, K: Keys>(
 /// PASSWD: a key's file is protected by a new passphrase.
 pub(crate) fn change_passphrase<L: Link, D: Desk, P: Prompter, K: Keys, R: Dice>(
     asking: &Asking<'_>,
-    nonce: Option<CacheId>,
-    new_nonce: Option<CacheId>,
+    nonce: &Option<CacheId>,
+    new_nonce: &Option<CacheId>,
     held: &mut Held,
     conn: &mut Conn<'_, L>,
     desk: &mut D,
@@ -73,7 +73,7 @@ pub(crate) fn change_passphrase<L: Link, D: Desk, P: Prompter, K: Keys, R: Dice>
     requires ready { IsReady (D.at desk.old) (P.at prompter.old) held.old }
     ensures carries { (wraps : Wraps) → CarriesOut D.turned P.prompted
         (PasswdReplies asking.now.rules.now asking.now.options.now wraps asking.now.grip.now
-        nonce new_nonce) wraps (key_state D.turned P.prompted conn.old desk.old prompter.old
+        nonce.now new_nonce.now) wraps (key_state D.turned P.prompted conn.old desk.old prompter.old
         (K.keys keys.old) (R.draws dice.old)) result wraps held.new
         (key_state D.turned P.prompted conn.new desk.new prompter.new (K.keys keys.new)
         (R.draws dice.new)) }

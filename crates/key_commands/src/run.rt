@@ -23,7 +23,7 @@ use crate::went::KeyWent;
 use agent_ask::{Held, Prompter, close};
 use agent_ports::{Dice, Keys, Link};
 use assuan_server::Conn;
-use cache_policy::{CacheId, Desk};
+use cache_policy::Desk;
 use session_client::Refusal;
 use session_options::{Options, Rules};
 use std::alloc::Global;
@@ -104,7 +104,6 @@ fn carry_out<L: Link, D: Desk, P: Prompter, K: Keys, R: Dice>(
         ),
         KeyRequest::ExportKey { grip, nonce } => {
             let asking = Asking::of(alloc, grip, rules, options);
-            let nonce = copied(nonce);
             export_key(&asking, nonce, wraps, held, conn, desk, prompter, keys)
         }
         KeyRequest::Passwd {
@@ -117,8 +116,6 @@ fn carry_out<L: Link, D: Desk, P: Prompter, K: Keys, R: Dice>(
             if *verify {
                 return verify_key(&asking, held, conn, desk, prompter, keys);
             }
-            let nonce = copied(nonce);
-            let new_nonce = copied(new_nonce);
             change_passphrase(
                 &asking, nonce, new_nonce, held, conn, desk, prompter, keys, dice,
             )
@@ -128,15 +125,5 @@ fn carry_out<L: Link, D: Desk, P: Prompter, K: Keys, R: Dice>(
             delete_key(&asking, *force, held, conn, desk, prompter, keys)
         }
         KeyRequest::Bad(code) => Err(Refusal::Agent(*code)),
-    }
-}
-
-/// The same nonce once more.
-fn copied(nonce: &Option<CacheId>) -> Option<CacheId>
-    ensures { result ≡ nonce.now }
-{
-    match nonce {
-        Some(nonce) => Some(nonce.copy()),
-        None => None,
     }
 }

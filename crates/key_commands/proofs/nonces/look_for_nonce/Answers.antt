@@ -6,4 +6,4 @@ pub returns-in-None-clause-turn : goal.returns-in-None-clause-turn
 returns-in-None-clause-turn g c = rw c.in-None.is (still returns refl)
 
 pub returns-in-Some-clause-turn : goal.returns-in-Some-clause-turn
-returns-in-Some-clause-turn g c = rw c.in-Some.is (one (cache_asked c.ask_cache.ensures.turn))
+returns-in-Some-clause-turn g c = rw (c.in-Some.is, ← c.copy.ensures) (one (cache_asked c.ask_cache.ensures.turn))

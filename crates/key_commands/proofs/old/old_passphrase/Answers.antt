@@ -5,7 +5,7 @@ use Rattle.key_commands.proofs.old.old_passphrase.Goals as goal
 
 pub returns-then-is_clear-clause-does : goal.returns-then-is_clear-clause-does
 returns-then-is_clear-clause-does g c =
-    action_still c.requires.open refl (clear_old c.args.asking.now.rules.now c.args.asking.now.options.now c.args.asking.now.grip.now c.args.key c.args.held.now c.args.nonce _ (sym c.is_clear.ensures.clear ∙ c.if-is_clear.true))
+    action_still c.requires.open refl (clear_old c.args.asking.now.rules.now c.args.asking.now.options.now c.args.asking.now.grip.now c.args.key c.args.held.now c.args.nonce.now _ (sym c.is_clear.ensures.clear ∙ c.if-is_clear.true))
 
 pub returns-in_err-locked-clause-does : goal.returns-in_err-locked-clause-does
 returns-in_err-locked-clause-does g c =
