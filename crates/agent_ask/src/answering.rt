@@ -1,5 +1,5 @@
 //! How a session goes on behind its reply: as it would, unless the write failed. Pure. It has one
-//! function, `unless_cut`, which every writer of replies ends with; `specs/Session/Answering` defines it.
+//! function, `unless_cut`, which ends every writer of replies (`specs/Session/Answering`).
 
 ghost use Rattle.std.specs.Prelude.{◌≡◌};
 ghost use Rattle.agent_ask.specs.Session.Answering.{unless_cut};

@@ -44,8 +44,8 @@ pub(crate) fn old_passphrase<L: Link, D: Desk, P: Prompter>(
     requires open { IsOpen conn.old }
     requires ready { IsReady (D.at desk.old) (P.at prompter.old) held.old }
     ensures does { LeavesKeys D.turned P.prompted
-        (OldPassphrase asking.now.rules.now asking.now.options.now asking.now.grip.now nonce.now
-        key) held.old conn.old desk.old prompter.old result held.new conn.new desk.new prompter.new }
+        (OldPassphrase asking.now.rules.now asking.now.options.now asking.now.grip.now nonce.now key)
+        held.old conn.old desk.old prompter.old result held.new conn.new desk.new prompter.new }
     ensures ready { IsReady (D.at desk.new) (P.at prompter.new) held.new }
     ensures usable { IfOk result (λ opened. IsUsable opened.key) }
 {
