@@ -9,7 +9,7 @@ ghost use Rattle.session_options.specs.OptionValues.{OptionValues};
 ghost use Rattle.session_options.specs.declared.rules.Rules.{Rules as TheRules};
 ghost use Rattle.assuan_text.specs.LineEnds.{has_lf};
 ghost use Rattle.key_commands.specs.Exchanges.{KeyInfoReplies, ListKeysReplies};
-ghost use Rattle.key_commands.specs.KeyActions.{TellsListed, WritesInfos};
+ghost use Rattle.key_commands.specs.KeyActions.{WritesInfos};
 ghost use Rattle.key_commands.specs.Lines.{info_line, info_text};
 ghost use Rattle.key_commands.specs.{Partial.{DoesKeyAction, NoCall}, Replies.CarriesOut};
 ghost use Rattle.key_commands.specs.{States.key_state, declared.keywrap_key.WrapKeys.WrapKeys};
@@ -71,8 +71,8 @@ pub(crate) fn list_keys<L: Link, D: Desk, K: Keys>(
     Ok(Reply::Ok)
 }
 
-/// Writes a line for each of these keys.
-pub(crate) fn write_infos<L: Link, D: Desk, K: Keys>(
+/// Writes a line for each of these keys that isn't passed over.
+fn write_infos<L: Link, D: Desk, K: Keys>(
     alloc: Global,
     grips: &[Grip],
     held: &Held,
@@ -88,34 +88,13 @@ pub(crate) fn write_infos<L: Link, D: Desk, K: Keys>(
     ensures out { (D.at desk.new).out ≡ held.now }
 {
     for grip in grips {
-        tell_listed(alloc, grip, held, conn, desk, keys)?;
+        let Some(key) = read_listed(alloc, grip, keys)? else {
+            continue;
+        };
+        let cached = peek(grip, held, desk)?;
+        info_line(grip, cached, key.is_clear()).write(conn)?;
     }
     Ok(())
-}
-
-/// Writes the line of a listed key, unless it is passed over.
-fn tell_listed<L: Link, D: Desk, K: Keys>(
-    alloc: Global,
-    grip: &Grip,
-    held: &Held,
-    conn: &mut Conn<'_, L>,
-    desk: &mut D,
-    keys: &mut K,
-) -> Result<(), Refusal>
-    requires open { IsOpen conn.old }
-    requires out { (D.at desk.old).out ≡ held.now }
-    ensures tells { (dice : Side) → DoesKeyAction D.turned NoCall (TellsListed grip.now) held.now
-        (key_state D.turned NoCall conn.old desk.old tt (K.keys keys.old) dice) result held.now
-        (key_state D.turned NoCall conn.new desk.new tt (K.keys keys.new) dice) }
-    ensures out { (D.at desk.new).out ≡ held.now }
-{
-    match read_listed(alloc, grip, keys)? {
-        Some(key) => {
-            let cached = peek(grip, held, desk)?;
-            Ok(info_line(grip, cached, key.is_clear()).write(conn)?)
-        }
-        None => Ok(()),
-    }
 }
 
 /// The line of a key: whether its passphrase is cached, and whether its file is clear.
