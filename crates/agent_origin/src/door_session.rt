@@ -8,7 +8,7 @@ ghost use Rattle.{agent_ask.specs.Prompters.IsShut, assuan_server.specs.Connecti
 ghost use Rattle.assuan_server.specs.Written.{ok};
 ghost use Rattle.agent_origin.specs.DoorSessions.{door_help, ServesDoor};
 ghost use Rattle.agent_origin.specs.{TrustExchanges.AnswersTrust, PortStates.surroundings};
-ghost use Rattle.agent_origin.specs.TrustRequests.trust_request_of;
+ghost use Rattle.agent_origin.specs.TrustRequests.{trust_request_of};
 ghost use Rattle.agent_origin.specs.Serving.{SaysText, may_say, command_at};
 
 use crate::door::{Door, allows, sets_terminal};

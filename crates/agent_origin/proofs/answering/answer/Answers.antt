@@ -25,12 +25,12 @@ returns-in-Some-Trust-clause-answers g c =
     (sym c.door_command.ensures ∙ c.in-Some-Trust.is ∙ ap (λ (d : DoorCommand). Some d) c.in-Some-Trust.field-0-is)
     (c.answer_trust.ensures.answers (g.K.Keys.keys c.args.keys.now) (g.R.Dice.draws c.args.dice.now))
 
-pub returns-in-Some-quiet-clause-answers : goal.returns-in-Some-quiet-clause-answers
-returns-in-Some-quiet-clause-answers g c =
+pub returns-in-Some-clause-answers : goal.returns-in-Some-clause-answers
+returns-in-Some-clause-answers g c =
     session_line_is_answered g.D.Desk.turned g.P.Prompter.prompted c.args.door c.args.rules.now c.args.line.now (sym c.may_say.ensures ∙ c.if-not-may_say.false) (sym c.door_command.ensures ∙ c.in-None.is)
     (trust_beside g.D.Desk.turned g.P.Prompter.prompted (g.T.TrustFile.trust c.args.trust.now)
     (quiet_beside g.D.Desk.turned g.P.Prompter.prompted c.args.rules.now (g.K.Keys.keys c.args.keys.now) (g.R.Dice.draws c.args.dice.now) c.args.kept.now.wraps (request_of c.args.line.now) c.args.prompter.now
-    (c.run_quiet.ensures.answers c.args.rules.now c.args.kept.now.options c.args.line.now (sym (rw c.of_cut-request.ensures at c.quiet.ensures) ∙ c.in-Some-quiet.is))))
+    (c.run_quiet.ensures.answers c.args.rules.now c.args.kept.now.options c.args.line.now (sym (rw c.of_cut-request.ensures at c.quiet.ensures) ∙ c.in-Some.is))))
 
 pub returns-clause-answers : goal.returns-clause-answers
 returns-clause-answers g c =
