@@ -1,7 +1,8 @@
 -- What the laws on whole runs say of what the agent does: of a run of a server, of a daemon with each of its workers and each of their sessions, and of a load. This is the project's own.
 use Rattle.std.specs.{List.AllByRecursion, Prelude.{◌<◌, ◌+◌, ◌-◌, ◌^◌, ℕ, List, [], ◌∷◌, Option, None, ⊤}}
 use Rattle.{agent_ask.specs.Session.SessionEvents.turns_in, agent_commands.specs.{Requests.request_of, Talks.Session, declared.went.SessionEnd.SessionEnd}, agent_origin.specs.{DoorSessions.DoorExchange, PortStates.PortWorld}}
-use Rattle.agent_origin.specs.{OuterPrompts.{no_words, PromptsName}, OuterRuns.LeavesDesk, OuterTurns.LeavesCache, SessionExchanges.kept_at_start, Sessions.supply_of, declared.{door.Door.{Door, TheVariants.{Home, Outer}}, session_state.SessionState.SessionState}}
+use Rattle.agent_origin.specs.{OuterPrompts.{no_words, PromptsName}, OuterRuns.LeavesDesk, OuterTurns.LeavesCache, SessionExchanges.kept_at_start}
+use Rattle.agent_origin.specs.{Sessions.supply_of, declared.{door.Door.{Door, TheVariants.{Home, Outer}}, session_state.SessionState.SessionState}}
 use Rattle.{agent_ports.specs.{Counts.Rose, HostParts.Views, Sides.Side, TrustFiles.TrustState, declared.{listener.Next.TheVariants.Stopped, session.SessionId.SessionId}}, agent_serve.specs.Prompts.HavePrompts}
 use Rattle.{agent_serve.specs.{Serves.{LinkSides, ServesOne, at_pass}, Working.{HostViews, Post, ServesLinks, none, one_more, Works, WorkEach}}, agent_session.specs.Causes.Has}
 use Rattle.agent_session.specs.{Completeness.{AnswersAll, CausedAtDoor, FaultlessAtDoor, IsStopped, Remembers}, OwnPassphrases.HandsIn, Refusals.AnswersAlone, RunExchanges.{ExchangeBetween, Saying}}

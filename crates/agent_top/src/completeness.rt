@@ -68,12 +68,9 @@ pub fn a_daemon_without_faults_ends_well<H: Host>()
 /// the session. `serve_one` says of its sessions what is supposed here.
 pub fn a_session_of_a_daemon_without_faults_is_answered<H: Host>()
     ensures { (path : List ℕ) (rules : Rules) (door : Door) (session : SessionId)
-        (before after : LinkSides) (pass now : AtPass) (end : Ends) (one : ServesOne (record {
-          launches = H.Launcher.launches;
-          readings = H.Clock.readings;
-          draws = H.Dice.draws;
-          keys = H.Keys.keys;
-        }) H.Trust.trust path rules door session before pass end after now)
+        (before after : LinkSides) (pass now : AtPass) (end : Ends)
+        (one : ServesOne (⟦<H as ViewedHost>⟧.views path).parts H.Trust.trust path rules door
+        session before pass end after now)
         → NoFaultOfOne one → AllByRecursion Remembers one.served.events
         → AnswersAll (FaultlessAtDoor door rules) rules one.served.events end }
 {
@@ -84,12 +81,9 @@ pub fn a_session_of_a_daemon_without_faults_is_answered<H: Host>()
 /// whatever failed.
 pub fn each_error_of_a_daemon_has_its_cause<H: Host>()
     ensures { (path : List ℕ) (rules : Rules) (door : Door) (session : SessionId)
-        (before after : LinkSides) (pass now : AtPass) (end : Ends) (one : ServesOne (record {
-          launches = H.Launcher.launches;
-          readings = H.Clock.readings;
-          draws = H.Dice.draws;
-          keys = H.Keys.keys;
-        }) H.Trust.trust path rules door session before pass end after now)
+        (before after : LinkSides) (pass now : AtPass) (end : Ends)
+        (one : ServesOne (⟦<H as ViewedHost>⟧.views path).parts H.Trust.trust path rules door
+        session before pass end after now)
         → Session (CausedAtDoor door rules) (kept_at_start rules) one.served.events end }
 {
     a_pinentry_is_a_prompter();

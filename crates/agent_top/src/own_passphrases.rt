@@ -19,12 +19,9 @@ use agent_serve::ViewedHost;
 /// run that does so is a turn of it, and the passphrase is of the last line that it had read.
 pub fn a_session_of_a_daemon_stores_its_own<H: Host>()
     ensures { (path : List ℕ) (rules : Rules) (door : Door) (session : SessionId)
-        (before after : LinkSides) (pass now : AtPass) (end : Ends) → (one : ServesOne (record {
-          launches = H.Launcher.launches;
-          readings = H.Clock.readings;
-          draws = H.Dice.draws;
-          keys = H.Keys.keys;
-        }) H.Trust.trust path rules door session before pass end after now)
+        (before after : LinkSides) (pass now : AtPass) (end : Ends) →
+        (one : ServesOne (⟦<H as ViewedHost>⟧.views path).parts H.Trust.trust path rules door
+        session before pass end after now)
         → (mark : Mark) → Has mark one.own → HandsIn mark.step
         → IsOwnTurn door rules one.served.events mark }
 {}

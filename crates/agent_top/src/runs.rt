@@ -13,6 +13,7 @@ ghost use Rattle.counted_lock.specs.Passes.{AtPass};
 ghost use Rattle.session_options.specs.declared.rules.Rules.{Rules};
 
 use agent_ports::Host;
+use agent_serve::ViewedHost;
 use pinentry_client::a_pinentry_is_a_prompter;
 
 /// The laws on single requests hold of each exchange of a run, between the states of its desk and
@@ -34,12 +35,9 @@ pub fn each_request_of_a_server_is_lawful()
 /// of the lines that are allowed at its door and aren't the door's own to answer.
 pub fn each_request_of_a_daemon_is_lawful<H: Host>()
     ensures { (path : List ℕ) (rules : Rules) (door : Door) (session : SessionId)
-        (before after : LinkSides) (pass now : AtPass) (end : Ends) (one : ServesOne (record {
-          launches = H.Launcher.launches;
-          readings = H.Clock.readings;
-          draws = H.Dice.draws;
-          keys = H.Keys.keys;
-        }) H.Trust.trust path rules door session before pass end after now)
+        (before after : LinkSides) (pass now : AtPass) (end : Ends)
+        (one : ServesOne (⟦<H as ViewedHost>⟧.views path).parts H.Trust.trust path rules door
+        session before pass end after now)
         → IsLawfulSession one }
 {
     a_pinentry_is_a_prompter();

@@ -71,22 +71,15 @@ where
         (⟦<H as ViewedHost>⟧.views rules.homedir.items) (with_pid (H.process host.old) rules)
         (H.listens host.old) (S.output stdio.old) result
         (H.listens host.new) (S.output stdio.new) × (S.input stdio.new ≡ S.input stdio.old)
-        × KeepsParts (record {
-          launches = H.Launcher.launches;
-          readings = H.Clock.readings;
-          draws = H.Dice.draws;
-          keys = H.Keys.keys;
-        }) rules.homedir.items (H.server host.old) (H.server host.new))) }
+        × KeepsParts (⟦<H as ViewedHost>⟧.views rules.homedir.items).parts
+        rules.homedir.items (H.server host.old) (H.server host.new))) }
     // Words for a load: it was served, and its line was written, unless there was no memory.
     // Nothing is read, and the host keeps its parts.
     ensures load { IfSome (rules_of (map string_bytes words.now))
         (λ rules. IfLoad rules.run (λ number. RunsLoad number (S.output stdio.old) result
-        (S.output stdio.new) × (S.input stdio.new ≡ S.input stdio.old) × KeepsParts (record {
-          launches = H.Launcher.launches;
-          readings = H.Clock.readings;
-          draws = H.Dice.draws;
-          keys = H.Keys.keys;
-        }) rules.homedir.items (H.server host.old) (H.server host.new))) }
+        (S.output stdio.new) × (S.input stdio.new ≡ S.input stdio.old)
+        × KeepsParts (⟦<H as ViewedHost>⟧.views rules.homedir.items).parts
+        rules.homedir.items (H.server host.old) (H.server host.new))) }
     // The host stays settled at the folder of the words.
     ensures homedir { IfSome (rules_of (map string_bytes words.now)) (λ rules.
         (H.homedir host.new ≡ rules.homedir.items) ⊎ (HadNoMemory result × (host.new ≡ host.old))) }
@@ -112,12 +105,8 @@ where
 /// Settles the host at the folder of the rules.
 fn settle<H: Host>(rules: &Rules, host: &mut H)
     ensures homedir { H.homedir host.new ≡ rules.now.homedir.items }
-    ensures parts { AreSettled (record {
-      launches = H.Launcher.launches;
-      readings = H.Clock.readings;
-      draws = H.Dice.draws;
-      keys = H.Keys.keys;
-    }) rules.now.homedir.items (H.server host.old) (H.server host.new) }
+    ensures parts { AreSettled (⟦<H as ViewedHost>⟧.views rules.now.homedir.items).parts
+        rules.now.homedir.items (H.server host.old) (H.server host.new) }
     ensures process { H.process host.new ≡ H.process host.old }
     ensures listens { H.listens host.new ≡ H.listens host.old }
 {
