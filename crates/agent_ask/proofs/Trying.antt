@@ -1,11 +1,10 @@
 -- Tests one after another, the last of them, and tries by rules that are the same.
 use Rattle.std.{proofs.Common.{◌≡◌, ◌≢◌, ℕ, List, [], ◌∷◌, ◌++◌, Option, Some, None, Result, Ok, Err, refl, ap, sym, ◌∙◌, subst, append_assoc}, specs.Option.option_map}
-use Rattle.agent_ports.{specs.Leads.{none, one}, proofs.Leading.leads_then}
+use Rattle.{agent_ports.{specs.Leads.{none, one}, proofs.Leading.leads_then}, session_client.specs.declared.{client_error.ClientError.ClientError, refusal.Refusal.TheVariants.{Agent, Client}}}
 use Rattle.agent_ask.specs.{Doing.HasEvents, Events.PromptEvent, Prompts.{IsTry, ended, weak, bad, untested, accepted, Repeats, same, Tries, good, over, again, AsksBefore, tried, AsksPinBy}}
-use Rattle.agent_ask.specs.{Tests.{SameRule, IsTest, PinTest, test_of, Tests, WithTests, EndsBy, EndsAccepted, EndsOutOfMemory}, declared.{prompt.{ask.Asked.Asked, spec.{AskPlan.AskPlan, PromptSpec.PromptSpec}, test.Tested.{Tested, TheVariants.{Yes, NoMemory}}, tries.Failure.Failure}, client.caller.Heard.Heard}}
-use Rattle.agent_ask.{specs.declared.prompt.tries.Stop.Stop, proofs.{Making.made_then, Stopping.{never_stops, never_repeats}}}
-use Rattle.agent_ask.specs.{Callers.unheard_of, PinActions.IsGiven}
-use Rattle.session_client.specs.declared.{client_error.ClientError.ClientError, refusal.Refusal.TheVariants.{Agent, Client}}
+use Rattle.agent_ask.specs.{Tests.{SameRule, IsTest, PinTest, test_of, Tests, WithTests, EndsBy, EndsAccepted, EndsOutOfMemory}, declared.prompt.{ask.Asked.Asked, spec.{AskPlan.AskPlan, PromptSpec.PromptSpec}, test.Tested.Tested}}
+use Rattle.agent_ask.{specs.{declared.{prompt.{test.Tested.TheVariants.{Yes, NoMemory}, tries.{Failure.Failure, Stop.Stop}}, client.caller.Heard.Heard}, Callers.unheard_of, PinActions.IsGiven}, proofs.Making.made_then}
+use Rattle.agent_ask.proofs.Stopping.{never_stops, never_repeats}
 use Rattle.session_client.specs.declared.code.Code.TheVariants as code
 use Rattle.agent_ask.specs.declared.prompt.ask.Asked.TheVariants as asked
 use Rattle.agent_ask.specs.declared.prompt.tries.Stop.TheVariants as stop

@@ -1,8 +1,9 @@
 -- Prompts of which the client isn't told, as worked examples have them: by the calls of the prompter alone.
-use Rattle.std.proofs.Common.{◌≡◌, ◌≤◌, ℕ, false, List, [], ◌∷◌, ◌++◌, None, refl, ap, arith}
+use Rattle.std.proofs.Common.{◌≡◌, ◌≤◌, ℕ, false, List, [], ◌∷◌, ◌++◌, None, Ok, refl, ap, arith}
 use Rattle.session_client.specs.Lines.{Lines}
-use Rattle.agent_ask.specs.{ConsentActions.PromptsConsent, Consents.{agreed_of, ConsentBefore}, Events.{Call, Start, Confirm, Shut, PromptEvent, Called}, Session.PortCalls.{EventOf, Prompt}, PinActions.PromptsPin, Prompts.{Opens, Tries, AsksBefore}}
+use Rattle.agent_ask.specs.{ConsentActions.PromptsConsent, Consents.{agreed_of, ConsentBefore}, Events.{Call, Start, Confirm, Shut, PromptEvent, Called}, Session.PortCalls.{EventOf, Prompt}, PinActions.{PromptsPin, IsAnyGiven}, Prompts.{Opens, Tries, AsksBefore}}
 use Rattle.agent_ask.specs.{Session.SessionEvents.Port, SessionPrompts.AnyInSession, Tests.PinTest, declared.prompt.{ask.Asked.Asked, prompter.Consent.Consent, spec.{AskPlan.AskPlan, PromptSpec.PromptSpec}}}
+use Rattle.agent_ask.specs.declared.prompt.ask.Asked.TheVariants as asked
 use Rattle.agent_ask.specs.declared.prompt.prompter.Opened.TheVariants as opened
 
 -- the three tries of a prompt
@@ -14,6 +15,10 @@ second_try = omega arith
 
 pub third_try : 3 ≤ 3
 third_try = omega arith
+
+-- any passphrase is right
+pub any_given : {pin : List ℕ} → IsAnyGiven (asked.Pin pin) (Ok pin)
+any_given = (λ is. cc is, refl)
 
 -- calls as events of a prompt
 abbrev pub called_by : List Call → List PromptEvent

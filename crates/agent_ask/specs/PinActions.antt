@@ -1,7 +1,8 @@
 -- Prompts for a passphrase as actions of a request. The codes are this project's own.
-use Rattle.std.specs.{Prelude.{◌≡◌, List, ℕ, Option, Some, None, Result, Ok, Err}, Option.option_map}
-use Rattle.session_client.specs.{Lines.Lines, declared.refusal.Refusal.{Refusal, TheVariants.{Agent, Pinentry, Client}}}
-use Rattle.agent_ask.specs.{Callers.unheard_of, Events.PromptEvent, Session.PortCalls.EventOf, Prompts.{AsksPin, AsksPinBy}, SessionPrompts.AnyInSession, declared.prompt.{ask.Asked.Asked, spec.{AskPlan.AskPlan, PromptSpec.PromptSpec}, test.Tested.Tested}}
+use Rattle.std.specs.{Prelude.{◌≡◌, ◌≢◌, Bool, List, ℕ, Option, Some, None, Result, Ok, Err}, Option.option_map}
+use Rattle.{arrayvec.specs.ArrayVec.ArrayVec, session_client.specs.{Lines.Lines, declared.refusal.Refusal.{Refusal, TheVariants.{Agent, Pinentry, Client}}}, session_options.specs.{OptionValues.OptionValues, declared.rules.Rules.Rules}}
+use Rattle.agent_ask.specs.{Callers.unheard_of, Events.PromptEvent, Session.PortCalls.EventOf, Plans.IsSpec, Prompts.{AsksPin, AsksPinBy}, SessionPrompts.AnyInSession, declared.prompt.{ask.Asked.Asked, spec.AskPlan.AskPlan}}
+use Rattle.agent_ask.specs.declared.prompt.{spec.PromptSpec.PromptSpec, test.Tested.Tested}
 use Rattle.session_client.specs.declared.code.Code.TheVariants as code
 use Rattle.agent_ask.specs.declared.prompt.ask.Asked.TheVariants as asked
 
@@ -25,6 +26,16 @@ pin_refusal asked.NoMemory = Some (Agent code.NoMemory)
 abbrev pub IsGiven : Asked → Result (List ℕ) Refusal → Type 0
 IsGiven answer (Ok pin) = answer ≡ asked.Pin pin
 IsGiven answer (Err why) = pin_refusal answer ≡ Some why
+
+-- the same where every passphrase is right: its test wants no memory
+abbrev pub IsAnyGiven : Asked → Result (List ℕ) Refusal → Type 0
+IsAnyGiven answer result = answer ≢ asked.NoMemory × IsGiven answer result
+
+-- one prompt with these words and by this plan, under the ticket that the request holds: its events, and how the request goes on by its answer
+pub data PromptsFor {A : Type 0} (lines : Lines) (rules : Rules) (options : OptionValues) (description field : ArrayVec ℕ) (quality : Bool) (plan : AskPlan) (Rule : List ℕ → Type 0)
+    (Gives : Asked → Result A Refusal → Type 0) : Option ℕ → List (EventOf lines) → Result A Refusal → Option ℕ → Type 0 where
+  prompted : {ticket : ℕ} {shown : List (EventOf lines)} {answer : Asked} {result : Result A Refusal} (spec : PromptSpec) → IsSpec rules options description field quality spec
+      → PromptsPin lines spec plan Rule shown answer → Gives answer result → PromptsFor lines rules options description field quality plan Rule Gives (Some ticket) shown result (Some ticket)
 
 -- one prompt for a passphrase: its events, and how a request goes on by its answer
 pub record AsksFor {T : Type 0} (tested : T → List ℕ → Tested → T → Type 0) (before after : T) (spec : PromptSpec) (plan : AskPlan) (Rule : List ℕ → Type 0)

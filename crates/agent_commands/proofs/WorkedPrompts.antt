@@ -2,7 +2,8 @@
 use Rattle.std.{specs.{Prelude.{⊤, ◌≡◌, ◌++◌, ℕ, List, [], ◌∷◌, codes, true, false, Some, None, refl}, Fmt.digits}, proofs.{Common.{arith, ap, length}, lemmas.List.Elements.{All-cons, All-nil}}}
 use Rattle.{arrayvec.specs.ArrayVec.ArrayVec, agent_ask.specs.{Events.{Call, Start, GetPin, Confirm, Shut, Called, Notified}, Session.{PortCalls.Prompt, ActionExchanges.{answered, refused}, Actions.{returns, goes_on, stops}}}}
 use Rattle.agent_ask.specs.{Plans.{IsSpec, plan_of, text}, Prompts.{MeetsCheck, typed, repeat_text, Opens, Tries, IsTry, Repeats}, Session.SessionEvents.{Sent, Port, cache_turn}, SessionPrompts.{AnyInSession, note}, Tests.test_of}
-use Rattle.agent_ask.{specs.{Session.TurnActions.{opened, unheld, closed}, declared.prompt.{spec.{AskPlan.AskPlan, PromptSpec.PromptSpec}, test.Tested.TheVariants.Yes}}, proofs.WorkedPrompts.{called_by, shown_by, prompts, first_try, second_try, third_try}}
+use Rattle.agent_ask.specs.{Session.TurnActions.{opened, unheld, closed}, PinActions.prompted, declared.prompt.{spec.{AskPlan.AskPlan, PromptSpec.PromptSpec}, test.Tested.TheVariants.Yes}}
+use Rattle.agent_ask.proofs.WorkedPrompts.{any_given, called_by, shown_by, prompts, first_try, second_try, third_try}
 use Rattle.{assuan_escape.specs.DataLines.IsPiece, assuan_server.specs.{Clients.session_lines, Written.{failed, failed_at_pinentry, ok, IsDataAnswer}}, cache_policy.specs.declared.mark.MarkStep.TheVariants.{Seat, Close}}
 use Rattle.{cache_policy.specs.Turns.{Open, Done}, session_client.specs.{Asking.Asked, declared.refusal.Refusal.TheVariants.{Agent, Pinentry, Client}}, session_options.specs.{OptionValues.OptionValues, declared.rules.Rules.Rules}}
 use Rattle.agent_commands.specs.{Exchanges.{reply, tells, CacheExchange}, Actions.CacheEvent, Passphrases.ask_or_open, Requests.{GetFields, get_passphrase}, declared.request.CacheCommand.TheVariants.GetConfirmation}
@@ -19,7 +20,6 @@ use Rattle.assuan_server.specs.Inquiries as answers
 use Rattle.session_client.specs.declared.code.Code.TheVariants as code
 use Rattle.session_client.specs.declared.client_error.ClientError.TheVariants as client_error
 use Rattle.session_options.specs.declared.options.PinMode.TheVariants as mode
-use Rattle.agent_commands.specs.Passphrases as passphrases
 
 -- some lines, as they are written
 abbrev written_lines : List (List ℕ) → List ℕ
@@ -91,7 +91,7 @@ module _ (rules : Rules) (options : OptionValues) (spec : PromptSpec) (ticket pi
         (goes_on {first = seated ∷ (shown (start ∷ GetPin [] (outcome.Pin escaped) ∷ Shut ∷ []) ++ cache_turn (Close ticket (Some escaped)) Done ∷ [])}
         (goes_on (opened tt)
         (goes_on {first = shown (start ∷ GetPin [] (outcome.Pin escaped) ∷ Shut ∷ [])}
-        (passphrases.given spec is_spec (prompts session_lines pid (GetPin [] (outcome.Pin escaped) ∷ []) refl (Tries.good first_try (IsTry.accepted tt tt Repeats.same))))
+        (prompted spec is_spec (prompts session_lines pid (GetPin [] (outcome.Pin escaped) ∷ []) refl (Tries.good first_try (IsTry.accepted tt tt Repeats.same))) any_given)
         (goes_on (closed Done tt) returns)))
         (goes_on (tells escaped_data) returns)) unheld
 
@@ -100,7 +100,7 @@ module _ (rules : Rules) (options : OptionValues) (spec : PromptSpec) (ticket pi
         (seated ∷ (shown (start ∷ GetPin [] outcome.Cancelled ∷ Shut ∷ []) ++ cache_turn (Close ticket None) Done ∷ Sent (failed_at_pinentry code.Cancelled) ∷ [])) asking On
     cancelled = refused (seated ∷ shown (start ∷ GetPin [] outcome.Cancelled ∷ Shut ∷ [])) (Some ticket) (Pinentry code.Cancelled)
         (stops (goes_on (opened tt)
-        (stops (passphrases.refused spec is_spec (prompts session_lines pid (GetPin [] outcome.Cancelled ∷ []) refl (Tries.over first_try (IsTry.ended outcome.Cancelled refl))) (λ is. cc is) refl)))) (closed Done tt)
+        (stops (prompted spec is_spec (prompts session_lines pid (GetPin [] outcome.Cancelled ∷ []) refl (Tries.over first_try (IsTry.ended outcome.Cancelled refl))) (λ is. cc is, refl))))) (closed Done tt)
 
 -- ---- a passphrase that is checked, and repeated once
 
@@ -163,13 +163,13 @@ module _ (rules : Rules) (options : OptionValues) (spec : PromptSpec) (ticket pi
         (reply ready (written_lines (codes "D abcdefg1" ∷ codes "OK" ∷ [])))
         (goes_on {first = cache_turn (Seat None None) (Open ticket) ∷ (shown (begin ∷ (three_tries ++ Shut ∷ [])) ++ cache_turn (Close ticket (Some (codes "abcdefg1"))) Done ∷ [])}
         (goes_on (goes_on (opened tt) returns)
-        (goes_on {first = shown (begin ∷ (three_tries ++ Shut ∷ []))} (passphrases.given spec is_spec (prompts session_lines pid three_tries refl three)) (goes_on (closed Done tt) returns)))
+        (goes_on {first = shown (begin ∷ (three_tries ++ Shut ∷ []))} (prompted spec is_spec (prompts session_lines pid three_tries refl three) any_given) (goes_on (closed Done tt) returns)))
         (goes_on (tells checked_data) returns)) unheld
 
     none_is_good : CacheExchange checking ready (Cache (get_passphrase checked))
         (cache_turn (Seat None None) (Open ticket) ∷ (shown (begin ∷ (three_weak ++ Shut ∷ [])) ++ cache_turn (Close ticket None) Done ∷ Sent (failed code.BadPass) ∷ [])) ready On
     none_is_good = refused (cache_turn (Seat None None) (Open ticket) ∷ shown (begin ∷ (three_weak ++ Shut ∷ []))) (Some ticket) (Agent code.BadPass)
-        (stops (goes_on (goes_on (opened tt) returns) (stops (passphrases.refused spec is_spec (prompts session_lines pid three_weak refl none_good) (λ is. cc is) refl)))) (closed Done tt)
+        (stops (goes_on (goes_on (opened tt) returns) (stops (prompted spec is_spec (prompts session_lines pid three_weak refl none_good) (λ is. cc is, refl))))) (closed Done tt)
 
 -- ---- consent, and a client that is told of a prompt
 

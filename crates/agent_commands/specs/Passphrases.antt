@@ -1,10 +1,9 @@
 -- How GET_PASSPHRASE comes by a passphrase (GnuPG manual, "Agent GET_PASSPHRASE"). The codes, the texts and the order of what is done are this project's own.
-use Rattle.std.specs.Prelude.{◌≡◌, ◌≢◌, ℕ, Bool, true, false, List, Option, Some, None, Result, Ok, Err, ⊤}
-use Rattle.agent_ask.specs.{Session.{Actions.{◌>>=◌, Returns, Refuses, needed, or_else}, TurnActions.{Asks, Seats, Changes, Closes}}, Plans.{IsSpec, plan_of}, declared.prompt.{ask.Asked.Asked, spec.PromptSpec.PromptSpec}, PinActions.{PromptsPin, pin_refusal}}
+use Rattle.std.specs.Prelude.{ℕ, Bool, true, false, List, Option, Some, None, ⊤}
+use Rattle.agent_ask.specs.{Session.{Actions.{◌>>=◌, Returns, Refuses, needed, or_else}, TurnActions.{Asks, Seats, Changes, Closes}}, Plans.plan_of, PinActions.{PromptsFor, IsAnyGiven}}
 use Rattle.{assuan_server.specs.Clients.session_lines, cache_policy.specs.declared.{life.Life.TheVariants.Default, mark.{MarkStep.{MarkStep, TheVariants.{Ask, Seat, Put}}, Way.TheVariants.{Quiet, Prompt}}, mode.Mode.TheVariants.User}}
-use Rattle.{session_client.specs.declared.refusal.Refusal.{Refusal, TheVariants.Agent}, session_options.specs.{OptionValues.OptionValues, declared.{options.PinMode.PinMode, rules.Rules.Rules}}}
-use Rattle.agent_commands.specs.{Actions.{CacheEvent, AsksPassphrase, CacheAction}, Requests.GetFields, declared.request.Texts.Texts}
-use Rattle.agent_ask.specs.declared.prompt.ask.Asked.TheVariants as asked
+use Rattle.{session_client.specs.declared.refusal.Refusal.TheVariants.Agent, session_options.specs.{OptionValues.OptionValues, declared.{options.PinMode.PinMode, rules.Rules.Rules}}}
+use Rattle.agent_commands.specs.{Actions.{AsksPassphrase, CacheAction}, Requests.GetFields, declared.request.Texts.Texts}
 use Rattle.session_client.specs.declared.code.Code.TheVariants as code
 use Rattle.session_options.specs.declared.options.PinMode.TheVariants as mode
 
@@ -61,13 +60,9 @@ WithoutPrompt id mode = do
 module _ (rules : Rules) (options : OptionValues) where
   -- what the user is asked by, where these are the texts, and what is shown and how often by the rest of the line
   module _ (texts : Texts) (check quality : Bool) (repeat : ℕ) where
-    -- One prompt under the ticket that the request holds, at which every passphrase is right. Its test wants no memory.
-    pub data PromptsAny : Option ℕ → List CacheEvent → Result (List ℕ) Refusal → Option ℕ → Type 0 where
-      given : {ticket : ℕ} {shown : List CacheEvent} {pin : List ℕ} (spec : PromptSpec) → IsSpec rules options texts.description texts.prompt quality spec
-          → PromptsPin session_lines spec (plan_of rules options texts.error check repeat) (λ pin. ⊤) shown (asked.Pin pin) → PromptsAny (Some ticket) shown (Ok pin) (Some ticket)
-      refused : {ticket : ℕ} {shown : List CacheEvent} {answer : Asked} {why : Refusal} (spec : PromptSpec) → IsSpec rules options texts.description texts.prompt quality spec
-          → PromptsPin session_lines spec (plan_of rules options texts.error check repeat) (λ pin. ⊤) shown answer → answer ≢ asked.NoMemory
-          → pin_refusal answer ≡ Some why → PromptsAny (Some ticket) shown (Err why) (Some ticket)
+    -- one prompt at which every passphrase is right
+    abbrev pub PromptsAny : CacheAction (List ℕ)
+    PromptsAny = PromptsFor session_lines rules options texts.description texts.prompt quality (plan_of rules options texts.error check repeat) (λ pin. ⊤) IsAnyGiven
 
     -- the user is asked, and what is given is kept as the ticket is given back
     abbrev pub Prompts : CacheAction (List ℕ)

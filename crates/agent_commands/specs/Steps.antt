@@ -1,6 +1,7 @@
 -- Private: what the steps of a request know, and what is written for it, once all else is done.
 use Rattle.std.specs.Prelude.{◌≡◌, ℕ, Bool, List, decimal, Option, None, Result, Ok as Whole, Err as Part}
-use Rattle.{agent_ask.specs.{Events.Call, Session.{PortCalls.PortCall, Actions.Refuses, ActionReplies.{RespondsBy, CarriesBy}, ActionStates.{ActionState, action_state, DoesAction, DoesPrompts, NoTurn, NoEnd, DoesTurns}}}, assuan_server.specs.Clients.connection_views}
+use Rattle.agent_ask.specs.{Events.Call, Session.{PortCalls.PortCall, Actions.Refuses, ActionReplies.{RespondsBy, CarriesBy}, ActionStates.{ActionState, action_state, DoesAction, DoesPrompts, NoTurn, NoEnd, DoesTurns}}}
+use Rattle.assuan_server.specs.Clients.{connection_views}
 use Rattle.{assuan_server.specs.{Connections.Connection, Written.{refusal_line, ok, IsDataAnswer}}, cache_policy.specs.{declared.mark.MarkStep.MarkStep, Turns.Turn}, session_client.specs.declared.refusal.Refusal.Refusal}
 use Rattle.{session_client.specs.declared.refusal.Refusal.TheVariants.Agent, session_options.specs.{OptionValues.OptionValues, declared.options.OptionAnswer.{OptionAnswer, TheVariants.{Set, Unknown, Parameter, NotSupported}}}}
 use Rattle.session_options.specs.declared.rules.Rules.{Rules}

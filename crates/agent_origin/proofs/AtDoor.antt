@@ -4,7 +4,8 @@ use Rattle.{agent_ask.{specs.{Events.Call, Session.ActionExchanges.AnyExchange},
 use Rattle.{assuan_server.specs.Written.{failed, ok, refusal_line}, session_client.specs.declared.code.Code.TheVariants.Forbidden, cache_policy.specs.{declared.mark.MarkStep.MarkStep, Turns.Turn}}
 use Rattle.session_options.specs.declared.rules.Rules.{Rules}
 use Rattle.agent_origin.specs.{DoorSessions.{door_help, helped, unset, trusts, any, exchange_at, forbidden, is_allowed}, TrustExchanges.TrustReplies, PortStates.{PortWorld, PortState}}
-use Rattle.agent_origin.specs.{TrustRequests.trust_request_of, SessionExchanges.SessionExchange, Serving.{SaysText, may_say, command_at}, declared.{door.Door.Door, session_state.SessionState.SessionState, door_session.DoorCommand.TheVariants.{Help, Trust, Terminal}}}
+use Rattle.agent_origin.specs.{TrustRequests.trust_request_of, SessionExchanges.SessionExchange, Serving.{SaysText, may_say, command_at}}
+use Rattle.agent_origin.specs.declared.{door.Door.Door, session_state.SessionState.SessionState, door_session.DoorCommand.TheVariants.{Help, Trust, Terminal}}
 use Rattle.agent_origin.proofs.Serving.{text_answers}
 
 module _ {D P : Type 0} (turned : D → MarkStep → Turn → D → Type 0) (prompted : P → Call → P → Type 0) where

@@ -1,14 +1,13 @@
 -- What is so of all that is done for a line of a session. And so each event is so, where each but a read request and a call of the trust file is: no line of
 -- a session calls the trust file, but by the commands on it.
-use Rattle.std.proofs.Common.{◌≡◌, ◌∙◌, ℕ, Bool, true, false, List, Option, Some, None, Result, refl}
+use Rattle.std.proofs.Common.{◌≡◌, ℕ, Bool, true, false, List, Option, Some, None, refl}
 use Rattle.agent_ask.{specs.{Events.PromptEvent, Session.{Actions.{◌>>=◌, Returns}, SessionEvents.Sent, TurnActions.Changes}, SessionPrompts.AnyInSession}, proofs.Within.{Within, Does, or_otherwise}}
-use Rattle.agent_commands.specs.{Exchanges.{CacheExchange, CacheReply, confirms_by, CacheReplies}, Passphrases.{PromptsAny, Prompts, as_wanted, passphrase_by}, Requests.GetFields, declared.request.CacheCommand.CacheCommand}
+use Rattle.agent_commands.specs.{Exchanges.{CacheExchange, CacheReply, confirms_by, CacheReplies}, Passphrases.{Prompts, as_wanted, passphrase_by}, Requests.GetFields, declared.request.CacheCommand.CacheCommand}
 use Rattle.{agent_commands.specs.declared.{request.{Request.{Request, TheVariants.{Cache, Key, Bad}}, Texts.Texts}, went.Went.Went}, arrayvec.specs.ArrayVec.ArrayVec, assuan_server.specs.Clients.session_lines}
-use Rattle.{cache_policy.specs.declared.mark.MarkStep.MarkStep, session_client.specs.declared.refusal.Refusal.{Refusal, TheVariants.Agent}, session_options.specs.{OptionValues.{OptionValues, EnvWords}, declared.options.PinMode.PinMode}}
+use Rattle.{cache_policy.specs.declared.mark.MarkStep.MarkStep, session_client.specs.declared.refusal.Refusal.TheVariants.Agent, session_options.specs.{OptionValues.{OptionValues, EnvWords}, declared.options.PinMode.PinMode}}
 use Rattle.{session_options.specs.declared.rules.Rules.Rules, key_commands.{specs.{Events.Event, Actions.Action}, proofs.EachEvent.{All, each_shown, each_bind, each_returned, each_refused, each_seats, each_changes, each_closes}}}
-use Rattle.key_commands.proofs.EachRequest.{IsBesideTrust, works_beside, still_beside, Carries, each_carries, so, then, nothing, agrees, whole, key_whole}
+use Rattle.key_commands.proofs.EachRequest.{IsBesideTrust, works_beside, still_beside, Carries, each_carries, so, then, nothing, prompts_for, agrees, whole, key_whole}
 use Rattle.agent_origin.{proofs.EachCache.{wants_prompt, without_prompt, by_cache, presets, tells_passphrase, tells_info, option_so}, specs.{SessionExchanges.{RequestExchange, cache, keys}, declared.session_state.SessionState.SessionState}}
-use Rattle.agent_commands.specs.Passphrases as passphrase
 use Rattle.agent_commands.specs.declared.request.CacheCommand.TheVariants as on
 use Rattle.session_client.specs.declared.code.Code.TheVariants as code
 use Rattle.session_options.specs.declared.options.PinMode.TheVariants as mode
@@ -18,15 +17,10 @@ module _ {env : EnvWords} {Is : Event → Type 0} {So : List Event → Type 0} (
   Here action = Within action (Does So)
 
   module _ (rules : Rules) (options : OptionValues) (same : options.env ≡ env) where
-    prompts_any_of : (texts : Texts) (check quality : Bool) (repeat : ℕ) (before : Option ℕ) (events : List Event) (result : Result (List ℕ) Refusal) (after : Option ℕ)
-        → PromptsAny rules options texts check quality repeat before events result after → So events
-    prompts_any_of texts check quality repeat before events result after (passphrase.given spec is prompt) = law.pins (is.env ∙ same) prompt
-    prompts_any_of texts check quality repeat before events result after (passphrase.refused spec is prompt enough refusal) = law.pins (is.env ∙ same) prompt
-
     module _ (fields : GetFields) where
       prompts : (texts : Texts) → Here (Prompts rules options texts fields.check fields.quality fields.repeat)
       prompts texts =
-          then law (record { of = prompts_any_of texts fields.check fields.quality fields.repeat })
+          then law (prompts_for law rules options same)
           (λ pin. so law (each_bind Is (each_closes Is (Some pin) (λ number. law.turns _)) (λ kept. each_returned Is pin)))
 
       wanted_so : (way : PinMode) (texts : Texts) → Here (as_wanted rules options fields way texts)

@@ -1,8 +1,8 @@
 -- Lines that are allowed at the outer door, and what is done for them to the cache.
 use Rattle.std.{proofs.Common.{◌≡◌, ℕ, Bool, true, false, List, [], ◌∷◌, ◌++◌, Option, None, Some, Result, Ok, Err, is_none, refl, ap, sym, ◌∙◌, subst, append_assoc}, specs.Prelude.⊤}
-use Rattle.agent_ask.specs.{Session.{ClientActions.{Writes, written, cut, Inquires, given, not_given}, ActionExchanges.{AnyReply, AnyExchange, answered, refused}, Actions.{Follows, Returns, Refuses}}, ConsentActions.AgreesTo, Events.PromptEvent}
-use Rattle.agent_ask.specs.Session.{SessionEvents.{AnyEvent, Received, Sent, Cut, Inquiry, CacheTurn, Port, turns_in, said_last}, TurnActions.{Seats, opened, interrupted, Closes, unheld, closed}}
-use Rattle.agent_ask.{specs.SessionPrompts.{AnyInSession, none, called, noted, out_of_memory}, proofs.Within.{Within, OfNothing, weaker, returned, refused as refused_so, is_needed, or_otherwise}}
+use Rattle.agent_ask.specs.Session.{ClientActions.{Writes, written, cut, Inquires, given, not_given}, ActionExchanges.{AnyReply, AnyExchange, answered, refused}, Actions.{Follows, Returns, Refuses}}
+use Rattle.agent_ask.specs.{Session.{SessionEvents.{AnyEvent, Received, Sent, Cut, Inquiry, CacheTurn, Port, turns_in, said_last}, TurnActions.{Seats, opened, interrupted, Closes, unheld, closed}}, ConsentActions.AgreesTo}
+use Rattle.agent_ask.{specs.{Events.PromptEvent, PinActions.prompted, SessionPrompts.{AnyInSession, none, called, noted, out_of_memory}}, proofs.Within.{Within, OfNothing, weaker, returned, refused as refused_so, is_needed, or_otherwise}}
 use Rattle.agent_commands.specs.{Exchanges.{CacheExchange, LineExchange, option_replies, confirms_by, CacheReplies, TellsPassphrase, TellsInfo}, Actions.{CacheEvent, CacheAction, AsksPassphrase}}
 use Rattle.agent_commands.specs.Passphrases.{LooksFor, WantsPrompt, KeepsUnder, ByCache, Uncached as NotCached, WithoutPrompt, PromptsAny, Prompts, as_wanted, passphrase_by}
 use Rattle.agent_commands.specs.{Requests.{GetFields, get_fields, leaves_cache, request_of, request_by, asked_by, either, info_of, confirmation_of}, declared.request.CacheCommand.CacheCommand}
@@ -15,7 +15,6 @@ use Rattle.agent_origin.specs.{Doors.{passes, passes_by, allowed}, OuterTurns.{A
 use Rattle.agent_ask.specs.ConsentActions as consent
 use Rattle.agent_ask.proofs.Within as within
 use Rattle.agent_commands.specs.Exchanges as exchange
-use Rattle.agent_commands.specs.Passphrases as passphrase
 use Rattle.command_table.specs.declared.commands.Command.TheVariants as at_table
 use Rattle.command_table.specs.declared.commands.CommandName.TheVariants as name
 use Rattle.session_client.specs.declared.code.Code.TheVariants as code
@@ -152,8 +151,7 @@ module _ (id : Option (List ℕ)) (is : id ≡ None) where
 module _ (agent : Rules) (options : OptionValues) where
   prompts_of : (texts : Texts) (check quality : Bool) (repeat : ℕ) (before : Option ℕ) (events : List CacheEvent) (result : Result (List ℕ) Refusal) (after : Option ℕ)
       → PromptsAny agent options texts check quality repeat before events result after → LeaveLaw before events result after
-  prompts_of texts check quality repeat before events result after (passphrase.given spec is prompt) later owes = shown_of before prompt.in_session later owes
-  prompts_of texts check quality repeat before events result after (passphrase.refused spec is prompt enough refusal) later owes = shown_of before prompt.in_session later owes
+  prompts_of texts check quality repeat before events result after (prompted spec is prompt gives) later owes = shown_of before prompt.in_session later owes
 
   agrees_of : (question : List ℕ) (before : Option ℕ) (events : List CacheEvent) (result : Result (Unit {0}) Refusal) (after : Option ℕ) → AgreesTo session_lines agent options question before events result after
       → LeaveLaw before events result after

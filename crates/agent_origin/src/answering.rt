@@ -27,8 +27,8 @@ use session_options::{Options, Rules};
 use std::alloc::Global;
 use wiping::wipe_stack;
 
-/// Answers the request of a line, and says how the session goes on. One that came in by no door has
-/// neither its own commands nor what it forbids, and calls no trust file.
+/// Answers the request of a line, and says how the session goes on. Where the session came in by no
+/// door, no command is a door's own, none is forbidden, and the trust file isn't called.
 ///
 /// The line is read once; for a request that asks the cache alone the texts, which are long, are
 /// not made. Behind any other one the stack that it used is overwritten: it may have had a

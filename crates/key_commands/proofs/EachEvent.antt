@@ -1,7 +1,8 @@
 -- Actions of a request on keys each of whose events is so.
 use Rattle.std.{specs.{List.AllByRecursion, Prelude.{⊤, not, take, drop}}, proofs.Common.{◌==◌, ◌++◌, ℕ, Bool, true, false, List, [], ◌∷◌, length, codes, Option, Some, None, Result, Ok}}
 use Rattle.agent_ask.specs.{Events.PromptEvent, Session.{PortCalls.{Keys, Dice, NoMemory, Prompt, Trust}, SessionEvents.{Sent, Cut, Inquiry, Port, cache_turn, said_last}}, SessionPrompts.AnyInSession}
-use Rattle.agent_ask.specs.{Session.{Actions.{◌>>=◌, goes_on, stops, Returns, returns, Refuses, needed, or_else, unless, wanted}, TurnActions.{Asks, Seats, Changes, Peeks, Closes}, ClientActions.{Writes, Inquires}}, ConsentActions.AgreesTo}
+use Rattle.agent_ask.specs.Session.{Actions.{◌>>=◌, goes_on, stops, Returns, returns, Refuses, needed, or_else, unless, wanted}, TurnActions.{Asks, Seats, Changes, Peeks, Closes}, ClientActions.{Writes, Inquires}}
+use Rattle.agent_ask.specs.{ConsentActions.AgreesTo, PinActions.{PromptsFor, prompted}, declared.prompt.ask.Asked.Asked}
 use Rattle.{agent_ask.proofs.Within.{Within, Joins, OfNothing, Does, does_join, bind, returned, refused, is_needed, or_otherwise, is_unless, is_wanted}, agent_ports.specs.declared.grip.Grip.Grip, assuan_server.specs.Clients.session_lines}
 use Rattle.{assuan_server.specs.Written.limit_line, session_client.specs.declared.{code.Code.Code, refusal.Refusal.{Refusal, TheVariants.Agent}}, cache_policy.specs.{Turns.Turn, declared.life.Life.TheVariants.Default}}
 use Rattle.{cache_policy.specs.declared.{mark.MarkStep.{MarkStep, TheVariants.{Close, Put, Peek}}, mode.Mode.TheVariants.{Normal, Nonce}, secret.TheConstants.MAX_SECRET_LEN}, assuan_escape.specs.Escapes.hex_text}
@@ -9,7 +10,7 @@ use Rattle.{secret_file.specs.Opens.LockedKey, session_options.specs.{OptionValu
 use Rattle.key_commands.specs.{Events.{Event, IsUncalled}, Exchanges.{StoresKey, RewritesFile}, Files.Rewrites}
 use Rattle.key_commands.specs.KeyActions.{Tells, tells, ReadsFile, Replaces, Removes, KeepsNew, Protects, IsShort, HasOne, TellsKeyInfo, ListsGrips, ReadsListed, WritesInfo, WritesInfos, AsksKeyData, Unwraps, ReceivesKey, NamesKey, IsFree}
 use Rattle.key_commands.specs.{KeyActions.{LooksOver, WrapsKey}, Lines.{max_key_data, grip_text, IsNotice, of_passphrase, of_key_data, of_key}, Actions.{Action, Finds, Draws}}
-use Rattle.key_commands.specs.Passphrases.{AsksSecret, PromptsOld, PromptsNew, ClientOld, ClientNew, LooksForNonce, TakesSeat, Locks, TriesPassphrase, TriesFound, ask_nonce, seat_for, put_key}
+use Rattle.key_commands.specs.Passphrases.{AsksSecret, ClientOld, ClientNew, LooksForNonce, TakesSeat, Locks, TriesPassphrase, TriesFound, ask_nonce, seat_for, put_key}
 use Rattle.agent_ask.specs.SessionPrompts as session
 use Rattle.session_client.specs.declared.code.Code.TheVariants as code
 use Rattle.key_commands.specs.Files as files
@@ -335,20 +336,12 @@ module _ (Is : Event → Type 0) where
       each_shown (session.noted says more) = (still _ tt, each_shown more)
       each_shown (session.out_of_memory more) = (calls _, each_shown more)
 
-      module _ (rules : Rules) (options : OptionValues) (grip : Grip) where
-        prompts_old_of : (locked : LockedKey) (before : Option ℕ) (events : List Event) (result : Result _ Refusal) (after : Option ℕ) → PromptsOld rules options grip locked before events result after → All events
-        prompts_old_of locked before events result after (passphrases.opens_by spec is prompt to) = each_shown prompt.in_session
-        prompts_old_of locked before events result after (passphrases.refused spec is prompt refusal) = each_shown prompt.in_session
+      module _ {A : Type 0} {rules : Rules} {options : OptionValues} {description field : _} {quality : _} {plan : _} {Rule : _} {Gives : Asked → Result A Refusal → Type 0} where
+        prompts_of : (before : Option ℕ) (events : List Event) (result : Result A Refusal) (after : Option ℕ) → PromptsFor session_lines rules options description field quality plan Rule Gives before events result after → All events
+        prompts_of before events result after (prompted spec is prompt gives) = each_shown prompt.in_session
 
-        pub prompts_old : (locked : LockedKey) → EachSo (PromptsOld rules options grip locked)
-        prompts_old locked = record { of = prompts_old_of locked }
-
-        prompts_new_of : (before : Option ℕ) (events : List Event) (result : Result (List ℕ) Refusal) (after : Option ℕ) → PromptsNew rules options grip before events result after → All events
-        prompts_new_of before events result after (passphrases.given spec is prompt) = each_shown prompt.in_session
-        prompts_new_of before events result after (passphrases.refused spec is prompt enough refusal) = each_shown prompt.in_session
-
-        pub prompts_new : EachSo (PromptsNew rules options grip)
-        prompts_new = record { of = prompts_new_of }
+        pub prompts_for : EachSo (PromptsFor session_lines rules options description field quality plan Rule Gives)
+        prompts_for = record { of = prompts_of }
 
       module _ (rules : Rules) (options : OptionValues) (question : List ℕ) where
         agrees_of : (before : Option ℕ) (events : List Event) (result : Result (Unit {0}) Refusal) (after : Option ℕ) → AgreesTo session_lines rules options question before events result after → All events

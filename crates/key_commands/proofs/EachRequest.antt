@@ -1,13 +1,14 @@
 -- Requests on keys each of whose events is so, where each event but a read request and a call of the trust file is so.
 use Rattle.std.{proofs.Common.{◌≡◌, ◌∙◌, ℕ, Bool, true, false, List, ◌++◌, Option, Some, None, Result, Ok, Err, []}, specs.Prelude.⊤}
-use Rattle.agent_ask.specs.{Session.{PortCalls.{Prompt, Trust}, SessionEvents.{Received, Sent, CacheTurn, Port, cache_turn}, ActionExchanges.{AnyReply, AnyExchange}, Actions.◌>>=◌}, ConsentActions.{AgreesTo, PromptsConsent}, PinActions.PromptsPin}
+use Rattle.agent_ask.specs.Session.{PortCalls.{Prompt, Trust}, SessionEvents.{Received, Sent, CacheTurn, Port, cache_turn}, ActionExchanges.{AnyReply, AnyExchange}, Actions.◌>>=◌}
+use Rattle.agent_ask.specs.{ConsentActions.{AgreesTo, PromptsConsent}, PinActions.{PromptsPin, PromptsFor, prompted}}
 use Rattle.agent_ask.{specs.declared.prompt.{ask.Asked.Asked, consent.Agreed.Agreed, spec.{AskPlan.AskPlan, PromptSpec.PromptSpec}}, proofs.Within.{Within, OfNothing, Does, does_join, weaker, bind, or_otherwise}}
 use Rattle.{assuan_server.specs.Clients.session_lines, cache_policy.specs.{Turns.Turn, declared.{mark.MarkStep.{MarkStep, TheVariants.Peek}, mode.Mode.TheVariants.Normal}}, session_client.specs.declared.refusal.Refusal.Refusal}
 use Rattle.{session_client.specs.declared.{refusal.Refusal.TheVariants.Agent, client_error.Gone.Gone}, agent_ports.specs.declared.grip.Grip.Grip, secret_file.specs.Opens.LockedKey}
 use Rattle.{session_options.specs.{OptionValues.{OptionValues, EnvWords, words_of}, declared.{options.PinMode.PinMode, rules.Rules.Rules}}, sexp_keys.specs.Key.Key}
 use Rattle.key_commands.specs.{Actions.Action, Events.Event}
 use Rattle.key_commands.specs.Exchanges.{KeyExchange, HaveKeyReplies, KeyInfoReplies, ListKeysReplies, KeyWrapReplies, ImportKeyReplies, ExportKeyReplies, PasswdReplies, VerifyReplies, DeleteKeyReplies, KeyReplies, wrap_key, FoundOrNew}
-use Rattle.key_commands.specs.{Exchanges.{RenewsPassphrase, ChangesOpened}, Lines.{IsNotice, grip_text}, KeyActions.Consents, Passphrases.{PromptsOld, PromptsNew, UncachedOld, OpensLocked, old_by, verified_by, new_by}}
+use Rattle.key_commands.specs.{Exchanges.{RenewsPassphrase, ChangesOpened}, Lines.{IsNotice, grip_text}, KeyActions.Consents, Passphrases.{UncachedOld, OpensLocked, old_by, verified_by, new_by}}
 use Rattle.key_commands.specs.declared.{request.KeyRequest.KeyRequest, went.KeyWent.KeyWent, keywrap_key.WrapKeys.WrapKeys}
 use Rattle.key_commands.proofs.EachEvent.{IsStill, All, each_append, each_shown, each_answer, EachSo, each_bind, each_returned, each_refused, each_needed, each_otherwise, each_wanted, each_looks, each_seats, each_changes, looks_nonce}
 use Rattle.key_commands.proofs.EachEvent.{looks_over, takes_seat, each_closes, finds, draws, reads_file, lists, told, is_short, names_key, wraps_key, receives_key, is_free, has_one, locks, tries_found, removes, tells_info, writes_infos}
@@ -16,7 +17,6 @@ use Rattle.agent_ask.specs.ConsentActions as consent
 use Rattle.agent_ask.specs.Session.ActionExchanges as exchange
 use Rattle.session_client.specs.declared.code.Code.TheVariants as code
 use Rattle.session_options.specs.declared.options.PinMode.TheVariants as mode
-use Rattle.key_commands.specs.Passphrases as passphrases
 use Rattle.key_commands.specs.declared.request.KeyRequest.TheVariants as on
 
 -- what may be done for a request that has nothing to do with the trust file
@@ -102,13 +102,12 @@ module _ {env : EnvWords} {Is : Event → Type 0} {So : List Event → Type 0} (
   -- ---- prompts
 
   module _ (rules : Rules) (options : OptionValues) (same : options.env ≡ env) where
-    prompts_old_of : (grip : Grip) (locked : LockedKey) (before : Option ℕ) (events : List Event) (result : Result _ Refusal) (after : Option ℕ) → PromptsOld rules options grip locked before events result after → So events
-    prompts_old_of grip locked before events result after (passphrases.opens_by spec is prompt to) = law.pins (is.env ∙ same) prompt
-    prompts_old_of grip locked before events result after (passphrases.refused spec is prompt refusal) = law.pins (is.env ∙ same) prompt
+    module _ {A : Type 0} {description field : _} {quality : _} {plan : _} {Rule : _} {Gives : Asked → Result A Refusal → Type 0} where
+      prompts_of : (before : Option ℕ) (events : List Event) (result : Result A Refusal) (after : Option ℕ) → PromptsFor session_lines rules options description field quality plan Rule Gives before events result after → So events
+      prompts_of before events result after (prompted spec is prompt gives) = law.pins (is.env ∙ same) prompt
 
-    prompts_new_of : (grip : Grip) (before : Option ℕ) (events : List Event) (result : Result (List ℕ) Refusal) (after : Option ℕ) → PromptsNew rules options grip before events result after → So events
-    prompts_new_of grip before events result after (passphrases.given spec is prompt) = law.pins (is.env ∙ same) prompt
-    prompts_new_of grip before events result after (passphrases.refused spec is prompt enough refusal) = law.pins (is.env ∙ same) prompt
+      pub prompts_for : Here (PromptsFor session_lines rules options description field quality plan Rule Gives)
+      prompts_for = record { of = prompts_of }
 
     agrees_of : (question : List ℕ) (before : Option ℕ) (events : List Event) (result : Result (Unit {0}) Refusal) (after : Option ℕ) → AgreesTo session_lines rules options question before events result after → So events
     agrees_of question before events result after (consent.consents spec is prompt) = law.consents (is.env ∙ same) prompt
@@ -121,7 +120,7 @@ module _ {env : EnvWords} {Is : Event → Type 0} {So : List Event → Type 0} (
 
   module _ (rules : Rules) (options : OptionValues) (same : options.env ≡ env) (grip : Grip) where
     uncached_so : (locked : LockedKey) (way : PinMode) → Here (UncachedOld rules options grip way locked)
-    uncached_so locked mode.Ask = then (so (takes_seat Is grip (law.turns _))) (λ seated. record { of = prompts_old_of rules options same grip locked })
+    uncached_so locked mode.Ask = then (so (takes_seat Is grip (law.turns _))) (λ seated. prompts_for rules options same)
     uncached_so locked mode.Cancel = so (each_refused Is (Agent code.Cancelled))
     uncached_so locked mode.Error = so (each_refused Is (Agent code.NoPinentry))
     uncached_so locked mode.Loopback = so (client_old Is law.still (λ key pass. law.turns _) rules options grip locked)
@@ -141,7 +140,7 @@ module _ {env : EnvWords} {Is : Event → Type 0} {So : List Event → Type 0} (
     verified_so key false = then (so (locks Is law.still key)) (λ locked. uncached_so locked options.mode)
 
     new_so : (way : PinMode) → Here (new_by rules options grip way)
-    new_so mode.Ask = then (so (takes_seat Is grip (law.turns _))) (λ seated. record { of = prompts_new_of rules options same grip })
+    new_so mode.Ask = then (so (takes_seat Is grip (law.turns _))) (λ seated. prompts_for rules options same)
     new_so mode.Cancel = so (each_refused Is (Agent code.Cancelled))
     new_so mode.Error = so (each_refused Is (Agent code.NoPinentry))
     new_so mode.Loopback = so (client_new Is law.still)

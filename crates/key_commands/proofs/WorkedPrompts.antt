@@ -1,8 +1,11 @@
 -- A row of each request on keys that prompts the user: what is done and written for it, in order.
 use Rattle.std.{specs.Prelude.{◌≡◌, ◌≤◌, ◌++◌, ℕ, true, false, List, [], ◌∷◌, length, take, drop, codes, Some, None, Ok, refl}, proofs.Common.arith}
-use Rattle.agent_ask.specs.{Session.{ClientActions.{written, given as sent}, PortCalls.{Replaced, Removed}, ActionExchanges.{answered, refused}, Actions.{goes_on, stops, returns}}, Events.{Call, Start, GetPin, Confirm, Shut}, Plans.{IsSpec, text}}
-use Rattle.agent_ask.specs.{Prompts.{MeetsCheck, typed, Tries, IsTry, Repeats}, Session.{SessionEvents.{Sent, Inquiry, cache_turn}, TurnActions.{Asks, Seats, done, unheld, closed}}, Tests.test_of, declared.prompt.prompter.Outcome.TheVariants.Pin}
-use Rattle.{agent_ask.{specs.declared.prompt.{spec.PromptSpec.PromptSpec, test.Tested.TheVariants.{Yes, No}}, proofs.WorkedPrompts.{shown_by, prompts, asks_consent, first_try, second_try, third_try}}, agent_ports.specs.declared.grip.Grip.Grip}
+use Rattle.agent_ask.specs.{PinActions.prompted, Session.{ClientActions.{written, given as sent}, PortCalls.{Replaced, Removed}, ActionExchanges.{answered, refused}, Actions.{goes_on, stops, returns}}}
+use Rattle.agent_ask.specs.{Events.{Call, Start, GetPin, Confirm, Shut}, Plans.{IsSpec, text}}
+use Rattle.agent_ask.specs.{Prompts.{MeetsCheck, typed, Tries, IsTry, Repeats}, Session.{SessionEvents.{Sent, Inquiry, cache_turn}, TurnActions.{Asks, Seats, done, unheld, closed}}}
+use Rattle.agent_ask.specs.{Tests.test_of, declared.prompt.prompter.Outcome.TheVariants.Pin}
+use Rattle.agent_ask.{specs.declared.prompt.{spec.PromptSpec.PromptSpec, test.Tested.TheVariants.{Yes, No}}, proofs.WorkedPrompts.{any_given, shown_by, prompts, asks_consent, first_try, second_try, third_try}}
+use Rattle.agent_ports.specs.declared.grip.Grip.{Grip}
 use Rattle.{agent_ports.specs.declared.keys.{KeyDone.TheVariants.Done as IsDone, KeyRead.{KeyRead, TheVariants.{Found, Absent}}}, assuan_escape.specs.Escapes.hex_text, assuan_server.specs.{Clients.session_lines, Inquiries.Data}}
 use Rattle.{assuan_server.specs.Written.{ok, limit_line, failed, failed_at_pinentry, IsDataAnswer}, cache_policy.specs.{Turns.{Given, Open, Done, FitsStep}, declared.{grant.Grant.Grant, life.Life.TheVariants.Default}}}
 use Rattle.{cache_policy.specs.declared.{mark.MarkStep.TheVariants.{Seat, Close, Put, Clear}, mode.Mode.TheVariants.{Normal, Nonce}}, key_lines.specs.Canon.is_canonical, secret_file.specs.Opens.{LockedKey, IsLocked, OpensTo}}
@@ -11,7 +14,7 @@ use Rattle.{session_options.specs.declared.rules.Rules.Rules, sexp_canonical.spe
 use Rattle.key_commands.specs.{Events.{Event, called, read, drew}, Exchanges.{KeyExchange, key_reply, ImportKeyReplies, ExportKeyReplies, PasswdReplies, VerifyReplies, RewritesFile, DeleteKeyReplies}, Files.{FileSays, canonical_file}}
 use Rattle.key_commands.specs.KeyActions.{file_in, tells, short, made, named, asked, is_wrapped, ReadsFile, Unwraps, LooksOver, Replaces, Removes}
 use Rattle.key_commands.specs.{Lines.{grip_text, described, old_description, new_description, delete_description, field_text, nonce_line, max_key_data}, Actions.{found, absent, drawn}}
-use Rattle.key_commands.specs.{Passphrases.{ask_key, seat_for, is_locked, opens, OpensBy, OpensLocked, PromptsOld, PromptsNew}, Wrapping.{wrapped_key, WrappedSays}}
+use Rattle.key_commands.specs.{Passphrases.{ask_key, seat_for, is_locked, opens, OpensBy, OpensLocked, IsOpened, opens_by}, Wrapping.{wrapped_key, WrappedSays}}
 use Rattle.key_commands.specs.declared.{request.KeyRequest.TheVariants.{ImportKey, ExportKey, Passwd, DeleteKey}, went.KeyWent.TheVariants.On, keywrap_key.WrapKeys.WrapKeys, wrapping.TheConstants.MAX_LIST_LEN}
 use Rattle.agent_ask.specs.ConsentActions as consent
 use Rattle.agent_ask.specs.declared.prompt.consent.Agreed.TheVariants as agreed
@@ -91,10 +94,10 @@ module _ (any_rules : Rules) (any_options : OptionValues) (wraps : WrapKeys) (gr
         (goes_on returns (goes_on (ReadsFile.is_key is says)
         (goes_on {first = opened ∷ shown (start spec ∷ (third_pin first second third ++ Shut ∷ []))}
         (goes_on (is_locked key_is locked_is) (goes_on returns (goes_on returns (goes_on (Asks.opened tt) (goes_on returns
-        (goes_on returns (PromptsOld.opens_by spec is_old (prompts session_lines pid (third_pin first second third) refl
+        (goes_on returns (prompted spec is_old (prompts session_lines pid (third_pin first second third) refl
         (Tries.again {events = typed [] first ∷ []} {tests = test_of first No ∷ []} first_try (IsTry.bad tt not_first)
         (Tries.again {events = typed (codes "Bad passphrase (try 2 of 3)") second ∷ []} {tests = test_of second No ∷ []} second_try (IsTry.bad tt not_second)
-        (Tries.good third_try (IsTry.accepted tt (clear, opens_to) Repeats.same))))) opens_to)))))))
+        (Tries.good third_try (IsTry.accepted tt (clear, opens_to) Repeats.same))))) (opens_by opens_to))))))))
         (goes_on (closed Done tt) (goes_on is_wrapped (goes_on (tells data_is) returns)))))) unheld
 
     -- three that don't are the last, and nothing is kept
@@ -106,10 +109,10 @@ module _ (any_rules : Rules) (any_options : OptionValues) (wraps : WrapKeys) (gr
         refused (read grip answer ∷ opened ∷ shown (start spec ∷ (third_pin first second third ++ Shut ∷ []))) (Some ticket) (Agent code.BadPass)
         (goes_on returns (goes_on (ReadsFile.is_key is says)
         (stops (goes_on (is_locked key_is locked_is) (goes_on returns (goes_on returns (goes_on (Asks.opened tt) (goes_on returns
-        (goes_on returns (PromptsOld.refused spec is_old (prompts session_lines pid (third_pin first second third) refl
+        (goes_on returns (prompted spec is_old (prompts session_lines pid (third_pin first second third) refl
         (Tries.again {events = typed [] first ∷ []} {tests = test_of first No ∷ []} first_try (IsTry.bad tt not_first)
         (Tries.again {events = typed (codes "Bad passphrase (try 2 of 3)") second ∷ []} {tests = test_of second No ∷ []} second_try (IsTry.bad tt not_second)
-        (Tries.again {events = typed (codes "Bad passphrase (try 3 of 3)") third ∷ []} {tests = test_of third No ∷ []} third_try (IsTry.bad tt not_third) (Tries.bad (omega arith)))))) refl)))))))))) (closed Done tt)
+        (Tries.again {events = typed (codes "Bad passphrase (try 3 of 3)") third ∷ []} {tests = test_of third No ∷ []} third_try (IsTry.bad tt not_third) (Tries.bad (omega arith)))))) (IsOpened.refused refl))))))))))) (closed Done tt)
 
     -- PASSWD --verify: whatever is cached, the user is asked
     verified : {pass : List ℕ} → OpensTo locked pass clear
@@ -121,7 +124,7 @@ module _ (any_rules : Rules) (any_options : OptionValues) (wraps : WrapKeys) (gr
         (goes_on (ReadsFile.is_key is says)
         (goes_on {first = cache_turn (seat_for grip) (Open ticket) ∷ shown (start spec ∷ GetPin [] (Pin pass) ∷ Shut ∷ [])}
         (goes_on (is_locked key_is locked_is) (goes_on (Seats.opened tt)
-        (PromptsOld.opens_by spec is_old (prompts session_lines pid (GetPin [] (Pin pass) ∷ []) refl (Tries.good first_try (IsTry.accepted tt (clear, opens_to) Repeats.same))) opens_to)))
+        (prompted spec is_old (prompts session_lines pid (GetPin [] (Pin pass) ∷ []) refl (Tries.good first_try (IsTry.accepted tt (clear, opens_to) Repeats.same))) (opens_by opens_to))))
         (goes_on (closed Done tt) returns))) unheld
 
     -- ---- PASSWD of a canonical file
@@ -147,7 +150,7 @@ module _ (any_rules : Rules) (any_options : OptionValues) (wraps : WrapKeys) (gr
           (goes_on {first = []} {value = tt} {mid = None} (short within)
           (goes_on {first = cache_turn (seat_for grip) (Open ticket) ∷ shown (start other ∷ (new_pin ++ Shut ∷ []))}
           (goes_on returns (goes_on (Seats.opened tt)
-          (PromptsNew.given other is_new (prompts session_lines pid new_pin refl (Tries.good {tests = test_of (codes "abcdefg1") Yes ∷ []} first_try (IsTry.accepted good_is tt Repeats.same))))))
+          (prompted other is_new (prompts session_lines pid new_pin refl (Tries.good {tests = test_of (codes "abcdefg1") Yes ∷ []} first_try (IsTry.accepted good_is tt Repeats.same))) any_given)))
           (goes_on (drawn twenty) (goes_on made (goes_on (canonical_file in_form) (goes_on Replaces.done (closed Done tt)))))))
           returns))) unheld
 
@@ -163,12 +166,12 @@ module _ (any_rules : Rules) (any_options : OptionValues) (wraps : WrapKeys) (gr
           (goes_on (ReadsFile.is_key is says)
           (goes_on {first = opened ∷ shown (start spec ∷ GetPin [] (Pin old) ∷ Shut ∷ [])}
           (goes_on (is_locked key_is locked_is) (goes_on returns (goes_on returns (goes_on (Asks.opened tt) (goes_on returns
-          (goes_on returns (PromptsOld.opens_by spec is_old (prompts session_lines pid (GetPin [] (Pin old) ∷ []) refl (Tries.good first_try (IsTry.accepted tt (clear, opens_to) Repeats.same))) opens_to)))))))
+          (goes_on returns (prompted spec is_old (prompts session_lines pid (GetPin [] (Pin old) ∷ []) refl (Tries.good first_try (IsTry.accepted tt (clear, opens_to) Repeats.same))) (opens_by opens_to))))))))
           (goes_on {first = shown (start other ∷ (new_pin ++ Shut ∷ [])) ++ drew drawn_bytes ∷ replaced ∷ kept (codes "abcdefg1") ∷ []}
           (goes_on {first = []} {value = tt} {mid = Some ticket} (short within)
           (goes_on {first = shown (start other ∷ (new_pin ++ Shut ∷ []))}
           (goes_on returns (goes_on returns
-          (PromptsNew.given other is_new (prompts session_lines pid new_pin refl (Tries.good {tests = test_of (codes "abcdefg1") Yes ∷ []} first_try (IsTry.accepted good_is tt Repeats.same))))))
+          (prompted other is_new (prompts session_lines pid new_pin refl (Tries.good {tests = test_of (codes "abcdefg1") Yes ∷ []} first_try (IsTry.accepted good_is tt Repeats.same))) any_given)))
           (goes_on (drawn twenty) (goes_on made (goes_on (canonical_file in_form) (goes_on Replaces.done (closed Done tt)))))))
           returns))) unheld
 
@@ -190,9 +193,9 @@ module _ (any_rules : Rules) (any_options : OptionValues) (wraps : WrapKeys) (gr
         (key_reply importing (nonce_line (hex_text (drop 20 drawn_bytes)) ++ ok))
         (goes_on returns (goes_on (goes_on written (goes_on (asked (sent refl)) (Unwraps.is_key says))) (goes_on (named named_so) (goes_on (goes_on absent returns)
         (goes_on {first = cache_turn (seat_for grip) (Open ticket) ∷ shown (start spec ∷ (second_pin ++ Shut ∷ []))}
-        (goes_on LooksOver.no_nonce (goes_on (Seats.opened tt) (PromptsNew.given spec is_new (prompts session_lines pid second_pin refl
+        (goes_on LooksOver.no_nonce (goes_on (Seats.opened tt) (prompted spec is_new (prompts session_lines pid second_pin refl
         (Tries.again {events = typed [] (codes "abcdefgh") ∷ []} {tests = []} first_try (IsTry.weak weak_is)
-        (Tries.good {tests = test_of (codes "abcdefg1") Yes ∷ []} second_try (IsTry.accepted good_is tt Repeats.same)))))))
+        (Tries.good {tests = test_of (codes "abcdefg1") Yes ∷ []} second_try (IsTry.accepted good_is tt Repeats.same)))) any_given)))
         (goes_on {first = drew drawn_bytes ∷ cache_turn (Put (hex_text (drop 20 drawn_bytes)) Nonce Default (codes "abcdefg1")) Done ∷ called (Replaced grip _ IsDone) ∷ kept (codes "abcdefg1") ∷ []}
         (goes_on (drawn long) (goes_on made (goes_on (done tt) (goes_on Replaces.done (goes_on (closed Done tt) returns))))) returns)))))) unheld
 

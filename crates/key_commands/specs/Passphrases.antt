@@ -1,7 +1,7 @@
 -- How a request comes by the passphrase of a key, old or new (GnuPG manual, "Agent EXPORT", "Agent PASSWD"). Where it is looked for, in which order, and what
 -- is kept of it, is this project's own.
-use Rattle.std.specs.Prelude.{◌≡◌, ◌≢◌, ◌==◌, ℕ, Bool, true, false, List, [], ◌∷◌, length, codes, Option, Some, None, Result, Ok, Err, not, ⊤}
-use Rattle.agent_ask.specs.{Session.{ClientActions.AsksClient, Actions.{◌>>=◌, Returns, Refuses, needed, wanted, or_else}}, PinActions.{PromptsPin, pin_refusal}, Plans.{IsSpec, plan_of, text}, declared.prompt.{ask.Asked.Asked, spec.PromptSpec.PromptSpec}}
+use Rattle.std.specs.Prelude.{◌≡◌, ◌==◌, ℕ, Bool, true, false, List, [], ◌∷◌, length, codes, Option, Some, None, Result, Ok, Err, not, ⊤}
+use Rattle.agent_ask.specs.{Session.{ClientActions.AsksClient, Actions.{◌>>=◌, Returns, Refuses, needed, wanted, or_else}}, PinActions.{PromptsFor, IsAnyGiven, pin_refusal}, Plans.{plan_of, text}, declared.prompt.ask.Asked.Asked}
 use Rattle.{agent_ask.specs.Session.TurnActions.{Asks, Seats, Changes}, agent_ports.specs.declared.grip.Grip.Grip, assuan_server.specs.{Clients.session_lines, Written.limit_line}, cache_policy.specs.declared.life.Life.TheVariants.Default}
 use Rattle.cache_policy.specs.declared.{mark.{MarkStep.{MarkStep, TheVariants.{Ask, Seat, Put}}, Way.{Way, TheVariants.{Quiet, Prompt}}}, mode.Mode.TheVariants.{Normal, Nonce}, secret.TheConstants.MAX_SECRET_LEN}
 use Rattle.{secret_file.specs.{Answers.IsLockedFault, Opens.{LockedKey, IsLocked, OpensTo}}, session_options.specs.{OptionValues.OptionValues, declared.{options.PinMode.PinMode, rules.Rules.Rules}}, sexp_keys.specs.Key.Key}
@@ -58,6 +58,11 @@ pub data Locks (key : Key) (held : Option ℕ) : List Event → Result LockedKey
 abbrev pub OpensBy : LockedKey → List ℕ → Type 0
 OpensBy locked pass = (key : Key) × OpensTo locked pass key
 
+-- the request goes on with the key that the given passphrase opens, or is refused so
+pub data IsOpened (locked : LockedKey) : Asked → Result OpenedKey Refusal → Type 0 where
+  opens_by : {pin : List ℕ} {key : Key} → OpensTo locked pin key → IsOpened locked (asked.Pin pin) (Ok (opened_by key pin))
+  refused : {answer : Asked} {why : Refusal} → pin_refusal answer ≡ Some why → IsOpened locked answer (Err why)
+
 -- A passphrase is tried on it: the clear key, or none. Being out of memory is never taken for a passphrase that doesn't open it.
 pub data TriesPassphrase (locked : LockedKey) (pass : List ℕ) (held : Option ℕ) : List Event → Result (Option OpenedKey) Refusal → Option ℕ → Type 0 where
   opens : {key : Key} → OpensTo locked pass key → TriesPassphrase locked pass held [] (Ok (Some (opened_by key pass))) held
@@ -81,16 +86,10 @@ ClientNew = do
   Returns pass
 
 module _ (rules : Rules) (options : OptionValues) (grip : Grip) where
-  -- one prompt under the ticket that the request holds, at which a passphrase is right that opens the key
-  pub data PromptsOld (locked : LockedKey) : Option ℕ → List Event → Result OpenedKey Refusal → Option ℕ → Type 0 where
-    opens_by : {ticket : ℕ} {shown : List Event} {pin : List ℕ} {key : Key} (spec : PromptSpec)
-        → IsSpec rules options (text (described options.description (old_description grip))) (text field_text) false spec
-        → PromptsPin session_lines spec (plan_of rules options (text []) false 0) (OpensBy locked) shown (asked.Pin pin) → OpensTo locked pin key
-        → PromptsOld locked (Some ticket) shown (Ok (opened_by key pin)) (Some ticket)
-    refused : {ticket : ℕ} {shown : List Event} {answer : Asked} {why : Refusal} (spec : PromptSpec)
-        → IsSpec rules options (text (described options.description (old_description grip))) (text field_text) false spec
-        → PromptsPin session_lines spec (plan_of rules options (text []) false 0) (OpensBy locked) shown answer → pin_refusal answer ≡ Some why
-        → PromptsOld locked (Some ticket) shown (Err why) (Some ticket)
+  -- one prompt at which a passphrase is right that opens the key
+  abbrev pub PromptsOld : LockedKey → Action OpenedKey
+  PromptsOld locked =
+      PromptsFor session_lines rules options (text (described options.description (old_description grip))) (text field_text) false (plan_of rules options (text []) false 0) (OpensBy locked) (IsOpened locked)
 
   -- the client itself gives the passphrase, and it is kept
   unfoldable pub ClientOld : LockedKey → Action OpenedKey
@@ -147,16 +146,10 @@ module _ (rules : Rules) (options : OptionValues) (grip : Grip) where
 
   -- ---- a new passphrase
 
-  -- One prompt under the ticket that the request holds, for a passphrase that meets the check and is repeated once, and whose test wants no memory. It says so in
-  -- words of its own, whatever description the client set for the request: that one is about the key as it is.
-  pub data PromptsNew : Option ℕ → List Event → Result (List ℕ) Refusal → Option ℕ → Type 0 where
-    given : {ticket : ℕ} {shown : List Event} {pin : List ℕ} (spec : PromptSpec) → IsSpec rules options (text (new_description grip)) (text field_text) true spec
-        → PromptsPin session_lines spec (plan_of rules options (text []) true 1) (λ pin. ⊤) shown (asked.Pin pin)
-        → PromptsNew (Some ticket) shown (Ok pin) (Some ticket)
-    refused : {ticket : ℕ} {shown : List Event} {answer : Asked} {why : Refusal} (spec : PromptSpec)
-        → IsSpec rules options (text (new_description grip)) (text field_text) true spec
-        → PromptsPin session_lines spec (plan_of rules options (text []) true 1) (λ pin. ⊤) shown answer → answer ≢ asked.NoMemory → pin_refusal answer ≡ Some why
-        → PromptsNew (Some ticket) shown (Err why) (Some ticket)
+  -- One prompt for a passphrase that meets the check and is repeated once. It says so in words of its own, whatever description the client set for the
+  -- request: that one is about the key as it is.
+  abbrev pub PromptsNew : Action (List ℕ)
+  PromptsNew = PromptsFor session_lines rules options (text (new_description grip)) (text field_text) true (plan_of rules options (text []) true 1) (λ pin. ⊤) IsAnyGiven
 
   abbrev pub new_by : PinMode → Action (List ℕ)
   new_by mode.Ask = do

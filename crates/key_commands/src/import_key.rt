@@ -7,8 +7,7 @@ ghost use Rattle.std.specs.Prelude.{◌≡◌, ◌≤◌, length, take, drop, No
 ghost use Rattle.agent_ask.specs.Seats.{IsReady};
 ghost use Rattle.assuan_server.specs.Connections.{Connection, IsOpen};
 ghost use Rattle.{assuan_escape.specs.Escapes.hex_text, sexp_keys.specs.Lists.key_list_of};
-ghost use Rattle.key_commands.specs.Lines.{nonce_line};
-ghost use Rattle.key_commands.specs.Exchanges.{ImportKeyReplies, StoresKey};
+ghost use Rattle.key_commands.specs.{Lines.nonce_line, Exchanges.{ImportKeyReplies, StoresKey}};
 ghost use Rattle.key_commands.specs.{Partial.{DoesKeyAction, NoCall}, Replies.CarriesOut};
 ghost use Rattle.key_commands.specs.{States.key_state, Trials.IsUsable};
 ghost use Rattle.key_commands.specs.declared.wrapping.TheConstants.{MAX_LIST_LEN};

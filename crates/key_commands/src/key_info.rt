@@ -9,8 +9,7 @@ ghost use Rattle.session_options.specs.OptionValues.{OptionValues};
 ghost use Rattle.session_options.specs.declared.rules.Rules.{Rules as TheRules};
 ghost use Rattle.assuan_text.specs.LineEnds.{has_lf};
 ghost use Rattle.key_commands.specs.Exchanges.{KeyInfoReplies, ListKeysReplies};
-ghost use Rattle.key_commands.specs.KeyActions.{WritesInfos};
-ghost use Rattle.key_commands.specs.Lines.{info_line, info_text};
+ghost use Rattle.key_commands.specs.{KeyActions.WritesInfos, Lines.{info_line, info_text}};
 ghost use Rattle.key_commands.specs.{Partial.{DoesKeyAction, NoCall}, Replies.CarriesOut};
 ghost use Rattle.key_commands.specs.{States.key_state, declared.keywrap_key.WrapKeys.WrapKeys};
 

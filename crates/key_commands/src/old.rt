@@ -8,8 +8,7 @@ ghost use Rattle.{agent_ask.specs.Seats.IsReady, assuan_server.specs.Connections
 ghost use Rattle.secret_file.specs.Opens.{FitsFile};
 ghost use Rattle.key_commands.specs.Partial.{DoesAtDesk, LeavesKeys};
 ghost use Rattle.key_commands.specs.Passphrases.{ClientOld, UncachedOld, OldPassphrase};
-ghost use Rattle.key_commands.specs.Passphrases.{VerifiesPassphrase, way_of};
-ghost use Rattle.key_commands.specs.Trials.{IsUsable};
+ghost use Rattle.key_commands.specs.{Passphrases.{VerifiesPassphrase, way_of}, Trials.IsUsable};
 
 use crate::asking::Asking;
 use crate::inquiries::ask_client;
@@ -44,8 +43,9 @@ pub(crate) fn old_passphrase<L: Link, D: Desk, P: Prompter>(
     requires open { IsOpen conn.old }
     requires ready { IsReady (D.at desk.old) (P.at prompter.old) held.old }
     ensures does { LeavesKeys D.turned P.prompted
-        (OldPassphrase asking.now.rules.now asking.now.options.now asking.now.grip.now nonce.now key)
-        held.old conn.old desk.old prompter.old result held.new conn.new desk.new prompter.new }
+        (OldPassphrase asking.now.rules.now asking.now.options.now asking.now.grip.now
+        nonce.now key) held.old conn.old desk.old prompter.old result held.new
+        conn.new desk.new prompter.new }
     ensures ready { IsReady (D.at desk.new) (P.at prompter.new) held.new }
     ensures usable { IfOk result (λ opened. IsUsable opened.key) }
 {

@@ -8,9 +8,8 @@ ghost use Rattle.{agent_ask.specs.Seats.IsReady, agent_ports.specs.Sides.Side};
 ghost use Rattle.assuan_server.specs.Connections.{Connection, IsOpen};
 ghost use Rattle.sexp_keys.specs.Lists.{key_list_of};
 ghost use Rattle.key_commands.specs.Exchanges.{VerifyReplies, PasswdReplies, RewritesFile};
-ghost use Rattle.key_commands.specs.Files.{IsSomeKey};
-ghost use Rattle.key_commands.specs.{Partial.{DoesKeyAction, NoCall}, Replies.CarriesOut};
-ghost use Rattle.key_commands.specs.{States.key_state, Trials.IsUsable};
+ghost use Rattle.key_commands.specs.{Files.IsSomeKey, Partial.{DoesKeyAction, NoCall}};
+ghost use Rattle.key_commands.specs.{Replies.CarriesOut, States.key_state, Trials.IsUsable};
 ghost use Rattle.key_commands.specs.declared.keywrap_key.WrapKeys.{WrapKeys as Wraps};
 ghost use Rattle.key_commands.specs.declared.wrapping.TheConstants.{MAX_LIST_LEN};
 

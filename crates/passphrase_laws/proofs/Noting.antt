@@ -1,7 +1,8 @@
 -- Before its last line, a request for a passphrase tells its client at most that a pinentry was launched, and once.
 use Rattle.std.{specs.{List.AllByRecursion, Prelude.⊤}, proofs.Common.{◌≢◌, ℕ, zero, suc, Bool, true, false, List, [], ◌∷◌, ◌++◌, Option, Some, None, Result, Ok, Err, refl, sym, subst, append_assoc}}
 use Rattle.agent_ask.specs.{Events.{PromptEvent, Called, Notified, OutOfMemory, Shut}, Session.{PortCalls.Prompt, Actions.{◌>>=◌, Follows, goes_on, stops, Returns, returns, Refuses, refuses, needed, or_else}, SessionEvents.Port}}
-use Rattle.agent_ask.specs.{Session.TurnActions.{Asks, Seats, Closes}, PinActions.PromptsPin, Prompts.{AsksBefore, Opens, Tries, IsTry, Repeats, repeated}, SessionPrompts.{AnyInSession, note}, Tests.PinTest, declared.prompt.ask.Asked.Asked}
+use Rattle.agent_ask.specs.{Session.TurnActions.{Asks, Seats, Closes}, PinActions.{PromptsPin, prompted}, Prompts.{AsksBefore, Opens, Tries, IsTry, Repeats, repeated}}
+use Rattle.agent_ask.specs.{SessionPrompts.{AnyInSession, note}, Tests.PinTest, declared.prompt.ask.Asked.Asked}
 use Rattle.{agent_ask.specs.declared.prompt.spec.{AskPlan.AskPlan, PromptSpec.PromptSpec}, agent_commands.specs.Actions.{CacheEvent, CacheAction}}
 use Rattle.agent_commands.specs.{Passphrases.{Passphrase, passphrase_by, as_wanted, WithoutPrompt, ByUser, ByCache, LooksFor, WantsPrompt, Prompts, PromptsAny, Uncached}, Requests.GetFields, declared.request.Texts.Texts}
 use Rattle.{assuan_server.specs.Clients.session_lines, cache_policy.specs.declared.mark.MarkStep.{MarkStep, TheVariants.Seat}, session_client.specs.declared.{code.Code.Code, refusal.Refusal.{Refusal, TheVariants.Agent}}}
@@ -236,8 +237,7 @@ module _ (rules : Rules) (values : OptionValues) where
   module _ (texts : Texts) (check quality : Bool) (repeat : ℕ) where
     prompts_of : (before : Option ℕ) (events : List CacheEvent) (result : Result (List ℕ) Refusal) (after : Option ℕ) → PromptsAny rules values texts check quality repeat before events result after
         → HasNotes events
-    prompts_of before events result after (PromptsAny.given spec is pin) = pin_notes pin
-    prompts_of before events result after (PromptsAny.refused spec is pin not why) = pin_notes pin
+    prompts_of before events result after (prompted spec is pin gives) = pin_notes pin
 
     prompts : Noted (Prompts rules values texts check quality repeat)
     prompts = noted_then (record { of = prompts_of }) (λ pin. still_then (turn_closes (Some pin)) (λ kept. returned pin))

@@ -5,13 +5,13 @@ use Rattle.session_client.specs.{Asking.gone_of, Refusals.gone_by, declared.{cod
 use Rattle.{cache_policy.specs.{Turns.{closes, Empty}, declared.{mark.MarkStep.MarkStep, secret.TheConstants.MAX_SECRET_LEN}}, session_options.specs.{OptionValues.{OptionValues, applied}, declared.options.OptionAnswer.OptionAnswer}}
 use Rattle.{session_options.specs.declared.{options.PinMode.PinMode, rules.Rules.Rules}, agent_commands.specs.{Answers.IsInfo, Endings.went_after, Events.EventWith}}
 use Rattle.agent_commands.specs.{Exchanges.{CacheExchange, CacheReply, CacheReplies, TellsPassphrase, TellsInfo, option_replies, ChangeReplies, confirms_by, is_quiet, tells}, Actions.{CacheAction, AsksPassphrase}}
-use Rattle.agent_commands.specs.{Passphrases.{ask, ask_or_open, LooksFor, WantsPrompt, ByCache, ByClient, Uncached, WithoutPrompt, PromptsAny, ByUser, as_wanted, passphrase_by}, Requests.{GetFields, get_passphrase}}
+use Rattle.agent_commands.specs.{Passphrases.{ask, ask_or_open, LooksFor, WantsPrompt, ByCache, ByClient, Uncached, WithoutPrompt, ByUser, as_wanted, passphrase_by}, Requests.{GetFields, get_passphrase}}
 use Rattle.agent_commands.specs.declared.{request.{CacheCommand.CacheCommand, Info.{Info, TheVariants.{Version, Pid, S2kCount, Listed}}, Request.{Request, TheVariants.{Cache, Key, Bad}}, Texts.Texts}, went.Went.Went}
 use Rattle.agent_origin.specs.declared.session_state.SessionState.{SessionState}
 use Rattle.agent_session.specs.Causes.{AsksAny, wanted, StandIn, IsCaused, IsRefusedBy, IsSaid, said, by_client, by_mode, no_id, empty, option, preset, confirmation, none_given, HasNoEntry, IsUnprompted, IsMalformed, IsUnsupported}
 use Rattle.agent_session.{specs.Causes.{without_id, passphrase}, proofs.Causes.{Asides.secret_limit, Explained.{Explained, replied, failed, silent, after_these, IsLast}}}
 use Rattle.agent_session.proofs.Causes.Explaining.{Caused, CausedRefusal, ClientSays, cut, client_said, Comes, IsExplained, Explains, Anything, bind, whatever, returned, refused, or_otherwise, is_wanted, interrupts, looks, seats, changes}
-use Rattle.agent_session.proofs.Causes.{Explaining.closes_explained, KeyActions.{Either, prompt_silent, refused_any, agrees}, KeyRequests.{if_needed, or_else_explained}}
+use Rattle.agent_session.proofs.Causes.{Explaining.closes_explained, KeyActions.{Either, prompts_any, agrees}, KeyRequests.{if_needed, or_else_explained}}
 use Rattle.agent_session.proofs.{Causes.Replying.{IsReply, reply_ok, reply_closing, reply_help, reply_cache, reply_passphrase}, Standing.{has_first, stand_left, stand_right}}
 use Rattle.agent_ask.specs.Session.ClientActions as client
 use Rattle.agent_ask.specs.Session.ActionExchanges as exchange
@@ -22,7 +22,6 @@ use Rattle.session_client.specs.declared.client_error.Gone.TheVariants as gone
 use Rattle.session_client.specs.declared.client_error.ClientError.TheVariants as client_error
 use Rattle.session_options.specs.declared.options.OptionAnswer.TheVariants as option_answer
 use Rattle.session_options.specs.declared.options.PinMode.TheVariants as mode
-use Rattle.agent_commands.specs.Passphrases as passphrases
 use Rattle.agent_commands.specs.declared.request.CacheCommand.TheVariants as command
 
 -- a reply that answers the request
@@ -76,14 +75,10 @@ module _ (rules : Rules) (kept : SessionState) (whole : List (EventWith PortCall
   -- ---- prompts
 
   module _ (texts : Texts) (check quality : Bool) (repeat : ℕ) (asks : AsksAny rules kept.options request (plan_of rules kept.options texts.error check repeat)) where
-    prompts_any_of : ExplainsHere (PromptsAny rules kept.options texts check quality repeat) Anything
-    prompts_any_of before events result after (passphrases.given spec is prompt) stands = record { silent = prompt_silent prompt.in_session; explained = tt }
-    prompts_any_of before events result after (passphrases.refused spec is prompt other refusal) stands = refused_any rules kept request whole Anything asks prompt refusal stands
-
     by_user : (id : Option (List ℕ)) → ExplainsHere (ByUser rules kept.options texts check quality repeat id) Anything
     by_user id =
         then (wants_prompt id) (λ cached. or_otherwise Anything cached _ (λ some is. tt)
-        (λ none. then prompts_any_of (λ pin. then (closes_explained (Some pin)) (λ closed. done pin))))
+        (λ none. then (prompts_any rules kept request whole asks) (λ pin. then (closes_explained (Some pin)) (λ closed. done pin))))
 
   -- ---- replies
 

@@ -1,16 +1,17 @@
 -- The actions of requests on keys, each of whose refusals has its cause.
 use Rattle.std.{specs.{List.AllByRecursion, Prelude.⊤, Option.option_map}, proofs.Common.{false, ◌≡◌, ℕ, List, ◌∷◌, Option, Some, None, Result, Ok, Err, refl, sym, subst, inl, inr}}
 use Rattle.agent_ask.specs.{Callers.unheard_of, Events.{OutOfMemory, PromptEvent, Called, Notified}, Session.{PortCalls.{PortCall, Keys, Read, Replaced, Removed, Prompt}, SessionEvents.{Port, cache_turn}}, SessionPrompts.AnyInSession}
-use Rattle.agent_ask.specs.{declared.{prompt.{ask.Asked.Asked, consent.Agreed.Agreed, spec.{AskPlan.AskPlan, PromptSpec.PromptSpec}}, client.caller.Heard.Heard}, ConsentActions.{AgreesTo, consent_refusal}, PinActions.{PromptsPin, pin_refusal}}
+use Rattle.agent_ask.specs.{declared.{prompt.{ask.Asked.Asked, consent.Agreed.Agreed, spec.AskPlan.AskPlan}, client.caller.Heard.Heard}, ConsentActions.{AgreesTo, consent_refusal}, PinActions.{PromptsFor, IsAnyGiven, pin_refusal}}
 use Rattle.{agent_ports.specs.declared.{grip.Grip.Grip, keys.{KeyDone.KeyDone, KeyRead.KeyRead}}, assuan_server.specs.Clients.session_lines, session_client.specs.declared.{code.Code.Code, client_error.ClientError.ClientError}}
 use Rattle.{session_client.specs.declared.refusal.Refusal.{Refusal, TheVariants.Client}, cache_policy.specs.{Turns.Given, declared.{grant.Grant.Grant, mark.MarkStep.MarkStep}}, session_options.specs.declared.rules.Rules.Rules}
 use Rattle.{sexp_keys.specs.{Key.Key, declared.fault.KeyFault.KeyFault}, secret_file.specs.Opens.LockedKey, agent_commands.specs.{Events.EventWith, declared.request.Request.Request}, key_commands.specs.Faults.fault_code}
-use Rattle.key_commands.specs.{KeyActions.{ReadsFile, change_fault, Replaces, Removes, KeepsNew}, Actions.read_fault, Passphrases.{ask_nonce, LooksForNonce, TakesSeat, Locks, OpensBy, TriesPassphrase, TriesFound, PromptsOld, PromptsNew}}
+use Rattle.key_commands.specs.{KeyActions.{ReadsFile, change_fault, Replaces, Removes, KeepsNew}, Actions.read_fault, Passphrases.{ask_nonce, LooksForNonce, TakesSeat, Locks, OpensBy, TriesPassphrase, TriesFound, PromptsOld}}
 use Rattle.agent_origin.specs.declared.session_state.SessionState.{SessionState}
 use Rattle.agent_session.specs.Causes.{Has, StandIn, IsCaused, IsSaid, said, IsUnread, IsUnremoved, LacksKeys, on_keys, one, IsRead, read, IsReadOf, read_of, IsReadLocked, OpensRead, opens, IsFaulty, Unlocks, Judges, NamesOld, ComesBy}
-use Rattle.agent_session.specs.{Causes.{HasPrompt, AsksAny, old_plan, new_plan, protection, faulty, HasCall, GivesNone, GivesNoneFor, none_at_all, wrong, ByNonce}, Completeness.AnswersNothing}
+use Rattle.agent_session.specs.{Causes.{HasPrompt, AsksAny, old_plan, protection, faulty, HasCall, GivesNone, GivesNoneFor, none_at_all, wrong, ByNonce}, Completeness.AnswersNothing}
 use Rattle.agent_session.proofs.Causes.Explaining.{Caused, CausedRefusal, client_said, Comes, Explains, Anything, returned, FoundBy, found, found_none, looks, seats, changes, closes_explained, out_of_memory_first, out_of_memory_second}
 use Rattle.agent_session.proofs.{Causes.{Faulty.{file_fault_said, locked_fault_said}, Prompted.{has_prompt, PinShows, ConsentShows, HasCalled, HasHeard, pin_shows, consent_shows, shown_as, note_says}}, Standing.{has_first, has_in}}
+use Rattle.agent_ask.specs.PinActions as pins
 use Rattle.agent_ask.specs.SessionPrompts as session
 use Rattle.agent_ask.specs.declared.prompt.ask.Asked.TheVariants as asked
 use Rattle.agent_ask.specs.declared.client.caller.Heard.TheVariants as heard_as
@@ -202,27 +203,23 @@ module _ (rules : Rules) (kept : SessionState) (request : Request) (whole : List
     -- ---- prompts for passphrases
 
     pub prompts_old : ExplainsHere (PromptsOld rules kept.options grip locked) (λ opened. OpensHere grip opened.key)
-    prompts_old before events result after (passphrases.opens_by spec is prompt to) stands =
+    prompts_old before events result after (pins.prompted spec is prompt (passphrases.opens_by to)) stands =
         record { silent = prompt_silent prompt.in_session; explained = opens is_locked (causes.typed_by_user (has_prompt prompt stands)) to }
-    prompts_old before events result after (passphrases.refused {answer} {why} spec is prompt refusal) stands = record {
+    prompts_old before events result after (pins.prompted spec is prompt (passphrases.refused {answer} {why} refusal)) stands = record {
       silent = prompt_silent prompt.in_session;
       explained = pin_caused prompt.in_session stands answer why (pin_shows prompt.asks)
           (λ bad. causes.at_prompt (causes.opening unlocks is_locked (subst (HasPrompt whole (old_plan rules kept.options) (OpensBy locked)) bad (has_prompt prompt stands)))) refusal;
     }
 
-  -- a prompt at which every passphrase is right, and that gave none
-  pub refused_any : {A : Type 0} (Good : A → Type 0) {spec : PromptSpec} {plan : AskPlan} {shown : List (EventWith PortCall)} {answer : Asked} {why : Refusal} → AsksAny rules kept.options request plan
-      → PromptsPin session_lines spec plan (λ pin. ⊤) shown answer → pin_refusal answer ≡ Some why → StandIn shown whole → ComesHere Good shown (Err why)
-  refused_any Good {plan} {answer} {why} asks prompt refusal stands = record {
+  -- one at which every passphrase is right
+  pub prompts_any : {description field : _} {quality : _} {plan : AskPlan} → AsksAny rules kept.options request plan
+      → ExplainsHere (PromptsFor session_lines rules kept.options description field quality plan (λ pin. ⊤) IsAnyGiven) Anything
+  prompts_any asks before events (Ok pin) after (pins.prompted spec is prompt gives) stands = record { silent = prompt_silent prompt.in_session; explained = tt }
+  prompts_any {plan} asks before events (Err why) after (pins.prompted {answer} spec is prompt gives) stands = record {
     silent = prompt_silent prompt.in_session;
     explained = pin_caused prompt.in_session stands answer why (pin_shows prompt.asks)
-        (λ bad. causes.at_prompt (causes.any asks (subst (HasPrompt whole plan (λ pin. ⊤)) bad (has_prompt prompt stands)))) refusal;
+        (λ bad. causes.at_prompt (causes.any asks (subst (HasPrompt whole plan (λ pin. ⊤)) bad (has_prompt prompt stands)))) gives.1;
   }
-
-  module _ (grip : Grip) (asks : AsksAny rules kept.options request (new_plan rules kept.options)) where
-    pub prompts_new : ExplainsHere (PromptsNew rules kept.options grip) Anything
-    prompts_new before events result after (passphrases.given spec is prompt) stands = record { silent = prompt_silent prompt.in_session; explained = tt }
-    prompts_new before events result after (passphrases.refused spec is prompt enough refusal) stands = refused_any Anything asks prompt refusal stands
 
   pub agrees : (question : List ℕ) → ExplainsHere (AgreesTo session_lines rules kept.options question) Anything
   agrees question before events result after (consent.consents spec is prompt) stands = record { silent = prompt_silent prompt.in_session; explained = tt }

@@ -9,14 +9,16 @@ use Rattle.key_commands.specs.Lines.{max_key_data}
 use Rattle.key_commands.specs.Exchanges.{KeyReply, HaveKeyReplies, KeyInfoReplies, ListKeysReplies, KeyWrapReplies, ImportKeyReplies, ExportKeyReplies, PasswdReplies, VerifyReplies, DeleteKeyReplies, KeyReplies, wrap_key, StoresKey}
 use Rattle.key_commands.specs.{Exchanges.{FoundOrNew, RenewsPassphrase, RewritesFile, ChangesOpened}, Files.Rewrites}
 use Rattle.key_commands.specs.KeyActions.{Tells, tells, Protects, IsShort, HasOne as HasOneKey, TellsKeyInfo, ListsGrips, ReadsListed, WritesInfo, TellsListed, WritesInfos, AsksKeyData, Unwraps, ReceivesKey, NamesKey, IsFree, LooksOver}
-use Rattle.key_commands.specs.{KeyActions.{WrapsKey, Consents}, Actions.{Action, read_fault}, Passphrases.{ClientOld, UncachedOld, OpensLocked, OldPassphrase, VerifiesPassphrase, ClientNew, NewPassphrase, ask_key, way_of}, Wrapping.WrappedSays}
+use Rattle.key_commands.specs.{KeyActions.{WrapsKey, Consents}, Actions.{Action, read_fault}}
+use Rattle.key_commands.specs.{Passphrases.{ClientOld, UncachedOld, OpensLocked, OldPassphrase, VerifiesPassphrase, ClientNew, NewPassphrase, ask_key, way_of}, Wrapping.WrappedSays}
 use Rattle.{key_commands.specs.declared.request.KeyRequest.KeyRequest, agent_origin.specs.declared.session_state.SessionState.SessionState}
 use Rattle.agent_session.specs.Causes.{Has, here, StandIn, IsCaused, IsSent, AreUnread, LacksKeys, on_keys, IsRefusedBy, one, IsRead, IsReadOf, IsDrawn, IsListOf, protected, IsReadLocked, OpensRead, Unlocks, exports, NamesOld, of_export}
 use Rattle.agent_session.specs.Causes.{of_change, ComesBy, AsksAny, of_new, of_import, new_plan, is_clear, key_data, KeyDataSays, data_says, faulty, long, long_file, by_mode, deletion, stays, empty, no_import, no_export, there, GivesNone}
 use Rattle.agent_session.specs.{Causes.{none_given, GivesNoneFor, ByNonce, HasNoEntry, exported, changed, verified, imported, renewed, IsUnprompted}, Completeness.IsStatus}
 use Rattle.agent_session.proofs.Causes.Explaining.{Caused, Comes, Explains, Anything, IsFound, bind, whatever, returned, refused, is_needed, or_otherwise, is_wanted, seats, changes, peeks, closes_explained, writes, inquires, asks_client}
 use Rattle.agent_session.proofs.Causes.{Explaining.{finds, draws, out_of_memory_first, out_of_memory_second, looks}, Asides.{info_status, limit_status}, Faulty.first_fault_said}
-use Rattle.agent_session.proofs.Causes.KeyActions.{Either, fault_caused, looks_for_nonce, takes_seat, keeps_new, locks, tries, tries_found, prompts_old, prompts_new, agrees, reads_file, removes, replaces, OpensHere, comes_of, comes_by_nonce}
+use Rattle.agent_session.proofs.Causes.KeyActions.{Either, fault_caused, looks_for_nonce, takes_seat, keeps_new, locks, tries, tries_found}
+use Rattle.agent_session.proofs.Causes.KeyActions.{prompts_old, prompts_any, agrees, reads_file, removes, replaces, OpensHere, comes_of, comes_by_nonce}
 use Rattle.agent_session.proofs.{Causes.{KeyActions.{FoundByNonce, nonce_none, none_opens, nonce_none_opens}, Replying.{IsReply, reply_ok, reply_status, reply_nonce, reply_keys}}, Standing.{has_first, has_in, has_right}}
 use Rattle.agent_ports.specs.declared.keys.KeyDone.TheVariants as key_done
 use Rattle.agent_ports.specs.declared.keys.KeyRead.TheVariants as key_read
@@ -243,7 +245,7 @@ module _ (rules : Rules) (kept : SessionState) (request : Request) (whole : List
   new_passphrase : (way : PinMode) → ((values : OptionValues) → AsksAny rules values request (new_plan rules values)) → HasNoEntry whole request
       → Explains whole (IsCaused whole rules (in_mode way) request) (NewPassphrase rules (in_mode way).options grip) Anything
   new_passphrase mode.Ask asks unmet =
-      bind (takes_seat rules (in_mode mode.Ask) request whole grip) (λ seated any. prompts_new rules (in_mode mode.Ask) request whole grip (asks (in_mode mode.Ask).options))
+      bind (takes_seat rules (in_mode mode.Ask) request whole grip) (λ seated any. prompts_any rules (in_mode mode.Ask) request whole (asks (in_mode mode.Ask).options))
   new_passphrase mode.Cancel asks unmet = refused Anything (Agent code.Cancelled) (by_mode refl unmet)
   new_passphrase mode.Error asks unmet = refused Anything (Agent code.NoPinentry) (inl (by_mode refl unmet))
   new_passphrase mode.Loopback asks unmet = client_new rules (in_mode mode.Loopback) request whole grip refl

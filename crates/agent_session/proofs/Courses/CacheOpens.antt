@@ -1,23 +1,17 @@
 -- In a request on the cache a prompt is opened before the prompter is called, and once; and so in each exchange of a session.
-use Rattle.std.proofs.Common.{ℕ, Bool, true, false, List, Option, Some, None, Result, Ok, Err, refl}
+use Rattle.std.proofs.Common.{ℕ, Bool, true, false, List, Option, Some, None, Ok, Err, refl}
 use Rattle.{arrayvec.specs.ArrayVec.ArrayVec, agent_ask.specs.Session.{PortCalls.PortCall, ActionExchanges.AnyExchange, Actions.{◌>>=◌, Returns}, TurnActions.Changes}}
 use Rattle.agent_origin.{proofs.EachCache.{wants_prompt, without_prompt, by_cache, presets, tells_passphrase, tells_info, option_so}, specs.{SessionExchanges.{RequestExchange, cache, keys}, declared.session_state.SessionState.SessionState}}
-use Rattle.{cache_policy.specs.declared.mark.MarkStep.MarkStep, assuan_server.specs.Written.refusal_line, session_client.specs.declared.refusal.Refusal.{Refusal, TheVariants.Agent}}
+use Rattle.{cache_policy.specs.declared.mark.MarkStep.MarkStep, assuan_server.specs.Written.refusal_line, session_client.specs.declared.refusal.Refusal.TheVariants.Agent}
 use Rattle.{session_options.specs.{OptionValues.{OptionValues, applied}, declared.{options.PinMode.PinMode, rules.Rules.Rules}}, agent_commands.specs.{Endings.went_after, Events.EventWith}}
-use Rattle.agent_commands.specs.{Exchanges.{CacheExchange, CacheReply, CacheReplies, confirms_by}, Actions.CacheAction, Passphrases.{WithoutPrompt, PromptsAny, Prompts, passphrase_by, as_wanted}, Requests.GetFields}
+use Rattle.agent_commands.specs.{Exchanges.{CacheExchange, CacheReply, CacheReplies, confirms_by}, Actions.CacheAction, Passphrases.{WithoutPrompt, Prompts, passphrase_by, as_wanted}, Requests.GetFields}
 use Rattle.agent_commands.specs.declared.request.CacheCommand.{CacheCommand, TheVariants.{Nop, Reset, Bye, Help, SetOption, GetInfo, GetPassphrase, PresetPassphrase, ClearPassphrase, GetConfirmation, ReloadAgent, KillAgent, SetKeyDesc}}
 use Rattle.{agent_commands.specs.declared.{request.{Request.{Request, TheVariants.{Cache, Key, Bad}}, Texts.Texts}, went.Went.Went}, key_commands.specs.Events.IsUncalled}
-use Rattle.key_commands.proofs.EachEvent.{still_uncalled, agrees_to, each_shown, each_bind, each_returned, each_refused, each_otherwise, each_seats, each_changes, each_closes}
-use Rattle.agent_session.{specs.Refusals.{IsUnopening, OpensFirst}, proofs.Courses.{Opens.{Unopening, UnopeningSo, answer_unopening, OpensSo, still_unopening, then_unopening, calls_nobody, behind_opens}, KeyCourses.key_opens}}
+use Rattle.key_commands.proofs.EachEvent.{still_uncalled, agrees_to, prompts_for, each_bind, each_returned, each_refused, each_otherwise, each_seats, each_changes, each_closes}
+use Rattle.agent_session.{specs.Refusals.{IsUnopening, OpensFirst}, proofs.Courses.{Opens.{UnopeningSo, answer_unopening, OpensSo, still_unopening, then_unopening, calls_nobody, behind_opens}, KeyCourses.key_opens}}
 use Rattle.agent_ask.specs.Session.ActionExchanges as exchange
 use Rattle.session_client.specs.declared.code.Code.TheVariants as code
 use Rattle.session_options.specs.declared.options.PinMode.TheVariants as mode
-use Rattle.agent_commands.specs.Passphrases as passphrases
-
-any_of : {rules : Rules} {options : OptionValues} {texts : Texts} {check quality : Bool} {repeat : ℕ} (before : Option ℕ) (events : List (EventWith PortCall)) (result : Result (List ℕ) Refusal) (after : Option ℕ)
-    → PromptsAny rules options texts check quality repeat before events result after → Unopening events
-any_of before events result after (passphrases.given spec is prompt) = each_shown IsUnopening still_unopening (λ event. tt) prompt.in_session
-any_of before events result after (passphrases.refused spec is prompt other refusal) = each_shown IsUnopening still_unopening (λ event. tt) prompt.in_session
 
 -- what is asked of the cache, without a prompt
 without : (id : Option (List ℕ)) (way : PinMode) → OpensSo (WithoutPrompt id way)
@@ -29,7 +23,7 @@ changes answer = calls_nobody (each_bind IsUncalled (each_changes IsUncalled (λ
 module _ (rules : Rules) (options : OptionValues) where
   prompts : (texts : Texts) (check quality : Bool) (repeat : ℕ) → UnopeningSo (Prompts rules options texts check quality repeat)
   prompts texts check quality repeat =
-      each_bind IsUnopening (record { of = any_of }) (λ pin. each_bind IsUnopening (each_closes IsUnopening (Some pin) (λ number turn. refl)) (λ kept. each_returned IsUnopening pin))
+      each_bind IsUnopening (prompts_for IsUnopening still_unopening (λ event. tt)) (λ pin. each_bind IsUnopening (each_closes IsUnopening (Some pin) (λ number turn. refl)) (λ kept. each_returned IsUnopening pin))
 
   as_wanted_opens : (fields : GetFields) (way : PinMode) (texts : Texts) → OpensSo (as_wanted rules options fields way texts)
   as_wanted_opens fields mode.Ask texts =

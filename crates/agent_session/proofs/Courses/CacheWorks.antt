@@ -1,15 +1,15 @@
 -- Actions of requests on the cache that are work of the one form, where each of their events is fit.
 use Rattle.std.proofs.Common.{◌≡◌, ℕ, Bool, List, [], codes, Option, Some, None, Result, refl}
-use Rattle.{arrayvec.specs.ArrayVec.ArrayVec, agent_ask.specs.{Events.PromptEvent, Session.{PortCalls.Prompt, SessionEvents.{Sent, Cut, Inquiry, Port, cache_turn}, TurnActions.Changes}, SessionPrompts.note}, cache_policy.specs.Turns.{Turn, closes}}
+use Rattle.{arrayvec.specs.ArrayVec.ArrayVec, agent_ask.specs.{Events.PromptEvent, Session.{PortCalls.Prompt, SessionEvents.{Sent, Cut, Inquiry, Port, cache_turn}, TurnActions.Changes}, SessionPrompts.note}}
+use Rattle.cache_policy.specs.Turns.{Turn, closes}
 use Rattle.cache_policy.specs.declared.{life.Life.{Life, TheVariants.Default}, mark.MarkStep.{MarkStep, TheVariants.{Seat, Put}}, mode.Mode.TheVariants.User, secret.TheConstants.MAX_SECRET_LEN}
 use Rattle.{session_client.specs.declared.refusal.Refusal.{Refusal, TheVariants.Agent}, session_options.specs.{OptionValues.OptionValues, declared.{options.PinMode.PinMode, rules.Rules.Rules}}}
 use Rattle.agent_commands.specs.{Exchanges.{TellsInfo, put, confirms_by, Presets}, Actions.{CacheAction, AsksPassphrase}, Passphrases.{LooksFor, WantsPrompt, KeepsUnder, ByCache, Uncached, WithoutPrompt, PromptsAny, ask, ask_or_open}}
 use Rattle.{agent_commands.specs.declared.request.{Info.Info, Texts.Texts}, assuan_server.specs.Written.limit_line, key_commands.specs.Events.Event}
-use Rattle.agent_session.proofs.Courses.{PromptWorks.{pin_works, pin_comes, agrees_to}, Works.{WorksTo, works, WorksSo, keeps_works, bind, returned, refuses_by, is_needed, or_otherwise, is_wanted, turns_of}}
+use Rattle.agent_session.proofs.Courses.{PromptWorks.{any_comes, prompts_for, agrees_to}, Works.{WorksTo, works, WorksSo, keeps_works, bind, returned, refuses_by, is_needed, or_otherwise, is_wanted, turns_of}}
 use Rattle.session_client.specs.declared.code.Code.TheVariants as code
 use Rattle.session_options.specs.declared.options.PinMode.TheVariants as mode
 use Rattle.agent_commands.specs.Exchanges as exchanges
-use Rattle.agent_commands.specs.Passphrases as passphrases
 use Rattle.agent_session.proofs.Courses.Works as work
 
 -- each event of such an action is fit, but that a passphrase is put
@@ -59,13 +59,8 @@ module _ {Fits : Event → Type 0} (fits : FitsCache Fits) where
     without_prompt way = bind Fits (looks_for id) (λ cached. or_otherwise Fits cached (uncached way))
 
   module _ (rules : Rules) (options : OptionValues) where
-    prompts_any_of : {texts : Texts} {check quality : Bool} {repeat : ℕ} (before : Option ℕ) (events : List Event) (result : Result (List ℕ) Refusal) (after : Option ℕ)
-        → PromptsAny rules options texts check quality repeat before events result after → WorksTo Fits events result
-    prompts_any_of _ _ _ _ (passphrases.given spec is prompt) = pin_works Fits fits.calls fits.notes prompt.asks refl prompt.in_session
-    prompts_any_of _ _ _ _ (passphrases.refused {answer} spec is prompt other refusal) = pin_works Fits fits.calls fits.notes prompt.asks (pin_comes answer refusal) prompt.in_session
-
     pub prompts_any : (texts : Texts) (check quality : Bool) (repeat : ℕ) → Here (PromptsAny rules options texts check quality repeat)
-    prompts_any texts check quality repeat = record { of = prompts_any_of }
+    prompts_any texts check quality repeat = prompts_for Fits fits.calls fits.notes any_comes
 
     pub confirmed : (way : PinMode) (description : ArrayVec ℕ) → Here (confirms_by rules options way description)
     confirmed mode.Ask description = bind Fits (work.seats Fits (turns_of Fits refl fits.seats)) (λ seated. agrees_to Fits fits.calls fits.notes rules options description.items)

@@ -6,7 +6,7 @@ use Rattle.{cache_policy.specs.declared.mode.Mode.TheVariants.Nonce, session_cli
 use Rattle.{session_options.specs.declared.{options.PinMode.PinMode, rules.Rules.Rules}, sexp_keys.specs.Key.Key, agent_commands.specs.{Events.EventWith, declared.request.Request.{Request, TheVariants.{Cache, Key as OnKeys, Bad}}}}
 use Rattle.{agent_commands.specs.declared.went.Went.Went, key_commands.specs.{Events.{drew, called}, Exchanges.{KeyExchange, ImportKeyReplies, StoresKey, FoundOrNew}, KeyActions.change_fault, Actions.{Action, refusal_events}}}
 use Rattle.key_commands.specs.{Passphrases.put_key, declared.{request.KeyRequest.KeyRequest, went.KeyWent.KeyWent, keywrap_key.WrapKeys.WrapKeys}}
-use Rattle.key_commands.proofs.EachEvent.{each_answer, each_returned, each_append, EachSo, each_bind, each_refused, each_needed, each_otherwise, receives_key, names_key, is_free, looks_over, takes_seat, prompts_new, client_new}
+use Rattle.key_commands.proofs.EachEvent.{each_answer, each_returned, each_append, EachSo, each_bind, each_refused, each_needed, each_otherwise, receives_key, names_key, is_free, looks_over, takes_seat, prompts_for, client_new}
 use Rattle.{assuan_server.specs.Written.refusal_line, agent_origin.specs.{SessionExchanges.{RequestExchange, cache, keys}, declared.session_state.SessionState.SessionState}}
 use Rattle.agent_session.specs.{Causes.{Has, here, later, on_keys}, Imports.{HandsNothing, HandNothing, put_nonce, KeepsPass, put, given_back, ImportCourse, not_drawn, not_put, not_replaced, replaced}}
 use Rattle.agent_session.{specs.OwnPassphrases.{puts, IsNonceOf, nonce_of}, proofs.{Causes.Explained.has_split, Own.{OwnKeys.still_quiet, OwnActions.kept_none}, Standing.{each_has, has_right}}}
@@ -122,7 +122,7 @@ stores_of count key grip pass (Some number) events result after (goes_on (small.
 -- ---- before
 
 new_quiet : (rules : Rules) (options : OptionValues) (grip : Grip) (way : PinMode) → EachSo HandsNothing (passphrases.new_by rules options grip way)
-new_quiet rules options grip mode.Ask = each_bind HandsNothing (takes_seat HandsNothing grip (λ turn hands. elim hands [ ])) (λ seated. prompts_new HandsNothing still_quiet (λ event. tt) rules options grip)
+new_quiet rules options grip mode.Ask = each_bind HandsNothing (takes_seat HandsNothing grip (λ turn hands. elim hands [ ])) (λ seated. prompts_for HandsNothing still_quiet (λ event. tt))
 new_quiet rules options grip mode.Cancel = each_refused HandsNothing (Agent code.Cancelled)
 new_quiet rules options grip mode.Error = each_refused HandsNothing (Agent code.NoPinentry)
 new_quiet rules options grip mode.Loopback = client_new HandsNothing still_quiet

@@ -1,11 +1,12 @@
 -- Actions of requests on keys that are work of the one form, where each of their events is fit.
-use Rattle.std.{proofs.Common.{◌==◌, ℕ, Bool, true, false, List, [], ◌∷◌, length, codes, Option, Some, None, Result, Ok, refl}, specs.Prelude.not}
+use Rattle.std.{proofs.Common.{◌==◌, ℕ, Bool, true, false, List, [], ◌∷◌, length, codes, Option, Some, None, Result, Ok, Err, refl}, specs.Prelude.not}
 use Rattle.{agent_ask.specs.{Events.PromptEvent, Session.{PortCalls.Prompt, Actions.{goes_on, stops, returns}, SessionEvents.{Sent, Cut, Inquiry, Port, cache_turn}}, SessionPrompts.note}, agent_ports.specs.declared.grip.Grip.Grip}
 use Rattle.{agent_ports.specs.declared.keys.KeyRead.KeyRead, cache_policy.specs.{Turns.Turn, declared.{mark.{MarkStep.TheVariants.{Peek, Seat}, Way.Way}, mode.Mode.TheVariants.Normal, secret.TheConstants.MAX_SECRET_LEN}}}
 use Rattle.{secret_file.specs.Opens.LockedKey, session_client.specs.declared.refusal.Refusal.{Refusal, TheVariants.Agent}, session_options.specs.{OptionValues.OptionValues, declared.{options.PinMode.PinMode, rules.Rules.Rules}}}
-use Rattle.{sexp_keys.specs.Key.Key, key_commands.specs.{Events.{Event, read, out_of_memory}, KeyActions.{Consents, HasOne, TellsKeyInfo, WritesInfo, WritesInfos}, Lines.{grip_text, info_line}, Actions.Action}}
-use Rattle.{key_commands.specs.Passphrases.{AsksSecret, PromptsOld, PromptsNew, ClientOld, UncachedOld, OpensLocked, ClientNew, ask_nonce, ask_key, seat_for, put_key}, assuan_server.specs.Written.limit_line}
-use Rattle.agent_session.proofs.Courses.PromptWorks.{pin_works, pin_comes, agrees_to}
+use Rattle.{agent_ask.specs.declared.prompt.ask.Asked.Asked, sexp_keys.specs.Key.Key}
+use Rattle.key_commands.specs.{Events.{Event, read, out_of_memory}, KeyActions.{Consents, HasOne, TellsKeyInfo, WritesInfo, WritesInfos}, Lines.{grip_text, info_line}, Actions.Action}
+use Rattle.{key_commands.specs.Passphrases.{AsksSecret, IsOpened, ClientOld, UncachedOld, OpensLocked, ClientNew, ask_nonce, ask_key, seat_for, put_key}, assuan_server.specs.Written.limit_line}
+use Rattle.agent_session.proofs.Courses.PromptWorks.{ComesBy, pin_stop, pin_comes, any_comes, prompts_for, agrees_to}
 use Rattle.agent_session.proofs.Courses.Works.{WorksTo, works, ok_works, err_works, behind_work, WorksSo, Keeps, keeps_works, bind, returned, refuses_by, is_needed, or_otherwise, is_unless, is_wanted, turns_of}
 use Rattle.session_client.specs.declared.code.Code.TheVariants as code
 use Rattle.session_options.specs.declared.options.PinMode.TheVariants as mode
@@ -27,6 +28,10 @@ pub record FitsKeys (Fits : Event → Type 0) : Type 0 where
   pub peeks : (grip : Grip) (turn : Turn) → Fits (cache_turn (Peek (grip_text grip) Normal) turn)
   pub infos : (grip : Grip) (is_cached clear : Bool) → Fits (Sent (info_line grip is_cached clear))
 
+opened_comes : {locked : LockedKey} (answer : Asked) (result : Result _ Refusal) → IsOpened locked answer result → ComesBy (pin_stop answer) result
+opened_comes _ (Ok opened) (passphrases.opens_by to) = refl
+opened_comes answer (Err why) (passphrases.refused refusal) = pin_comes answer refusal
+
 module _ {Fits : Event → Type 0} (fits : FitsKeys Fits) where
   abbrev Here : {A : Type 0} → Action A → Type 0
   Here = WorksSo Fits
@@ -41,19 +46,9 @@ module _ {Fits : Event → Type 0} (fits : FitsKeys Fits) where
   pub looks_nonce : (id : Option (List ℕ)) → Here (passphrases.LooksForNonce id)
   looks_nonce id = work.looks_for_nonce Fits (λ named. turns_of Fits refl (fits.nonces named)) id
 
-  -- ---- prompts
+  -- ---- passphrases
 
   module _ (rules : Rules) (options : OptionValues) (grip : Grip) where
-    prompts_old_of : {locked : LockedKey} (before : Option ℕ) (events : List Event) (result : Result _ Refusal) (after : Option ℕ) → PromptsOld rules options grip locked before events result after → WorksTo Fits events result
-    prompts_old_of _ _ _ _ (passphrases.opens_by spec is prompt to) = pin_works Fits fits.calls fits.notes prompt.asks refl prompt.in_session
-    prompts_old_of _ _ _ _ (passphrases.refused {answer} spec is prompt refusal) = pin_works Fits fits.calls fits.notes prompt.asks (pin_comes answer refusal) prompt.in_session
-
-    prompts_new_of : (before : Option ℕ) (events : List Event) (result : Result (List ℕ) Refusal) (after : Option ℕ) → PromptsNew rules options grip before events result after → WorksTo Fits events result
-    prompts_new_of _ _ _ _ (passphrases.given spec is prompt) = pin_works Fits fits.calls fits.notes prompt.asks refl prompt.in_session
-    prompts_new_of _ _ _ _ (passphrases.refused {answer} spec is prompt enough refusal) = pin_works Fits fits.calls fits.notes prompt.asks (pin_comes answer refusal) prompt.in_session
-
-    -- ---- passphrases
-
     module _ (stores : (pass : List ℕ) (turn : Turn) → Fits (cache_turn (put_key grip pass) turn)) (locked : LockedKey) where
       client_old : Here (ClientOld rules options grip locked)
       unfolding ClientOld
@@ -62,7 +57,7 @@ module _ {Fits : Event → Type 0} (fits : FitsKeys Fits) where
           (λ opened. bind Fits (so (work.changes Fits (turns_of Fits refl (stores pass)))) (λ kept_so. returned Fits opened))))
 
       pub uncached_old : (way : PinMode) → Here (UncachedOld rules options grip way locked)
-      uncached_old mode.Ask = bind Fits (work.takes_seat Fits grip (turns_of Fits refl (fits.seats_for grip))) (λ seated. record { of = prompts_old_of })
+      uncached_old mode.Ask = bind Fits (work.takes_seat Fits grip (turns_of Fits refl (fits.seats_for grip))) (λ seated. prompts_for Fits fits.calls fits.notes opened_comes)
       uncached_old mode.Cancel = refuses_by Fits (Agent code.Cancelled)
       uncached_old mode.Error = refuses_by Fits (Agent code.NoPinentry)
       uncached_old mode.Loopback = client_old
@@ -87,7 +82,7 @@ module _ {Fits : Event → Type 0} (fits : FitsKeys Fits) where
     client_new = bind Fits (asks_client (codes "NEW_PASSPHRASE")) (λ pass. bind Fits (is_wanted Fits code.BadPass (not (length pass == 0))) (λ some. returned Fits pass))
 
     pub new_here : (way : PinMode) → Here (passphrases.new_by rules options grip way)
-    new_here mode.Ask = bind Fits (work.takes_seat Fits grip (turns_of Fits refl (fits.seats_for grip))) (λ seated. record { of = prompts_new_of })
+    new_here mode.Ask = bind Fits (work.takes_seat Fits grip (turns_of Fits refl (fits.seats_for grip))) (λ seated. prompts_for Fits fits.calls fits.notes any_comes)
     new_here mode.Cancel = refuses_by Fits (Agent code.Cancelled)
     new_here mode.Error = refuses_by Fits (Agent code.NoPinentry)
     new_here mode.Loopback = client_new

@@ -1,11 +1,12 @@
 -- In a request a prompt is opened before the prompter is called, and once.
 use Rattle.std.{specs.{List.AllByRecursion, Prelude.⊤}, proofs.Common.{◌≡◌, ℕ, Bool, true, false, List, ◌∷◌, ◌++◌, Option, Some, None, Result, Ok, Err, refl, subst, inl, inr, append-nil, []}}
-use Rattle.agent_ask.{specs.Session.{PortCalls.{PortCall, Trust}, SessionEvents.{CacheTurn, Port, said_last}, Actions.{◌>>=◌, goes_on, stops, Returns, or_else}, TurnActions.Closes}, proofs.Within.{Within, Does, does_join, weaker, bind, or_otherwise}}
+use Rattle.agent_ask.specs.Session.{PortCalls.{PortCall, Trust}, SessionEvents.{CacheTurn, Port, said_last}, Actions.{◌>>=◌, goes_on, stops, Returns, or_else}, TurnActions.Closes}
+use Rattle.agent_ask.{specs.{PinActions.{PromptsFor, prompted}, declared.prompt.ask.Asked.Asked}, proofs.Within.{Within, Does, does_join, weaker, bind, or_otherwise}}
 use Rattle.{agent_ports.specs.declared.grip.Grip.Grip, secret_file.specs.Opens.LockedKey, session_options.specs.{OptionValues.OptionValues, declared.{options.PinMode.PinMode, rules.Rules.Rules}}, sexp_keys.specs.Key.Key}
-use Rattle.{agent_commands.specs.Events.EventWith, key_commands.specs.{Events.IsUncalled, Exchanges.{KeyReply, RenewsPassphrase, ChangesOpened}, KeyActions.{IsShort, Consents}, Actions.Action}}
-use Rattle.key_commands.specs.{Passphrases.{PromptsOld, PromptsNew, UncachedOld, OpensLocked, OldPassphrase, LooksForNonce, TakesSeat}, declared.keywrap_key.WrapKeys.WrapKeys}
+use Rattle.{assuan_server.specs.Clients.session_lines, agent_commands.specs.Events.EventWith, key_commands.specs.{Events.IsUncalled, Exchanges.{KeyReply, RenewsPassphrase, ChangesOpened}, KeyActions.{IsShort, Consents}, Actions.Action}}
+use Rattle.key_commands.specs.{Passphrases.{UncachedOld, OpensLocked, OldPassphrase, LooksForNonce, TakesSeat}, declared.keywrap_key.WrapKeys.WrapKeys}
 use Rattle.key_commands.proofs.EachEvent.{each_append, IsStill, still_uncalled, agrees_to, each_answer, EachSo, each_returned, each_refused, each_looks, each_seats, looks_nonce, takes_seat, is_short, locks, tries_found, client_old}
-use Rattle.{key_commands.proofs.EachEvent.{rewrites_file, client_new, prompts_old, prompts_new}, assuan_server.specs.Written.ok, session_client.specs.declared.refusal.Refusal.{Refusal, TheVariants.Agent}}
+use Rattle.{key_commands.proofs.EachEvent.{rewrites_file, client_new, each_shown, prompts_for}, assuan_server.specs.Written.ok, session_client.specs.declared.refusal.Refusal.{Refusal, TheVariants.Agent}}
 use Rattle.agent_session.specs.Refusals.{IsUnopening, OpensFirst}
 use Rattle.session_client.specs.declared.code.Code.TheVariants as code
 use Rattle.session_options.specs.declared.options.PinMode.TheVariants as mode
@@ -74,13 +75,6 @@ calls_nobody = weaker (record { of = λ before events result after each. uncalle
 unopening_action_opens : {A : Type 0} {action : Action A} → UnopeningSo action → OpensSo action
 unopening_action_opens = weaker (record { of = λ before events result after each. unopening_opens events each })
 
--- behind one, which always holds a ticket
-seated_prompts : {A : Type 0} {action : Action A} → UnopeningSo action
-    → ((before : Option ℕ) (events : List (EventWith PortCall)) (result : Result A Refusal) (after : Option ℕ) → action before events result after → after ≡ None → ⊥) → PromptsSo action
-seated_prompts each holds = record {
-  of = λ before events result after does. (unopening_opens events (each.of before events result after does), λ none. absurd (holds before events result after does none));
-}
-
 module _ {A B : Type 0} {action : Action A} {next : A → Action B} where
   pub before_opens : UncalledSo action → ((value : A) → OpensSo (next value)) → OpensSo (action >>= next)
   before_opens = bind (does_join uncalled_first uncalled_opens)
@@ -100,25 +94,21 @@ otherwise_prompts = or_otherwise (record { of = λ held result. (tt, λ none. tt
 
 -- ---- prompts
 
+module _ {A : Type 0} {rules : Rules} {options : OptionValues} {description field : _} {quality : _} {plan : _} {Rule : _} {Gives : Asked → Result A Refusal → Type 0} where
+  -- the prompter is called behind a ticket, which is still held then
+  prompts_of : (before : Option ℕ) (events : List (EventWith PortCall)) (result : Result A Refusal) (after : Option ℕ)
+      → PromptsFor session_lines rules options description field quality plan Rule Gives before events result after → PromptLaw before events result after
+  prompts_of before events result after (prompted spec is prompt gives) =
+      (unopening_opens events (each_shown IsUnopening still_unopening (λ event. tt) prompt.in_session), λ none. absurd (cc none))
+
+  prompts_so : PromptsSo (PromptsFor session_lines rules options description field quality plan Rule Gives)
+  prompts_so = record { of = prompts_of }
+
 module _ (rules : Rules) (options : OptionValues) (grip : Grip) where
-  old_seated : (locked : LockedKey) (before : Option ℕ) (events : List (EventWith PortCall)) (result : Result _ Refusal) (after : Option ℕ) → PromptsOld rules options grip locked before events result after → after ≡ None → ⊥
-  old_seated locked before events result after (passphrases.opens_by spec is prompt to) none = absurd (cc none)
-  old_seated locked before events result after (passphrases.refused spec is prompt refusal) none = absurd (cc none)
-
-  old_prompts : (locked : LockedKey) → PromptsSo (PromptsOld rules options grip locked)
-  old_prompts locked = seated_prompts (prompts_old IsUnopening still_unopening (λ event. tt) rules options grip locked) (old_seated locked)
-
-  new_seated : (before : Option ℕ) (events : List (EventWith PortCall)) (result : Result (List ℕ) Refusal) (after : Option ℕ) → PromptsNew rules options grip before events result after → after ≡ None → ⊥
-  new_seated before events result after (passphrases.given spec is prompt) none = absurd (cc none)
-  new_seated before events result after (passphrases.refused spec is prompt enough refusal) none = absurd (cc none)
-
-  new_prompts : PromptsSo (PromptsNew rules options grip)
-  new_prompts = seated_prompts (prompts_new IsUnopening still_unopening (λ event. tt) rules options grip) new_seated
-
   -- ---- passphrases
 
   uncached_prompts : (locked : LockedKey) (way : PinMode) → PromptsSo (UncachedOld rules options grip way locked)
-  uncached_prompts locked mode.Ask = before_prompts (takes_seat IsUncalled grip (λ turn. tt)) (λ seated_so. old_prompts locked)
+  uncached_prompts locked mode.Ask = before_prompts (takes_seat IsUncalled grip (λ turn. tt)) (λ seated_so. prompts_so)
   uncached_prompts locked mode.Cancel = uncalled_prompts (each_refused IsUncalled (Agent code.Cancelled))
   uncached_prompts locked mode.Error = uncalled_prompts (each_refused IsUncalled (Agent code.NoPinentry))
   uncached_prompts locked mode.Loopback = uncalled_prompts (client_old IsUncalled still_uncalled (λ key pass turn. tt) rules options grip locked)
@@ -138,7 +128,7 @@ module _ (rules : Rules) (options : OptionValues) (grip : Grip) where
   verified_prompts key false = before_prompts (locks IsUncalled still_uncalled key) (λ locked. uncached_prompts locked options.mode)
 
   pub new_by_prompts : (way : PinMode) → PromptsSo (passphrases.new_by rules options grip way)
-  new_by_prompts mode.Ask = before_prompts (takes_seat IsUncalled grip (λ turn. tt)) (λ seated_so. new_prompts)
+  new_by_prompts mode.Ask = before_prompts (takes_seat IsUncalled grip (λ turn. tt)) (λ seated_so. prompts_so)
   new_by_prompts mode.Cancel = uncalled_prompts (each_refused IsUncalled (Agent code.Cancelled))
   new_by_prompts mode.Error = uncalled_prompts (each_refused IsUncalled (Agent code.NoPinentry))
   new_by_prompts mode.Loopback = uncalled_prompts (client_new IsUncalled still_uncalled)
@@ -199,7 +189,7 @@ seat_stays grip (Some number) _ _ _ chain.returns held = (tt, held)
 
 module _ (rules : Rules) (options : OptionValues) (grip : Grip) where
   new_by_seated : (way : PinMode) → SeatedSo (passphrases.new_by rules options grip way)
-  new_by_seated mode.Ask = stays_then (record { of = seat_stays grip }) (λ seated. seated_so (prompts_new IsUnopening still_unopening (λ event. tt) rules options grip))
+  new_by_seated mode.Ask = stays_then (record { of = seat_stays grip }) (λ seated. seated_so (prompts_for IsUnopening still_unopening (λ event. tt)))
   new_by_seated mode.Cancel = seated_so (each_refused IsUnopening (Agent code.Cancelled))
   new_by_seated mode.Error = seated_so (each_refused IsUnopening (Agent code.NoPinentry))
   new_by_seated mode.Loopback = seated_so (client_new IsUnopening still_unopening)

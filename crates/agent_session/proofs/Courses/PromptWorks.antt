@@ -1,6 +1,6 @@
 -- Prompts in which each event goes on, but one by which the request is refused or its client is gone, which is the last before the prompter is shut.
 use Rattle.std.{specs.{List.AllByRecursion, Option.option_map}, proofs.Common.{◌≡◌, ◌≢◌, ℕ, zero, suc, List, [], ◌∙◌, ◌∷◌, ◌++◌, Option, Some, None, Result, Ok, Err, refl, sym, ap, subst, append_assoc}}
-use Rattle.agent_ask.specs.{Callers.{SaysNote, unheard_of}, ConsentActions.{AgreesTo, consent_refusal}, PinActions.pin_refusal, Consents.{AsksConsent, ConsentBefore, agreed_of}}
+use Rattle.agent_ask.specs.{Callers.{SaysNote, unheard_of}, ConsentActions.{AgreesTo, consent_refusal}, PinActions.{PromptsFor, IsAnyGiven, pin_refusal, prompted}, Consents.{AsksConsent, ConsentBefore, agreed_of}}
 use Rattle.agent_ask.specs.{Events.{Call, Start, Confirm, Shut, PromptEvent, Called, Notified, OutOfMemory}, Session.{PortCalls.Prompt, SessionEvents.Port}, Prompts.{AsksPin, AsksBefore, Tries, repeated}, SessionPrompts.AnyInSession}
 use Rattle.{agent_ask.specs.declared.{prompt.{ask.Asked.Asked, consent.Agreed.Agreed, prompter.Consent.Consent, spec.{AskPlan.AskPlan, PromptSpec.PromptSpec}}, client.caller.Heard.Heard}, assuan_server.specs.Clients.session_lines}
 use Rattle.{session_client.specs.{Asking.{said_by, without_data}, declared.{code.Code.Code, refusal.Refusal.{Refusal, TheVariants.{Agent, Client}}, client_error.ClientError.ClientError}}, session_options.specs.OptionValues.OptionValues}
@@ -162,6 +162,10 @@ pin_comes (asked.Heard heard) refusal other is = cc (refusal, is)
 pin_comes asked.NoPinentry refusal other is = cc (refusal, is)
 pin_comes asked.NoMemory refusal other is = cc (refusal, is)
 
+pub any_comes : (answer : Asked) (result : Result (List ℕ) Refusal) → IsAnyGiven answer result → ComesBy (pin_stop answer) result
+any_comes answer (Ok pin) gives = ap pin_stop gives.1
+any_comes answer (Err why) gives = pin_comes answer gives.1
+
 pub consent_comes : (answer : Agreed) {why : Refusal} → consent_refusal answer ≡ Some why → (other : Refusal) → consent_stop answer ≡ Some other → other ≡ why
 consent_comes agreed.Yes refusal other is = absurd (cc is)
 consent_comes agreed.No refusal other is = absurd (cc is)
@@ -222,7 +226,7 @@ module _ (Fits : Event → Type 0) (calls : (event : PromptEvent) → Fits (Port
         subst (λ r. WorksTo Fits shown r) (refused_so result by)
         (stop_works event is (split_shown work (event ∷ Called Shut ∷ []) each (subst (λ p. AnyInSession session_lines p shown) (append_assoc work (event ∷ []) (Called Shut ∷ [])) in_session)))
 
-    pub pin_works : {spec : PromptSpec} {plan : AskPlan} {Rule : List ℕ → Type 0} {prompt : List PromptEvent} {end : Asked} {result : Result A Refusal} {shown : List Event} → AsksPin spec plan Rule prompt end
+    pin_works : {spec : PromptSpec} {plan : AskPlan} {Rule : List ℕ → Type 0} {prompt : List PromptEvent} {end : Asked} {result : Result A Refusal} {shown : List Event} → AsksPin spec plan Rule prompt end
         → ComesBy (pin_stop end) result → AnyInSession session_lines prompt shown → WorksTo Fits shown result
     pin_works {shown} asks by in_session = prompt_works (before_goes asks.asks) by (subst (λ p. AnyInSession session_lines p shown) asks.whole in_session)
 
@@ -230,7 +234,16 @@ module _ (Fits : Event → Type 0) (calls : (event : PromptEvent) → Fits (Port
         → ComesBy (consent_stop end) result → AnyInSession session_lines prompt shown → WorksTo Fits shown result
     consent_works {shown} asks by in_session = prompt_works (consent_goes asks.asks) by (subst (λ p. AnyInSession session_lines p shown) asks.whole in_session)
 
-  -- ---- consent
+  -- ---- passphrases and consent
+
+  module _ {A : Type 0} {rules : Rules} {options : OptionValues} {description field : _} {quality : _} {plan : _} {Rule : _} {Gives : Asked → Result A Refusal → Type 0}
+      (comes : (answer : Asked) (result : Result A Refusal) → Gives answer result → ComesBy (pin_stop answer) result) where
+    prompts_of : (before : Option ℕ) (events : List Event) (result : Result A Refusal) (after : Option ℕ)
+        → PromptsFor session_lines rules options description field quality plan Rule Gives before events result after → WorksTo Fits events result
+    prompts_of _ _ result _ (prompted {answer} spec is prompt gives) = pin_works prompt.asks (comes answer result gives) prompt.in_session
+
+    pub prompts_for : WorksSo Fits (PromptsFor session_lines rules options description field quality plan Rule Gives)
+    prompts_for = record { of = prompts_of }
 
   agrees_of : {rules : Rules} {options : OptionValues} {question : List ℕ} (before : Option ℕ) (events : List Event) (result : Result (Unit {0}) Refusal) (after : Option ℕ)
       → AgreesTo session_lines rules options question before events result after → WorksTo Fits events result

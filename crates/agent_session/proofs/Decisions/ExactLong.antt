@@ -1,7 +1,9 @@
 -- PASSWD of a key whose list is too long is answered Bad secret key, and so is one whose new file is too long.
 use Rattle.std.{specs.{List.AllByRecursion, Prelude.⊤}, proofs.Common.{◌≡◌, ◌<◌, ◌∙◌, ℕ, Bool, true, false, List, [], ◌∷◌, ◌++◌, length, Option, Some, None, Result, Ok, Err, arith, refl, sym, ap, subst, inl, inr, ◌⊎◌}}
-use Rattle.agent_ask.specs.{Events.{PromptEvent, Called, OutOfMemory, GetPin}, Session.{PortCalls.{Prompt, Keys, Read, Dice, Drew}, Actions.{◌>>=◌, goes_on, stops, returns}}, Interrupts.Interrupts, Prompts.{AsksPin, AsksBefore, Tries, IsTry, Repeats}}
-use Rattle.agent_ask.specs.{Session.{SessionEvents.{CacheTurn, Port, cache_turn, said_last}, TurnActions.Closes}, SessionPrompts.AnyInSession, declared.prompt.{ask.Asked.Asked, prompter.Outcome.Outcome, spec.{AskPlan.AskPlan, PromptSpec.PromptSpec}}}
+use Rattle.agent_ask.specs.{Events.{PromptEvent, Called, OutOfMemory, GetPin}, Session.{PortCalls.{Prompt, Keys, Read, Dice, Drew}, Actions.{◌>>=◌, goes_on, stops, returns}}}
+use Rattle.agent_ask.specs.{Interrupts.Interrupts, Prompts.{AsksPin, AsksBefore, Tries, IsTry, Repeats}}
+use Rattle.agent_ask.specs.{Session.{SessionEvents.{CacheTurn, Port, cache_turn, said_last}, TurnActions.Closes}, SessionPrompts.AnyInSession}
+use Rattle.agent_ask.specs.declared.prompt.{ask.Asked.Asked, prompter.Outcome.Outcome, spec.{AskPlan.AskPlan, PromptSpec.PromptSpec}}
 use Rattle.{agent_ports.specs.declared.{grip.Grip.Grip, keys.KeyRead.KeyRead}, assuan_server.specs.{Clients.session_lines, Written.{failed, refusal_line}, declared.errors.Origin.TheVariants.Agent as OfAgent}}
 use Rattle.{cache_policy.specs.{Turns.{Turn, Given, Done}, declared.{mark.{MarkStep.{MarkStep, TheVariants.{Ask, Put}}, Way.TheVariants.Quiet}, mode.Mode.TheVariants.{Normal, Nonce}}}, key_lines.specs.Canon.Canon}
 use Rattle.{secret_file.specs.Opens.LockedKey, session_client.specs.declared.{code.Code.Code, refusal.Refusal.Refusal}, session_options.specs.{OptionValues.OptionValues, declared.{options.PinMode.PinMode, rules.Rules.Rules}}}
@@ -148,7 +150,7 @@ module _ (rules : Rules) (options : OptionValues) (grip : Grip) (locked : Locked
   seat_vain (Some ticket) _ _ _ returns = tt
 
   prompts_vain : (before : Option ℕ) (events : List Event) (why : Refusal) (after : Option ℕ) → PromptsOld rules options grip locked before events (Err why) after → AllByRecursion Remembers events → Vain events
-  prompts_vain _ _ _ _ (passphrases.refused {answer} spec is prompt refusal) remembers =
+  prompts_vain _ _ _ _ (pin_actions.prompted spec is prompt (passphrases.refused {answer} refusal)) remembers =
       shown_vain Closed prompt.in_session (pin_vain (OpensBy locked) _ refl refl prompt.asks (refused_none answer refusal) (shown_recalls prompt.in_session remembers))
 
   client_vain : (before : Option ℕ) (events : List Event) (why : Refusal) (after : Option ℕ) → ClientOld rules options grip locked before events (Err why) after → Vain events

@@ -1,6 +1,7 @@
 -- What requests on the cache hand to it is their own, and so is the passphrase that they are answered; and so of what each request of a session hands in.
 use Rattle.std.{specs.{List.AllByRecursion, Prelude.⊤}, proofs.Common.{◌≡◌, ℕ, Bool, true, false, List, ◌∷◌, ◌++◌, Option, Some, None, Result, Ok, Err, refl, sym, ◌∙◌, subst, append_assoc, append-nil, codes, []}}
-use Rattle.agent_ask.specs.{Session.{ClientActions.{Writes, Inquires}, PortCalls.PortCall, ActionExchanges.AnyExchange, Actions.{◌>>=◌, Returns, Refuses, needed, or_else}, SessionEvents.{Sent, cache_turn, said_last}}, ConsentActions.AgreesTo}
+use Rattle.agent_ask.specs.Session.{ClientActions.{Writes, Inquires}, PortCalls.PortCall, ActionExchanges.AnyExchange, Actions.{◌>>=◌, Returns, Refuses, needed, or_else}, SessionEvents.{Sent, cache_turn, said_last}}
+use Rattle.agent_ask.specs.{ConsentActions.AgreesTo, PinActions.prompted}
 use Rattle.{agent_ask.{specs.Session.TurnActions.{Asks, Seats, Changes, Closes}, proofs.Within.{HoldsOf, Within, Joins, returned_so, refused_so}}, assuan_server.specs.{Clients.session_lines, Written.{refusal_line, limit_line}}}
 use Rattle.cache_policy.specs.{Turns.{Given, FitsStep}, declared.{grant.Grant.Grant, life.Life.{Life, TheVariants.Default}, mark.MarkStep.{MarkStep, TheVariants.{Put, Seat}}, mode.Mode.TheVariants.User, secret.TheConstants.MAX_SECRET_LEN}}
 use Rattle.{session_client.specs.declared.refusal.Refusal.{Refusal, TheVariants.Agent}, session_options.specs.{OptionValues.{OptionValues, applied}, declared.options.OptionAnswer.OptionAnswer}}
@@ -24,7 +25,6 @@ use Rattle.cache_policy.specs.Turns as turns
 use Rattle.session_client.specs.declared.code.Code.TheVariants as code
 use Rattle.session_options.specs.declared.options.PinMode.TheVariants as mode
 use Rattle.agent_commands.specs.Exchanges as exchanges
-use Rattle.agent_commands.specs.Passphrases as passphrases
 use Rattle.agent_commands.specs.declared.request.CacheCommand.TheVariants as on
 use Rattle.agent_session.specs.OwnPassphrases as whose
 
@@ -197,9 +197,9 @@ module _ (rules : Rules) where
 
       prompts_of : (texts : Texts) → fields.texts ≡ Some texts → Owns Held (PromptsAny rules kept.options texts fields.check fields.quality fields.repeat)
           (λ pin prior held. Held prior held × IsAccepted rules kept.options request prior pin)
-      prompts_of texts is_texts prior before events result after (passphrases.given {shown} spec is prompt) pre =
-          let so = plain_own prior shown (shown_plain rules prompt.in_session) in (so.0, so.1, (held_more shown pre, any (wanted fields is_get is_texts) (has_prompt prompt (stand_last prior shown))))
-      prompts_of texts is_texts prior before events result after (passphrases.refused {shown} spec is prompt needless refusal) pre =
+      prompts_of texts is_texts prior before events (Ok pin) after (prompted {shown} spec is prompt gives) pre =
+          let so = plain_own prior shown (shown_plain rules prompt.in_session) in (so.0, so.1, (held_more shown pre, any (wanted fields is_get is_texts) (has_prompt (rw gives.1 at prompt) (stand_last prior shown))))
+      prompts_of texts is_texts prior before events (Err why) after (prompted {shown} spec is prompt gives) pre =
           let so = plain_own prior shown (shown_plain rules prompt.in_session) in (so.0, so.1, tt)
 
       by_user : (texts : Texts) → fields.texts ≡ Some texts → OwnUntold Held (ByUser rules kept.options texts fields.check fields.quality fields.repeat fields.id) IsFound

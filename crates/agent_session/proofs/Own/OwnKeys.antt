@@ -2,7 +2,8 @@
 -- one of a few.
 use Rattle.std.specs.{List.AllByRecursion, Prelude.{not, drop, ⊤}, Option.option_map}
 use Rattle.std.proofs.Common.{◌≡◌, ◌==◌, ℕ, Bool, true, false, List, [], ◌∷◌, ◌++◌, length, codes, Option, Some, None, Result, Ok, Err, refl, sym, ap, subst, append-nil, append_assoc}
-use Rattle.agent_ask.{specs.Session.{PortCalls.PortCall, SessionEvents.{Sent, CacheTurn, cache_turn, said_last}, ClientActions.AsksClient, TurnActions.{Asks, Changes, Closes}, Actions.{needed, or_else, goes_on, returns}}, proofs.Within.HoldsOf}
+use Rattle.agent_ask.specs.Session.{PortCalls.PortCall, SessionEvents.{Sent, CacheTurn, cache_turn, said_last}, ClientActions.AsksClient, TurnActions.{Asks, Changes, Closes}, Actions.{needed, or_else, goes_on, returns}}
+use Rattle.agent_ask.{specs.PinActions.prompted, proofs.Within.HoldsOf}
 use Rattle.{assuan_server.specs.{Clients.session_lines, Written.{refusal_line, limit_line, failed}}, agent_ports.specs.declared.grip.Grip.Grip, assuan_escape.specs.Escapes.hex_text, cache_policy.specs.Turns.Open}
 use Rattle.{cache_policy.specs.declared.{life.Life.TheVariants.Default, mark.MarkStep.{MarkStep, TheVariants.{Close, Put}}, mode.Mode.TheVariants.Nonce, secret.TheConstants.MAX_SECRET_LEN}, secret_file.specs.Opens.{LockedKey, IsLocked}}
 use Rattle.{session_options.specs.declared.{options.PinMode.PinMode, rules.Rules.Rules}, sexp_keys.specs.Key.Key, agent_commands.specs.{Events.EventWith, declared.request.Request.{Request, TheVariants.{Cache, Bad, Key as OnKeys}}}}
@@ -141,12 +142,12 @@ module _ (rules : Rules) (kept : SessionState) (request : Request) where
 
       old_of : (prior : List (EventWith PortCall)) (before : Option ℕ) (events : List (EventWith PortCall)) (result : Result _ Refusal) (after : Option ℕ) → PromptsOld rules kept.options grip locked before events result after
           → Fit events → IsReadLocked prior grip locked × Seated prior before → AreOwn Mine prior events × HoldsOf (λ opened. OpenedAt mode.Ask opened.by (prior ++ events) after) result
-      old_of prior before events result after (passphrases.opens_by {shown} {pin} spec is prompt to) fits pre = (
+      old_of prior before events result after (prompted {shown} spec is prompt (passphrases.opens_by {pin} to)) fits pre = (
         quiet_are_own Mine prior shown (each_shown IsQuiet still_quiet (λ event. tt) prompt.in_session),
         by_prompt refl (ticket_more shown (seat_of pre.1))
             (λ pass same keeps. subst (IsAccepted rules kept.options request (prior ++ shown)) (cc same) (opening keeps (locked_more shown pre.0) (has_prompt prompt (stand_last prior shown)))),
       )
-      old_of prior before events result after (passphrases.refused {shown} spec is prompt refusal) fits pre = (quiet_are_own Mine prior shown (each_shown IsQuiet still_quiet (λ event. tt) prompt.in_session), tt)
+      old_of prior before events result after (prompted {shown} spec is prompt (passphrases.refused refusal)) fits pre = (quiet_are_own Mine prior shown (each_shown IsQuiet still_quiet (λ event. tt) prompt.in_session), tt)
 
       -- a passphrase that the client gave, and that opens the key, is kept
       abbrev GaveOld : List ℕ → List (EventWith PortCall) → Option ℕ → Type 0
@@ -328,11 +329,11 @@ module _ (rules : Rules) (kept : SessionState) (request : Request) where
 
     prompts_new_of : (prior : List (EventWith PortCall)) (before : Option ℕ) (events : List (EventWith PortCall)) (result : Result (List ℕ) Refusal) (after : Option ℕ) → PromptsNew rules kept.options grip before events result after
         → Fit events → IsMine prior × Seated prior before → AreOwn Mine prior events × HoldsOf (λ pass. MineAt pass (prior ++ events) after) result
-    prompts_new_of prior before events result after (passphrases.given {shown} spec is prompt) fits pre = (
+    prompts_new_of prior before events (Ok pass) after (prompted {shown} spec is prompt gives) fits pre = (
       quiet_are_own Mine prior shown (each_shown IsQuiet still_quiet (λ event. tt) prompt.in_session),
-      (about_more shown pre.0, at_prompt (ticket_more shown (seat_of pre.1)) (any takes (has_prompt prompt (stand_last prior shown)))),
+      (about_more shown pre.0, at_prompt (ticket_more shown (seat_of pre.1)) (any takes (has_prompt (rw gives.1 at prompt) (stand_last prior shown)))),
     )
-    prompts_new_of prior before events result after (passphrases.refused {shown} spec is prompt enough refusal) fits pre = (quiet_are_own Mine prior shown (each_shown IsQuiet still_quiet (λ event. tt) prompt.in_session), tt)
+    prompts_new_of prior before events (Err why) after (prompted {shown} spec is prompt gives) fits pre = (quiet_are_own Mine prior shown (each_shown IsQuiet still_quiet (λ event. tt) prompt.in_session), tt)
 
     client_new : OwnSo Mine (λ prior held. IsMine prior × Unheld prior held) ClientNew MineAt
     unfolding ClientNew

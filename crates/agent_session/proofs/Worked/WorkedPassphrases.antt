@@ -13,6 +13,7 @@ use Rattle.{key_commands.specs.{declared.{request.Direction.Direction, keywrap_k
 use Rattle.agent_origin.specs.declared.session_state.SessionState.{SessionState}
 use Rattle.agent_session.{specs.{Causes.{Has, here, later}, Imports.{put_nonce, ImportCourse}, OwnPassphrases.{SaysOwn, TellsOfKeys, StoresOwn, StoresOwnIn, keeps}}, proofs.Courses.ImportCourses.import_exchange}
 use Rattle.agent_session.proofs.{Causes.KeyExplained.exchange_goes_on, Own.{OwnCache.{cache_own, request_own}, OwnKeys.request_told, OwnActions.{Fit, own_at}}, OwnSessions.{exchange_own, session_own}}
+use Rattle.agent_ask.{specs.PinActions.prompted, proofs.WorkedPrompts.any_given}
 use Rattle.agent_ask.specs.SessionPrompts as under
 use Rattle.agent_ask.specs.declared.prompt.ask.Asked.TheVariants as asked
 use Rattle.agent_ask.specs.declared.prompt.prompter.Opened.TheVariants as opened
@@ -22,7 +23,6 @@ use Rattle.assuan_line.specs.declared.reader.Took.TheVariants as took
 use Rattle.session_client.specs.declared.code.Code.TheVariants as code
 use Rattle.session_options.specs.declared.options.PinMode.TheVariants as mode
 use Rattle.agent_commands.specs.Exchanges as exchanges
-use Rattle.agent_commands.specs.Passphrases as passphrases
 use Rattle.agent_commands.specs.Talks as talks
 use Rattle.key_commands.specs.declared.went.KeyWent.TheVariants as key_went
 use Rattle.key_commands.specs.KeyActions as actions
@@ -73,7 +73,7 @@ module _ (rules : Rules) (kept : SessionState) (id pin : List ℕ) (texts : Text
   events = before_close ++ cache_turn (Close ticket (Some pin)) Done ∷ Sent (line_of (ok_text (hex_text pin))) ∷ []
 
   asked_by : ByUser rules kept.options texts false false 0 (Some id) None (before_close ++ cache_turn (Close ticket (Some pin)) Done ∷ []) (Ok pin) None
-  asked_by = goes_on (turning.opened tt) (goes_on (passphrases.given spec is_spec (record { prompt = prompt; asks = asks; in_session = in_session })) (goes_on (turning.closed Done tt) returns))
+  asked_by = goes_on (turning.opened tt) (goes_on (prompted spec is_spec (record { prompt = prompt; asks = asks; in_session = in_session }) any_given) (goes_on (turning.closed Done tt) returns))
 
   asked_so : CacheExchange rules kept.options request events kept.options On
   asked_so =

@@ -1,5 +1,5 @@
 use Rattle.std.proofs.{Common.{false, refl}, lemmas.Result.err_from_is_err_and}
-use Rattle.{assuan_server.specs.Clients.connection_views, agent_ask.{specs.Session.ActionStates.NoTurn, proofs.ActionsAtClient.{prompt_answered, planned}}}
+use Rattle.{assuan_server.specs.Clients.connection_views, agent_ask.{specs.{Session.ActionStates.NoTurn, PinActions.prompted}, proofs.ActionsAtClient.{prompt_answered, planned}}}
 use Rattle.key_commands.{proofs.{Partial.each_prompted, AtPrompt.{opened_last, opens_last, spec_says, plan_says}}, specs.{Partial.DoesBesideKeys, Passphrases.{opens_by, refused}}}
 use Rattle.key_commands.proofs.prompting.prompt_old.Goals as goal
 
@@ -16,7 +16,7 @@ returns-in_err-pin-clause-prompts g c =
     let plan = plan_says c.args.asking.now.rules.now c.args.asking.now.options.now false 0 c.ask_plan-plan.ensures c.new.ensures in
     rw (← c.ticket.ensures, p.1, p.2)
     (prompt_answered connection_views NoTurn tt (DoesBesideKeys g.P.Prompter.prompted) (λ same. same) each_prompted asked
-    (λ events prompts. refused c.prompt_spec-spec.result spec (planned plan prompts) asked.are.gives) c.in_err-pin.ensures.left)
+    (λ events prompts. prompted c.prompt_spec-spec.result spec (planned plan prompts) (refused asked.are.gives)) c.in_err-pin.ensures.left)
 
 pub returns-clause-prompts : goal.returns-clause-prompts
 returns-clause-prompts g c =
@@ -26,7 +26,7 @@ returns-clause-prompts g c =
     let plan = plan_says c.args.asking.now.rules.now c.args.asking.now.options.now false 0 c.ask_plan-plan.ensures c.new.ensures in
     rw (← c.ticket.ensures)
     (prompt_answered connection_views NoTurn tt (DoesBesideKeys g.P.Prompter.prompted) (λ same. same) each_prompted asked
-    (λ events prompts. opens_by c.prompt_spec-spec.result spec (planned plan (rw asked.are.gives at prompts)) (opens_last last c.in-Some.ensures).0) c.in_ok-pin.ensures.left)
+    (λ events prompts. prompted c.prompt_spec-spec.result spec (planned plan (rw asked.are.gives at prompts)) (opens_by (opens_last last c.in-Some.ensures).0)) c.in_ok-pin.ensures.left)
 
 pub returns-clause-usable : goal.returns-clause-usable
 returns-clause-usable g c =
