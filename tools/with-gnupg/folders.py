@@ -32,7 +32,7 @@ class User:
         """A folder whose agent asks by the pinentry, with these lines of gpg-agent.conf besides."""
         path.mkdir(mode=0o700, parents=True, exist_ok=True)
         with open(path / "gpg-agent.conf", "a") as conf:
-            conf.write("".join(line + "\n" for line in (f"pinentry-program {self.scripted.asked / 'program'}", *lines)))
+            conf.write("".join(line + "\n" for line in (f"pinentry-program {self.scripted.pinentry}", *lines)))
         self.folders.append(path)
         return path
 
@@ -72,7 +72,7 @@ class Folders:
             ("GnuPG's own agent stores where it is allowed to", self.gnupg_stores), ("GnuPG's own agent: --ttl", self.gnupg_ttl),
             ("two agents: a look-up", self.look_up), ("two agents: --forget", self.forget),
             ("two agents: --new", self.new), ("two agents: --store", self.store), ("two agents: the own one hangs", self.own_hangs), ("a folder with the mark", self.marked),
-            ("agent-program of another program", self.other_program), ("agent-program in quotes, of an earlier place", self.quoted), ("agent-program twice: the last one counts", self.last_counts),
+            ("agent-program of another program", self.other_program), ("agent-program in quotes, by a link", self.quoted), ("agent-program twice: the last one counts", self.last_counts),
             ("--homedir", self.named), ("--homedir of a folder with keys", self.named_keys), ("--homedir of a folder with keys that was set up", self.named_set_up), ("--store that isn't allowed", self.not_allowed),
             ("--ttl that isn't allowed asks nobody", self.no_ttl), ("--ttl above the agent's own time", self.longer), ("no terminal to ask in", self.no_terminal),
             ("HOME is unset and nothing is set up", self.no_home), ("two at once make the own folder", self.at_once),
@@ -227,11 +227,9 @@ class Folders:
         return self.first(user) or ("" if user.agent(user.own) == "agent_program" and user.agent(user.home) is None else "it is started there")
 
     def quoted(self, user):
-        """Where another copy of the stand-in is named, it is the one that is started."""
-        other = user.place / "dogwoodcatch"
-        other.mkdir()
-        for path in (*user.scripted.installed.glob("gpg-agent*"), user.scripted.installed / "agent_program"):
-            shutil.copy(path, other)
+        """By a link too it is the stand-in beside the program that is named."""
+        other = user.place / "linked"
+        other.symlink_to(user.scripted.installed)
         user.home.mkdir(mode=0o700)
         (user.home / "gpg.conf").write_text(f'\t--agent-program = "{other}/gpg-agent" \r\n')
         return self.first(user) or ("" if user.agent(user.home) == "agent_program" and not user.own.exists() else "it isn't started there")

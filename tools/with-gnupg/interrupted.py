@@ -178,7 +178,7 @@ class Interrupted:
 
     def pinentries(self, user):
         """The pinentries that run for this user: scripts, which are an interpreter's first word. The agent has their path behind its option."""
-        return [number for number, (_, words) in processes().items() if words[1:2] == [str(user.scripted.asked / "program")]]
+        return [number for number, (_, words) in processes().items() if words[1:2] == [str(user.scripted.pinentry)]]
 
     def signalled(self, user, number):
         started = self.begun(user)

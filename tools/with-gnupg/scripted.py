@@ -3,20 +3,28 @@ import os
 import pathlib
 import shutil
 import subprocess
-import time
+import sys
 import urllib.parse
+
+# The package that the scripts share.
+sys.path.insert(0, str(pathlib.Path(__file__).resolve().parent.parent))
+from harness.agents import write_script
+from harness.transcript import Transcript, holds_within
 
 SCRIPTS = pathlib.Path(__file__).resolve().parent.parent / "daemon"
 
 # How many seconds a program has.
 LIMIT = 300
 
+# One that other users may run too.
+PYTHON = shutil.which("python3", path="/usr/bin:/bin") or sys.executable
+
 # What a passphrase may have that is given by a line.
 EVERY = bytes(byte for byte in range(1, 256) if byte != 10)
 
 # It answers GETPIN by the next line of the file `answers`, escaped as a data line is: none, or `-`, is a cancel, `timeout` is one,
 # and `wait` stays until it is ended, each after the seconds of the file `delay`. It tells each prompt in a file: the terminal that it was named, and what the user reads.
-PINENTRY = """#!/usr/bin/env python3
+PINENTRY = f"#!{PYTHON}" + """
 import os, pathlib, sys, time, urllib.parse
 folder, tty, description, prompt = pathlib.Path(__file__).parent, "", "", ""
 print("OK", flush=True)
@@ -57,6 +65,11 @@ for line in sys.stdin.buffer:
 """
 
 
+def write_pinentry(folder):
+    """It has a pinentry's name, without which `passphrase` doesn't end it: its interpreter is named directly, since env(1) would have that one's name shown."""
+    return write_script(folder / "pinentry-scripted", PINENTRY)
+
+
 def escaped(passphrase):
     """Bytes as a data line may have them."""
     return "".join(f"%{byte:02X}" if byte in b"%" or not 32 <= byte < 127 else chr(byte) for byte in passphrase)
@@ -75,11 +88,11 @@ def install(passphrase, folder):
         (folder / name).symlink_to("passphrase_program")
 
 
-class ScriptedHome:
+class ScriptedHome(Transcript):
     """`passphrase`, the stand-in and the agent side by side, as they are installed, and a home folder that is set up for them."""
 
     def __init__(self, agent, passphrase, place, conf=()):
-        self.place, self.failed, self.installed, self.home = place, False, place / "installed", place / "home"
+        self.place, self.installed, self.home = place, place / "installed", place / "home"
         self.files, self.asked = place / "files", place / "pinentry"
         for folder in (self.installed, self.home, self.files, self.asked):
             folder.mkdir(mode=0o700)
@@ -87,11 +100,9 @@ class ScriptedHome:
             shutil.copy(SCRIPTS / name, self.installed / name)
         (self.installed / "agent_program").symlink_to(agent)
         install(passphrase, self.installed)
-        pinentry = self.asked / "program"
-        pinentry.write_text(PINENTRY)
-        pinentry.chmod(0o755)
+        self.pinentry = write_pinentry(self.asked)
         (self.home / "gpg.conf").write_text(f"agent-program {self.installed / 'gpg-agent'}\n")
-        (self.home / "gpg-agent.conf").write_text("".join(line + "\n" for line in (f"pinentry-program {pinentry}", *conf)))
+        (self.home / "gpg-agent.conf").write_text("".join(line + "\n" for line in (f"pinentry-program {self.pinentry}", *conf)))
         # What a job of cron has.
         self.environment = {"HOME": str(place), "PATH": f"{self.installed}:/usr/bin:/bin", "GNUPGHOME": str(self.home), "LC_ALL": "C.UTF-8"}
         self.answers()
@@ -129,17 +140,10 @@ class ScriptedHome:
         """What the agent answers to these lines."""
         return self.run("gpg-connect-agent", "--no-autostart", *lines, "/bye").stdout.decode()
 
-    def expect(self, what, is_so):
-        print(f"{'ok' if is_so else 'FAILED'}: {what}", flush=True)
-        self.failed |= not is_so
-        return is_so
-
     def end(self, home=None):
         """Ends the daemon of this folder, or of another one, and waits until it is gone."""
         home = home or self.home
         self.run("gpgconf", "--homedir", home, "--kill", "gpg-agent")
-        end = time.monotonic() + LIMIT
-        while (home / "S.gpg-agent").exists() and time.monotonic() < end:
-            time.sleep(0.05)
+        holds_within(lambda: not (home / "S.gpg-agent").exists(), LIMIT)
         self.run("gpgconf", "--homedir", home, "--remove-socketdir")
         return not os.path.exists(home / "S.gpg-agent")

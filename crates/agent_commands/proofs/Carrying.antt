@@ -74,7 +74,7 @@ module _ {D E : Type 0} (turned : D → MarkStep → Turn → D → Type 0) (por
   -- GETINFO
   pub info_carried : (rules : Rules) {before : OptionValues} (desk : D) (what : Info)
       → CarriesOut turned ported (InfoReplies rules before what) before (at_desk desk) (Ok (info_response rules what)) before None (at_desk desk)
-  info_carried rules desk info.Version = only_replies desk response.Version (λ text is. goes_on (tells is) returns)
+  info_carried rules desk info.Version = only_replies desk (response.Version rules.version) (λ text is. goes_on (tells is) returns)
   info_carried rules desk info.Pid = only_replies desk (response.Number rules.pid) (λ text is. goes_on (tells is) returns)
   info_carried rules desk info.S2kCount = only_replies desk (response.Number rules.s2k_count) (λ text is. goes_on (tells is) returns)
   info_carried rules desk info.Listed = only_replies desk response.Ok (λ text is. goes_on (tells is) returns)

@@ -3,6 +3,7 @@ pub mod Carrying
 mod Helping
 pub mod Replying
 mod Quieting
+mod VersionLines
 mod WorkedExamples
 mod WorkedExchanges
 mod WorkedPrompts

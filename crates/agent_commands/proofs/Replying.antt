@@ -22,7 +22,7 @@ goes response.Ok = refl
 goes response.Bye = refl
 goes response.Killed = refl
 goes response.Help = refl
-goes response.Version = refl
+goes (response.Version version) = refl
 goes (response.Number number) = refl
 goes (response.Passphrase secret plain) = refl
 

@@ -1,13 +1,14 @@
 -- A row of each request on the cache or on the session that prompts nobody: what is done and written for it, and how the session goes on.
-use Rattle.std.{specs.{Prelude.{◌≡◌, ◌++◌, ℕ, List, [], ◌∷◌, codes, true, false, Some, None, refl}, Fmt.digits}, proofs.{Common.arith, lemmas.List.Elements.{All-cons, All-nil}}}
+use Rattle.std.{specs.{Prelude.{◌≡◌, ◌++◌, ℕ, List, [], ◌∷◌, codes, true, false, Some, None, refl}, Fmt.digits}, proofs.{Common.{ap, arith, subst}, lemmas.List.Elements.{All-cons, All-nil}}}
 use Rattle.agent_ask.specs.{Session.{ClientActions.{written, given, not_given}, ActionExchanges.{answered, refused}, Actions.{returns, refuses, goes_on, stops}, SessionEvents.{Sent, Inquiry, cache_turn}}, Interrupts.stopping, Plans.text}
 use Rattle.{agent_ask.specs.Session.TurnActions.{empty, done, interrupted, unheld}, assuan_escape.specs.DataLines.IsPiece, assuan_server.specs.{Inquiries.{Outcome, Data, Cancelled, Unexpected, Ended}, Written.{failed, limit_line, ok, IsDataAnswer}}}
 use Rattle.cache_policy.specs.declared.{grant.Grant.Grant, life.Life.TheVariants.{Default, Endless}, mark.MarkStep.TheVariants.{Put, Clear, Flush, Stop}, mode.Mode.TheVariants.{Any, User}, secret.TheConstants.MAX_SECRET_LEN}
 use Rattle.{cache_policy.specs.Turns.{Given, Empty, Done, Stopping}, session_client.specs.{Asking.Asked, declared.refusal.Refusal.TheVariants.{Agent, Client}}}
-use Rattle.session_options.specs.{OptionValues.{OptionValues, applied, at_start, with_description}, Table.{named, mode_of}, declared.rules.Rules.Rules}
+use Rattle.session_options.specs.{OptionValues.{OptionValues, applied, at_start, with_description}, Table.{named, mode_of}, Defaults.default_version, declared.{rules.Rules.Rules, version.Version.Version as TheVersion}}
 use Rattle.agent_commands.specs.{Answers.{closing, help}, Exchanges.{last_reply, reply, tells, TellsInfo, CacheExchange}, Actions.CacheEvent, Passphrases.ask, Requests.{GetFields, get_passphrase}}
 use Rattle.agent_commands.specs.declared.request.{CacheCommand.TheVariants.{Nop, Reset, Bye, Help, SetOption, SetKeyDesc, GetInfo, PresetPassphrase, ClearPassphrase, ReloadAgent, KillAgent}, Info.TheVariants.Version}
 use Rattle.agent_commands.specs.declared.{request.{Request.TheVariants.{Cache, Bad}, Texts.Texts}, went.Went.TheVariants.{On, End}}
+use Rattle.agent_commands.proofs.VersionLines.{version_lines, version_data}
 use Rattle.agent_ask.specs.Session.TurnActions as turn
 use Rattle.session_client.specs.declared.code.Code.TheVariants as code
 use Rattle.session_client.specs.declared.client_error.Gone.TheVariants as gone
@@ -75,12 +76,19 @@ module _ (rules : Rules) (before : OptionValues) where
   unknown : CacheExchange rules before (Bad code.UnknownCommand) (Sent (failed code.UnknownCommand) ∷ []) before On
   unknown = refused [] None (Agent code.UnknownCommand) refuses unheld
 
-  version : CacheExchange rules before (Cache (GetInfo Version)) (Sent (written_lines (codes "D 2.4.0" ∷ codes "OK" ∷ [])) ∷ []) before On
-  version = answered [] None (reply before (written_lines (codes "D 2.4.0" ∷ codes "OK" ∷ []))) (goes_on (TellsInfo.tells (record {
-    pieces = codes "2.4.0" ∷ [];
-    are_data = record { joined = refl; each = All-cons IsPiece (codes "2.4.0") [] (omega arith, omega arith) (All-nil IsPiece); full = (tt, tt) };
-    text_is = refl;
-  })) returns) unheld
+  -- the rules' version, in one line as it is
+  version : CacheExchange rules before (Cache (GetInfo Version)) (Sent (version_lines rules.version.bytes.items) ∷ []) before On
+  version = answered [] None (reply before (version_lines rules.version.bytes.items)) (goes_on (TellsInfo.tells (version_data rules.version)) returns) unheld
+
+  -- so the usual one, and another
+  version_is : (told : List ℕ) → rules.version.bytes.items ≡ told → CacheExchange rules before (Cache (GetInfo Version)) (Sent (version_lines told) ∷ []) before On
+  version_is told is = subst (λ (bytes : List ℕ). CacheExchange rules before (Cache (GetInfo Version)) (Sent (version_lines bytes) ∷ []) before On) is version
+
+  usual_version : rules.version ≡ default_version → CacheExchange rules before (Cache (GetInfo Version)) (Sent (written_lines (codes "D 2.4.0" ∷ codes "OK" ∷ [])) ∷ []) before On
+  usual_version is = version_is (codes "2.4.0") (ap (λ (told : TheVersion). told.bytes.items) is)
+
+  other_version : rules.version.bytes.items ≡ codes "2.2.40" → CacheExchange rules before (Cache (GetInfo Version)) (Sent (written_lines (codes "D 2.2.40" ∷ codes "OK" ∷ [])) ∷ []) before On
+  other_version is = version_is (codes "2.2.40") is
 
   described : CacheExchange rules before (Cache (SetKeyDesc (text (codes "Sign it")))) (Sent ok ∷ []) (with_description before (codes "Sign it")) On
   described = answered [] None (reply (with_description before (codes "Sign it")) ok) returns unheld

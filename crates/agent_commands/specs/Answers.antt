@@ -23,13 +23,9 @@ abbrev pub IsPassphrase : Bool → List ℕ → List ℕ → Type 0
 IsPassphrase true secret text = IsDataAnswer secret text
 IsPassphrase false secret text = text ≡ line_of (ok_text (hex_text secret))
 
--- the version that GETINFO gives
-abbrev pub version_text : List ℕ
-version_text = codes "2.4.0"
-
 -- what GETINFO is answered
 abbrev pub IsInfo : Rules → Info → List ℕ → Type 0
-IsInfo rules Version text = IsDataAnswer version_text text
+IsInfo rules Version text = IsDataAnswer rules.version.bytes.items text
 IsInfo rules Pid text = IsDataAnswer (decimal rules.pid) text
 IsInfo rules S2kCount text = IsDataAnswer (decimal rules.s2k_count) text
 IsInfo rules Listed text = text ≡ ok

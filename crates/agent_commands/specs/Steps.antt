@@ -1,13 +1,12 @@
 -- Private: what the steps of a request know, and what is written for it, once all else is done.
 use Rattle.std.specs.Prelude.{◌≡◌, ℕ, Bool, List, decimal, Option, None, Result, Ok as Whole, Err as Part}
 use Rattle.agent_ask.specs.{Events.Call, Session.{PortCalls.PortCall, Actions.Refuses, ActionReplies.{RespondsBy, CarriesBy}, ActionStates.{ActionState, action_state, DoesAction, DoesPrompts, NoTurn, NoEnd, DoesTurns}}}
-use Rattle.assuan_server.specs.Clients.{connection_views}
-use Rattle.{assuan_server.specs.{Connections.Connection, Written.{refusal_line, ok, IsDataAnswer}}, cache_policy.specs.{declared.mark.MarkStep.MarkStep, Turns.Turn}, session_client.specs.declared.refusal.Refusal.Refusal}
-use Rattle.{session_client.specs.declared.refusal.Refusal.TheVariants.Agent, session_options.specs.{OptionValues.OptionValues, declared.options.OptionAnswer.{OptionAnswer, TheVariants.{Set, Unknown, Parameter, NotSupported}}}}
+use Rattle.{assuan_server.specs.{Clients.connection_views, Connections.Connection, Written.{refusal_line, ok, IsDataAnswer}}, cache_policy.specs.{declared.mark.MarkStep.MarkStep, Turns.Turn}}
+use Rattle.{session_client.specs.declared.refusal.Refusal.{Refusal, TheVariants.Agent}, session_options.specs.{OptionValues.OptionValues, declared.options.OptionAnswer.{OptionAnswer, TheVariants.{Set, Unknown, Parameter, NotSupported}}}}
 use Rattle.session_options.specs.declared.rules.Rules.{Rules}
-use Rattle.agent_commands.specs.{Answers.{closing, help, version_text, IsPassphrase}, Endings.went_after, Exchanges.CacheReply, Actions.CacheAction, Passphrases.{Passphrase as ThePassphrase, ByCache}}
-use Rattle.agent_commands.specs.declared.{request.{Info.Info, CacheCommand.{CacheCommand, TheVariants.{GetPassphrase, PresetPassphrase, GetConfirmation}}}, response.Response.Response}
-use Rattle.agent_commands.specs.declared.{response.Response.TheVariants.{Ok, Bye, Killed, Help, Version, Number, Passphrase}, went.Went.{Went, TheVariants.{On, End}}}
+use Rattle.agent_commands.specs.{Answers.{closing, help, IsPassphrase}, Endings.went_after, Exchanges.CacheReply, Actions.CacheAction, Passphrases.{Passphrase as ThePassphrase, ByCache}, declared.request.Info.Info}
+use Rattle.agent_commands.specs.declared.{request.CacheCommand.{CacheCommand, TheVariants.{GetPassphrase, PresetPassphrase, GetConfirmation}}, response.Response.{Response, TheVariants.{Ok, Bye, Killed, Help, Version, Number, Passphrase}}}
+use Rattle.agent_commands.specs.declared.went.Went.{Went, TheVariants.{On, End}}
 use Rattle.session_client.specs.declared.code.Code.TheVariants as code
 use Rattle.agent_commands.specs.declared.request.Info.TheVariants as info
 use Rattle.agent_commands.specs.declared.went.SessionEnd.TheVariants as ends
@@ -18,7 +17,7 @@ IsText Ok text = text ≡ ok
 IsText Bye text = text ≡ closing
 IsText Killed text = text ≡ closing
 IsText Help text = text ≡ help
-IsText Version text = IsDataAnswer version_text text
+IsText (Version version) text = IsDataAnswer version.bytes.items text
 IsText (Number number) text = IsDataAnswer (decimal number) text
 IsText (Passphrase secret plain) text = IsPassphrase plain secret text
 
@@ -64,7 +63,7 @@ option_reply Parameter = Part (Agent code.Parameter)
 option_reply NotSupported = Part (Agent code.NotSupported)
 
 abbrev pub info_response : Rules → Info → Response
-info_response rules info.Version = Version
+info_response rules info.Version = Version rules.version
 info_response rules info.Pid = Number rules.pid
 info_response rules info.S2kCount = Number rules.s2k_count
 info_response rules info.Listed = Ok

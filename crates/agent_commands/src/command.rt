@@ -194,7 +194,7 @@ fn info_response(info: Info, rules: &Rules) -> Response
     ensures { result ≡ info_response rules.now info }
 {
     match info {
-        Info::Version => Response::Version,
+        Info::Version => Response::Version(rules.version.copied()),
         Info::Pid => Response::Number(rules.pid as u64),
         Info::S2kCount => Response::Number(rules.s2k_count),
         Info::Listed => Response::Ok,

@@ -90,7 +90,7 @@ pub struct QuietRequest {
 /// What GETINFO is asked for.
 #[derive(Clone, Copy, Debug, PartialEq, Eq)]
 pub enum Info {
-    /// The agent's version.
+    /// The version that the rules have for the agent.
     Version,
     /// The number of the agent's process.
     Pid,

@@ -21,10 +21,8 @@ use cache_policy::Secret;
 use command_table::{COMMANDS, Command};
 use itoa::Buffer;
 use session_client::Refusal;
+use session_options::Version;
 use wiping::wipe;
-
-/// The version that GETINFO gives.
-const VERSION: &[u8] = b"2.4.0";
 
 /// What a request is answered where it isn't refused.
 #[derive(Drop)]
@@ -35,7 +33,7 @@ pub(crate) enum Response {
     /// The agent stops.
     Killed,
     Help,
-    Version,
+    Version(Version),
     Number(u64),
     Passphrase {
         secret: Found,
@@ -87,7 +85,7 @@ fn write_response<L: Link>(conn: &mut Conn<'_, L>, response: &Response) -> Resul
         Response::Ok => conn.ok(b"").whole(),
         Response::Bye | Response::Killed => conn.ok(b"closing connection").whole(),
         Response::Help => write_help(conn, false),
-        Response::Version => write_data(conn, VERSION),
+        Response::Version(version) => write_data(conn, &version.bytes),
         Response::Number(number) => write_data(conn, Buffer::new().format(*number).as_bytes()),
         Response::Passphrase { secret, plain } => write_passphrase(conn, secret.secret(), *plain),
     }

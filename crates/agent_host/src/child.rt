@@ -4,10 +4,12 @@
 
 ghost use Rattle.std.specs.Prelude.{◌≡◌, refl};
 
+use crate::log::{Log, say};
 use crate::patience::Patience;
 use crate::terminal::{Terminal, is_terminal, shown, told_name};
-use crate::told::{LastError, Printable};
+use crate::told::LastError;
 use agent_ports::{Got, Link, Sent, Sink, Source};
+use printable::Printable;
 use std::net::Shutdown;
 use std::os::unix::net::UnixStream;
 use std::process::{Child, OpenProcess};
@@ -29,6 +31,7 @@ pub struct PipedChild<'a, R, P: OpenProcess> {
     pub(crate) patience: Patience,
     pub(crate) terminal: Terminal,
     pub(crate) last_error: LastError,
+    pub(crate) log: Option<&'a Log>,
 }
 
 impl<R: rt::Clock, P: OpenProcess> Source for PipedChild<'_, R, P> {
@@ -97,16 +100,19 @@ impl<R: rt::Clock, P: OpenProcess> PipedChild<'_, R, P> {
     }
 }
 
-impl<R: Eprint, P: OpenProcess> PipedChild<'_, R, P> {
+impl<R: rt::Clock + Eprint, P: OpenProcess> PipedChild<'_, R, P> {
     /// Says once that the child isn't told a name.
     fn refuse_terminal(&mut self, name: &[u8])
         ensures { self.new.pipes ≡ self.old.pipes }
     {
         if !matches!(self.terminal, Terminal::Refused) {
-            // Where that can't be written nobody is to be told.
-            let _ = eprintln!(self.rt;
-                "agent: the pinentry isn't told \"{}\" as its terminal: no terminal has that name",
-                Printable(shown(name))
+            let name = Printable(shown(name));
+            say(
+                self.rt,
+                self.log,
+                &format_args!(
+                    "the pinentry isn't told \"{name}\" as its terminal: no terminal has that name"
+                ),
             );
         }
         self.terminal = Terminal::Refused;

@@ -3,7 +3,7 @@
 //! error stream why one can't be had. Begin with `SystemHost::new`; the promise is that of `Host`
 //! (`agent_ports`).
 
-ghost use Rattle.std.specs.Prelude.{◌≡◌, ◌≤◌, Some, None, IsSome, IsNone, IfSome};
+ghost use Rattle.std.specs.Prelude.{◌≡◌, ◌≤◌, Some, None, IsSome, IsNone, IfOk, IfSome};
 ghost use Rattle.agent_ports.specs.Counts.{Rose};
 ghost use Rattle.unix_socket.specs.declared.path.SocketName.{SocketName as Named};
 
@@ -12,15 +12,18 @@ use crate::dice::SystemDice;
 use crate::faults::count;
 use crate::keys::SystemKeys;
 use crate::launcher::PipeLauncher;
-use crate::told::Printable;
+use crate::log::{Log, say};
 use crate::trust::SystemTrust;
 use agent_ports::{Dice, Homedir, Host, Keys, Launcher, NoGate, Parts, TrustFile};
+use printable::Printable;
 use std::alloc::Global;
 use std::fs::{File, Files};
 use std::net::Net;
 use std::process::Processes;
 use std::rt;
-use unix_socket::{BindFault, SocketEar, SocketLink, SocketListener, SocketName};
+use unix_socket::{
+    BindFault, Looks, SocketEar, SocketFile, SocketLink, SocketListener, SocketName,
+};
 
 /// What a session needs of this machine.
 pub type SystemParts<'a, R> = Parts<
@@ -43,6 +46,18 @@ pub struct SystemHost<'a, R> {
     homedir: Homedir,
     listens: u64,
     gate: NoGate,
+    users: Option<Users<'a>>,
+    /// The file of the agent's own socket, which its other listener watches too.
+    file: Option<SocketFile>,
+    /// What is closed once it listens.
+    held: Option<File>,
+}
+
+/// What is otherwise in the users' own agent.
+#[derive(Clone, Copy)]
+struct Users<'a> {
+    log: &'a Log,
+    looks: Looks,
 }
 
 impl<'a, R: rt::Clock + rt::Env + Processes + Files<File = File> + Net + Eprint> SystemHost<'a, R> {
@@ -51,21 +66,51 @@ impl<'a, R: rt::Clock + rt::Env + Processes + Files<File = File> + Net + Eprint>
     pub fn new(rt: &'a R, alloc: Global, pid: u32) -> Self
         ensures { IsSome (⟦<SystemHost<'a, R> as Host>⟧.server result) }
     {
+        SystemHost::made(rt, alloc, pid, None)
+    }
+
+    /// The same, for the users' own agent: its listeners look so often whether clients can reach
+    /// it, and its lines go into this log.
+    pub fn of_users(rt: &'a R, alloc: Global, pid: u32, log: &'a Log, looks: Looks) -> Self
+        ensures { IsSome (⟦<SystemHost<'a, R> as Host>⟧.server result) }
+    {
+        SystemHost::made(rt, alloc, pid, Some(Users { log, looks }))
+    }
+
+    fn made(rt: &'a R, alloc: Global, pid: u32, users: Option<Users<'a>>) -> Self
+        ensures { IsSome (⟦<SystemHost<'a, R> as Host>⟧.server result) }
+    {
         let start = Start::now(rt);
+        let log = users.map(|users| users.log);
         SystemHost {
             rt,
             alloc,
             pid,
             start,
-            parts: Some(new_parts(rt, alloc, start, &Homedir::new())),
+            parts: Some(new_parts(rt, alloc, start, &Homedir::new(), log)),
             homedir: Homedir::new(),
             listens: 0,
             gate: NoGate,
+            users,
+            file: None,
+            held: None,
         }
+    }
+
+    /// Keeps this file open, and with it a lock, until it listens at its own socket or ends.
+    pub fn hold_until_it_listens(&mut self, held: Option<File>)
+        ensures { ⟦<SystemHost<'a, R> as Host>⟧.server self.new
+            ≡ ⟦<SystemHost<'a, R> as Host>⟧.server self.old }
+    {
+        self.held = held;
     }
 }
 
-impl<'a, R: Files + Net + Eprint> SystemHost<'a, R> {
+impl<'a, R: rt::Clock + Files<File = File> + Net + Eprint> SystemHost<'a, R> {
+    fn log(&self) -> Option<&'a Log> {
+        self.users.map(|users| users.log)
+    }
+
     /// A socket of the folder that was settled. One that can't be had counts.
     fn listen_at(&mut self, name: SocketName) -> Option<SocketListener<'a, R>>
         ensures name { IfSome result (λ listener. listener.name ≡ name) }
@@ -81,11 +126,20 @@ impl<'a, R: Files + Net + Eprint> SystemHost<'a, R> {
     }
 
     /// The same. Why it can't be had is said on the error stream, in one line.
-    fn socket(&self, name: SocketName) -> Option<SocketListener<'a, R>>
-        ensures { IfSome result (λ listener. listener.name ≡ name) }
+    fn socket(&mut self, name: SocketName) -> Option<SocketListener<'a, R>>
+        ensures name { IfSome result (λ listener. listener.name ≡ name) }
+        ensures listens { self.new.listens ≡ self.old.listens }
+        ensures parts { self.new.parts ≡ self.old.parts }
+        ensures homedir { self.new.homedir ≡ self.old.homedir }
+        ensures pid { self.new.pid ≡ self.old.pid }
     {
-        match SocketListener::bind(self.rt, self.alloc, self.homedir.path()?, name) {
-            Ok(listener) => Some(listener),
+        let folder = self.homedir.path()?;
+        match self.bound(folder, name) {
+            Ok((listener, file)) => {
+                self.file = file;
+                self.held = None;
+                Some(listener)
+            }
             Err(fault) => {
                 self.say_why(&fault);
                 None
@@ -93,15 +147,34 @@ impl<'a, R: Files + Net + Eprint> SystemHost<'a, R> {
         }
     }
 
+    /// The same, with the file that a further listener is to watch.
+    fn bound(
+        &self,
+        folder: &str,
+        name: SocketName,
+    ) -> Result<(SocketListener<'a, R>, Option<SocketFile>), BindFault>
+        ensures { IfOk result (λ bound. bound.0.name ≡ name) }
+    {
+        let mut listener = SocketListener::bind(self.rt, self.alloc, folder, name)?;
+        let Some(users) = self.users else {
+            return Ok((listener, None));
+        };
+        let file = match &self.file {
+            Some(file) => file.copy(self.alloc)?,
+            None => listener.file(self.alloc)?,
+        };
+        let further = file.copy(self.alloc)?;
+        listener.watch(users.looks, file)?;
+        Ok((listener, Some(further)))
+    }
+
     fn say_why(&self, fault: &BindFault) {
         let folder = Printable(self.homedir.bytes());
-        // Where that can't be written nobody is to be told.
-        let _ = match fault {
-            BindFault::OthersWrite => {
-                eprintln!(self.rt; "agent: no socket, since {fault}: chmod go-w {folder}")
-            }
-            _ => eprintln!(self.rt; "agent: no socket in {folder}: {fault}"),
-        };
+        say(
+            self.rt,
+            self.log(),
+            &format_args!("no socket in {folder}: {fault}"),
+        );
     }
 }
 
@@ -111,6 +184,7 @@ fn new_parts<'a, R: rt::Clock + rt::Env + Processes + Files<File = File> + Net +
     alloc: Global,
     start: Start,
     homedir: &Homedir,
+    log: Option<&'a Log>,
 ) -> SystemParts<'a, R>
     ensures launcher { (⟦<PipeLauncher<'a, R> as Launcher>⟧.launches result.launcher).faults ≡ 0 }
     ensures dice { (⟦<SystemDice<'a, R> as Dice>⟧.draws result.dice).faults ≡ 0 }
@@ -120,7 +194,7 @@ fn new_parts<'a, R: rt::Clock + rt::Env + Processes + Files<File = File> + Net +
     let mut keys = SystemKeys::new(rt);
     keys.settle(homedir);
     Parts {
-        launcher: PipeLauncher::new(rt, alloc),
+        launcher: PipeLauncher::logging(rt, alloc, log),
         clock: SystemClock::new(rt, start),
         dice: SystemDice::new(rt),
         keys,
@@ -187,7 +261,7 @@ impl<'a, R: rt::Clock + rt::Env + Processes + Files<File = File> + Net + Eprint>
     }
 
     fn session_parts(&self) -> SystemParts<'a, R> {
-        new_parts(self.rt, self.alloc, self.start, &self.homedir)
+        new_parts(self.rt, self.alloc, self.start, &self.homedir, self.log())
     }
 
     fn trust(&self) -> SystemTrust<'a, R> {

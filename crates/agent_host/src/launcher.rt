@@ -9,11 +9,13 @@ ghost use Rattle.agent_ports.specs.Launches.{IsFresh};
 use crate::child::PipedChild;
 use crate::faults::count;
 use crate::guard::{can_guard, can_start, guarded};
+use crate::log::{Log, say};
 use crate::patience::Patience;
 use crate::terminal::Terminal;
-use crate::told::{LastError, Printable};
+use crate::told::LastError;
 use agent_ports::{Launcher, Sink, Source};
 use child_environment::hand_on;
+use printable::Printable;
 use std::alloc::Global;
 use std::fs::{File, Files};
 use std::io::ErrorKind;
@@ -41,6 +43,7 @@ pub struct PipeLauncher<'a, R> {
     alloc: Global,
     can_guard: bool,
     faults: u64,
+    log: Option<&'a Log>,
 }
 
 impl<'a, R: rt::Clock + rt::Env + Processes + Files<File = File> + Net + Eprint> PipeLauncher<
@@ -51,11 +54,19 @@ impl<'a, R: rt::Clock + rt::Env + Processes + Files<File = File> + Net + Eprint>
     pub fn new(rt: &'a R, alloc: Global) -> Self
         ensures { (⟦<PipeLauncher<'a, R> as Launcher>⟧.launches result).faults ≡ 0 }
     {
+        PipeLauncher::logging(rt, alloc, None)
+    }
+
+    /// The same, whose lines go into this log.
+    pub(crate) fn logging(rt: &'a R, alloc: Global, log: Option<&'a Log>) -> Self
+        ensures { (⟦<PipeLauncher<'a, R> as Launcher>⟧.launches result).faults ≡ 0 }
+    {
         PipeLauncher {
             rt,
             alloc,
             can_guard: false,
             faults: 0,
+            log,
         }
     }
 }
@@ -69,11 +80,15 @@ impl<'a, R: rt::Clock + rt::Env + Processes + Files<File = File> + Net + Eprint>
 
     fn launch(&mut self, program: &[u8]) -> Option<PipedChild<'a, R, R::Started>> {
         self.can_guard = self.can_guard || can_guard(self.rt, self.alloc);
-        let child = start(self.rt, self.alloc, self.can_guard, program);
+        let child = start(self.rt, self.alloc, self.can_guard, program, self.log);
         count(&mut self.faults, child.is_err());
         if let Err(error) = &child {
-            // Where that can't be written nobody is to be told.
-            let _ = eprintln!(self.rt; "agent: {} can't be started: {error}", Printable(program));
+            let program = Printable(program);
+            say(
+                self.rt,
+                self.log,
+                &format_args!("{program} can't be started: {error}"),
+            );
         }
         child.ok()
     }
@@ -87,9 +102,14 @@ impl<'a, R: rt::Clock + rt::Env + Processes + Files<File = File> + Net + Eprint>
             patience: _,
             terminal,
             last_error,
+            log,
         } = child;
         if let Some(failure) = last_error.failure() {
-            let _ = eprintln!(self.rt; "agent: the pinentry {failure}{terminal}");
+            say(
+                self.rt,
+                log,
+                &format_args!("the pinentry {failure}{terminal}"),
+            );
         }
         let (reads, writes) = pipes.faults();
         self.faults = self.faults.saturating_add(reads).saturating_add(writes);
@@ -107,6 +127,7 @@ fn start<'a, R: rt::Clock + rt::Env + Processes + Files<File = File> + Net + Epr
     alloc: Global,
     can_guard: bool,
     program: &[u8],
+    log: Option<&'a Log>,
 ) -> io::Result<PipedChild<'a, R, R::Started>>
     ensures { IfOk result
         (λ child. IsFresh (⟦<PipedChild<'a, R, R::Started> as Source>⟧.input child)
@@ -133,6 +154,7 @@ fn start<'a, R: rt::Clock + rt::Env + Processes + Files<File = File> + Net + Epr
             patience: Patience::new(rt),
             terminal: Terminal::Untold,
             last_error: LastError::new(),
+            log,
         }),
         // A child without pipes is of no use.
         None => {

@@ -2,8 +2,8 @@
 //! names are judged by their letters (pts(4), tty(4)), and none is opened. Begin with
 //! `is_terminal`.
 
-use crate::told::Printable;
 use arrayvec::ArrayVec;
+use printable::Printable;
 use std::fmt;
 use std::fmt::{Display, Formatter};
 

@@ -5,6 +5,7 @@
 ghost use Rattle.std.specs.Prelude.{◌≡◌, ◌⊎◌, []};
 
 use arrayvec::ArrayVec;
+use printable::Printable;
 #[cfg(test)]
 use std::alloc::{AllocError, Global};
 use std::fmt::{Display, Formatter};
@@ -145,23 +146,6 @@ impl Display for Failure<'_> {
             Failure::Ended => f.write_str("ended before it answered"),
             Failure::Late => f.write_str("didn't answer in time, and is ended"),
         }
-    }
-}
-
-/// Bytes as a line can hold them: those that ASCII can't print are question marks.
-#[derive(Clone, Copy)]
-pub(crate) struct Printable<'a>(pub(crate) &'a [u8]);
-
-impl Display for Printable<'_> {
-    fn fmt<W: fmt::Write>(&self, f: &mut Formatter<W>) -> fmt::Result {
-        for byte in self.0 {
-            let shown = match byte {
-                b' '..=b'~' => *byte,
-                _ => b'?',
-            };
-            f.write_char(char::from(shown))?;
-        }
-        Ok(())
     }
 }
 

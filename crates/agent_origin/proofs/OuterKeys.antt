@@ -1,11 +1,11 @@
 -- Lines with a command on keys that are allowed at the outer door, and what is done for them to the cache.
-use Rattle.std.{proofs.Common.{◌≡◌, ℕ, Bool, true, false, not, cond, List, [], ◌∷◌, Option, None, Some, Result, Ok, Err, refl, ap, sym}, specs.Prelude.codes}
+use Rattle.std.{proofs.Common.{◌≡◌, ℕ, ◌&&◌, Bool, true, false, not, cond, List, [], ◌∷◌, Option, None, Some, Result, Ok, Err, refl, ap, sym}, specs.Prelude.{codes, is_none}}
 use Rattle.{agent_ask.{specs.{Session.{PortCalls.PortCall, Actions.{goes_on, stops, returns}, TurnActions.{peeked, interrupted}}, Plans.text}, proofs.Within.is_unless}, agent_commands.specs.Events.EventWith}
 use Rattle.{agent_commands.specs.{Requests.{request_of, request_by, cache_request_by, asked_by, either as of_cache}, declared.request.{CacheCommand.CacheCommand, Request.TheVariants.Key}}, agent_ports.specs.declared.grip.Grip.Grip}
-use Rattle.{arrayvec.specs.ArrayVec.ArrayVec, session_client.specs.{declared.{code.Code.Code, refusal.Refusal.{Refusal, TheVariants.Agent}}, Fields.{◌>>=◌, in_form}}, assuan_text.specs.Options.{arguments_of, has_option, options_of}}
+use Rattle.{arrayvec.specs.ArrayVec.ArrayVec, session_client.specs.{declared.{code.Code.Code, refusal.Refusal.{Refusal, TheVariants.Agent}}, Fields.{◌>>=◌, in_form}}, assuan_text.specs.Options.{arguments_of, has_option, last_value, options_of}}
 use Rattle.{assuan_text.specs.Words.{rest_of, words}, command_table.specs.{Commands.{command_in, outer_rule}, declared.commands.{Command.Command, KeyCommandName.KeyCommandName}}, key_commands.specs.Events.Event}
 use Rattle.key_commands.specs.{Exchanges.{KeyExchange, KeyReply, KeyReplies, HaveKeyReplies, KeyInfoReplies}, KeyActions.{HasOne, is_key, faulty, no_memory as no_key_memory, unread}, Actions.{Finds, found, absent, faulted, no_memory}}
-use Rattle.key_commands.specs.{Requests.{key_or_bad, some_grips, first_grip, key_request_by, key_request_of}, declared.{request.KeyRequest.{KeyRequest, TheVariants.{HaveKey, KeyInfo, ListKeys, Bad}}, went.KeyWent.KeyWent}}
+use Rattle.key_commands.specs.{Requests.{key_or_bad, some_grips, have_by, first_grip, key_request_by, key_request_of}, declared.{request.KeyRequest.{KeyRequest, TheVariants.{HaveKey, KeyInfo, ListKeys, Bad}}, went.KeyWent.KeyWent}}
 use Rattle.{key_commands.specs.declared.keywrap_key.WrapKeys.WrapKeys, session_options.specs.{OptionValues.OptionValues, declared.rules.Rules.Rules}}
 use Rattle.agent_origin.specs.{Doors.{passes, passes_by, allowed}, OuterTurns.{peeks, LeavesCache}, Serving.is_on_keys, declared.door.Door.TheVariants.Outer}
 use Rattle.agent_origin.proofs.Outer.{LeaveLaw, Leaves, LeavesUnseated, unseated_too, leaves_nothing, bind, gives, refused_by, actions_leave}
@@ -87,21 +87,32 @@ pub other_is_read : (line : List ℕ) → is_on_keys (command_in line) ≡ false
 unfolding request_of
 other_is_read line is = other_by (command_in line) line is
 
-have_outer : (agent : Rules) (options : OptionValues) (wraps : WrapKeys) (read : Result (List Grip) Code) → IsOuterKey agent options wraps (key_or_bad (read >>= λ grips. Ok (HaveKey grips)))
-have_outer agent options wraps (Ok grips) = tt
-have_outer agent options wraps (Err code) = tt
+some_outer : (agent : Rules) (options : OptionValues) (wraps : WrapKeys) (read : Result (List Grip) Code) → IsOuterKey agent options wraps (key_or_bad (read >>= λ grips. Ok (HaveKey grips)))
+some_outer agent options wraps (Ok grips) = tt
+some_outer agent options wraps (Err code) = tt
 
-info_outer : (agent : Rules) (options : OptionValues) (wraps : WrapKeys) (read : Result Grip Code) (lists : Bool) → not lists ≡ true
+have_outer : (agent : Rules) (options : OptionValues) (wraps : WrapKeys) (lists : Bool) (limit : Option (List ℕ)) (arguments : List (List ℕ)) → (not lists && is_none limit) ≡ true
+    → IsOuterKey agent options wraps (key_or_bad (have_by lists limit arguments))
+have_outer agent options wraps false None arguments one = some_outer agent options wraps (some_grips arguments)
+have_outer agent options wraps false (Some limit) arguments one = absurd (cc one)
+have_outer agent options wraps true limit arguments one = absurd (cc one)
+
+info_outer : (agent : Rules) (options : OptionValues) (wraps : WrapKeys) (read : Result Grip Code) (lists : Bool) (limit : Option (List ℕ)) → (not lists && is_none limit) ≡ true
     → IsOuterKey agent options wraps (key_or_bad (cond lists (Ok ListKeys) (read >>= λ grip. Ok (KeyInfo grip))))
-info_outer agent options wraps read true one = cc one
-info_outer agent options wraps (Ok grip) false one = tt
-info_outer agent options wraps (Err code) false one = tt
+info_outer agent options wraps read true limit one = cc one
+info_outer agent options wraps (Ok grip) false limit one = tt
+info_outer agent options wraps (Err code) false limit one = tt
 
 module _ (agent : Rules) (options : OptionValues) (wraps : WrapKeys) (line : List ℕ) where
+  abbrev lists : Bool
+  lists = has_option (codes "--list") (options_of (words (rest_of line)))
+
+  abbrev limit : Option (List ℕ)
+  limit = last_value (codes "--list") (options_of (words (rest_of line)))
+
   passes_outer : (name : KeyCommandName) → passes (outer_rule (at_table.Key name)) line ≡ true → IsOuterKey agent options wraps (key_request_by (Some (at_table.Key name)) (rest_of line))
-  passes_outer name.HaveKey is = have_outer agent options wraps (some_grips (arguments_of (words (rest_of line))))
-  passes_outer name.KeyInfo is =
-      info_outer agent options wraps (in_form (first_grip (arguments_of (words (rest_of line))))) (has_option (codes "--list") (options_of (words (rest_of line)))) is
+  passes_outer name.HaveKey is = have_outer agent options wraps lists limit (arguments_of (words (rest_of line))) is
+  passes_outer name.KeyInfo is = info_outer agent options wraps (in_form (first_grip (arguments_of (words (rest_of line))))) lists limit is
   passes_outer _ is = cc is
 
   named_outer : (found : Option Command) → passes_by found line ≡ true → IsOuterKey agent options wraps (key_request_by found (rest_of line))

@@ -40,6 +40,23 @@ all_keys : allowed Outer (codes "KEYINFO --list") ≡ false
 unfolding command_named
 all_keys = refl
 
+some_keys : allowed Outer (codes "HAVEKEY " ++ replicate 40 48) ≡ true
+unfolding command_named
+some_keys = refl
+
+have_all_keys : allowed Outer (codes "HAVEKEY --list") ≡ false
+unfolding command_named
+have_all_keys = refl
+
+have_thousand_keys : allowed Outer (codes "havekey --list=1000") ≡ false
+unfolding command_named
+have_thousand_keys = refl
+
+-- a value makes no form of it allowed
+no_count_of_keys : allowed Outer (codes "HAVEKEY --list= 00") ≡ false
+unfolding command_named
+no_count_of_keys = refl
+
 -- `--list` stands behind the end of the options
 not_all_keys : allowed Outer (codes "KEYINFO -- --list") ≡ true
 unfolding command_named

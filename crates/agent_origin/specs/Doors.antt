@@ -1,8 +1,8 @@
 -- What a session may ask for that came in by the agent's outer door, as the sessions of another machine do (GnuPG manual, "Agent Options",
 -- `--extra-socket`), by the rule of its command. This is the project's own.
-use Rattle.std.specs.{Prelude.{ℕ, ◌||◌, not, Bool, true, false, List, [], ◌∷◌, codes, Option, Some, None}, Str.bytes_eq}
+use Rattle.std.specs.{Prelude.{ℕ, ◌&&◌, ◌||◌, not, Bool, true, false, List, [], ◌∷◌, codes, Option, Some, None, is_none}, Str.bytes_eq}
 use Rattle.agent_commands.specs.{Requests.{get_fields, leaves_cache, request_of}, declared.request.{CacheCommand.TheVariants.SetOption, Request.{Request, TheVariants.Cache}}}
-use Rattle.{assuan_text.specs.{Options.{options_of, arguments_of, has_option}, Words.{rest_of, words}}, command_table.specs.{Commands.{command_in, outer_rule}, declared.commands.{Command.Command, Rule.Rule}}}
+use Rattle.{assuan_text.specs.{Options.{options_of, arguments_of, has_option, last_value}, Words.{rest_of, words}}, command_table.specs.{Commands.{command_in, outer_rule}, declared.commands.{Command.Command, Rule.Rule}}}
 use Rattle.{command_table.specs.declared.commands.Rule.TheVariants.{Always, NotTheMode, AboutTheAgent, Uncached, OneKey, Never}, session_options.specs.Text.name_of}
 use Rattle.agent_origin.specs.declared.door.Door.{Door, TheVariants.{Home, Outer}}
 
@@ -11,13 +11,17 @@ abbrev pub is_about_the_agent : List (List ℕ) → Bool
 is_about_the_agent [] = false
 is_about_the_agent (what ∷ more) = bytes_eq what (codes "version") || bytes_eq what (codes "cmd_has_option")
 
+-- not all keys are asked for, by `--list` without a value or with one
+abbrev pub lists_none : List (List ℕ) → Bool
+lists_none options = not (has_option (codes "--list") options) && is_none (last_value (codes "--list") options)
+
 -- a line with a command of this rule is allowed
 abbrev pub passes : Rule → List ℕ → Bool
 passes Always line = true
 passes NotTheMode line = not (bytes_eq (name_of (rest_of line)) (codes "pinentry-mode"))
 passes AboutTheAgent line = is_about_the_agent (arguments_of (words (rest_of line)))
 passes Uncached line = leaves_cache (get_fields (request_of line))
-passes OneKey line = not (has_option (codes "--list") (options_of (words (rest_of line))))
+passes OneKey line = lists_none (options_of (words (rest_of line)))
 passes Never line = false
 
 -- The option's name says in which terminal prompts are drawn, of which kind that is, or in which language (GnuPG manual, "Agent OPTION").

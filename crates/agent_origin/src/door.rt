@@ -3,13 +3,13 @@
 //! through. Pure. Begin with `passes`; `allowed` (`specs/Doors`) defines what `allows` gives.
 
 ghost use Rattle.std.specs.Prelude.{◌≡◌};
-ghost use Rattle.assuan_text.specs.Words.{words};
-ghost use Rattle.agent_origin.specs.Doors.{is_about_the_agent};
+ghost use Rattle.assuan_text.specs.{Options.options_of, Words.words};
+ghost use Rattle.agent_origin.specs.Doors.{is_about_the_agent, lists_none};
 ghost use Rattle.agent_origin.specs.Doors.{passes, allowed, is_of_terminal, sets_terminal};
 
 use agent_commands::{CacheCommand, LineRequest, Request};
 use assuan_line::Line;
-use assuan_text::{arguments, has_option, next_word};
+use assuan_text::{arguments, has_option, last_value, next_word};
 use command_table::{CutLine, Rule};
 use session_options::name_and_value;
 
@@ -30,6 +30,9 @@ const LC_MESSAGES: &[u8] = b"lc-messages";
 const VERSION: &[u8] = b"version";
 
 const HAS_OPTION: &[u8] = b"cmd_has_option";
+
+/// The option that asks for all keys.
+const LIST: &[u8] = b"--list";
 
 /// By which of the agent's sockets a session came in.
 #[derive(Clone, Copy, PartialEq, Eq)]
@@ -90,9 +93,16 @@ fn passes(rule: Rule, line: &CutLine<'_>) -> bool
         Rule::NotTheMode => name_and_value(rest).0 != PINENTRY_MODE,
         Rule::AboutTheAgent => is_about_the_agent(arguments(rest)),
         Rule::Uncached => LineRequest::of_cut(line).leaves_cache(),
-        Rule::OneKey => !has_option(rest, b"--list"),
+        Rule::OneKey => lists_none(rest),
         Rule::Never => false,
     }
+}
+
+/// Whether not all keys are asked for.
+fn lists_none(text: &[u8]) -> bool
+    ensures { result ≡ lists_none (options_of (words text.now)) }
+{
+    !has_option(text, LIST) && last_value(text, LIST).is_none()
 }
 
 /// Whether GETINFO is asked for what the agent is, or which options it has.

@@ -6,6 +6,7 @@ pub mod Launches
 pub mod Listening
 pub mod Draws
 pub mod KeyFiles
+pub mod ConfFiles
 pub mod Leads
 pub mod Plans
 pub mod Lent

@@ -1,5 +1,5 @@
 //! What the agent asks of the outside: bytes in and out, child programs, the time of day, random
-//! bytes, key files, and the machine that has them.
+//! bytes, key files, files of options, and the machine that has them.
 //!
 //! Begin with [`Source`], [`Sink`] and [`Host`], and for tests with [`MemLink`] and [`MemHost`].
 //! Each trait has its contents, which an implementation shows or doesn't, and counts that never
@@ -9,6 +9,7 @@
 #![tactic(auto)]
 
 mod clock;
+mod conf;
 mod dice;
 mod fault_plan;
 mod gate;
@@ -25,6 +26,7 @@ mod session;
 mod trust;
 
 pub use clock::Clock;
+pub use conf::{ConfFiles, ConfRead, MAX_CONF_LEN};
 pub use dice::Dice;
 pub use gate::{Gate, GatePoint, HoldGate, NoGate};
 pub use grip::Grip;
@@ -36,6 +38,7 @@ pub use lent_clock::LentClock;
 pub use link::{Got, Link, Sent, Sink, Source, WriteFault};
 pub use listener::{Ear, Listener, Next};
 pub use mem::clock::{ListClock, StepClock};
+pub use mem::conf::MemConf;
 pub use mem::dice::ListDice;
 pub use mem::host::{MemHost, MemParts};
 pub use mem::keys::MapKeys;

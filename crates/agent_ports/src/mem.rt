@@ -2,6 +2,7 @@
 //! the calls that a plan names. They touch nothing but themselves; begin with `host`.
 
 pub(crate) mod clock;
+pub(crate) mod conf;
 pub(crate) mod dice;
 pub(crate) mod host;
 pub(crate) mod keys;

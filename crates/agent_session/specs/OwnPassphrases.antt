@@ -3,12 +3,12 @@
 -- line of a request on the cache or on the session has no passphrase in it, or it has the one that the request itself asked for; no line of a request on
 -- keys has one. This is the project's own.
 use Rattle.std.specs.{List.AllByRecursion, Prelude.{◌≡◌, ℕ, true, false, List, ◌∷◌, ◌++◌, codes, Option, Some, None, Ok, ⊤, Bool, drop, []}}
-use Rattle.{agent_ask.specs.{Session.{PortCalls.PortCall, SessionEvents.{Received, Sent, cache_turn}}, declared.prompt.spec.AskPlan.AskPlan}, agent_ports.specs.declared.grip.Grip.Grip, assuan_line.specs.declared.reader.Took.TheVariants.Line}
+use Rattle.{agent_ask.specs.{Session.{PortCalls.{PortCall, Keys, Listed}, SessionEvents.{Received, Sent, Port, cache_turn}}, declared.prompt.spec.AskPlan.AskPlan}, agent_ports.specs.declared.{grip.Grip.Grip, keys.KeyNames.KeyNames}, assuan_line.specs.declared.reader.Took.TheVariants.Line}
 use Rattle.{assuan_server.specs.{Written.{greeting, ok, IsDataAnswer}, Errors.error_text, declared.errors.Origin.Origin}, assuan_text.specs.LineEnds.line_of, cache_policy.specs.{Turns.{Turn, Given, Open}, declared.grant.Grant.Grant}}
 use Rattle.cache_policy.specs.declared.{life.Life.Life, mark.{MarkStep.{MarkStep, TheVariants.{Seat, Put, Close}}, Way.TheVariants.Prompt}, mode.Mode.{Mode, TheVariants.{Any, Normal, Nonce, User}}, secret.TheConstants.MAX_SECRET_LEN}
 use Rattle.{secret_file.specs.Opens.LockedKey, session_options.specs.{OptionValues.OptionValues, declared.rules.Rules.Rules}, sexp_keys.specs.{Key.Key, Lists.grip_of}, agent_commands.specs.{Events.EventWith, Passphrases.{ask_or_open, ask}}}
 use Rattle.agent_commands.specs.{Requests.{GetFields, get_passphrase, request_of}, declared.{request.{CacheCommand.TheVariants.PresetPassphrase, Request.{Request, TheVariants.Cache}, Info.Info}, went.Went.TheVariants.On}}
-use Rattle.{agent_commands.specs.Answers.{closing, help, IsInfo, IsPassphrase}, key_commands.specs.{Lines.{grip_text, info_line, nonce_line, IsNotice}, Passphrases.{OpensBy, ask_nonce, ask_key, put_key, seat_for}, Exchanges.wrap_key}}
+use Rattle.{agent_commands.specs.Answers.{closing, help, IsInfo, IsPassphrase}, key_commands.specs.{KeyActions.{grips_in, grips_bytes}, Lines.{grip_text, info_line, nonce_line, IsNotice}, Passphrases.{OpensBy, ask_nonce, ask_key, put_key, seat_for}, Exchanges.wrap_key}}
 use Rattle.{key_commands.specs.{Wrapping.wrapped_key, declared.request.Direction.Direction}, agent_origin.specs.declared.session_state.SessionState.SessionState, session_client.specs.declared.code.Code.Code}
 use Rattle.assuan_escape.specs.Escapes.{hex_text}
 use Rattle.agent_session.specs.{Causes.{Has, HasPrompt, KeyDataSays, on_keys, old_plan, AsksAny, Unlocks, IsSent, IsReadLocked, IsDrawn, OpensRead}, Completeness.Exchanges}
@@ -185,6 +185,9 @@ module _ (rules : Rules) (kept : SessionState) (request : Request) (before : Lis
     fails : (why : Code) (origin : Origin) → TellsOfKeys (line_of (error_text why origin))
     succeeds : TellsOfKeys ok
     notes : {text : List ℕ} → IsNotice text → TellsOfKeys text
+    -- the grips of the keys that there are, as they were listed
+    listed : {answer : KeyNames} {grips : List Grip} {text : List ℕ} → on_keys request ≡ Some on.ListGrips → Has (Port (Keys (Listed answer))) before → grips_in answer ≡ Some grips
+        → IsDataAnswer (grips_bytes grips) text → TellsOfKeys text
     -- what is known of a key
     known : {grip : Grip} (is_cached clear : Bool) → on_keys request ≡ Some (on.KeyInfo grip) → TellsOfKeys (info_line grip is_cached clear ++ ok)
     -- the nonce that was drawn for it

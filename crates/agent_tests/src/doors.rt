@@ -145,8 +145,8 @@ const LISTS: [Row; 14] = [
     },
     Row {
         door: Door::Outer,
-        sent: "OPTION --pinentry-mode = ask\nGETINFO\nGETINFO s2k_count\nGET_PASSPHRASE --no-ask id1\nGET_PASSPHRASE --repeat=17 X\nPRESET_PASSPHRASE id1 -1 61\nCLEAR_PASSPHRASE id1\nRELOADAGENT\nKILLAGENT\nkeyinfo --list {A*40}\nKEYWRAP_KEY --export\nIMPORT_KEY\nEXPORT_KEY {A*40}\nPASSWD {A*40}\nDELETE_KEY --force {A*40}\nMARKTRUSTED {A*40} S Root\n",
-        answered: "{ERR 67109115 Forbidden <GPG Agent>\n*16}",
+        sent: "OPTION --pinentry-mode = ask\nGETINFO\nGETINFO s2k_count\nGET_PASSPHRASE --no-ask id1\nGET_PASSPHRASE --repeat=17 X\nPRESET_PASSPHRASE id1 -1 61\nCLEAR_PASSPHRASE id1\nRELOADAGENT\nKILLAGENT\nkeyinfo --list {A*40}\nHAVEKEY --list\nHAVEKEY --list=1000\nHAVEKEY --list=0 {A*40}\nKEYWRAP_KEY --export\nIMPORT_KEY\nEXPORT_KEY {A*40}\nPASSWD {A*40}\nDELETE_KEY --force {A*40}\nMARKTRUSTED {A*40} S Root\n",
+        answered: "{ERR 67109115 Forbidden <GPG Agent>\n*19}",
         ..PLAIN
     },
     // All else is answered as at home.

@@ -58,6 +58,22 @@ pub(crate) const LISTS: &[Row] = &[
         ]),
         ..KEYS
     },
+    // The grips of all keys, ascending, whatever their files are; what stands behind the option is
+    // passed over, and the number limits nothing.
+    Row {
+        sent: "HAVEKEY --list\nhavekey --list=1 00\nHAVEKEY --list --list=0000000001 -- x\n",
+        answered: "D \x00\x00\x00\x00\x00\x00\x00\x00\x00\x00\x00\x00\x00\x00\x00\x00\x00\x00\x00\x01%81YLX%EF\x12%86%E8%90\x15%A3%0A\\%C2\x07-4;3\x07\nOK\nD \x00\x00\x00\x00\x00\x00\x00\x00\x00\x00\x00\x00\x00\x00\x00\x00\x00\x00\x00\x01%81YLX%EF\x12%86%E8%90\x15%A3%0A\\%C2\x07-4;3\x07\nOK\nD \x00\x00\x00\x00\x00\x00\x00\x00\x00\x00\x00\x00\x00\x00\x00\x00\x00\x00\x00\x01%81YLX%EF\x12%86%E8%90\x15%A3%0A\\%C2\x07-4;3\x07\nOK\n",
+        files: &[(DSA_GRIP, WITHOUT_KEY), (GRIP, BY_CBC)],
+        files_after: Some(&[(DSA_GRIP, WITHOUT_KEY), (GRIP, BY_CBC)]),
+        ..KEYS
+    },
+    // Of none, and with a number that is none.
+    Row {
+        sent: "HAVEKEY --list\nHAVEKEY --list=0\nHAVEKEY --list=00000000001\nHAVEKEY --list=\nHAVEKEY --list=1x\nHAVEKEY -- --list\n",
+        answered: "OK\nERR 67109144 IPC parameter error <GPG Agent>\nERR 67109144 IPC parameter error <GPG Agent>\nERR 67109144 IPC parameter error <GPG Agent>\nERR 67109144 IPC parameter error <GPG Agent>\nERR 67109144 IPC parameter error <GPG Agent>\n",
+        files_after: Some(&[]),
+        ..KEYS
+    },
 ];
 
 /// Keys are exported: what is sent and answered, with the key files before and behind it.
@@ -313,6 +329,13 @@ pub(crate) const OTHERS: &[Row] = &[
         sent: "HAVEKEY 0000000000000000000000000000000000000001 81594C58EF1286E89015A30A5CC2072D343B3307\nKEYINFO 81594C58EF1286E89015A30A5CC2072D343B3307\nKEYINFO --list\nDELETE_KEY --force 81594C58EF1286E89015A30A5CC2072D343B3307\nKEYINFO 81594C58EF1286E89015A30A5CC2072D343B3307\n",
         answered: "ERR 67108865 General error <GPG Agent>\nERR 67108865 General error <GPG Agent>\nERR 67108865 General error <GPG Agent>\nERR 67108865 General error <GPG Agent>\nS KEYINFO 81594C58EF1286E89015A30A5CC2072D343B3307 D - - - P - - -\nOK\n",
         key_faults: &[1, 2, 3, 4],
+        ..KEY_STAYS
+    },
+    // Keys that can't be listed, and then can.
+    Row {
+        sent: "HAVEKEY --list=1000\nHAVEKEY --list=1000\n",
+        answered: "ERR 67108865 General error <GPG Agent>\nD %81YLX%EF\x12%86%E8%90\x15%A3%0A\\%C2\x07-4;3\x07\nOK\n",
+        key_faults: &[0],
         ..KEY_STAYS
     },
     // A nonce has 1 to 50 bytes, and DELETE_KEY no stubs.

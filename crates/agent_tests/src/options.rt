@@ -2,7 +2,7 @@
 //! session has by them. Begin with `ANSWERS`, a row an option, and `STEPS`, one session.
 
 use arrayvec::ArrayVec;
-use session_options::{OptionAnswer, Options, PinMode, Rules, spelling_is_plain};
+use session_options::{OptionAnswer, Options, PinMode, Rules, Version, spelling_is_plain};
 use std::test::Fail;
 
 fn options(allow_loopback: bool) -> Options {
@@ -102,6 +102,30 @@ const STEPS: [(&[u8], &[u8], PinMode, u64); 19] = [
     (b"s2k-count=0000000000", b"", PinMode::Ask, 4_194_304),
     (b"s2k-count=0000065536", b"", PinMode::Ask, 65_536),
 ];
+
+/// Texts, and whether they are a version.
+const VERSIONS: [(&[u8], bool); 9] = [
+    (b"2.4.0", true),
+    (b"2.2.40", true),
+    (b"7", true),
+    (b"2.5.0.beta12345678.z", true),
+    (b"2.5.0.beta123456789.z", false),
+    (b"", false),
+    (b"2.4.0-beta1", false),
+    (b"2.4.0 ", false),
+    (b"2.4\n", false),
+];
+
+#[test]
+fn versions_have_letters_digits_and_dots(rt: HostRuntime) {
+    for (text, is_one) in VERSIONS {
+        let version = Version::new(text);
+        let bytes = version.as_ref().map(|version| version.bytes.as_slice());
+        assert_eq!(rt; bytes, is_one.then_some(text), "at {text:?}");
+    }
+    let usual = Version::default();
+    assert_eq!(rt; usual.copied().bytes.as_slice(), b"2.4.0".as_slice());
+}
 
 #[test]
 fn options_stand_until_they_are_reset(rt: HostRuntime) {

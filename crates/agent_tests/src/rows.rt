@@ -10,7 +10,7 @@ use agent_ports::{
     MemLauncher, MemLink, MemSink, MemSource, NoGate, Parts, PlannedChild,
 };
 use agent_top::{Status, run_lawful_server};
-use session_options::Rules;
+use session_options::{DEFAULT_VERSION, Rules, Version};
 use std::alloc::{AllocError, Global};
 use std::sync::Wait;
 
@@ -28,6 +28,8 @@ pub(crate) struct Row {
     pub(crate) status: u8,
     pub(crate) allow_preset: bool,
     pub(crate) allow_loopback: bool,
+    /// The version that the agent tells.
+    pub(crate) version: &'static [u8],
     pub(crate) children: &'static [Child],
     /// The key files before the session, by their grips, and those behind it, where they are looked
     /// at.
@@ -56,6 +58,7 @@ pub(crate) const PLAIN: Row = Row {
     status: 0,
     allow_preset: true,
     allow_loopback: false,
+    version: DEFAULT_VERSION,
     children: &[],
     files: &[],
     files_after: None,
@@ -185,6 +188,9 @@ pub(crate) fn rules_of(row: &Row) -> Rules {
     let mut rules = Rules::default();
     rules.allow_preset = row.allow_preset;
     rules.allow_loopback = row.allow_loopback;
+    if let Some(version) = Version::new(row.version) {
+        rules.version = version;
+    }
     rules
 }
 

@@ -198,6 +198,13 @@ const SESSIONS: &[Row] = &[
         status: 7,
         ..PLAIN
     },
+    // The version is the rules' own.
+    Row {
+        sent: "GETINFO version\n",
+        answered: "D 2.2.40\nOK\n",
+        version: b"2.2.40",
+        ..PLAIN
+    },
     // A preset needs the word that allows it.
     Row {
         sent: "PRESET_PASSPHRASE id1 -1 61\nPRESET_PASSPHRASE --inquire id1 -1\nGET_PASSPHRASE --no-ask id1\n",

@@ -15,5 +15,6 @@ mod OwnPassphrases
 mod Replays
 mod Stopping
 mod Spelling
+mod UsualVersion
 mod WorkedExamples
 mod WorkedOutcomes

@@ -19,7 +19,7 @@ run_of given =
 abbrev path_word : List ℕ → ArrayVec ℕ
 path_word bytes = record { items = bytes }
 
--- each is what its option is given, or else the default; the number of the process isn't among them
+-- each is what its option is given, or else the default; the number of the process and the version aren't among them
 abbrev pub rules_with : List Setting → RunMode → Rules
 rules_with given run = record {
   default_ttl = number_or default_rules.default_ttl (codes "--default-cache-ttl") given;
@@ -29,6 +29,7 @@ rules_with given run = record {
   pinentry_timeout = number_or default_rules.pinentry_timeout (codes "--pinentry-timeout") given;
   workers = number_or default_rules.workers (codes "--workers") given;
   pid = default_rules.pid;
+  version = default_rules.version;
   min_len = number_or default_rules.min_len (codes "--min-passphrase-len") given;
   min_nonalpha = number_or default_rules.min_nonalpha (codes "--min-passphrase-nonalpha") given;
   allow_preset = is_set (codes "--allow-preset-passphrase") given;

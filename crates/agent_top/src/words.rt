@@ -7,6 +7,7 @@ ghost use Rattle.std.specs.Prelude.{string_bytes};
 ghost use Rattle.agent_top.specs.Forms.{form_of, forms, number_or, path_or};
 ghost use Rattle.agent_top.specs.{Options.{are_readable, flag_in}, Settings.settings};
 ghost use Rattle.agent_top.specs.Within.{IsWithin};
+ghost use Rattle.session_options.specs.Defaults.{default_version};
 ghost use Rattle.agent_top.specs.Words.{rules_of, rules_from, rules_with, run_of, if_extra_fits};
 
 mod forms;
@@ -54,9 +55,10 @@ impl Error for WordsFault {}
 
 /// Reads the words of the command line, without the program's name, as the rules that they mean
 /// (GnuPG manual, "agent options"). `--extra-socket` is taken beside `--daemon` alone, and takes no
-/// name.
+/// name. No word sets the version that the agent tells.
 pub fn read_words(alloc: Global, words: &[String]) -> Result<Rules, WordsFault>
     ensures rules { IfOk result (λ rules. rules_of (map string_bytes words.now) ≡ Some rules) }
+    ensures version { IfOk result (λ rules. rules.version ≡ default_version) }
     ensures bad { IfErr result
         (λ fault. fault ≡ WordsFault.Bad → rules_of (map string_bytes words.now) ≡ None) }
 {
@@ -110,6 +112,7 @@ fn rules_with(given: &Given<'_>, run: RunMode) -> Rules
         ) as u32,
         workers: number_or(given, "--workers", usual.workers.into()) as u32,
         pid: usual.pid,
+        version: usual.version.copied(),
         min_len: number_or(given, "--min-passphrase-len", usual.min_len.into()) as u8,
         min_nonalpha: number_or(
             given,

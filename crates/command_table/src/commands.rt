@@ -54,7 +54,7 @@ pub enum CommandName {
 /// The commands on keys.
 #[derive(Clone, Copy)]
 pub enum KeyCommandName {
-    /// HAVEKEY, which looks whether one of some keys is there.
+    /// HAVEKEY, which looks whether one of some keys is there, or tells which there are.
     HaveKey,
     /// KEYINFO, which tells what is known of a key, or of each.
     KeyInfo,
@@ -92,7 +92,8 @@ pub enum Rule {
     AboutTheAgent,
     /// A GET_PASSPHRASE in form that leaves the cache out: its cache id is `X`.
     Uncached,
-    /// A KEYINFO of one key, not of all, which `--list` asks for.
+    /// A HAVEKEY or KEYINFO of keys that it names, not of all, which `--list` asks for, with a
+    /// value or without.
     OneKey,
     /// No line, in form or not.
     Never,
@@ -115,8 +116,7 @@ impl Command {
                 CommandName::GetPassphrase => Rule::Uncached,
                 _ => Rule::Never,
             },
-            Command::Key(KeyCommandName::HaveKey) => Rule::Always,
-            Command::Key(KeyCommandName::KeyInfo) => Rule::OneKey,
+            Command::Key(KeyCommandName::HaveKey | KeyCommandName::KeyInfo) => Rule::OneKey,
             Command::Trust(TrustCommandName::IsTrusted) => Rule::Always,
             _ => Rule::Never,
         }

@@ -9,7 +9,7 @@ use Rattle.{cache_policy.specs.declared.{mark.MarkStep.{MarkStep, TheVariants.{C
 use Rattle.{secret_file.specs.Opens.LockedKey, session_options.specs.{OptionValues.OptionValues, declared.rules.Rules.Rules}, sexp_keys.specs.Key.Key}
 use Rattle.key_commands.specs.{Events.{Event, IsUncalled}, Exchanges.{StoresKey, RewritesFile}, Files.Rewrites}
 use Rattle.key_commands.specs.KeyActions.{Tells, tells, ReadsFile, Replaces, Removes, KeepsNew, Protects, IsShort, HasOne, TellsKeyInfo, ListsGrips, ReadsListed, WritesInfo, WritesInfos, AsksKeyData, Unwraps, ReceivesKey, NamesKey, IsFree}
-use Rattle.key_commands.specs.{KeyActions.{LooksOver, WrapsKey}, Lines.{max_key_data, grip_text, IsNotice, of_passphrase, of_key_data, of_key}, Actions.{Action, Finds, Draws}}
+use Rattle.key_commands.specs.{KeyActions.{JoinsGrips, LooksOver, WrapsKey}, Lines.{max_key_data, grip_text, IsNotice, of_passphrase, of_key_data, of_key}, Actions.{Action, Finds, Draws}}
 use Rattle.key_commands.specs.Passphrases.{AsksSecret, ClientOld, ClientNew, LooksForNonce, TakesSeat, Locks, TriesPassphrase, TriesFound, ask_nonce, seat_for, put_key}
 use Rattle.agent_ask.specs.SessionPrompts as session
 use Rattle.session_client.specs.declared.code.Code.TheVariants as code
@@ -195,6 +195,13 @@ module _ (Is : Event → Type 0) where
 
     pub lists : EachSo ListsGrips
     lists = record { of = lists_of }
+
+    joins_grips_of : (grips : List Grip) (before : Option ℕ) (events : List Event) (result : Result (List ℕ) Refusal) (after : Option ℕ) → JoinsGrips grips before events result after → All events
+    joins_grips_of grips before events result after actions.joined = tt
+    joins_grips_of grips before events result after actions.no_memory = one _ tt
+
+    pub joins_grips : (grips : List Grip) → EachSo (JoinsGrips grips)
+    joins_grips grips = record { of = joins_grips_of grips }
 
     tells_of : (bytes : List ℕ) (before : Option ℕ) (events : List Event) (result : Result (List ℕ) Refusal) (after : Option ℕ) → Tells bytes before events result after → All events
     tells_of bytes before events result after (tells is) = tt

@@ -1,18 +1,17 @@
 -- Requests on keys each of whose events is so, where each event but a read request and a call of the trust file is so.
 use Rattle.std.{proofs.Common.{◌≡◌, ◌∙◌, ℕ, Bool, true, false, List, ◌++◌, Option, Some, None, Result, Ok, Err, []}, specs.Prelude.⊤}
-use Rattle.agent_ask.specs.Session.{PortCalls.{Prompt, Trust}, SessionEvents.{Received, Sent, CacheTurn, Port, cache_turn}, ActionExchanges.{AnyReply, AnyExchange}, Actions.◌>>=◌}
-use Rattle.agent_ask.specs.{ConsentActions.{AgreesTo, PromptsConsent}, PinActions.{PromptsPin, PromptsFor, prompted}}
-use Rattle.agent_ask.{specs.declared.prompt.{ask.Asked.Asked, consent.Agreed.Agreed, spec.{AskPlan.AskPlan, PromptSpec.PromptSpec}}, proofs.Within.{Within, OfNothing, Does, does_join, weaker, bind, or_otherwise}}
-use Rattle.{assuan_server.specs.Clients.session_lines, cache_policy.specs.{Turns.Turn, declared.{mark.MarkStep.{MarkStep, TheVariants.Peek}, mode.Mode.TheVariants.Normal}}, session_client.specs.declared.refusal.Refusal.Refusal}
-use Rattle.{session_client.specs.declared.{refusal.Refusal.TheVariants.Agent, client_error.Gone.Gone}, agent_ports.specs.declared.grip.Grip.Grip, secret_file.specs.Opens.LockedKey}
-use Rattle.{session_options.specs.{OptionValues.{OptionValues, EnvWords, words_of}, declared.{options.PinMode.PinMode, rules.Rules.Rules}}, sexp_keys.specs.Key.Key}
+use Rattle.agent_ask.specs.{Session.{PortCalls.{Prompt, Trust}, SessionEvents.{Received, Sent, CacheTurn, Port, cache_turn}, ActionExchanges.{AnyReply, AnyExchange}, Actions.◌>>=◌}, ConsentActions.{AgreesTo, PromptsConsent}}
+use Rattle.agent_ask.specs.{PinActions.{PromptsPin, PromptsFor, prompted}, declared.prompt.{ask.Asked.Asked, consent.Agreed.Agreed, spec.{AskPlan.AskPlan, PromptSpec.PromptSpec}}}
+use Rattle.{agent_ask.proofs.Within.{Within, OfNothing, Does, does_join, weaker, bind, or_otherwise}, assuan_server.specs.Clients.session_lines, cache_policy.specs.{Turns.Turn, declared.mark.MarkStep.{MarkStep, TheVariants.Peek}}}
+use Rattle.{cache_policy.specs.declared.mode.Mode.TheVariants.Normal, session_client.specs.declared.{refusal.Refusal.{Refusal, TheVariants.Agent}, client_error.Gone.Gone}, agent_ports.specs.declared.grip.Grip.Grip}
+use Rattle.{secret_file.specs.Opens.LockedKey, session_options.specs.{OptionValues.{OptionValues, EnvWords, words_of}, declared.{options.PinMode.PinMode, rules.Rules.Rules}}, sexp_keys.specs.Key.Key}
 use Rattle.key_commands.specs.{Actions.Action, Events.Event}
-use Rattle.key_commands.specs.Exchanges.{KeyExchange, HaveKeyReplies, KeyInfoReplies, ListKeysReplies, KeyWrapReplies, ImportKeyReplies, ExportKeyReplies, PasswdReplies, VerifyReplies, DeleteKeyReplies, KeyReplies, wrap_key, FoundOrNew}
-use Rattle.key_commands.specs.{Exchanges.{RenewsPassphrase, ChangesOpened}, Lines.{IsNotice, grip_text}, KeyActions.Consents, Passphrases.{UncachedOld, OpensLocked, old_by, verified_by, new_by}}
+use Rattle.key_commands.specs.Exchanges.{KeyExchange, HaveKeyReplies, ListGripsReplies, KeyInfoReplies, ListKeysReplies, KeyWrapReplies, ImportKeyReplies, ExportKeyReplies, PasswdReplies, VerifyReplies, DeleteKeyReplies, KeyReplies}
+use Rattle.key_commands.specs.{Exchanges.{wrap_key, FoundOrNew, RenewsPassphrase, ChangesOpened}, Lines.{IsNotice, grip_text}, KeyActions.Consents, Passphrases.{UncachedOld, OpensLocked, old_by, verified_by, new_by}}
 use Rattle.key_commands.specs.declared.{request.KeyRequest.KeyRequest, went.KeyWent.KeyWent, keywrap_key.WrapKeys.WrapKeys}
 use Rattle.key_commands.proofs.EachEvent.{IsStill, All, each_append, each_shown, each_answer, EachSo, each_bind, each_returned, each_refused, each_needed, each_otherwise, each_wanted, each_looks, each_seats, each_changes, looks_nonce}
 use Rattle.key_commands.proofs.EachEvent.{looks_over, takes_seat, each_closes, finds, draws, reads_file, lists, told, is_short, names_key, wraps_key, receives_key, is_free, has_one, locks, tries_found, removes, tells_info, writes_infos}
-use Rattle.key_commands.proofs.EachEvent.{client_old, rewrites_file, stores_key, client_new}
+use Rattle.key_commands.proofs.EachEvent.{joins_grips, client_old, rewrites_file, stores_key, client_new}
 use Rattle.agent_ask.specs.ConsentActions as consent
 use Rattle.agent_ask.specs.Session.ActionExchanges as exchange
 use Rattle.session_client.specs.declared.code.Code.TheVariants as code
@@ -55,8 +54,10 @@ IsPlain _ = ⊤
 
 pub plain_replies : (Is : Event → Type 0) → ((event : Event) → IsStill event → Is event) → ((grip : Grip) (turn : Turn) → Is (cache_turn (Peek (grip_text grip) Normal) turn))
     → (rules : Rules) (options : OptionValues) (wraps : WrapKeys) (asked : KeyRequest) → IsPlain asked → EachSo Is (KeyReplies rules options wraps asked)
-unfolding HaveKeyReplies KeyInfoReplies ListKeysReplies KeyWrapReplies
+unfolding HaveKeyReplies ListGripsReplies KeyInfoReplies ListKeysReplies KeyWrapReplies
 plain_replies Is still peeked rules options wraps (on.HaveKey grips) plain = each_bind Is (has_one Is still grips) (λ one. each_returned Is _)
+plain_replies Is still peeked rules options wraps on.ListGrips plain =
+    each_bind Is (lists Is still) (λ grips. each_bind Is (joins_grips Is still grips) (λ bytes. each_bind Is (told Is still bytes) (λ text. each_returned Is _)))
 plain_replies Is still peeked rules options wraps (on.KeyInfo grip) plain = each_bind Is (reads_file Is still grip) (λ file. each_bind Is (tells_info Is still peeked grip file.key) (λ line. each_returned Is _))
 plain_replies Is still peeked rules options wraps on.ListKeys plain = each_bind Is (lists Is still) (λ grips. each_bind Is (writes_infos Is still peeked grips) (λ written. each_returned Is _))
 plain_replies Is still peeked rules options wraps (on.KeyWrap way) plain =

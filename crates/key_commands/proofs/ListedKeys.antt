@@ -1,9 +1,9 @@
 -- Keys that are listed.
-use Rattle.std.proofs.{Common.{◌≡◌, ◌⊎◌, ◌≤◌, ◌<◌, ◌+◌, ℕ, true, false, List, [], ◌∷◌, length, drop, get_or, map, Option, Some, Result, Ok, Err, inl, inr, refl, ap, sym, ◌∙◌, subst, add-one}, Math.Seq.drop-cons, lemmas.List.drop_all}
+use Rattle.std.proofs.{Common.{◌≡◌, ◌⊎◌, ◌≤◌, ◌<◌, ◌+◌, ℕ, true, false, List, [], ◌∷◌, ◌++◌, length, take, drop, get_or, append-nil, map, Option, Some, Result, Ok, Err, inl, inr, refl, ap, sym, ◌∙◌, subst, add-one}, Math.Seq.drop-cons, lemmas.{List.{drop_all, take_more}, Grind.flat_map-append}}
 use Rattle.{agent_ask.{specs.{Events.Call, Session.{PortCalls.{Read, DoesKeys}, Actions.{returns, refuses}}}, proofs.ActionsDone.{action_then, action_stops}}, agent_ports.specs.{KeyFiles.KeyFiles, declared.{grip.Grip.Grip, keys.KeyRead.KeyRead}}}
 use Rattle.{session_client.specs.declared.{code.Code.TheVariants.NoSecKey, refusal.Refusal.{Refusal, TheVariants.Agent}}, cache_policy.specs.{declared.mark.MarkStep.MarkStep, Turns.Turn}, sexp_keys.specs.declared.fault.KeyFault.KeyFault}
 use Rattle.sexp_keys.specs.declared.fault.KeyFault.TheVariants.{InvSexp, BadSecKey, Shadowed, NotSupported, NoMemory}
-use Rattle.key_commands.specs.{Files.FileSays, KeyActions.{file_in, ReadsListed, faulty, no_memory, HasOne, TellsListed, WritesInfos}, Actions.Finds, Partial.DoesKeyAction, States.KeyState, Steps.{DoesKeyCalls, unlisted}}
+use Rattle.key_commands.specs.{Files.FileSays, KeyActions.{grips_bytes, file_in, ReadsListed, faulty, no_memory, HasOne, TellsListed, WritesInfos}, Actions.Finds, Partial.DoesKeyAction, States.KeyState, Steps.{DoesKeyCalls, unlisted}}
 use Rattle.key_commands.proofs.Doing.{one_call, one_call_of_memory, calls_then, calls_stop, no_calls}
 
 -- a listed key's file was read, and has this fault
@@ -47,6 +47,12 @@ module _ (items : List (List ℕ)) (i : ℕ) (within : i < length items) where
 pub seeks_none : (items : List (List ℕ)) (i : ℕ) → length items ≤ i → (keys : KeyFiles) → DoesKeyCalls (HasOne (grips_of (drop i items))) keys (Err (Agent NoSecKey)) keys
 seeks_none items i past keys =
     subst (λ (left : List (List ℕ)). DoesKeyCalls (HasOne (grips_of left)) keys (Err (Agent NoSecKey)) keys) (sym (drop_all i items past)) (no_calls keys (λ held. refuses) refl)
+
+-- the bytes of the grips so far, and of the next one
+pub joins_on : (grips : List Grip) (i : ℕ) (grip : Grip) → i < length grips → grips_bytes (take (i + 1) grips) ≡ grips_bytes (take i grips) ++ (get_or grips i grip).0
+joins_on grips i grip within =
+    let next = get_or grips i grip in
+    ap grips_bytes (take_more grips i grip within) ∙ flat_map-append (λ (g : Grip). g.0) (take i grips) (next ∷ []) ∙ ap (λ (x : List ℕ). grips_bytes (take i grips) ++ x) (append-nil next.0)
 
 -- the keys from some place on are the one there and the later ones
 next_key : (grips : List Grip) (i : ℕ) (grip : Grip) → i < length grips → drop i grips ≡ get_or grips i grip ∷ drop (i + 1) grips

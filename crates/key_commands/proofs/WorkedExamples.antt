@@ -1,7 +1,7 @@
 -- The definition of requests on worked examples, each by computation.
 use Rattle.std.{specs.Prelude.{◌≡◌, ℕ, List, [], ◌∷◌, ◌++◌, replicate, codes, true, false, Some, None, refl}, proofs.Common.{◌≤◌, length, arith}}
 use Rattle.{hex.proofs.OnLiterals.hex_on_literals, agent_ports.specs.declared.grip.Grip.Grip, session_client.specs.declared.code.Code.TheVariants.{NotSupported, UnknownCommand, Parameter}, command_table.specs.Commands.command_named}
-use Rattle.key_commands.specs.{Requests.key_request_of, declared.request.{Direction.TheVariants.{Import, Export}, KeyRequest.TheVariants.{HaveKey, KeyInfo, ListKeys, KeyWrap, ImportKey, ExportKey, Passwd, DeleteKey, Bad}}}
+use Rattle.key_commands.specs.{Requests.key_request_of, declared.request.{Direction.TheVariants.{Import, Export}, KeyRequest.TheVariants.{HaveKey, ListGrips, KeyInfo, ListKeys, KeyWrap, ImportKey, ExportKey, Passwd, DeleteKey, Bad}}}
 use Rattle.key_commands.specs.declared.wrapping.TheConstants.{MAX_LIST_LEN}
 
 -- a key, and its name with digits of both cases
@@ -23,9 +23,40 @@ have_two : key_request_of (codes "HAVEKEY --frob -- " ++ its_name ++ 9 ∷ its_n
 unfolding key_request_of command_named hex_on_literals
 have_two = refl
 
-have_none : key_request_of (codes "HAVEKEY --list") ≡ Bad Parameter
+have_none : key_request_of (codes "HAVEKEY") ≡ Bad Parameter
 unfolding key_request_of command_named
 have_none = refl
+
+have_all : key_request_of (codes "HAVEKEY --list") ≡ ListGrips
+unfolding key_request_of command_named
+have_all = refl
+
+-- as gpg of GnuPG 2.4 asks for it; further words are passed over
+have_thousand : key_request_of (codes "HAVEKEY --list=1000 00") ≡ ListGrips
+unfolding key_request_of command_named
+have_thousand = refl
+
+have_none_of_all : key_request_of (codes "HAVEKEY --list=0") ≡ Bad Parameter
+unfolding key_request_of command_named
+have_none_of_all = refl
+
+-- zeros in front count as digits
+ten_digits : key_request_of (codes "HAVEKEY --list=0000000001") ≡ ListGrips
+unfolding key_request_of command_named
+ten_digits = refl
+
+eleven_digits : key_request_of (codes "HAVEKEY --list=00000000001") ≡ Bad Parameter
+unfolding key_request_of command_named
+eleven_digits = refl
+
+no_digits : key_request_of (codes "HAVEKEY --list --list=") ≡ Bad Parameter
+unfolding key_request_of command_named
+no_digits = refl
+
+-- `--list` stands behind the end of the options
+have_all_mark : key_request_of (codes "HAVEKEY -- --list") ≡ Bad Parameter
+unfolding key_request_of command_named hex_on_literals
+have_all_mark = refl
 
 info : key_request_of (codes "KEYINFO " ++ its_name ++ codes " more") ≡ KeyInfo the_key
 unfolding key_request_of command_named hex_on_literals

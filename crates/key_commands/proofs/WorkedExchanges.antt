@@ -1,17 +1,17 @@
 -- A row of each request on keys that prompts nobody: what is done and written for it.
-use Rattle.std.{specs.Prelude.{◌≡◌, ◌≤◌, ◌==◌, not, ℕ, true, false, List, [], ◌∷◌, ◌++◌, length, take, drop, replicate, codes, Some, None, Ok, refl}, proofs.Common.{sym, subst}}
+use Rattle.std.{specs.Prelude.{◌≡◌, ◌≤◌, ◌==◌, not, ℕ, true, false, List, [], ◌∷◌, ◌++◌, length, take, drop, replicate, codes, Some, None, Ok, refl}, proofs.{Common.{sym, subst}, lemmas.List.Elements.All-nil}}
 use Rattle.agent_ask.specs.Session.{ClientActions.{written, given as sent}, PortCalls.{Listed, Replaced, Removed}, SessionEvents.{Sent, Inquiry, cache_turn}, ActionExchanges.{answered, refused}, Actions.{goes_on, stops, returns, refuses, wanted}}
-use Rattle.{agent_ask.specs.Session.TurnActions.{given, empty, peeked, unheld, done}, agent_ports.specs.declared.{grip.Grip.Grip, keys.{KeyDone.TheVariants.Done as IsDone, KeyRead.{KeyRead, TheVariants.{Found, Absent}}, KeyNames.KeyNames}}}
+use Rattle.{agent_ask.specs.Session.TurnActions.{given, empty, peeked, unheld, done}, agent_ports.specs.declared.{grip.Grip.Grip, keys.{KeyDone.TheVariants.Done as IsDone, KeyRead.{KeyRead, TheVariants.{Found, Absent}}, KeyNames.{KeyNames, TheVariants.Failed}}}}
 use Rattle.{assuan_server.specs.{Inquiries.Data, Written.{failed, ok, limit_line, IsDataAnswer}}, session_client.specs.declared.{code.Code.TheVariants.{NoSecKey, Parameter, General, FileExists, BadPass}, refusal.Refusal.TheVariants.Agent}}
-use Rattle.{session_client.specs.Asking.Asked, cache_policy.specs.declared.{grant.Grant.Grant, mark.{MarkStep.TheVariants.{Peek, Put, Clear}, Way.TheVariants.Quiet}, mode.Mode.TheVariants.{Normal, Nonce}, life.Life.TheVariants.Default}}
+use Rattle.{assuan_escape.specs.DataLines.IsPiece, session_client.specs.Asking.Asked, cache_policy.specs.declared.{grant.Grant.Grant, mark.{MarkStep.TheVariants.{Peek, Put, Clear}, Way.TheVariants.Quiet}, mode.Mode.TheVariants.{Normal, Nonce}, life.Life.TheVariants.Default}}
 use Rattle.{cache_policy.specs.{declared.secret.TheConstants.MAX_SECRET_LEN, Turns.{Given, Empty, Held, Done, FitsStep}}, assuan_escape.specs.Escapes.hex_text, secret_file.specs.Opens.{LockedKey, IsLocked, OpensTo}}
 use Rattle.{secret_file.specs.Protects.{ocb_protection, protected_file}, session_options.specs.{OptionValues.OptionValues, declared.rules.Rules.Rules}, key_lines.specs.Canon.is_canonical, sexp_canonical.specs.Tree.Tree}
 use Rattle.sexp_keys.specs.{Key.Key, Lists.{key_list_of, grip_of}, declared.algorithm.Algorithm.Algorithm}
 use Rattle.key_commands.specs.{Wrapping.{wrapped_key, WrappedSays}, Events.{Event, called, read, drew, not_drawn}}
-use Rattle.key_commands.specs.Exchanges.{KeyExchange, key_reply, with_wrap_key, HaveKeyReplies, KeyInfoReplies, ListKeysReplies, KeyWrapReplies, ImportKeyReplies, ExportKeyReplies, PasswdReplies, RewritesFile, DeleteKeyReplies}
-use Rattle.key_commands.specs.{Files.{FileSays, canonical_file}, KeyActions.{is_key, file_in, grips_in, tells, short, made, done as replaced, listed, named, asked, is_wrapped, ReadsListed, LooksOver, Unwraps, Removes}}
+use Rattle.key_commands.specs.Exchanges.{KeyExchange, key_reply, with_wrap_key, HaveKeyReplies, ListGripsReplies, KeyInfoReplies, ListKeysReplies, KeyWrapReplies, ImportKeyReplies, ExportKeyReplies, PasswdReplies, RewritesFile, DeleteKeyReplies}
+use Rattle.key_commands.specs.{Files.{FileSays, canonical_file}, KeyActions.{is_key, file_in, grips_in, tells, short, made, done as replaced, listed, named, asked, is_wrapped, joined, ListsGrips, ReadsListed, LooksOver, Unwraps, Removes}}
 use Rattle.key_commands.specs.{Lines.{info_line, grip_text, nonce_line, max_key_data}, Actions.{found, absent, drawn, faulted}, Passphrases.{ask_nonce, ask_key, put_key, is_locked, opens, OpensLocked, ClientOld, ClientNew}}
-use Rattle.key_commands.specs.declared.{request.{Direction.TheVariants.Import, KeyRequest.TheVariants.{HaveKey, KeyInfo, ListKeys, KeyWrap, ImportKey, ExportKey, Passwd, DeleteKey}}, wrapping.TheConstants.MAX_LIST_LEN}
+use Rattle.key_commands.specs.declared.{request.{Direction.TheVariants.Import, KeyRequest.TheVariants.{HaveKey, ListGrips, KeyInfo, ListKeys, KeyWrap, ImportKey, ExportKey, Passwd, DeleteKey}}, wrapping.TheConstants.MAX_LIST_LEN}
 use Rattle.key_commands.specs.declared.{went.KeyWent.TheVariants.On, keywrap_key.WrapKeys.WrapKeys}
 use Rattle.session_options.specs.declared.options.PinMode.TheVariants as mode
 
@@ -49,6 +49,24 @@ module _ (rules : Rules) (options : OptionValues) (wraps : WrapKeys) (grip : Gri
   none_is_there : KeyExchange rules options wraps (HaveKey (grip ∷ [])) (read grip Absent ∷ Sent (failed NoSecKey) ∷ []) wraps On
   unfolding HaveKeyReplies
   none_is_there = refused (read grip Absent ∷ []) None (Agent NoSecKey) (stops (goes_on absent refuses)) unheld
+
+  -- the grips of two keys
+  two_grips : (other : Grip) (names : KeyNames) (text : List ℕ) → grips_in names ≡ Some (other ∷ grip ∷ []) → IsDataAnswer (other.0 ++ (grip.0 ++ [])) text
+      → KeyExchange rules options wraps ListGrips (called (Listed names) ∷ Sent text ∷ []) wraps On
+  unfolding ListGripsReplies
+  two_grips other names text are data_is = answered (called (Listed names) ∷ []) None (key_reply wraps text) (goes_on (listed are) (goes_on joined (goes_on (tells data_is) returns))) unheld
+
+  -- of none
+  no_grips : (names : KeyNames) → grips_in names ≡ Some [] → KeyExchange rules options wraps ListGrips (called (Listed names) ∷ Sent ok ∷ []) wraps On
+  unfolding ListGripsReplies
+  no_grips names are =
+      let nothing : IsDataAnswer [] ok = record { pieces = []; are_data = record { joined = refl; each = All-nil IsPiece; full = tt }; text_is = refl } in
+      answered (called (Listed names) ∷ []) None (key_reply wraps ok) (goes_on (listed are) (goes_on joined (goes_on (tells nothing) returns))) unheld
+
+  -- the folder couldn't be read
+  unlisted_grips : KeyExchange rules options wraps ListGrips (called (Listed Failed) ∷ Sent (failed General) ∷ []) wraps On
+  unfolding ListGripsReplies
+  unlisted_grips = refused (called (Listed Failed) ∷ []) None (Agent General) (stops ListsGrips.faulted) unheld
 
   -- the keys that there are, of which one went meanwhile
   listed_keys : (other : Grip) {algorithm : Algorithm} {public private further : List Tree} {file : List ℕ} (names : KeyNames) (answer : KeyRead) → grips_in names ≡ Some (other ∷ grip ∷ [])

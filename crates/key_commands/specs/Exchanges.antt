@@ -5,9 +5,9 @@ use Rattle.{agent_ask.specs.Session.{ActionExchanges.{AnyReply, AnyExchange}, Ac
 use Rattle.{cache_policy.specs.declared.{life.Life.TheVariants.Default, mark.MarkStep.TheVariants.{Put, Clear}, mode.Mode.TheVariants.{Normal, Nonce}}, assuan_escape.specs.Escapes.hex_text, assuan_server.specs.Written.{refusal_line, ok}}
 use Rattle.{session_options.specs.{OptionValues.OptionValues, declared.rules.Rules.Rules}, sexp_keys.specs.Key.Key, session_client.specs.declared.refusal.Refusal.TheVariants.Agent}
 use Rattle.key_commands.specs.{Events.Event, Files.Rewrites, Lines.{grip_text, nonce_line}, Actions.{Action, Finds, Draws, key_went_after}, Passphrases.{OldPassphrase, NewPassphrase, VerifiesPassphrase, LooksForNonce}}
-use Rattle.key_commands.specs.declared.request.{Direction.{Direction, TheVariants.{Import, Export}}, KeyRequest.{KeyRequest, TheVariants.{HaveKey, KeyInfo, ListKeys, KeyWrap, ImportKey, ExportKey, Passwd, DeleteKey, Bad}}}
+use Rattle.key_commands.specs.declared.request.{Direction.{Direction, TheVariants.{Import, Export}}, KeyRequest.{KeyRequest, TheVariants.{HaveKey, ListGrips, KeyInfo, ListKeys, KeyWrap, ImportKey, ExportKey, Passwd, DeleteKey, Bad}}}
 use Rattle.key_commands.specs.declared.{went.KeyWent.{KeyWent, TheVariants.On}, keywrap_key.WrapKeys.WrapKeys}
-use Rattle.key_commands.specs.KeyActions.{Tells, ReadsFile, Replaces, Removes, Protects, IsShort, KeepsNew, HasOne, TellsKeyInfo, ListsGrips, WritesInfos, ReceivesKey, NamesKey, IsFree, LooksOver, WrapsKey, Consents}
+use Rattle.key_commands.specs.KeyActions.{Tells, ReadsFile, Replaces, Removes, Protects, IsShort, KeepsNew, HasOne, ListsGrips, JoinsGrips, TellsKeyInfo, WritesInfos, ReceivesKey, NamesKey, IsFree, LooksOver, WrapsKey, Consents}
 use Rattle.session_client.specs.declared.code.Code.TheVariants as code
 
 -- what a request is answered where it isn't refused, the wrapping keys after it, and how the session goes on
@@ -79,6 +79,14 @@ module _ (rules : Rules) (options : OptionValues) where
       one ← HasOne grips
       Returns (key_reply wraps ok)
 
+    -- HAVEKEY --list
+    unfoldable pub ListGripsReplies : Action KeyReply
+    ListGripsReplies = do
+      grips ← ListsGrips
+      bytes ← JoinsGrips grips
+      text ← Tells bytes
+      Returns (key_reply wraps text)
+
     unfoldable pub KeyInfoReplies : Grip → Action KeyReply
     KeyInfoReplies grip = do
       file ← ReadsFile grip
@@ -145,6 +153,7 @@ module _ (rules : Rules) (options : OptionValues) where
     -- what is done for a request, up to its reply
     abbrev pub KeyReplies : KeyRequest → Action KeyReply
     KeyReplies (HaveKey grips) = HaveKeyReplies grips
+    KeyReplies ListGrips = ListGripsReplies
     KeyReplies (KeyInfo grip) = KeyInfoReplies grip
     KeyReplies ListKeys = ListKeysReplies
     KeyReplies (KeyWrap way) = KeyWrapReplies way

@@ -1,6 +1,6 @@
 -- The actions of requests on keys that are no passphrase's: what is done with key files and with wrapped keys, and how consent is asked for (GnuPG
 -- manual, "Agent's Assuan protocol"). The codes, the texts and the order of what is done are this project's own.
-use Rattle.std.specs.Prelude.{◌≡◌, ◌≢◌, ◌≤◌, ◌<◌, length, ℕ, Bool, true, false, List, [], ◌∷◌, codes, not, Option, Some, None, Result, Ok, Err}
+use Rattle.std.specs.{Prelude.{◌≡◌, ◌≢◌, ◌≤◌, ◌<◌, length, ℕ, Bool, true, false, List, [], ◌∷◌, codes, not, Option, Some, None, Result, Ok, Err}, List.flat_map}
 use Rattle.agent_ask.specs.{Session.{ClientActions.{Writes, Inquires}, PortCalls.{Listed, Replaced, Removed}, SessionEvents.{Inquiry, cache_turn}, Actions.{◌>>=◌, Returns, Refuses, wanted, unless}}, ConsentActions.AgreesTo}
 use Rattle.{agent_ask.specs.Session.TurnActions.{Changes, Peeks, Closes, in_mode}, agent_ports.specs.declared.{grip.Grip.Grip, keys.{KeyDone.KeyDone, KeyRead.KeyRead, KeyNames.KeyNames}}, assuan_server.specs.Clients.session_lines}
 use Rattle.{assuan_server.specs.{Inquiries.{Outcome, IsAtEnd}, Written.{IsDataAnswer, limit_line}}, session_client.specs.{declared.{code.Code.Code, refusal.Refusal.{Refusal, TheVariants.Agent}}, Asking.Asked}}
@@ -76,6 +76,20 @@ HasOne (grip ∷ more) = do
   there ← Finds grip
   unless there (HasOne more)
 
+-- the keys that there are
+pub data ListsGrips (held : Option ℕ) : List Event → Result (List Grip) Refusal → Option ℕ → Type 0 where
+  listed : {answer : KeyNames} {grips : List Grip} → grips_in answer ≡ Some grips → ListsGrips held (called (Listed answer) ∷ []) (Ok grips) held
+  faulted : ListsGrips held (called (Listed key_names.Failed) ∷ []) (Err (Agent code.General)) held
+  no_memory : ListsGrips held (called (Listed key_names.NoMemory) ∷ []) (Err (Agent code.NoMemory)) held
+
+-- the bytes of these grips, one behind the other
+abbrev pub grips_bytes : List Grip → List ℕ
+grips_bytes grips = flat_map (λ grip. grip.0) grips
+
+pub data JoinsGrips (grips : List Grip) (held : Option ℕ) : List Event → Result (List ℕ) Refusal → Option ℕ → Type 0 where
+  joined : JoinsGrips grips held [] (Ok (grips_bytes grips)) held
+  no_memory : JoinsGrips grips held (out_of_memory ∷ []) (Err (Agent code.NoMemory)) held
+
 -- ---- KEYINFO
 
 -- a key's line
@@ -83,12 +97,6 @@ abbrev pub TellsKeyInfo : Grip → Key → Action (List ℕ)
 TellsKeyInfo grip key = do
   cached ← Peeks (grip_text grip) Normal
   Returns (info_line grip cached key.is_clear)
-
--- the keys that there are
-pub data ListsGrips (held : Option ℕ) : List Event → Result (List Grip) Refusal → Option ℕ → Type 0 where
-  listed : {answer : KeyNames} {grips : List Grip} → grips_in answer ≡ Some grips → ListsGrips held (called (Listed answer) ∷ []) (Ok grips) held
-  faulted : ListsGrips held (called (Listed key_names.Failed) ∷ []) (Err (Agent code.General)) held
-  no_memory : ListsGrips held (called (Listed key_names.NoMemory) ∷ []) (Err (Agent code.NoMemory)) held
 
 -- A listed key's file is read. One that isn't there any more, or that is no key, is passed over.
 pub data ReadsListed (grip : Grip) (held : Option ℕ) : List Event → Result (Option Key) Refusal → Option ℕ → Type 0 where

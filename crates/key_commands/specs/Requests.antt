@@ -2,10 +2,10 @@
 -- refusal has, and which words are passed over, is this project's own.
 use Rattle.std.specs.Prelude.{ℕ, ◌==◌, nat_le, nat_lt, ◌&&◌, Bool, true, false, List, [], ◌∷◌, length, codes, Option, Some, None, Result, Ok, Err, if◌then◌else◌}
 use Rattle.{agent_ports.specs.declared.grip.Grip.Grip, session_client.specs.{Fields.{◌>>=◌, in_form}, declared.code.Code.{Code, TheVariants.{NotSupported, UnknownCommand, Parameter}}}}
-use Rattle.{assuan_text.specs.{Options.{options_of, arguments_of, has_option, last_value}, Words.{rest_of, words}}, cache_policy.specs.declared.id.TheConstants.MAX_ID_LEN, command_table.specs.Commands.command_in}
+use Rattle.{assuan_text.specs.{Numbers.number_of, Options.{options_of, arguments_of, has_option, last_value}, Words.{rest_of, words}}, cache_policy.specs.declared.id.TheConstants.MAX_ID_LEN, command_table.specs.Commands.command_in}
 use Rattle.{command_table.specs.declared.commands.{Command.Command, KeyCommandName.KeyCommandName}, hex.specs.{Hex.decode_of, declared.error.FromHexError.FromHexError}}
 use Rattle.key_commands.specs.declared.{grips.TheConstants.MAX_GRIPS, request.{Direction.{Direction, TheVariants.{Import, Export}}, KeyRequest.KeyRequest}}
-use Rattle.key_commands.specs.declared.request.KeyRequest.TheVariants.{HaveKey, KeyInfo, ListKeys, KeyWrap, ImportKey, ExportKey, Passwd, DeleteKey, Bad}
+use Rattle.key_commands.specs.declared.request.KeyRequest.TheVariants.{HaveKey, ListGrips, KeyInfo, ListKeys, KeyWrap, ImportKey, ExportKey, Passwd, DeleteKey, Bad}
 use Rattle.command_table.specs.declared.commands.Command.TheVariants as on
 use Rattle.command_table.specs.declared.commands.KeyCommandName.TheVariants as name
 
@@ -45,10 +45,28 @@ first_word [] = None
 first_word (word ∷ more) = Some word
 
 -- HAVEKEY GRIP..
-abbrev pub have_of : List (List ℕ) → Result KeyRequest Code
-have_of arguments = do
+abbrev pub have_some : List (List ℕ) → Result KeyRequest Code
+have_some arguments = do
   grips ← some_grips arguments
   Ok (HaveKey grips)
+
+-- HAVEKEY --list=N, where N is a number from 1 on, of 1 to 10 digits. It limits nothing: a list that was cut would be taken for whole.
+abbrev pub all_from_one : Option ℕ → Result KeyRequest Code
+all_from_one None = Err Parameter
+all_from_one (Some limit) = if nat_le 1 limit then Ok ListGrips else Err Parameter
+
+abbrev pub limited_to : List ℕ → Result KeyRequest Code
+limited_to limit = all_from_one (number_of limit)
+
+-- by whether `--list` is given without a value, what its last value is, and the words behind the options
+abbrev pub have_by : Bool → Option (List ℕ) → List (List ℕ) → Result KeyRequest Code
+have_by lists (Some limit) arguments = limited_to limit
+have_by true None arguments = Ok ListGrips
+have_by false None arguments = have_some arguments
+
+-- HAVEKEY GRIP.., or HAVEKEY --list[=N], which words behind the options don't change
+abbrev pub have_of : List (List ℕ) → List (List ℕ) → Result KeyRequest Code
+have_of options arguments = have_by (has_option (codes "--list") options) (last_value (codes "--list") options) arguments
 
 -- KEYINFO GRIP, or KEYINFO --list
 abbrev pub key_info_of : List (List ℕ) → List (List ℕ) → Result KeyRequest Code
@@ -97,7 +115,7 @@ delete_of options arguments = do
 
 -- a command, and what comes after it
 abbrev pub key_asked_by : KeyCommandName → List ℕ → Result KeyRequest Code
-key_asked_by name.HaveKey rest = have_of (arguments_of (words rest))
+key_asked_by name.HaveKey rest = have_of (options_of (words rest)) (arguments_of (words rest))
 key_asked_by name.KeyInfo rest = key_info_of (options_of (words rest)) (arguments_of (words rest))
 key_asked_by name.KeyWrap rest = wrap_of (options_of (words rest))
 key_asked_by name.ImportKey rest = import_of (options_of (words rest)) (arguments_of (words rest))

@@ -9,14 +9,16 @@ ghost use Rattle.session_client.specs.Fields.{in_form};
 ghost use Rattle.key_commands.specs.Requests.{grip, first_grip, some_grips, nonce, have_of};
 ghost use Rattle.key_commands.specs.Requests.{key_info_of, wrap_of, import_of, export_of};
 ghost use Rattle.key_commands.specs.Requests.{passwd_of, delete_of, key_asked_by, key_request_by};
-ghost use Rattle.key_commands.specs.Requests.{key_request_of};
+ghost use Rattle.key_commands.specs.Requests.{key_request_of, limited_to};
 
 use crate::Grips;
 use agent_ports::Grip;
 use assuan_server::Code;
-use assuan_text::{arguments, command_and_rest, has_option, last_value, next_word};
+use assuan_text::{arguments, command_and_rest, has_option, last_value, next_word, number_of};
 use cache_policy::CacheId;
 use command_table::{Command, CutLine, KeyCommandName, command_named};
+
+const LIST: &[u8] = b"--list";
 
 const CACHE_NONCE: &[u8] = b"--cache-nonce";
 
@@ -29,6 +31,8 @@ pub enum KeyRequest {
     HaveKey {
         grips: Grips,
     },
+    /// Which keys there are.
+    ListGrips,
     /// What is known of a key.
     KeyInfo {
         grip: Grip,
@@ -154,10 +158,27 @@ fn read_nonce(id: Option<&[u8]>) -> Result<Option<CacheId>, Code>
 
 /// What comes after HAVEKEY.
 fn read_have(text: &[u8]) -> Result<KeyRequest, Code>
-    ensures { result ≡ have_of (arguments_of (words text.now)) }
+    ensures { result ≡ have_of (options_of (words text.now)) (arguments_of (words text.now)) }
 {
+    if let Some(limit) = last_value(text, LIST) {
+        return read_limit(limit);
+    }
+    if has_option(text, LIST) {
+        return Ok(KeyRequest::ListGrips);
+    }
     let grips = read_grips(arguments(text))?;
     Ok(KeyRequest::HaveKey { grips })
+}
+
+/// What HAVEKEY is asked for by `--list` with this value, which limits nothing: a list that was cut
+/// would be taken for whole.
+fn read_limit(limit: &[u8]) -> Result<KeyRequest, Code>
+    ensures { result ≡ limited_to limit.now }
+{
+    match number_of(limit) {
+        Some(1..) => Ok(KeyRequest::ListGrips),
+        _ => Err(Code::Parameter),
+    }
 }
 
 /// The keys that all words name.
@@ -183,7 +204,7 @@ fn read_grips(text: &[u8]) -> Result<Grips, Code>
 fn read_info(text: &[u8]) -> Result<KeyRequest, Code>
     ensures { result ≡ key_info_of (options_of (words text.now)) (arguments_of (words text.now)) }
 {
-    if has_option(text, b"--list") {
+    if has_option(text, LIST) {
         return Ok(KeyRequest::ListKeys);
     }
     let grip = first_grip(text)?;

@@ -12,7 +12,7 @@ ghost use Rattle.key_commands.specs.States.{AnswersKey, key_state};
 use crate::asking::Asking;
 use crate::delete_key::delete_key;
 use crate::export_key::export_key;
-use crate::have_key::has_one;
+use crate::have_key::{has_one, list_all};
 use crate::import_key::import_key;
 use crate::key_info::{key_info, list_keys};
 use crate::keywrap_key::{WrapKeys, wrapping_key};
@@ -96,6 +96,7 @@ fn carry_out<L: Link, D: Desk, P: Prompter, K: Keys, R: Dice>(
             has_one(alloc, grips, keys)?;
             Ok(Reply::Ok)
         }
+        KeyRequest::ListGrips => list_all(alloc, keys),
         KeyRequest::KeyInfo { grip } => key_info(alloc, grip, held, desk, keys),
         KeyRequest::ListKeys => list_keys(alloc, held, conn, desk, keys),
         KeyRequest::KeyWrap(way) => wrapping_key(*way, wraps, dice),

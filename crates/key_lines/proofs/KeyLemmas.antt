@@ -1,7 +1,7 @@
 -- Where the Key item stands among the lines, and its value.
-use Rattle.std.{proofs.{Common.{◌≡◌, suc, ◌+◌, ◌-◌, ℕ, Bool, true, false, cond, List, [], ◌∷◌, ◌++◌, length, map, take, drop, refl, ap, sym, ◌∙◌, arith, append_assoc, append-nil}, lemmas.List.length-append}, specs.Prelude.{not, ◌||◌}}
-use Rattle.std.specs.List.{flat_map, join_with_byte, list_any, position_or_len, prefix_len, take_while}
-use Rattle.key_lines.specs.{Lines.line_text, KeyItem.is_more}
+use Rattle.std.{proofs.{Common.{◌≡◌, suc, ◌+◌, ◌-◌, ℕ, Bool, true, false, cond, List, [], ◌∷◌, ◌++◌, length, map, take, drop, refl, ap, ◌∙◌, arith, append_assoc}, lemmas.List.length-append}, specs.Prelude.{not, ◌||◌}}
+use Rattle.std.specs.List.{concat, flat_map, list_any, position_or_len, prefix_len, take_while}
+use Rattle.key_lines.specs.{Lines.line_text, KeyItem.{is_more, piece_of}}
 
 step : (test : List ℕ → Bool) (x y : List ℕ) (xs ys : List (List ℕ)) → list_any test (x ∷ xs) ≡ false → (test x ≡ false) × (list_any test xs ≡ false)
 step test x y xs ys none = elim (test x) as (λ b. (b || list_any test xs) ≡ false → (b ≡ false) × (list_any test xs ≡ false)) [
@@ -29,11 +29,11 @@ drop_front (x ∷ xs) ys = drop_front xs ys
 
 -- what lines that go on add to a value
 abbrev pub joined : List (List ℕ) → List ℕ
-joined lines = flat_map (λ line. 32 ∷ line_text line) lines
+joined lines = flat_map (λ line. piece_of (line_text line)) lines
 
-pub join_is : (value : List ℕ) (lines : List (List ℕ)) → join_with_byte 32 (value ∷ map line_text lines) ≡ value ++ joined lines
-join_is value [] = sym (append-nil value)
-join_is value (line ∷ lines) = ap (λ (rest : List ℕ). value ++ 32 ∷ rest) (join_is (line_text line) lines)
+pub join_is : (lines : List (List ℕ)) → concat (map piece_of (map line_text lines)) ≡ joined lines
+join_is [] = refl
+join_is (line ∷ lines) = ap (λ (rest : List ℕ). piece_of (line_text line) ++ rest) (join_is lines)
 
 -- a line that goes on is the first of those that do
 pub more_step : (line : List ℕ) (lines : List (List ℕ)) → is_more line ≡ true → take_while is_more (line ∷ lines) ≡ line ∷ take_while is_more lines
@@ -60,8 +60,7 @@ take_bytes file front rest e =
     ap (λ n. take n file) long ∙ ap (λ (t : List ℕ). take (length front) t) e ∙ front_of front rest
 
 -- one line more of a value
-pub add_line : (value text line : List ℕ) (lines : List (List ℕ)) → text ≡ line_text line → ((value ++ 32 ∷ []) ++ text) ++ joined lines ≡ value ++ joined (line ∷ lines)
-add_line value text line lines is =
-    ap (λ (t : List ℕ). ((value ++ 32 ∷ []) ++ t) ++ joined lines) is
-    ∙ append_assoc (value ++ 32 ∷ []) (line_text line) (joined lines)
-    ∙ append_assoc value (32 ∷ []) (line_text line ++ joined lines)
+pub add_line : (value piece line : List ℕ) (lines : List (List ℕ)) → piece ≡ piece_of (line_text line) → (value ++ piece) ++ joined lines ≡ value ++ joined (line ∷ lines)
+add_line value piece line lines is =
+    ap (λ (t : List ℕ). (value ++ t) ++ joined lines) is
+    ∙ append_assoc value (piece_of (line_text line)) (joined lines)

@@ -1,9 +1,9 @@
--- The text of the Key item that is written: it is one line, of the item Key.
-use Rattle.std.proofs.{Common.{◌≡◌, ◌+◌, ◌-◌, ◌/◌, ◌%◌, ◌<◌, ◌≤◌, ℕ, Bool, true, false, get_or, List, [], ◌∷◌, ◌++◌, length, take, refl, ap, sym, ◌∙◌, arith}, lemmas.{Bool.{eqb-true, cond_both}, List.length-append}}
-use Rattle.std.{proofs.{lemmas.List.Folds.{list_all-append, list_all_at}, Math.Seq.{take-append_seam, get_or-append_seam}}, specs.{Prelude.{not, ◌||◌, ◌&&◌, ◌==◌, nat_lt, codes, if◌then◌else◌}, Char.is_ascii_digit, List.list_all}}
-use Rattle.{assuan_text.specs.LineEnds.{is_lf, without_cr}, sexp_canonical.specs.{Tree.{Tree, Row, leaf, branch, end, item}, View.tree_of, declared.tree.Sexp.Sexp}, sexp_advanced.specs.Bytes.{is_token_start, is_token_byte, is_token_mark}}
+-- The text of the Key item that is written: it is one line, of the item Key, and its value is one piece.
+use Rattle.std.proofs.{Common.{◌≡◌, ◌+◌, ◌-◌, ◌/◌, ◌%◌, ◌<◌, ◌≤◌, ℕ, Bool, true, false, get_or, List, [], ◌∷◌, ◌++◌, length, take, refl, ap, sym, ◌∙◌, arith}, lemmas.{Bool.{eqb-true, cond_both}, List.{length-append, Sums.suffix_len_is}}}
+use Rattle.std.{proofs.{lemmas.List.Folds.{list_all-append, list_all_at}, Math.Seq.{take-append_seam, take-length, get_or-append_seam}}, specs.{Prelude.{not, ◌||◌, ◌&&◌, ◌==◌, nat_lt, codes, if◌then◌else◌}, Char.is_ascii_digit, List.{list_all, suffix_len}}}
+use Rattle.{assuan_text.specs.{Blanks.is_blank, LineEnds.{is_lf, without_cr}}, sexp_canonical.specs.{Tree.{Tree, Row, leaf, branch, end, item}, View.tree_of, declared.tree.Sexp.Sexp}, sexp_advanced.specs.Bytes.{is_token_start, is_token_byte, is_token_mark}}
 use Rattle.sexp_advanced.specs.Writing.{advanced, advanced_of, row_text, spaced_row, hex_glyph, hex_pairs, is_token, are_token_bytes}
-use Rattle.key_lines.specs.{Lines.{last_byte, without_last, line_text}, Items.{line_form, form_of_text, value_in}, declared.forms.LineForm.TheVariants.Key}
+use Rattle.key_lines.specs.{Lines.{last_byte, without_last, line_text}, Items.{line_form, form_of_text, value_in}, KeyItem.piece_of, declared.forms.LineForm.TheVariants.Key}
 
 -- neither LF nor CR
 abbrev pub is_plain : ℕ → Bool
@@ -124,5 +124,60 @@ text_of_key tree = text_of_line (key_text tree) (omega arith) (text_plain tree)
 pub form_of_key : (tree : Sexp) → line_form (key_line tree) ≡ Key
 form_of_key tree = ap form_of_text (text_of_key tree)
 
-pub value_of_key : (tree : Sexp) → value_in (line_text (key_line tree)) ≡ 32 ∷ advanced_of tree
-value_of_key tree = ap value_in (text_of_key tree)
+-- ---- the value
+
+-- the last byte is no blank
+abbrev is_solid : List ℕ → Bool
+is_solid text = not (is_blank (last_byte text))
+
+abbrev no_blank : ℕ → Bool
+no_blank byte = not (is_blank byte)
+
+token_no_blank : (b : ℕ) → is_token_byte b ≡ true → no_blank b ≡ true
+unfolding is_token_byte is_token_start is_token_mark
+token_no_blank b token =
+    let blank : (b == 32) ≡ false = isnt (b == 32) (λ e. let f : true ≡ false = sym token ∙ ap is_token_byte (eqb-true b 32 e) in absurd (cc f)) in
+    let tab : (b == 9) ≡ false = isnt (b == 9) (λ e. let f : true ≡ false = sym token ∙ ap is_token_byte (eqb-true b 9 e) in absurd (cc f)) in
+    ap (λ t. not (t || b == 9)) blank ∙ ap (λ t. not t) tab
+
+tokens_no_blank : (bytes : List ℕ) → are_token_bytes bytes ≡ true → list_all no_blank bytes ≡ true
+tokens_no_blank [] e = refl
+tokens_no_blank (b ∷ more) e =
+    let parts = both (is_token_byte b) (are_token_bytes more) e in
+    ap (λ t. t && list_all no_blank more) (token_no_blank b parts.0) ∙ tokens_no_blank more parts.1
+
+token_solid : (bytes : List ℕ) → is_token bytes ≡ true → is_solid bytes ≡ true
+token_solid [] e = absurd cc
+token_solid (b ∷ more) e =
+    let bytes = b ∷ more in
+    let parts = both (is_token_start b) (are_token_bytes more) e in
+    let all : list_all no_blank bytes ≡ true = ap (λ t. t && list_all no_blank more) (token_no_blank b (start_byte b parts.0)) ∙ tokens_no_blank more parts.1 in
+    let inside : length bytes - 1 < length bytes = omega arith in
+    elim (is_solid bytes) as (λ t. is_solid bytes ≡ t → t ≡ true) [
+      | true ↦ λ _. refl
+      | false ↦ λ fails. absurd (let none = list_all_at no_blank bytes (length bytes - 1) 0 inside fails in cc (none, all))
+    ] refl
+
+end_solid : (front : List ℕ) (byte : ℕ) → no_blank byte ≡ true → is_solid (front ++ byte ∷ []) ≡ true
+end_solid front byte e =
+    let text = front ++ byte ∷ [] in
+    let long : length text - 1 ≡ length front = omega (arith, length-append front (byte ∷ [])) in
+    ap (λ n. no_blank (get_or text n 0)) long ∙ ap no_blank (get_or-append_seam front byte [] 0) ∙ e
+
+tree_solid : (t : Tree) → is_solid (advanced t) ≡ true
+tree_solid (leaf bytes) = cond_both (is_token bytes) bytes (35 ∷ hex_pairs bytes ++ 35 ∷ []) (λ (text : List ℕ). is_solid text ≡ true)
+    (λ token. token_solid bytes token)
+    (λ _. end_solid (35 ∷ hex_pairs bytes) 35 refl)
+tree_solid (branch items) = end_solid (40 ∷ row_text items) 41 refl
+
+-- such a text behind a blank is a piece
+solid_piece : (text : List ℕ) → is_solid text ≡ true → piece_of (32 ∷ text) ≡ text
+solid_piece text solid =
+    let blank : is_blank (last_byte text) ≡ false = isnt (is_blank (last_byte text)) (λ e. let f : true ≡ false = sym solid ∙ ap (λ t. not t) e in absurd (cc f)) in
+    let none : suffix_len is_blank text ≡ length text - length text =
+    suffix_len_is is_blank text (length text) 0 (omega arith) (λ k from below. absurd (omega (arith, from, below))) (λ _. blank) in
+    let long : length text - suffix_len is_blank text ≡ length text = omega (arith, none) in
+    ap (λ n. take n text) long ∙ take-length text
+
+pub piece_of_key : (tree : Sexp) → piece_of (value_in (line_text (key_line tree))) ≡ advanced_of tree
+piece_of_key tree = ap (λ (t : List ℕ). piece_of (value_in t)) (text_of_key tree) ∙ solid_piece (advanced_of tree) (tree_solid (tree_of tree))

@@ -1,12 +1,11 @@
 -- The file with another key has that key.
-use Rattle.std.proofs.{Common.{◌≡◌, inr, suc, ◌+◌, ◌≤◌, ℕ, Bool, true, false, cond, List, [], ◌∷◌, ◌++◌, length, map, take, drop, Some, None, Ok, refl, ap, sym, subst, ◌∙◌, arith, append_assoc}, lemmas.List.{take-append-drop, map-append}}
-use Rattle.std.{proofs.lemmas.List.Folds.{concat-append, list_any-append}, specs.{Prelude.{not, ◌||◌, ◌&&◌, codes}, List.{concat, join_with_byte, list_all, list_any, position_or_len, prefix_len}}}
-use Rattle.{assuan_text.specs.Blanks.is_blank, sexp_canonical.specs.{Spelling.{most_bytes, spelling_of}, Tree.{Tree, leaf, branch}, View.tree_of, declared.tree.Sexp.Sexp}, sexp_advanced.specs.Bytes.is_space_byte as is_between}
-use Rattle.sexp_advanced.specs.{Reading.{ReadsAdvanced, signs, Begins}, Writing.advanced_of}
+use Rattle.std.proofs.Common.{◌≡◌, inr, suc, ◌+◌, ◌≤◌, ℕ, Bool, true, false, cond, List, [], ◌∷◌, ◌++◌, length, map, take, drop, Some, None, Ok, refl, ap, sym, subst, ◌∙◌, arith, append_assoc}
+use Rattle.std.{proofs.lemmas.List.{take-append-drop, map-append, append-nil, Folds.{concat-append, list_any-append}}, specs.{Prelude.{not, ◌||◌, ◌&&◌, codes}, List.{concat, list_all, list_any, position_or_len, prefix_len}}}
+use Rattle.{assuan_text.specs.Blanks.is_blank, sexp_canonical.specs.{Spelling.{most_bytes, spelling_of}, declared.tree.Sexp.Sexp}, sexp_advanced.specs.{Reading.ReadsAdvanced, Writing.advanced_of}}
 use Rattle.key_lines.specs.{Lines.{lines_of, line_text}, Items.{line_form, is_key, goes_on, value_in}, Faults.{first_line_fault, line_fault}}
-use Rattle.key_lines.specs.{KeyItem.{is_key_line, is_more, has_key, from_key, key_value, before_key, after_key, after_item, value_of}, KeyText.IsKeyText, KeyFile.{KeyFile, IsKeyFile, with_key}, Canon.{is_canonical, Canon}}
+use Rattle.key_lines.specs.{KeyItem.{is_key_line, is_more, has_key, from_key, key_value, before_key, after_key, after_item, piece_of, value_of}, KeyText.IsKeyText, KeyFile.{KeyFile, IsKeyFile, with_key}, Canon.{is_canonical, Canon}}
 use Rattle.key_lines.{specs.declared.forms.LineForm.{LineForm, TheVariants.{Comment, GoesOn, Item, Key, NoForm}}, proofs.{LineLemmas.concat_lines, KeyLemmas.{place_behind, take_front, drop_front}}}
-use Rattle.key_lines.proofs.{Plain.{key_text, key_line, text_plain, form_of_key, value_of_key}, Ended.{line_first, lines_first, before_ended, lines_last, plain_ended}, LeftOut.well_without}
+use Rattle.key_lines.proofs.{Plain.{key_text, key_line, text_plain, form_of_key, piece_of_key}, Ended.{line_first, lines_first, before_ended, lines_last, plain_ended}, LeftOut.well_without}
 
 -- ---- where the first that passes stands
 
@@ -80,33 +79,19 @@ rest_stops (line ∷ lines) =
           ap (λ n. prefix_len is_more (drop n (line ∷ lines))) at ∙ at
     ] refl
 
--- ---- the value behind a blank
+-- ---- the value
 
 -- what is written in the advanced form is read again
 abbrev pub IsReadAgain : Sexp → Type 0
 IsReadAgain tree = ReadsAdvanced (advanced_of tree) (Ok (tree, length (advanced_of tree)))
 
-begins_behind : (t : Tree) (text rest : List ℕ) → Begins text (signs t) rest → Begins (32 ∷ text) (signs t) rest
-unfolding is_between
-begins_behind (leaf bytes) text rest h = h
-begins_behind (branch items) text rest h = h
-
-reads_behind : (tree : Sexp) → IsReadAgain tree → ReadsAdvanced (32 ∷ advanced_of tree) (Ok (tree, suc (length (advanced_of tree))))
-reads_behind tree e =
-    let text = advanced_of tree in
-    record {
-      within = omega (arith, e.within);
-      shallow = e.shallow;
-      spelled = begins_behind (tree_of tree) text (drop (length text) text) e.spelled;
-    }
-
 drop_all : (bytes : List ℕ) → drop (length bytes) bytes ≡ []
 drop_all [] = refl
 drop_all (byte ∷ bytes) = drop_all bytes
 
-text_again : (tree : Sexp) → IsReadAgain tree → length (spelling_of tree) ≤ most_bytes → IsKeyText (32 ∷ advanced_of tree) tree
+text_again : (tree : Sexp) → IsReadAgain tree → length (spelling_of tree) ≤ most_bytes → IsKeyText (advanced_of tree) tree
 text_again tree again short =
-    (record { len = suc (length (advanced_of tree)); reads = reads_behind tree again; blank = ap (list_all is_blank) (drop_all (advanced_of tree)) }, short)
+    (record { len = length (advanced_of tree); reads = again; blank = ap (list_all is_blank) (drop_all (advanced_of tree)) }, short)
 
 -- ---- the file
 
@@ -173,8 +158,9 @@ with_key_is_read file new tree h again short =
     ap (λ (ls : List (List ℕ)). position_or_len is_key_line ls) h.lines ∙ place_behind is_key_line h.passed h.rest line h.none is in
     let from : from_key new ≡ line ∷ h.rest =
     ap (λ n. drop n (lines_of new)) place ∙ ap (λ (ls : List (List ℕ)). drop (length h.passed) ls) h.lines ∙ drop_front h.passed (line ∷ h.rest) in
-    let value : key_value new ≡ 32 ∷ advanced_of tree =
-    ap value_of from ∙ ap (λ n. join_with_byte 32 (value_in (line_text line) ∷ map line_text (take n h.rest))) h.stops ∙ value_of_key tree in
+    let value : key_value new ≡ advanced_of tree =
+    ap value_of from ∙ ap (λ n. concat (map piece_of (value_in (line_text line) ∷ map line_text (take n h.rest)))) h.stops
+    ∙ append-nil (piece_of (value_in (line_text line))) ∙ piece_of_key tree in
     record {
       item = record {
         formed = ap (λ (ls : List (List ℕ)). first_line_fault [] (map line_form ls)) h.lines

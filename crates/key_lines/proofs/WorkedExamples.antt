@@ -25,7 +25,7 @@ worked_formed = refl
 worked_before : before_key worked ≡ codes "Created: x" ++ lf
 worked_before = refl
 
-worked_value : key_value worked ≡ codes " (private-key (ecc (q \"Q\")  (d #44#)))"
+worked_value : key_value worked ≡ codes "(private-key (ecc (q \"Q\")(d #44#)))"
 worked_value = refl
 
 worked_after : after_key worked ≡ []
@@ -101,8 +101,34 @@ blank_before_the_colon = refl
 around : after_key (codes "Key:" ++ lf ++ codes " (a)" ++ cr ++ lf ++ codes "# c" ++ lf ++ codes "B: d") ≡ codes "# c" ++ lf ++ codes "B: d"
 around = refl
 
-folded : key_value (codes "Key:" ++ lf ++ tab ++ codes "(a" ++ cr ++ lf ++ codes " )") ≡ codes " " ++ tab ++ codes "(a  )"
+-- ---- a value over lines
+
+folded : key_value (codes "Key:" ++ lf ++ tab ++ codes "(a" ++ cr ++ lf ++ codes " )") ≡ codes "(a)"
 folded = refl
+
+-- lines of a key that GnuPG wrote: before a blank of the value a fold is two blanks, and else one, also within a token
+folded_token : key_value (codes "Key: (q" ++ lf ++ codes "  #C4#)(prote" ++ lf ++ codes " cted openpgp-s2k3-ocb-aes ((sha1 #31#" ++ lf ++ codes "  \"77\"))))" ++ lf)
+    ≡ codes "(q #C4#)(protected openpgp-s2k3-ocb-aes ((sha1 #31# \"77\"))))"
+folded_token = refl
+
+folded_at_a_blank : key_value (codes "Key: (protected" ++ lf ++ codes "  openpgp-s2k3-ocb-aes)" ++ lf) ≡ codes "(protected openpgp-s2k3-ocb-aes)"
+folded_at_a_blank = refl
+
+folded_in_hexadecimal : key_value (codes "Key: (q #C061" ++ lf ++ codes " 2242#)" ++ lf) ≡ codes "(q #C0612242#)"
+folded_in_hexadecimal = refl
+
+folded_in_a_quoted_text : key_value (codes "Key: (curve \"NIST P-" ++ lf ++ codes " 256\")" ++ lf) ≡ codes "(curve \"NIST P-256\")"
+folded_in_a_quoted_text = refl
+
+folded_at_a_blank_of_a_quoted_text : key_value (codes "Key: (curve \"NIST" ++ lf ++ codes "  P-256\")" ++ lf) ≡ codes "(curve \"NIST P-256\")"
+folded_at_a_blank_of_a_quoted_text = refl
+
+-- behind the colon too one blank isn't of the value, and those at the end of a line aren't, whichever they are
+first_blank : key_value (codes "Key:  (a \"b " ++ lf ++ tab ++ codes " c" ++ tab ++ codes " " ++ cr ++ lf ++ codes " \")" ++ tab) ≡ codes " (a \"b c\")"
+first_blank = refl
+
+none_behind_the_colon : key_value (codes "Key:(a" ++ lf ++ codes " b)") ≡ codes "(ab)"
+none_behind_the_colon = refl
 
 -- ---- the canonical file
 
@@ -128,9 +154,9 @@ worked_spelling = refl
 tree_of_worked_key : tree_of worked_key ≡ worked_tree
 tree_of_worked_key = refl
 
-quoted : IsDelimited Quoted (codes "Q\")  (d #44#)))") (sign (Atom (codes "Q")) (codes ")  (d #44#)))"))
+quoted : IsDelimited Quoted (codes "Q\")(d #44#)))") (sign (Atom (codes "Q")) (codes ")(d #44#)))"))
 unfolding quoted_piece escape
-quoted = record { bytes = codes "Q"; at = codes "\")  (d #44#)))"; spelled = (codes "\")  (d #44#)))", refl, refl); is = refl }
+quoted = record { bytes = codes "Q"; at = codes "\")(d #44#)))"; spelled = (codes "\")(d #44#)))", refl, refl); is = refl }
 
 hexadecimal : IsDelimited Hexadecimal (codes "44#)))") (sign (Atom (codes "D")) (codes ")))"))
 unfolding pair pair_here low_digit hex_value is_between
@@ -139,28 +165,28 @@ hexadecimal = record { bytes = codes "D"; at = codes "#)))"; spelled = (codes "#
 worked_begins : Begins (key_value worked) (signs (tree_of worked_key)) []
 unfolding class_of is_token_byte is_token_start is_token_mark is_between
 worked_begins = (
-  codes "private-key (ecc (q \"Q\")  (d #44#)))",
+  codes "private-key (ecc (q \"Q\")(d #44#)))",
   refl,
   (
-    codes " (ecc (q \"Q\")  (d #44#)))",
+    codes " (ecc (q \"Q\")(d #44#)))",
     refl,
     (
-      codes "ecc (q \"Q\")  (d #44#)))",
+      codes "ecc (q \"Q\")(d #44#)))",
       refl,
       (
-        codes " (q \"Q\")  (d #44#)))",
+        codes " (q \"Q\")(d #44#)))",
         refl,
         (
-          codes "q \"Q\")  (d #44#)))",
+          codes "q \"Q\")(d #44#)))",
           refl,
           (
-            codes " \"Q\")  (d #44#)))",
+            codes " \"Q\")(d #44#)))",
             refl,
             (
-              codes ")  (d #44#)))",
+              codes ")(d #44#)))",
               quoted,
               (
-                codes "  (d #44#)))",
+                codes "(d #44#)))",
                 refl,
                 (
                   codes "d #44#)))",

@@ -1,6 +1,7 @@
--- The item of a key file that has the key: its first line, and the lines that go on with it.
-use Rattle.std.specs.{Prelude.{ℕ, Bool, List, [], ◌∷◌, map, drop}, List.{list_any, before_first, position_or_len, prefix_len, take_while, concat, join_with_byte}}
-use Rattle.key_lines.specs.{Lines.{lines_of, line_text}, Items.{line_form, is_key, goes_on, value_in}}
+-- The item of a key file that has the key: its first line, and the lines that go on with it. How its value is folded over these
+-- lines is GnuPG's (common/name-value.c). That blank, space and tab alone are meant there is this project's own rule.
+use Rattle.std.specs.{Prelude.{ℕ, ◌-◌, Bool, List, [], ◌∷◌, length, map, take, drop, slice_index, if◌then◌else◌}, List.{list_any, before_first, position_or_len, prefix_len, suffix_len, take_while, concat}}
+use Rattle.{assuan_text.specs.Blanks.is_blank, key_lines.specs.{Lines.{lines_of, line_text}, Items.{line_form, is_key, goes_on, value_in}}}
 
 abbrev pub is_key_line : List ℕ → Bool
 is_key_line line = is_key (line_form line)
@@ -16,10 +17,23 @@ has_key file = list_any is_key_line (lines_of file)
 abbrev pub from_key : List ℕ → List (List ℕ)
 from_key file = drop (position_or_len is_key_line (lines_of file)) (lines_of file)
 
--- the value of an item: what stands behind the colon and on the lines that go on with it, joined by one blank each
+-- without the blank at the front, where there is one, and no other
+abbrev pub without_first_blank : List ℕ → List ℕ
+without_first_blank text = if is_blank (slice_index text 0) then drop 1 text else text
+
+-- without the blanks at the end
+abbrev pub without_last_blanks : List ℕ → List ℕ
+without_last_blanks text = take (length text - suffix_len is_blank text) text
+
+-- what a text has of a value: all but its first blank and those at its end. So where a value is folded before a blank, the next
+-- line begins with two.
+abbrev pub piece_of : List ℕ → List ℕ
+piece_of text = without_last_blanks (without_first_blank text)
+
+-- the value of an item: the pieces behind the colon and on the lines that go on with it, with nothing between
 abbrev pub value_of : List (List ℕ) → List ℕ
 value_of [] = []
-value_of (line ∷ more) = join_with_byte 32 (value_in (line_text line) ∷ map line_text (take_while is_more more))
+value_of (line ∷ more) = concat (map piece_of (value_in (line_text line) ∷ map line_text (take_while is_more more)))
 
 -- what comes after an item
 abbrev pub after_item : List (List ℕ) → List (List ℕ)

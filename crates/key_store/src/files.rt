@@ -1,11 +1,11 @@
-//! One file, read and replaced whole. It touches the file's folder: the lock, a new file beside the
-//! old one, syncs and the rename. Begin with `read_file` and `replace_file`; tests show what they
-//! do, since no contract says what files hold.
+//! One file, read and replaced whole. It touches the file's folder: the lock, which is the folder's
+//! or a file's in it, a new file beside the old one, syncs and the rename. Begin with `read_file`
+//! and `replace_file`; tests show what they do, since no contract says what files hold.
 
 ghost use Rattle.std.specs.{Prelude.{◌≤◌, length, IfOk, IsTrue}, Io.KnownBytes.{Consumes, IsAtEnd}};
 
 use crate::fault::Fault;
-use std::alloc::Global;
+use std::alloc::{AllocError, Global};
 use std::fs::{File, Metadata, OpenFile, OpenOptions, TryLockError};
 use std::io::{ErrorKind, Read, Write};
 use std::os::unix::fs::{MetadataExt, OpenOptionsExt};
@@ -24,6 +24,9 @@ const MAX_LOCK_PAUSES: u32 = 1_000;
 /// What is added to the name of the file at a link's end where it is replaced: that folder may be
 /// anybody's, and no file of his has such a name.
 const LINKED_ENDING: &str = ".dogwoodcatch-new";
+
+/// What is added to it for the file whose lock is held then, where it isn't the folder's.
+const LINKED_LOCK_ENDING: &str = ".dogwoodcatch-lock";
 
 /// Which file a name led to, and in what state: one that was replaced or written meanwhile differs.
 #[derive(Clone, Copy, PartialEq, Eq)]
@@ -140,18 +143,29 @@ fn is_whole<R: Read>(reader: &mut R, buf: &mut [u8]) -> bool
     matches!(reader.read(&mut [0]), Ok(0))
 }
 
+/// Whose lock a change holds.
+#[derive(Clone, Copy)]
+pub(crate) enum Lock {
+    /// A folder's, where nobody else may open that: whoever may can hold its lock.
+    Folder,
+    /// A file's of its own, which nobody else may open. It is made where it isn't there, and stays.
+    File,
+}
+
 /// Where a file lies: its folder, its path, and the path of the file that is to become it, in the
-/// same folder.
+/// same folder; and whose lock a change holds, with its path.
 #[derive(Clone, Copy)]
 pub(crate) struct Place<'a> {
     pub(crate) folder: &'a str,
     pub(crate) path: &'a str,
     pub(crate) new_path: &'a str,
+    pub(crate) lock: Lock,
+    pub(crate) lock_path: &'a str,
 }
 
-/// Makes these bytes the file at the place, as a whole, under its folder's lock: they are written
-/// and synced under the other name in that folder, which is then renamed. Where it fails the file
-/// is as it was. Where `expected` says what is to be replaced, anything else there is a fault.
+/// Makes these bytes the file at the place, as a whole, under its lock: they are written and synced
+/// under the other name in that folder, which is then renamed. Where it fails the file is as it
+/// was. Where `expected` says what is to be replaced, anything else there is a fault.
 ///
 /// A link stays, and the file at its end is replaced in its own folder.
 pub(crate) fn replace_file<R: Files<File = File> + Clock>(
@@ -167,14 +181,25 @@ pub(crate) fn replace_file<R: Files<File = File> + Clock>(
     let Some(folder) = Path::new(end.as_str()).parent() else {
         return Err(Fault::Failed);
     };
-    let mut new_path = end.clone()?;
-    new_path.push_str(LINKED_ENDING)?;
+    let new_path = with_ending(&end, LINKED_ENDING)?;
+    let lock_path = match place.lock {
+        Lock::Folder => String::from_str(alloc, folder.as_str())?,
+        Lock::File => with_ending(&end, LINKED_LOCK_ENDING)?,
+    };
     let linked = Place {
         folder: folder.as_str(),
         path: end.as_str(),
         new_path: new_path.as_str(),
+        lock: place.lock,
+        lock_path: lock_path.as_str(),
     };
     replace_at(rt, linked, bytes, expected)
+}
+
+fn with_ending(path: &String, ending: &str) -> Result<String, AllocError> {
+    let mut longer = path.clone()?;
+    longer.push_str(ending)?;
+    Ok(longer)
 }
 
 // The regular file at the end of the link that has this name, or none where it is no link. One that
@@ -203,13 +228,28 @@ fn replace_at<R: Files<File = File> + Clock>(
     bytes: &[u8],
     expected: Option<Found>,
 ) -> Result<FileStamp, Fault> {
-    let folder = lock_folder(rt, place.folder)?;
+    let locked = match place.lock {
+        Lock::Folder => lock_folder(rt, place.lock_path)?,
+        Lock::File => take_lock(rt, open_lock(rt, place.lock_path)?)?,
+    };
+    let replaced = replace_locked(rt, place, bytes, expected);
+    drop(locked);
+    replaced
+}
+
+// Under the lock.
+fn replace_locked<R: Files<File = File>>(
+    rt: &R,
+    place: Place<'_>,
+    bytes: &[u8],
+    expected: Option<Found>,
+) -> Result<FileStamp, Fault> {
     // What a crash left.
     remove_leftover(rt, place.new_path)?;
     match put_in_place(rt, place, bytes, expected) {
         Ok(stamp) => {
             // The file is in its place, whether or not the system can sync a folder.
-            let _ = folder.sync_all();
+            let _ = sync_folder(rt, place.folder);
             Ok(stamp)
         }
         Err(fault) => {
@@ -219,21 +259,57 @@ fn replace_at<R: Files<File = File> + Clock>(
     }
 }
 
+fn sync_folder<R: Files<File = File>>(rt: &R, folder: &str) -> io::Result<()> {
+    File::open(rt, folder)?.sync_all()
+}
+
+// Opens the file of a lock, which is made for its owner alone where it isn't there. A link isn't
+// followed, and another kind than a regular file isn't opened, since that may wait.
+fn open_lock<R: Files<File = File>>(rt: &R, path: &str) -> io::Result<File> {
+    let made = OpenOptions::new()
+        .write(true)
+        .create_new(true)
+        .mode(0o600)
+        .open(rt, path);
+    match made {
+        Err(error) if error.kind() == ErrorKind::AlreadyExists => open_old_lock(rt, path),
+        made => made,
+    }
+}
+
+fn open_old_lock<R: Files<File = File>>(rt: &R, path: &str) -> io::Result<File> {
+    let named = fs::symlink_metadata(rt, path)?;
+    if !named.is_file() {
+        return Err(ErrorKind::InvalidInput.into());
+    }
+    let file = OpenOptions::new().write(true).open(rt, path)?;
+    // It may have become a link in between.
+    if FileStamp::of(&file.metadata()?) == FileStamp::of(&named) {
+        Ok(file)
+    } else {
+        Err(ErrorKind::InvalidInput.into())
+    }
+}
+
 /// The folder, locked until it is dropped: changes in it come one after another, whichever program
 /// makes them by this crate. It is a fault where another program still holds the lock after ten
 /// seconds.
 pub(crate) fn lock_folder<R: Files<File = File> + Clock>(rt: &R, folder: &str) -> io::Result<File> {
-    let folder = File::open(rt, folder)?;
-    let mut locked = folder.try_lock();
+    take_lock(rt, File::open(rt, folder)?)
+}
+
+// The file, locked until it is dropped.
+fn take_lock<R: Clock>(rt: &R, file: File) -> io::Result<File> {
+    let mut locked = file.try_lock();
     for _ in 0..MAX_LOCK_PAUSES {
         if !matches!(locked, Err(TryLockError::WouldBlock)) {
             break;
         }
         thread::sleep(rt, Duration::from_millis(LOCK_PAUSE_MILLIS));
-        locked = folder.try_lock();
+        locked = file.try_lock();
     }
     locked?;
-    Ok(folder)
+    Ok(file)
 }
 
 fn put_in_place<R: Files<File = File>>(

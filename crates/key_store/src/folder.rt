@@ -6,7 +6,7 @@ ghost use Rattle.std.specs.{Prelude.{◌≡◌, ◌≤◌, length, None, IfOk}, 
 ghost use Rattle.agent_ports.specs.{KeyFiles.grip_cmp, declared.keys.TheConstants.MAX_KEY_FILE_LEN};
 
 use crate::fault::{Fault, count_fault};
-use crate::files::{Place, WholeFile, lock_folder, read_file, remove_leftover, replace_file};
+use crate::files::{Lock, Place, WholeFile, lock_folder, read_file, remove_leftover, replace_file};
 use crate::names::{KEY_ENDING, NEW_KEY_ENDING, folder_path, grip_of_name, key_path};
 use agent_ports::{Grip, KeyDone, KeyNames, KeyRead, Keys, MAX_KEY_FILE_LEN};
 use std::alloc::{AllocError, Global};
@@ -78,6 +78,8 @@ impl<'a, R: Files<File = File> + Clock> FolderKeys<'a, R> {
             folder: self.folder.as_str(),
             path: path.as_str(),
             new_path: new_path.as_str(),
+            lock: Lock::Folder,
+            lock_path: self.folder.as_str(),
         };
         replace_file(self.rt, alloc, place, file, None)?;
         Ok(())

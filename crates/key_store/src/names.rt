@@ -20,6 +20,9 @@ pub(crate) const TRUST_NAME: &str = "trustlist.txt";
 /// The file that is to become the trust list's.
 pub(crate) const NEW_TRUST_NAME: &str = "trustlist.txt.new";
 
+/// The file whose lock a change of the trust list holds.
+pub(crate) const TRUST_LOCK_NAME: &str = "trustlist.lock";
+
 /// The grip of a key's file: 40 hexadecimal digits of either case, and the ending.
 pub(crate) fn grip_of_name(name: &str) -> Option<Grip>
     ensures value { IfSome result (λ grip. (digits : List ℕ) × (name.now ≡ digits ++ codes ".key")

@@ -1,14 +1,14 @@
 //! The port of the trust list over `trustlist.txt` of a home directory. It touches that file and
-//! the lock of its folder, and replaces no other list than the one that it found. Begin with
-//! `read_list` and `replace_list`; the clauses are those of `TrustFile`, with the file left
-//! unknown.
+//! `trustlist.lock`, whose lock a change holds, and replaces no other list than the one that it
+//! found. Begin with `read_list` and `replace_list`; the clauses are those of `TrustFile`, with the
+//! file left unknown.
 
 ghost use Rattle.std.specs.Prelude.{◌≡◌, ◌≤◌, length, None, IfOk};
 ghost use Rattle.trust_list.specs.declared.TheConstants.{MAX_TRUST_FILE_LEN};
 
 use crate::fault::{Fault, count_fault};
-use crate::files::{Found, Place, WholeFile, read_file, replace_file};
-use crate::names::{NEW_TRUST_NAME, TRUST_NAME, path_in};
+use crate::files::{Found, Lock, Place, WholeFile, read_file, replace_file};
+use crate::names::{NEW_TRUST_NAME, TRUST_LOCK_NAME, TRUST_NAME, path_in};
 use agent_ports::{TrustDone, TrustFile, TrustRead};
 use std::alloc::{AllocError, Global};
 use std::fs::File;
@@ -29,11 +29,12 @@ impl TrustFound {
     }
 }
 
-/// The trust list of a home directory. A change holds the lock of the directory, and fails where
-/// another program holds it for ten seconds; a read needs none. It fails too where the list was
-/// changed since it was read: a line that an editor added isn't lost. Where its file is a symbolic
-/// link the file at its end is read and replaced, under the lock of its own folder. A file of more
-/// than `MAX_TRUST_FILE_LEN` bytes is a fault, read or written.
+/// The trust list of a home directory. A change holds the lock of the file `trustlist.lock` there,
+/// which is made where it isn't there, and fails where another program holds it for ten seconds; a
+/// read needs none. It fails too where the list was changed since it was read: a line that an
+/// editor added isn't lost. Where its file is a symbolic link the file at its end is read and
+/// replaced, under the lock of a file beside that. A file of more than `MAX_TRUST_FILE_LEN` bytes
+/// is a fault, read or written.
 #[derive(Drop)]
 pub struct FolderTrust<'a, R> {
     rt: &'a R,
@@ -104,10 +105,14 @@ impl<'a, R: Files<File = File> + Clock> FolderTrust<'a, R> {
         let homedir = self.homedir.as_str();
         let path = path_in(alloc, homedir, TRUST_NAME)?;
         let new_path = path_in(alloc, homedir, NEW_TRUST_NAME)?;
+        let lock_path = path_in(alloc, homedir, TRUST_LOCK_NAME)?;
         let place = Place {
             folder: homedir,
             path: path.as_str(),
             new_path: new_path.as_str(),
+            // Others may open the directory, and so hold its lock.
+            lock: Lock::File,
+            lock_path: lock_path.as_str(),
         };
         let stamp = replace_file(self.rt, alloc, place, file, self.found.found)?;
         self.found.found = Some(Found::File(stamp));

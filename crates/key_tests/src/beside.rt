@@ -175,15 +175,23 @@ fn a_file_that_takes_the_name_before_it_is_opened_is_read(rt: HostRuntime) -> Re
 }
 
 // What changes of a key and of the trust list come to, and how long they slept, where another
-// program holds the locks of their folders for so many milliseconds; and what the key's file is
-// then.
+// program holds the lock of the keys' folder, of the list's own file, or of the home folder for so
+// many milliseconds; and what the key's file is then.
 fn changed_under_locks(rt: &HostRuntime, held: u64) -> Result<String, Fail> {
     let alloc = rt.alloc();
     make_home(rt, "locked")?;
     let mut text = String::new(alloc);
-    for (folder, change) in [(FOLDER, 0u8), (FOLDER, 1), (FOLDER, 2), ("locked", 3)] {
+    fs::write(rt, LIST_LOCK, b"")?;
+    let locks = [
+        (FOLDER, 0u8),
+        (FOLDER, 1),
+        (FOLDER, 2),
+        (LIST_LOCK, 3),
+        ("locked", 3),
+    ];
+    for (locked, change) in locks {
         let mut beside = Beside::new(rt);
-        let lock = File::open(rt, folder)?;
+        let lock = File::open(rt, locked)?;
         lock.lock()?;
         beside.lock = Some(lock);
         beside.held = held;
@@ -197,6 +205,8 @@ fn changed_under_locks(rt: &HostRuntime, held: u64) -> Result<String, Fail> {
 }
 
 const FOLDER: &str = "locked/private-keys-v1.d";
+
+const LIST_LOCK: &str = "locked/trustlist.lock";
 
 // A change of a key, a look whether it is there, or a change of the trust list, and what it comes
 // to.
@@ -222,10 +232,13 @@ fn a_lock_that_another_program_holds_is_waited_for_ten_seconds(
     let rows = [
         (
             u64::MAX,
-            "Failed 10000, short 0, Failed 10000, Failed 10000, ",
+            "Failed 10000, short 0, Failed 10000, Failed 10000, Done 0, ",
         ),
-        (10_000, "Done 10000, longer 0, Done 10000, Done 10000, "),
-        (25, "Done 30, longer 0, Done 30, Done 30, "),
+        (
+            10_000,
+            "Done 10000, longer 0, Done 10000, Done 10000, Done 0, ",
+        ),
+        (25, "Done 30, longer 0, Done 30, Done 30, Done 0, "),
     ];
     for (held, want) in rows {
         let text = changed_under_locks(&rt, held)?;

@@ -8,10 +8,10 @@ use std::alloc::Global;
 use std::test::Fail;
 
 /// A file, and the canonical spelling of its key or its fault.
-type Row<'a> = (&'a [u8], Result<&'a [u8], LinesFault>);
+pub(crate) type Row<'a> = (&'a [u8], Result<&'a [u8], LinesFault>);
 
 /// The number of the first row that comes out otherwise.
-fn first_wrong(alloc: Global, rows: &[Row<'_>]) -> Result<Option<usize>, Fail> {
+pub(crate) fn first_wrong(alloc: Global, rows: &[Row<'_>]) -> Result<Option<usize>, Fail> {
     for (number, (file, wanted)) in rows.iter().enumerate() {
         if !comes_out(alloc, file, wanted)? {
             return Ok(Some(number));
@@ -30,16 +30,21 @@ fn comes_out(alloc: Global, file: &[u8], wanted: &Result<&[u8], LinesFault>) -> 
 
 #[test]
 fn a_file_has_its_key(rt: HostRuntime) -> Result<(), Fail> {
-    let rows: [Row<'_>; 8] = [
+    let rows: [Row<'_>; 13] = [
         (
             b"Created: x\nKey: (private-key (ecc (q \"Q\")\n (d #44#)))\n",
             Ok(b"(11:private-key(3:ecc(1:q1:Q)(1:d1:D)))"),
         ),
         (b"Key: (a)", Ok(b"(1:a)")),
         (b"kEY:(a)\r\n", Ok(b"(1:a)")),
-        (b"Key:\r\n\t(a\r\n b)\t \r\n# c\r\n", Ok(b"(1:a1:b)")),
+        (b"Key:\r\n\t(a\r\n  b)\t \r\n# c\r\n", Ok(b"(1:a1:b)")),
+        (b"Key:\r\n\t(a\r\n b)\t \r\n# c\r\n", Ok(b"(2:ab)")),
+        (b"Key:(fl\n ags eddsa)\n", Ok(b"(5:flags5:eddsa)")),
         (b"Key: #4\n 1#\nLabel: b\n c\n", Ok(b"1:A")),
-        (b"Key: \"a\n b\"\n", Ok(b"4:a  b")),
+        (b"Key: \"a\n b\"\n", Ok(b"2:ab")),
+        (b"Key: \"a\n  b\"\n", Ok(b"3:a b")),
+        (b"Key: \"a\n \t b\"\n", Ok(b"4:a\t b")),
+        (b"Key: \"a \t \r\n b\"\n", Ok(b"2:ab")),
         (
             b"#\n\n \t\nA23456789-123456789-123456789-123456789-123456789-123456789-:\nKey: 1:a",
             Ok(b"1:a"),
@@ -52,7 +57,7 @@ fn a_file_has_its_key(rt: HostRuntime) -> Result<(), Fail> {
 
 #[test]
 fn a_file_has_its_first_fault(rt: HostRuntime) -> Result<(), Fail> {
-    let rows: [Row<'_>; 16] = [
+    let rows: [Row<'_>; 18] = [
         (b"", Err(LinesFault::NoKey)),
         (b"\n", Err(LinesFault::NoKey)),
         (b"\r\nLabel: Key: a\n", Err(LinesFault::NoKey)),
@@ -68,15 +73,20 @@ fn a_file_has_its_first_fault(rt: HostRuntime) -> Result<(), Fail> {
         ),
         (b"Key:", Err(LinesFault::BadKey(AdvFault::Short))),
         (b"Key: (a", Err(LinesFault::BadKey(AdvFault::Short))),
-        (b"Key: {", Err(LinesFault::BadKey(AdvFault::BadByte(1)))),
-        (b"Key: (a)\r", Err(LinesFault::BadKey(AdvFault::BadByte(4)))),
+        (b"Key: {", Err(LinesFault::BadKey(AdvFault::BadByte(0)))),
+        (b"Key:  {", Err(LinesFault::BadKey(AdvFault::BadByte(1)))),
+        (b"Key: (a)\r", Err(LinesFault::BadKey(AdvFault::BadByte(3)))),
         (
             b"Key: (a)\t\n b",
-            Err(LinesFault::BadKey(AdvFault::BadByte(7))),
+            Err(LinesFault::BadKey(AdvFault::BadByte(3))),
+        ),
+        (
+            b"Key: (a)\t\n  b",
+            Err(LinesFault::BadKey(AdvFault::BadByte(4))),
         ),
         (
             b"Key: (a #4#)",
-            Err(LinesFault::BadKey(AdvFault::BadAtom(4))),
+            Err(LinesFault::BadKey(AdvFault::BadAtom(3))),
         ),
     ];
     assert_eq!(rt; first_wrong(rt.alloc(), &rows)?, None);

@@ -19,6 +19,8 @@ mod extended;
 #[cfg(test)]
 mod files;
 #[cfg(test)]
+mod folded;
+#[cfg(test)]
 mod folder;
 #[cfg(test)]
 mod lists;

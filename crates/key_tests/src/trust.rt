@@ -79,8 +79,37 @@ fn a_list_that_is_made_and_replaced(rt: HostRuntime) -> Result<(), Fail> {
     assert_eq!(rt; first_wrong(alloc, &mut trust, &rows)?, None);
     let mode = fs::metadata(&rt, "trusting/trustlist.txt")?.mode() & 0o777;
     assert_eq!(rt; mode, 0o600);
+    let mode = fs::metadata(&rt, "trusting/trustlist.lock")?.mode() & 0o777;
+    assert_eq!(rt; mode, 0o600);
     assert!(rt; !fs::exists(&rt, "trusting/trustlist.txt.new")?);
     fs::remove_dir_all(&rt, "trusting")?;
+    Ok(())
+}
+
+#[test]
+fn what_else_has_the_name_of_the_lock(rt: HostRuntime) -> Result<(), Fail> {
+    let alloc = rt.alloc();
+    let _ = fs::remove_dir_all(&rt, "shutting");
+    fs::create_dir_all(&rt, "shutting/trustlist.lock")?;
+    let mut trust = FolderTrust::new(&rt, alloc, "shutting")?;
+    let refused = [(Read, "absent"), (Replace(b"one\n"), "Failed")];
+    // A folder.
+    assert_eq!(rt; first_wrong(alloc, &mut trust, &refused)?, None);
+    fs::remove_dir(&rt, "shutting/trustlist.lock")?;
+    // A link, to nothing and to a file. Neither is opened.
+    symlink(&rt, "elsewhere", "shutting/trustlist.lock")?;
+    assert_eq!(rt; first_wrong(alloc, &mut trust, &refused)?, None);
+    assert!(rt; !fs::exists(&rt, "shutting/elsewhere")?);
+    fs::write(&rt, "shutting/elsewhere", b"there\n")?;
+    assert_eq!(rt; first_wrong(alloc, &mut trust, &refused)?, None);
+    fs::remove_file(&rt, "shutting/trustlist.lock")?;
+    // A file that was there stays as it is.
+    fs::write(&rt, "shutting/trustlist.lock", b"left")?;
+    let made = [(Replace(b"one\n"), "Done"), (Read, "one\n")];
+    assert_eq!(rt; first_wrong(alloc, &mut trust, &made)?, None);
+    let left = fs::read(&rt, "shutting/trustlist.lock")?;
+    assert_eq!(rt; left.as_slice(), b"left".as_slice());
+    fs::remove_dir_all(&rt, "shutting")?;
     Ok(())
 }
 

@@ -5,10 +5,10 @@
 ghost use Rattle.std.specs.Prelude.{IsSome};
 
 use agent_ports::{
-    Clock, Dice, Ear, Gate, GatePoint, Got, Grip, HoldGate, Host, KeyNames, KeyRead, Keys,
-    Launcher, LentClock, Link, ListClock, ListDice, ListListener, ListedLinks, Listener, MapKeys,
-    MemHost, MemLauncher, MemLink, MemParts, MemSink, MemSource, MemTrust, Next, NoGate, Parts,
-    PlannedChild, PlannedLink, Sent, SessionId, Sink, Source, StepClock, TrustFile,
+    Clock, ConfFiles, Dice, Ear, Gate, GatePoint, Got, Grip, HoldGate, Host, KeyNames, KeyRead,
+    Keys, Launcher, LentClock, Link, ListClock, ListDice, ListListener, ListedLinks, Listener,
+    MapKeys, MemConf, MemHost, MemLauncher, MemLink, MemParts, MemSink, MemSource, MemTrust, Next,
+    NoGate, Parts, PlannedChild, PlannedLink, Sent, SessionId, Sink, Source, StepClock, TrustFile,
 };
 use std::alloc::{AllocError, Global};
 use std::sync::{Mutex, Wait};
@@ -499,6 +499,36 @@ fn a_trust_file_is_read_and_replaced(rt: HostRuntime) -> Result<(), Fail> {
         let got = use_trust(alloc, &mut trust)?;
         assert_eq!(rt; first_wrong(&got, &want), None);
         assert_eq!(rt; trust.file(), Some(b"AB".as_slice()));
+    }
+    Ok(())
+}
+
+/// What two reads of each file of options give, one after another.
+fn use_confs<C: ConfFiles>(alloc: Global, confs: &mut C) -> Result<Vec<String>, AllocError> {
+    let mut all = Vec::new(alloc);
+    for _ in 0..2 {
+        all.push(format!(in alloc; "{:?}", confs.read_machine(alloc))?)?;
+        all.push(format!(in alloc; "{:?}", confs.read_home(alloc))?)?;
+    }
+    Ok(all)
+}
+
+#[test]
+fn files_of_options_are_read(rt: HostRuntime) -> Result<(), Fail> {
+    let alloc = rt.alloc();
+    let found = "Found([65, 66])";
+    for (len, failing, want) in [
+        (2usize, 9u64, [found, "Absent", found, "Absent"]),
+        (2, 0, ["Failed", "Absent", found, "Absent"]),
+        (2, 3, [found, "Absent", found, "Failed"]),
+        (65_537, 9, ["Failed", "Absent", "Failed", "Absent"]),
+    ] {
+        let mut machine = Vec::new(alloc);
+        machine.resize(len, 66u8)?;
+        machine[0] = 65;
+        let mut confs = MemConf::new(Some(machine), None, vec![in alloc; failing]?);
+        let got = use_confs(alloc, &mut confs)?;
+        assert_eq!(rt; first_wrong(&got, &want), None);
     }
     Ok(())
 }

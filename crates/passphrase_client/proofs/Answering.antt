@@ -2,7 +2,7 @@
 use Rattle.std.{proofs.{Common.{◌≡◌, ◌⊎◌, inl, inr, ◌∷◌, [], ℕ, List, Bool, true, false, Option, refl, subst, arith, rules, Contains}, lemmas.{Bool.false≢true, List.Elements.Contains-append_right}}, specs.Option.is_some}
 use Rattle.{passphrase_talk.specs.{Contacts.Contacts, declared.{connector.Agents.{Agents, TheVariants.{One, Both}}, told.Told.Told}}, passphrase_words.specs.{Tasks.TaskValue, declared.task.Act.Act}}
 use Rattle.session_options.specs.OptionValues.{EnvWords}
-use Rattle.passphrase_client.specs.{Laws.is_question, Runs.{ComesTo, DoesStep, Reply, Settles, gives, goes_on, notes, holds}, Steps.{steps_of, steps_to_give, looks}, Verdicts.{verdict, is_one_line, emptied_verdict}}
+use Rattle.passphrase_client.specs.{Laws.{is_question, Visited, visited, visits_of}, Runs.{ComesTo, DoesStep, Reply, Settles, gives, goes_on, notes, holds}, Steps.{steps_of, steps_to_give, looks}, Verdicts.{verdict, is_one_line, emptied_verdict}}
 use Rattle.passphrase_client.specs.declared.{course.Course.TheVariants.Gives, ending.Ending.Ending, steps.Step.Step, verdict.Verdict.Verdict}
 use Rattle.passphrase_client.specs.declared.steps.Step.TheVariants as step
 use Rattle.passphrase_client.specs.declared.verdict.Verdict.TheVariants as verdict_is
@@ -25,11 +25,13 @@ pub record IsReply (at : Step) (reply : Told) (secret : List ℕ) : Type 0 where
   pub asks : is_question at ≡ true
   pub one_line : is_one_line secret ≡ true
 
--- one of the replies was
-pub record AreReplies (replies : List Reply) (secret : List ℕ) : Type 0 where
-  pub to : Step
-  pub asks : is_question to ≡ true
-  pub has : Contains replies (record { to = to; told = told.Passphrase secret })
+-- one of the replies was, in one of these contacts
+pub record AreReplies (task : TaskValue) (terminal : EnvWords) (visits : List (Visited task terminal)) (replies : List Reply) (secret : List ℕ) : Type 0 where
+  pub contact : Visited task terminal
+  pub made : Contains visits contact
+  pub asks : is_question contact.to ≡ true
+  pub told_is : contact.told ≡ told.Passphrase secret
+  pub has : Contains replies (record { to = contact.to; told = told.Passphrase secret })
   pub one_line : is_one_line secret ≡ true
 
 -- what comes of a step is the verdict on its reply, or on how an empty passphrase was forgotten
@@ -116,44 +118,57 @@ lists_ask_first act.Forget Both = refl
 lists_ask_first act.Store One = refl
 lists_ask_first act.Store Both = refl
 
-first_is : {at : Step} {reply : Told} {replies : List Reply} {secret : List ℕ} → IsReply at reply secret → AreReplies (record { to = at; told = reply } ∷ replies) secret
-first_is {at = at} reply = record {
-  to = at;
+first_is : {task : TaskValue} {terminal : EnvWords} {at : Step} {held secret : List ℕ} {reply : Told} {what : Verdict} {before after : Contacts} (visits : List (Visited task terminal))
+    (replies : List Reply) (does : DoesStep task terminal at held reply what before after) → IsReply at reply secret
+    → AreReplies task terminal (visited does ∷ visits) (record { to = at; told = reply } ∷ replies) secret
+first_is visits replies does reply = record {
+  contact = visited does;
+  made = (0, omega arith, refl);
   asks = reply.asks;
+  told_is = reply.is;
   has = rw reply.is (0, omega arith, refl);
   one_line = reply.one_line;
 }
 
-further_is : (reply : Reply) {replies : List Reply} {secret : List ℕ} → AreReplies replies secret → AreReplies (reply ∷ replies) secret
-further_is reply {replies = replies} {secret = secret} are = record {
-  to = are.to;
+further_is : {task : TaskValue} {terminal : EnvWords} (visit : Visited task terminal) (reply : Reply) (visits : List (Visited task terminal)) {replies : List Reply} {secret : List ℕ}
+    → AreReplies task terminal visits replies secret → AreReplies task terminal (visit ∷ visits) (reply ∷ replies) secret
+further_is visit reply visits {replies = replies} {secret = secret} are = record {
+  contact = are.contact;
+  made = Contains-append_right (visit ∷ []) visits are.contact are.made;
   asks = are.asks;
-  has = Contains-append_right (reply ∷ []) replies (record { to = are.to; told = told.Passphrase secret }) are.has;
+  told_is = are.told_is;
+  has = Contains-append_right (reply ∷ []) replies (record { to = are.contact.to; told = told.Passphrase secret }) are.has;
   one_line = are.one_line;
 }
 
 -- it was a reply, or is what was held
 pub reply_or_held : {task : TaskValue} {terminal : EnvWords} {steps : List Step} {held secret : List ℕ} {noted : Option Ending} {before after : Contacts} {replies : List Reply}
-    → ComesTo task terminal steps held noted before replies (Gives secret) after → AreReplies replies secret ⊎ (secret ≡ held)
-reply_or_held (gives going does) = elim (gives_reply does) [ inl reply ↦ inl (first_is reply) | inr kept ↦ inr kept.1 ]
+    (comes : ComesTo task terminal steps held noted before replies (Gives secret) after) → AreReplies task terminal (visits_of comes) replies secret ⊎ (secret ≡ held)
+reply_or_held (gives going does) = elim (gives_reply does) [ inl reply ↦ inl (first_is [] [] does reply) | inr kept ↦ inr kept.1 ]
 reply_or_held (goes_on {step = at} {told = reply} going does more) =
-    elim (reply_or_held more) [ inl are ↦ inl (further_is (record { to = at; told = reply }) are) | inr held ↦ inr held ]
+    elim (reply_or_held more) [ inl are ↦ inl (further_is (visited does) (record { to = at; told = reply }) (visits_of more) are) | inr held ↦ inr held ]
 reply_or_held (notes {step = at} {told = reply} going does more) =
-    elim (reply_or_held more) [ inl are ↦ inl (further_is (record { to = at; told = reply }) are) | inr held ↦ inr held ]
-reply_or_held (holds {step = at} {told = reply} going does more) =
-    inl (elim (reply_or_held more) [ inl are ↦ further_is (record { to = at; told = reply }) are | inr same ↦ first_is (rw same (holds_reply does)) ])
+    elim (reply_or_held more) [ inl are ↦ inl (further_is (visited does) (record { to = at; told = reply }) (visits_of more) are) | inr held ↦ inr held ]
+reply_or_held (holds {step = at} {told = reply} {others = others} going does more) =
+    inl (elim (reply_or_held more) [
+      | inl are ↦ further_is (visited does) (record { to = at; told = reply }) (visits_of more) are
+      | inr same ↦ first_is (visits_of more) others does (rw same (holds_reply does))
+    ])
 
 no_keep : (at : Step) (steps : List Step) → at ≡ step.Keep → asks_first (at ∷ steps) ≡ true → ⊥
 no_keep at steps is first = false≢true (subst (λ (x : Step). asks_first (x ∷ steps) ≡ true) is first)
 
 -- where what is held is kept behind a question alone, what is given was a reply
 pub answered : {task : TaskValue} {terminal : EnvWords} {steps : List Step} {held secret : List ℕ} {noted : Option Ending} {before after : Contacts} {replies : List Reply}
-    → asks_first steps ≡ true → ComesTo task terminal steps held noted before replies (Gives secret) after → AreReplies replies secret
+    → asks_first steps ≡ true → (comes : ComesTo task terminal steps held noted before replies (Gives secret) after) → AreReplies task terminal (visits_of comes) replies secret
 answered first (gives {step = at} {steps = steps} going does) =
-    elim (gives_reply does) [ inl reply ↦ first_is reply | inr kept ↦ absurd (no_keep at steps kept.0 first) ]
+    elim (gives_reply does) [ inl reply ↦ first_is [] [] does reply | inr kept ↦ absurd (no_keep at steps kept.0 first) ]
 answered first (goes_on {step = at} {steps = steps} {told = reply} going does more) =
-    further_is (record { to = at; told = reply }) (answered (goes_on_behind at steps does first) more)
+    further_is (visited does) (record { to = at; told = reply }) (visits_of more) (answered (goes_on_behind at steps does first) more)
 answered first (notes {step = at} {steps = steps} {told = reply} going does more) =
-    further_is (record { to = at; told = reply }) (answered (notes_behind steps does first) more)
-answered first (holds {step = at} {told = reply} going does more) =
-    elim (reply_or_held more) [ inl are ↦ further_is (record { to = at; told = reply }) are | inr same ↦ first_is (rw same (holds_reply does)) ]
+    further_is (visited does) (record { to = at; told = reply }) (visits_of more) (answered (notes_behind steps does first) more)
+answered first (holds {step = at} {told = reply} {others = others} going does more) =
+    elim (reply_or_held more) [
+      | inl are ↦ further_is (visited does) (record { to = at; told = reply }) (visits_of more) are
+      | inr same ↦ first_is (visits_of more) others does (rw same (holds_reply does))
+    ]

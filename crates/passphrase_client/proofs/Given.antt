@@ -83,8 +83,10 @@ was_answered {task = task} is (given {secret = secret} {written = written} steps
     record {
       secret = secret;
       steps = steps;
-      to = are.to;
+      contact = are.contact;
+      made = are.made;
       asks = are.asks;
+      told_is = are.told_is;
       answered = are.has;
       one_line = are.one_line;
       written = (rw (given_whole written is) at writes).went;

@@ -1,4 +1,5 @@
 pub mod Answering
+pub mod Doing
 pub mod Filling
 pub mod Given
 pub mod Losing
@@ -6,3 +7,5 @@ pub mod Putting
 pub mod Refusing
 pub mod Saying
 pub mod Secrets
+pub mod Unprompted
+pub mod Wanting

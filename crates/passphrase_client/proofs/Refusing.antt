@@ -1,12 +1,12 @@
 -- What a run needs to end with status 1.
-use Rattle.std.{proofs.{Common.{◌≡◌, ◌⊎◌, inl, inr, ℕ, List, [], ◌∷◌, Bool, true, false, Option, Some, None, Err, Result, refl, ap, sym, ◌∙◌, arith, rules}, lemmas.Bool.false≢true}, specs.Prelude.{◌||◌, ◌&&◌, not}}
+use Rattle.std.{proofs.{Common.{◌≡◌, ◌⊎◌, inl, inr, ℕ, List, [], ◌∷◌, Bool, true, false, Option, Some, None, Result, refl, ap, sym, ◌∙◌, arith, rules}, lemmas.Bool.false≢true}, specs.Prelude.{◌||◌, ◌&&◌, not}}
 use Rattle.std.specs.{List.{list_all, list_any}, Option.is_some}
 use Rattle.{agent_ports.specs.declared.link.WriteFault.WriteFault, passphrase_talk.specs.{Contacts.Contacts, declared.{connector.{Agents.{Agents, TheVariants.{One, Both}}, Place.Place, Unmet.Unmet}, told.Told.Told}}}
 use Rattle.{passphrase_words.specs.{Requests.act_ttl, Tasks.TaskValue, declared.task.Act.Act}, session_options.specs.OptionValues.EnvWords}
 use Rattle.passphrase_client.{proofs.{Answering.{emptied_notes, emptied_holds}, Given.{first_noted, stop_is_noted}}, specs.{Endings.status_of, Laws.{refuses, misses, is_refusal, is_missed, WasRefused, unfound, refused_step, nothing_kept}}}
-use Rattle.passphrase_client.specs.Runs.{GoesTo, refused_input, not_found, ended, given, ending_of, ending_of_unmet, World, HasRun, ComesTo, Reply, Settles, TakesSteps, Finds, behind_all, stops, ends, goes_on, notes, holds}
-use Rattle.passphrase_client.specs.{Steps.{steps_of, steps_to_give, looks}, Verdicts.{verdict, end_of, emptied_verdict, first_of, stops_at, empties, looks_alone}, declared.{course.Course.TheVariants.Ends, ending.Ending.Ending}}
-use Rattle.passphrase_client.specs.declared.{input.InputFault.InputFault, steps.Step.Step, verdict.Verdict.Verdict}
+use Rattle.passphrase_client.specs.Runs.{GoesTo, refused_input, not_found, ended, given, ending_of, ending_of_unmet, World, ComesTo, Reply, Settles, TakesSteps, behind_all, stops, ends, goes_on, notes, holds}
+use Rattle.passphrase_client.specs.{Steps.{steps_of, steps_to_give, looks}, Verdicts.{verdict, end_of, emptied_verdict, first_of, empties, looks_alone}, declared.{course.Course.TheVariants.Ends, ending.Ending.Ending}}
+use Rattle.passphrase_client.specs.declared.{input.InputFault.InputFault, steps.Step.Step}
 use Rattle.passphrase_client.specs.declared.ending.Ending.TheVariants as ending
 use Rattle.passphrase_client.specs.declared.steps.Step.TheVariants as step
 use Rattle.passphrase_client.specs.declared.verdict.Verdict.TheVariants as verdict_is

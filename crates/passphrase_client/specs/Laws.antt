@@ -1,10 +1,37 @@
 -- What holds of every run.
-use Rattle.std.specs.{Prelude.{◌≡◌, ◌&&◌, ◌%◌, ◌^◌, ◌==◌, not, ℕ, Bool, true, false, List, Contains, Some, Err}, List.{list_all, list_any}}
-use Rattle.{agent_ports.specs.Sides.with_bytes, passphrase_talk.specs.declared.told.Told.{Told, TheVariants.Passphrase}, passphrase_words.specs.Tasks.TaskValue, session_options.specs.OptionValues.EnvWords}
-use Rattle.passphrase_client.specs.{Runs.{World, TakesSteps, Finds, Reply, given_text}, Verdicts.{is_one_line, looks_alone}, declared.{course.Course.TheVariants.{Gives, Ends}, ending.Ending.Ending, steps.Step.Step}}
+use Rattle.std.specs.{Prelude.{◌≡◌, ◌&&◌, ◌%◌, ◌^◌, ◌==◌, ◌++◌, ◌∷◌, [], not, ℕ, ⊤, Bool, true, false, List, Contains, Option, None, Some, Err}, List.{list_all, list_any}}
+use Rattle.{agent_ports.specs.Sides.with_bytes, passphrase_talk.specs.{Contacts.Contacts, Visits.Visits, declared.{connector.{Agents.Agents, Place.Place}, told.Told.{Told, TheVariants.Passphrase}}}}
+use Rattle.{passphrase_words.specs.{Requests.line_of_request, Tasks.TaskValue}, session_options.specs.OptionValues.EnvWords}
+use Rattle.passphrase_client.specs.Runs.{World, TakesSteps, Finds, Reply, given_text, DoesStep, ComesTo, behind_all, stops, gives, ends, goes_on, notes, holds}
+use Rattle.passphrase_client.specs.{Steps.{steps_of, forgets, place_of, waits_of, request_of}, Verdicts.{is_one_line, looks_alone}, declared.{course.Course.{Course, TheVariants.{Gives, Ends}}, ending.Ending.Ending, steps.Step.Step, verdict.Verdict.Verdict}}
+use Rattle.passphrase_client.specs.declared.ending.Ending.TheVariants as ending
 use Rattle.passphrase_client.specs.declared.steps.Step.TheVariants as step
 use Rattle.passphrase_talk.specs.declared.connector.Unmet.TheVariants as unmet
 use Rattle.passphrase_talk.specs.declared.told.Told.TheVariants as told
+
+-- a contact with an agent for the request of a step, where this passphrase was held, and what was told of it
+pub record Visited (task : TaskValue) (terminal : EnvWords) : Type 0 where
+  pub to : Step
+  pub held : List ℕ
+  pub told : Told
+  pub before : Contacts
+  pub after : Contacts
+  pub visits : Visits (place_of to) (waits_of to) (line_of_request task (request_of to task.act held)) terminal told before after
+
+abbrev pub visited : {task : TaskValue} {terminal : EnvWords} {step : Step} {held : List ℕ} {told : Told} {what : Verdict} {before after : Contacts}
+    → DoesStep task terminal step held told what before after → Visited task terminal
+visited {step = step} {held = held} {told = told} {before = before} does = record { to = step; held = held; told = told; before = before; after = does.between; visits = does.visits }
+
+-- those of steps that were taken, one for each reply, in their order
+abbrev pub visits_of : {task : TaskValue} {terminal : EnvWords} {steps : List Step} {held : List ℕ} {noted : Option Ending} {before after : Contacts} {replies : List Reply} {course : Course}
+    → ComesTo task terminal steps held noted before replies course after → List (Visited task terminal)
+visits_of behind_all = []
+visits_of (stops is) = []
+visits_of (gives going does) = visited does ∷ []
+visits_of (ends going does) = visited does ∷ []
+visits_of (goes_on going does more) = visited does ∷ visits_of more
+visits_of (notes going does more) = visited does ∷ visits_of more
+visits_of (holds going does more) = visited does ∷ visits_of more
 
 -- what is kept is asked for, or the user is asked for it
 abbrev pub is_question : Step → Bool
@@ -12,13 +39,16 @@ is_question (step.Look place) = true
 is_question step.Ask = true
 is_question _ = false
 
--- a passphrase was written that can be one line, and the reply to a question of this run for the passphrase of its id was it
+-- A passphrase was written that can be one line, and the reply to a question of this run for the passphrase of its id was it, in one of the run's
+-- own contacts.
 pub record WasAnswered (task : TaskValue) (terminal : EnvWords) (before after : World) : Type 0 where
   pub secret : List ℕ
   pub steps : TakesSteps task terminal before (Gives secret) after.input after.contacts
-  pub to : Step
-  pub asks : is_question to ≡ true
-  pub answered : Contains steps.replies (record { to = to; told = Passphrase secret })
+  pub contact : Visited task terminal
+  pub made : Contains (visits_of steps.comes) contact
+  pub asks : is_question contact.to ≡ true
+  pub told_is : contact.told ≡ Passphrase secret
+  pub answered : Contains steps.replies (record { to = contact.to; told = Passphrase secret })
   pub one_line : is_one_line secret ≡ true
   pub written : after.output.bytes ≡ with_bytes before.output.bytes (given_text task.act secret)
 
@@ -57,3 +87,58 @@ pub data WasRefused (task : TaskValue) (terminal : EnvWords) (before after : Wor
       → WasRefused task terminal before after
   nothing_kept : {ending : Ending} (steps : TakesSteps task terminal before (Ends ending) after.input after.contacts) → looks_alone task.act ≡ true
       → list_all is_missed steps.replies ≡ true → WasRefused task terminal before after
+
+-- The agent says OK to a step: to the request of a probe, which it is given no passphrase for, an error behind its inquiry.
+abbrev pub is_done : Step → Told → Bool
+is_done step.Probe (told.Cancelled (Some number)) = true
+is_done step.Probe other = false
+is_done at told.Done = true
+is_done at (Passphrase secret) = true
+is_done _ _ = false
+
+-- so to each of these steps, in their order
+abbrev pub AreDone : List Step → List Reply → Type 0
+AreDone [] [] = ⊤
+AreDone (at ∷ steps) (reply ∷ replies) = (reply.to ≡ at) × (is_done at reply.told ≡ true) × AreDone steps replies
+AreDone _ _ = ⊥
+
+-- all steps of an act were taken, and the agents said OK to each: what was kept is forgotten at each agent that was found; or what was held is stored, and
+-- what the other agent kept is forgotten
+pub record HasDone (task : TaskValue) (terminal : EnvWords) (before after : World) : Type 0 where
+  pub steps : TakesSteps task terminal before (Ends ending.Done) after.input after.contacts
+  pub done : AreDone (steps_of task.act steps.agents) steps.replies
+
+-- in one of the run's own contacts what is kept was asked for, and the reply was a passphrase that can be one line
+pub record HasKept (task : TaskValue) (terminal : EnvWords) (before after : World) : Type 0 where
+  pub steps : TakesSteps task terminal before (Ends ending.Kept) after.input after.contacts
+  pub contact : Visited task terminal
+  pub made : Contains (visits_of steps.comes) contact
+  pub place : Place
+  pub to_is : contact.to ≡ step.Look place
+  pub secret : List ℕ
+  pub told_is : contact.told ≡ Passphrase secret
+  pub one_line : is_one_line secret ≡ true
+
+-- what is done before a new passphrase is typed: it is tried whether one with a lifetime is taken, and what is kept is forgotten
+abbrev pub before_new : Option ℕ → Agents → List Step
+before_new None agents = forgets agents
+before_new (Some ttl) agents = step.Probe ∷ forgets agents
+
+-- That was done, and then the user was asked, before anything else.
+pub record HasForgotten (task : TaskValue) (terminal : EnvWords) (ttl : Option ℕ) (before after : World) : Type 0 where
+  pub secret : List ℕ
+  pub steps : TakesSteps task terminal before (Gives secret) after.input after.contacts
+  pub front : List Reply
+  pub done : AreDone (before_new ttl steps.agents) front
+  pub told : Told
+  pub later : List Reply
+  pub replies_are : steps.replies ≡ front ++ (record { to = step.Ask; told = told }) ∷ later
+
+-- the user is asked by it
+abbrev pub asks_user : Step → Bool
+asks_user step.Ask = true
+asks_user _ = false
+
+-- none of these replies is to a question of the user
+abbrev pub NobodyAsked : List Reply → Type 0
+NobodyAsked replies = list_any (λ reply. asks_user reply.to) replies ≡ false

@@ -1,6 +1,6 @@
 -- What the error stream says of a run's end, in words for a user: this project's own.
 use Rattle.std.specs.Prelude.{ℕ, List, [], ◌∷◌, ◌++◌, codes, decimal}
-use Rattle.passphrase_talk.specs.declared.told.Loss.{Loss}
+use Rattle.{passphrase_talk.specs.declared.told.Loss.Loss, printable.specs.Printables.printable}
 use Rattle.passphrase_client.specs.declared.{ending.{Cause.Cause, Ending.Ending}, input.InputFault.InputFault, message.Sentence.Sentence}
 use Rattle.passphrase_client.specs.declared.ending.Cause.TheVariants as cause
 use Rattle.passphrase_client.specs.declared.ending.Ending.TheVariants as ending
@@ -46,9 +46,9 @@ code_of _ = 0
 abbrev pub sentence_text : Sentence → List ℕ
 sentence_text words = words.first.now ++ (words.second.now ++ (words.third.now ++ words.last.now))
 
--- as a line of this program
+-- as a line of this program, in which each byte that ASCII can't print is a question mark
 abbrev pub said : List ℕ → List ℕ
-said words = codes "passphrase: " ++ words ++ 10 ∷ []
+said words = codes "passphrase: " ++ printable words ++ 10 ∷ []
 
 -- what is said of an end; nothing where it went well, or where only the status was asked for
 abbrev pub message_of : Ending → List ℕ → List ℕ → List ℕ

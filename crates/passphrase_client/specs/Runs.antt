@@ -75,8 +75,11 @@ pub record Finds (task : TaskValue) (found : Result Agents Unmet) (before after 
   pub coming : after.coming ≡ before.coming
   pub opened : after.opened ≡ before.opened
   pub met : after.met ≡ before.met
+  pub launches : after.launches ≡ before.launches
   pub failed : found ≡ Err unmet.Fault → Rose before.faults after.faults
   pub faults : before.faults ≤ after.faults
+  pub no_memory : found ≡ Err unmet.NoMemory → Rose before.shortages after.shortages
+  pub shortages : before.shortages ≤ after.shortages
 
 -- the steps of a task were taken at the agents that were found
 pub record TakesSteps (task : TaskValue) (terminal : EnvWords) (before : World) (course : Course) (input : Side) (after : Contacts) : Type 0 where

@@ -1,5 +1,5 @@
 -- What a run does at the agents that answer, in order. Which steps an act has is this project's own rule.
-use Rattle.std.specs.{Prelude.{Bool, true, false, List, [], ◌∷◌, ℕ, None}, Option.is_some}
+use Rattle.std.specs.{Prelude.{Bool, true, false, not, List, [], ◌∷◌, ℕ, None}, Option.is_some}
 use Rattle.passphrase_talk.specs.declared.connector.{Agents.{Agents, TheVariants.{One, Both}}, Place.{Place, TheVariants.{Home, Beside}}, Waits.{Waits, TheVariants.{Answer, Prompt}}}
 use Rattle.passphrase_words.specs.{Requests.{RequestValue, act_ttl}, declared.task.Act.Act}
 use Rattle.passphrase_client.specs.declared.steps.Step.{Step, TheVariants.{Look, Ask, Forget, Store, Probe, Keep}}
@@ -47,6 +47,11 @@ place_of _ = Home
 abbrev pub waits_of : Step → Waits
 waits_of Ask = Prompt
 waits_of _ = Answer
+
+-- whether an act may ask the user: one that gives a passphrase, unless nobody is to be asked
+abbrev pub may_ask : Act → Bool
+may_ask (act.Give repeats quiet ttl feeds) = not quiet
+may_ask _ = false
 
 -- what it asks for, where this passphrase is held
 abbrev pub request_of : Step → Act → List ℕ → RequestValue

@@ -82,9 +82,12 @@ ask_verdict act (told.Passphrase secret) = held_for_life (act_ttl act) (given se
 ask_verdict act told.Done = Ends ending.Empty
 ask_verdict act other = goes_on_or (failure act step.Ask other)
 
--- an agent that inquires for the passphrase takes presets
+-- An agent that inquires for the passphrase takes presets, and says by an error that it was given none. One that says OK breaks the protocol: it inquired for
+-- nothing, or took what it wasn't given.
 abbrev pub probe_verdict : Act → Told → Verdict
-probe_verdict act (told.Cancelled number) = GoesOn
+probe_verdict act (told.Cancelled (Some number)) = GoesOn
+probe_verdict act told.Done = Ends (ending.Lost loss.Broken)
+probe_verdict act (told.Passphrase secret) = Ends (ending.Lost loss.Broken)
 probe_verdict act other = goes_on_or (failure act step.Probe other)
 
 -- what is held is given once it is kept

@@ -2,10 +2,10 @@
 //! connector, and overwrites a passphrase that it held. Begin with `come_to`; what it does is
 //! `ComesTo` (`specs/Runs`), and what each reply makes of it is in `verdict.rt`.
 
-ghost use Rattle.std.specs.Prelude.{◌≡◌, List};
+ghost use Rattle.std.specs.Prelude.{◌≡◌, All, List};
 ghost use Rattle.passphrase_talk.specs.{Visits.Visits, declared.connector.Waits.TheVariants.Answer};
 ghost use Rattle.passphrase_words.specs.{Requests.{line_of_request, Clears}, Tasks.task_value};
-ghost use Rattle.passphrase_client.specs.Runs.{ComesTo, DoesStep, Reply};
+ghost use Rattle.passphrase_client.specs.{Runs.{ComesTo, DoesStep, Reply}, Steps.waits_of};
 
 use crate::ending::Ending;
 use crate::steps::Step;
@@ -39,6 +39,8 @@ pub(crate) fn come_to<C: Connector>(
     ensures comes { (replies : List Reply) × ComesTo (task_value task.now)
         (C.terminal connector.old) steps.now held.now noted (C.contacts connector.old) replies
         result (C.contacts connector.new) }
+    ensures unprompted { All (λ step. waits_of step ≡ Answer) steps.now
+        → (C.contacts connector.new).launches ≡ (C.contacts connector.old).launches }
     ensures terminal { C.terminal connector.new ≡ C.terminal connector.old }
 {
     let Some((step, rest)) = steps.split_first() else {
@@ -72,6 +74,8 @@ fn take_step<C: Connector>(
 ) -> Verdict
     ensures does { (told : Told) × DoesStep (task_value task.now) (C.terminal connector.old) step
         held.now told result (C.contacts connector.old) (C.contacts connector.new) }
+    ensures unprompted { waits_of step ≡ Answer
+        → (C.contacts connector.new).launches ≡ (C.contacts connector.old).launches }
     ensures terminal { C.terminal connector.new ≡ C.terminal connector.old }
 {
     let mut line = task.line(&step.request(task.act, held));
@@ -88,6 +92,7 @@ fn take_step<C: Connector>(
 fn forget<C: Connector>(alloc: Global, connector: &mut C, task: &Task<'_>, place: Place) -> Told
     ensures visits { Visits place Answer (line_of_request (task_value task.now) Clears)
         (C.terminal connector.old) result (C.contacts connector.old) (C.contacts connector.new) }
+    ensures unprompted { (C.contacts connector.new).launches ≡ (C.contacts connector.old).launches }
     ensures terminal { C.terminal connector.new ≡ C.terminal connector.old }
 {
     let line = task.line(&Request::Clear);

@@ -18,7 +18,8 @@ mod verdict;
 pub use ending::{Cause, Ending};
 pub use input::InputFault;
 pub use laws::{
-    each_failure_is_counted, what_is_given_was_answered, what_is_refused_has_its_reply,
+    a_quiet_act_asks_nobody, each_failure_is_counted, what_is_done_was_answered,
+    what_is_given_was_answered, what_is_refused_has_its_reply,
     without_a_passphrase_nothing_is_written,
 };
 pub use run::{VERSION, run_askpass, run_passphrase};

@@ -1,19 +1,21 @@
-//! What a user is told of a run's end, as one line on the error stream. It writes there alone; a
-//! write that fails is told to nobody. Begin with `tell`; the sentences are `message_of`
-//! (`specs/Messages`).
+//! What a user is told of a run's end, as one line on the error stream, without a byte that a
+//! terminal would obey. It writes there alone; a write that fails is told to nobody. Begin with
+//! `tell`; the sentences are `message_of` (`specs/Messages`).
 
-ghost use Rattle.std.specs.Prelude.{◌≡◌, ◌≤◌, ◌++◌, ◌∷◌, [], codes, decimal, MatchOption};
+ghost use Rattle.std.specs.Prelude.{◌≡◌, ◌≤◌, ◌++◌, ◌∷◌, [], codes, decimal, MatchOption, length};
 ghost use Rattle.std.specs.List.{flat_map};
-ghost use Rattle.agent_ports.specs.Writing.{Writes};
-ghost use Rattle.passphrase_client.specs.Messages.{message_of, cause_words, input_words, loss_words};
-ghost use Rattle.passphrase_client.specs.Messages.{said, sentence_text, code_of, code_in};
-ghost use Rattle.passphrase_client.specs.Runs.{Says};
+ghost use Rattle.{agent_ports.specs.Writing.Writes, printable.specs.Printables.printable};
+ghost use Rattle.passphrase_client.specs.Messages.{message_of, cause_words, input_words};
+ghost use Rattle.passphrase_client.specs.Messages.{loss_words, said, sentence_text, code_of};
+ghost use Rattle.passphrase_client.specs.{Messages.code_in, Runs.Says};
 
 use crate::InputFault;
 use crate::ending::{Cause, Ending};
 use agent_ports::{Sink, WriteFault};
+use arrayvec::ArrayVec;
 use itoa::Buffer;
 use passphrase_talk::Loss;
+use printable::printable_byte;
 
 /// Says on the error stream how the run of this id ended, with the reason that the connector has
 /// for its last failure. Where that can't be written nobody is to be told.
@@ -150,27 +152,61 @@ fn loss_words(loss: Loss, reason: &[u8]) -> &[u8]
     }
 }
 
-/// Says these words one behind another, as a line of this program.
+/// How many bytes are made printable at a time.
+const PIECE: usize = 256;
+
+/// Says these words one behind another, as a line of this program. A byte that a terminal would
+/// obey, as an agent's reason and a refused word may have, is a question mark.
 pub(crate) fn say<E: Sink>(errors: &mut E, first: &[u8], second: &[u8], third: &[u8], last: &[u8])
     ensures { Says (said (first.now ++ (second.now ++ (third.now ++ last.now))))
         (E.output errors.old) (E.output errors.new) }
 {
-    let _ = put_all(
-        errors,
-        &[b"passphrase: ", first, second, third, last, b"\n"],
-    );
+    let _ = put_line(errors, &[first, second, third, last]);
 }
 
-/// Writes the parts one behind another.
+/// Writes the parts one behind another, as a line of this program.
+fn put_line<K: Sink>(sink: &mut K, parts: &[&[u8]]) -> Result<(), WriteFault>
+    ensures { Writes (said (flat_map (λ part. part.now) parts.now)) (K.output sink.old) result
+        (K.output sink.new) }
+{
+    put(sink, b"passphrase: ")?;
+    put_all(sink, parts)?;
+    put(sink, b"\n")
+}
+
+/// Writes the parts one behind another, made printable.
 fn put_all<K: Sink>(sink: &mut K, parts: &[&[u8]]) -> Result<(), WriteFault>
-    ensures { Writes (flat_map (λ part. part.now) parts.now) (K.output sink.old) result
+    ensures { Writes (printable (flat_map (λ part. part.now) parts.now)) (K.output sink.old) result
         (K.output sink.new) }
 {
     let Some((part, rest)) = parts.split_first() else {
         return Ok(());
     };
-    put(sink, part)?;
+    put_printable(sink, part)?;
     put_all(sink, rest)
+}
+
+/// Writes the bytes, made printable.
+fn put_printable<K: Sink>(sink: &mut K, bytes: &[u8]) -> Result<(), WriteFault>
+    ensures { Writes (printable bytes.now) (K.output sink.old) result (K.output sink.new) }
+{
+    let Some((piece, rest)) = bytes.split_at_checked(PIECE) else {
+        return put(sink, printable_of(bytes).as_slice());
+    };
+    put(sink, printable_of(piece).as_slice())?;
+    put_printable(sink, rest)
+}
+
+/// A piece of what is said, made printable.
+fn printable_of(piece: &[u8]) -> ArrayVec<u8, PIECE>
+    requires { length piece.now ≤ PIECE }
+    ensures { result.items ≡ printable piece.now }
+{
+    let mut text = ArrayVec::new();
+    for byte in piece {
+        text.push(printable_byte(*byte));
+    }
+    text
 }
 
 /// Writes the bytes.

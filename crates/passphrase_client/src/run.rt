@@ -2,13 +2,14 @@
 //! passphrase written. It works on the connector and the three standard streams. Begin with
 //! `run_passphrase`; what a run is says `RunsBy` (`specs/Runs`), and its status `specs/Endings`.
 
-ghost use Rattle.std.specs.Prelude.{◌≡◌, ◌≤◌, cond, map, string_bytes, List, ℕ};
+ghost use Rattle.std.specs.Prelude.{◌≡◌, ◌≤◌, cond, false, map, string_bytes, List, ℕ};
 ghost use Rattle.agent_ports.specs.{Writing.Writes, Sides.Side};
 ghost use Rattle.{assuan_text.specs.LineEnds.line_of, passphrase_talk.specs.Contacts.Contacts};
-ghost use Rattle.passphrase_words.specs.{Faults.fault_text, Tasks.task_value};
+ghost use Rattle.passphrase_words.specs.{Faults.fault_text, Words.Reads};
+ghost use Rattle.passphrase_words.specs.Tasks.{TaskValue, task_value, WantsTask};
 ghost use Rattle.passphrase_client.specs.Runs.{RunsBy, RunsAskpass, HasRun, HasTold, HasRefused};
 ghost use Rattle.passphrase_client.specs.Runs.{GoesTo, TakesHeld, Says, given_text, ending_of};
-ghost use Rattle.passphrase_client.specs.{Runs.ending_of_unmet, Messages.said};
+ghost use Rattle.passphrase_client.specs.{Runs.ending_of_unmet, Messages.said, Steps.may_ask};
 
 use crate::course::{Course, come_to};
 use crate::ending::Ending;
@@ -32,6 +33,8 @@ pub const VERSION: &str = "passphrase (Dogwoodcatch) 0.2.0\n";
 /// process: 0 where all was done, 1 where an agent refused or its passphrase can't be given, 2
 /// where the words or the input are refused or the output can't be written, and 3 where there is no
 /// agent, or it was lost. Standard output gets a passphrase alone, the lines of use, or the version.
+/// Where the words don't have the user asked, nothing is made of a pinentry that an agent speaks
+/// of.
 pub fn run_passphrase<C: Connector, I: Source, O: Sink, E: Sink>(
     alloc: Global,
     words: &[String],
@@ -40,7 +43,7 @@ pub fn run_passphrase<C: Connector, I: Source, O: Sink, E: Sink>(
     output: &mut O,
     errors: &mut E,
 ) -> u8
-    ensures { RunsBy (map string_bytes words.now) (C.terminal connector.old)
+    ensures runs { RunsBy (map string_bytes words.now) (C.terminal connector.old)
         (C.reason connector.new) (record {
           contacts = C.contacts connector.old;
           input = I.input input.old;
@@ -52,6 +55,8 @@ pub fn run_passphrase<C: Connector, I: Source, O: Sink, E: Sink>(
           output = O.output output.new;
           errors = E.output errors.new;
         }) result }
+    ensures unprompted { ((task : TaskValue) → Reads (map string_bytes words.now) (WantsTask task)
+        → may_ask task.act ≡ false) → (C.contacts connector.new).launches ≡ (C.contacts connector.old).launches }
 {
     match read_words(words) {
         Ok(Wanted::Help) => show(USAGE, output, errors),
@@ -99,7 +104,7 @@ fn run_task<C: Connector, I: Source, O: Sink, E: Sink>(
     output: &mut O,
     errors: &mut E,
 ) -> u8
-    ensures { HasRun (task_value task.now) (C.terminal connector.old) (C.reason connector.new)
+    ensures runs { HasRun (task_value task.now) (C.terminal connector.old) (C.reason connector.new)
         (record {
           contacts = C.contacts connector.old;
           input = I.input input.old;
@@ -111,6 +116,8 @@ fn run_task<C: Connector, I: Source, O: Sink, E: Sink>(
           output = O.output output.new;
           errors = E.output errors.new;
         }) result }
+    ensures unprompted { may_ask (task_value task.now).act ≡ false
+        → (C.contacts connector.new).launches ≡ (C.contacts connector.old).launches }
 {
     let ending = end_of_task(alloc, task, connector, input, output);
     tell(errors, ending, task.id(), connector.reason().as_bytes());
@@ -125,17 +132,20 @@ fn end_of_task<C: Connector, I: Source, O: Sink>(
     input: &mut I,
     output: &mut O,
 ) -> Ending
-    ensures { (errors later : Side) → GoesTo (task_value task.now) (C.terminal connector.old) (record {
-      contacts = C.contacts connector.old;
-      input = I.input input.old;
-      output = O.output output.old;
-      errors = errors;
-    }) (record {
-      contacts = C.contacts connector.new;
-      input = I.input input.new;
-      output = O.output output.new;
-      errors = later;
-    }) result }
+    ensures goes { (errors later : Side) → GoesTo (task_value task.now) (C.terminal connector.old)
+        (record {
+          contacts = C.contacts connector.old;
+          input = I.input input.old;
+          output = O.output output.old;
+          errors = errors;
+        }) (record {
+          contacts = C.contacts connector.new;
+          input = I.input input.new;
+          output = O.output output.new;
+          errors = later;
+        }) result }
+    ensures unprompted { may_ask (task_value task.now).act ≡ false
+        → (C.contacts connector.new).launches ≡ (C.contacts connector.old).launches }
 {
     let mut held = match held_for(task.act, input) {
         Ok(held) => held,

@@ -110,12 +110,14 @@ fn ask_verdict(act: Act, told: Told) -> Verdict
     }
 }
 
-/// An agent that inquires for the passphrase takes presets.
+/// An agent that inquires for the passphrase takes presets, and says by an error that it was given
+/// none.
 fn probe_verdict(act: Act, told: Told) -> Verdict
     ensures { result ≡ probe_verdict act told }
 {
     match told {
-        Told::Cancelled(_) => Verdict::GoesOn,
+        Told::Cancelled(Some(_)) => Verdict::GoesOn,
+        Told::Done | Told::Passphrase(_) => Verdict::Ends(Ending::Lost(Loss::Broken)),
         told => goes_on_or(failure(act, Step::Probe, told)),
     }
 }

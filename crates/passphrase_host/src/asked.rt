@@ -2,14 +2,15 @@
 //! sockets, files and processes by `reach.rt`, `set_up.rt` and `starting.rt`. Begin with
 //! `find_agents`.
 
-use crate::failure::{Failure, said};
-use crate::folders::{absolute, gnupg_home, own_folder};
+use crate::failure::{Failure, refused, said};
 use crate::patience::{Deadline, Limits};
 use crate::reach::{Ahead, Greeting, greet, reach, too_long};
-use crate::set_up::{SetUp, has_keys, set_up, stand_in};
-use crate::socket_path::{MAX_PATH, home_socket, socket_paths};
+use crate::set_up::{SetUp, StandIn, has_keys, set_up, stand_in};
 use crate::starting::{make_own, silence, start};
-use std::alloc::{AllocError, Global};
+use gnupg_home::{
+    MAX_PATH, absolute, check_home, gnupg_home, home_socket, own_folder, socket_paths,
+};
+use std::alloc::Global;
 use std::fs;
 use std::fs::{File, Files};
 use std::net::Net;
@@ -73,22 +74,23 @@ fn named_agent<R: Clock + Env + Processes + Files<File = File> + Net>(
     rt: &R,
     alloc: Global,
     folder: String,
-    stand_in: Option<String>,
+    stand_in: StandIn,
     limits: Limits,
 ) -> Result<Asked, Failure> {
     let mut asked = Asked::new(rt, alloc, folder)?;
     if asked.is_there(rt, alloc, limits)? {
         return Ok(asked);
     }
-    let program = match set_up(rt, alloc, asked.folder.as_str(), stand_in.as_deref())? {
-        SetUp::By(program) => Some(program),
+    let program = match set_up(rt, alloc, asked.folder.as_str())? {
+        SetUp::By(program) => program,
         SetUp::Marked => stand_in,
         SetUp::No => {
             refuse_keys(rt, alloc, asked.folder.as_str())?;
             stand_in
         }
     };
-    asked.start(rt, alloc, program, limits)?;
+    let program = path_of(alloc, asked.folder.as_str(), program)?;
+    asked.start(rt, alloc, program.as_str(), limits)?;
     Ok(asked)
 }
 
@@ -107,21 +109,22 @@ fn home_agents<R: Clock + Env + Processes + Files<File = File> + Net + Eprint>(
     rt: &R,
     alloc: Global,
     home: String,
-    stand_in: Option<String>,
+    stand_in: StandIn,
     limits: Limits,
 ) -> Result<Found, Failure> {
     let own = own_folder(rt, alloc)?;
     let mut asked = Asked::new(rt, alloc, home)?;
     if !asked.is_there(rt, alloc, limits)? {
-        let program = match set_up(rt, alloc, asked.folder.as_str(), stand_in.as_deref())? {
-            SetUp::By(program) => Some(program),
+        let program = match set_up(rt, alloc, asked.folder.as_str())? {
+            SetUp::By(program) => program,
             SetUp::Marked => stand_in,
             SetUp::No => {
                 let home = own_agent(rt, alloc, asked.folder.as_str(), own, stand_in, limits)?;
                 return Ok(Found { home, beside: None });
             }
         };
-        asked.start(rt, alloc, program, limits)?;
+        let program = path_of(alloc, asked.folder.as_str(), program)?;
+        asked.start(rt, alloc, program.as_str(), limits)?;
     }
     let beside = running_own(rt, alloc, asked.folder.as_str(), own)?;
     Ok(Found {
@@ -140,16 +143,20 @@ fn running_own<R: Env + Files<File = File> + Net>(
     let Some(own) = own else {
         return Ok(None);
     };
-    let socket = home_socket(alloc, own.as_str())?;
-    if own.as_str() == home || !is_socket(rt, socket.as_str()) {
+    if own.as_str() == home || !is_folder(rt, own.as_str()) {
         return Ok(None);
     }
+    let socket = home_socket(alloc, own.as_str())?;
     let mut asked = Asked::new(rt, alloc, own)?;
-    Ok(if asked.is_reached(rt, alloc)? {
+    Ok(if is_socket(rt, socket.as_str()) && asked.is_reached(rt, alloc)? {
         Some(asked)
     } else {
         None
     })
+}
+
+fn is_folder(files: &impl Files, path: &str) -> bool {
+    fs::metadata(files, path).is_ok_and(|found| found.is_dir())
 }
 
 fn is_socket(files: &impl Files, path: &str) -> bool {
@@ -163,7 +170,7 @@ fn own_agent<R: Clock + Env + Processes + Files<File = File> + Net + Eprint>(
     alloc: Global,
     home: &str,
     own: Option<String>,
-    stand_in: Option<String>,
+    stand_in: StandIn,
     limits: Limits,
 ) -> Result<Asked, Failure> {
     let Some(own) = own else {
@@ -175,9 +182,7 @@ fn own_agent<R: Clock + Env + Processes + Files<File = File> + Net + Eprint>(
     if asked.is_there(rt, alloc, limits)? {
         return Ok(asked);
     }
-    if stand_in.is_none() {
-        return Err(not_installed(alloc, home));
-    }
+    let program = path_of(alloc, home, stand_in)?;
     let own = asked.folder.as_str();
     if make_own(rt, alloc, own, home)? {
         // Where that can't be written nobody is to be told.
@@ -185,12 +190,21 @@ fn own_agent<R: Clock + Env + Processes + Files<File = File> + Net + Eprint>(
             "passphrase: no agent answers for {home}, which isn't set up for ours: made {own}, in which it is started"
         );
     }
-    asked.start(rt, alloc, stand_in, limits)?;
+    asked.start(rt, alloc, program.as_str(), limits)?;
     Ok(asked)
 }
 
-fn not_installed(alloc: Global, folder: &str) -> Failure {
-    said(format!(in alloc; "no agent answers for {folder}, and its program isn't installed"))
+/// The program that is started for this folder, where there is one.
+fn path_of(alloc: Global, folder: &str, program: StandIn) -> Result<String, Failure> {
+    match program {
+        StandIn::At(path) => Ok(path),
+        StandIn::Refused(reason) => Err(said(format!(in alloc;
+            "no agent answers for {folder}, and none is started: {reason}"
+        ))),
+        StandIn::Missing => Err(said(format!(in alloc;
+            "no agent answers for {folder}, and its program isn't installed"
+        ))),
+    }
 }
 
 fn not_started(alloc: Global, folder: &str) -> Failure {
@@ -200,12 +214,14 @@ fn not_started(alloc: Global, folder: &str) -> Failure {
 }
 
 impl Asked {
-    /// The agent of this folder, to which no connection was made.
+    /// The agent of this folder, to which no connection was made. The folder is the user's alone:
+    /// nothing in it is looked at before.
     fn new<R: Env + Files<File = File>>(
         rt: &R,
         alloc: Global,
         folder: String,
-    ) -> Result<Self, AllocError> {
+    ) -> Result<Self, Failure> {
+        check_home(rt, alloc, folder.as_str()).map_err(|fault| refused(alloc, &fault))?;
         let paths = socket_paths(rt, alloc, folder.as_str())?;
         Ok(Asked {
             folder,
@@ -254,19 +270,14 @@ impl Asked {
         &mut self,
         rt: &R,
         alloc: Global,
-        program: Option<String>,
+        program: &str,
         limits: Limits,
     ) -> Result<(), Failure> {
-        let Some(program) = program else {
-            return Err(not_installed(alloc, self.folder.as_str()));
-        };
         let socket = home_socket(alloc, self.folder.as_str())?;
         if socket.len() > MAX_PATH {
             return Err(too_long(alloc, socket.as_str()));
         }
-        if start(rt, alloc, program.as_str(), self.folder.as_str())?
-            && self.is_there(rt, alloc, limits)?
-        {
+        if start(rt, alloc, program, self.folder.as_str())? && self.is_there(rt, alloc, limits)? {
             return Ok(());
         }
         Err(not_started(alloc, self.folder.as_str()))

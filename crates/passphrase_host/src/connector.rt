@@ -14,6 +14,7 @@ use crate::patience::Limits;
 use crate::starting::silence;
 use crate::terminal::environment_of;
 use crate::wire::WireLoss;
+use assuan_client::Peer;
 use passphrase_talk::{Agents, Connector, Place, Unmet, Waits};
 use session_options::Env;
 use std::alloc::{AllocError, Global};
@@ -26,7 +27,8 @@ use std::rt;
 ///
 /// Where none answers it starts one by gpg-agent's stand-in: in the folder that the user names, in
 /// the GnuPG home where that was set up for it, and else in a folder of its own. Beside a prompt a
-/// guard is left, which ends that where this program ends or is stopped.
+/// guard is left, which ends that where this program ends or is stopped. It ends a pinentry of the
+/// user's, and no other process.
 #[derive(Drop)]
 pub struct SystemConnector<'a, R: Processes> {
     rt: &'a R,
@@ -38,6 +40,7 @@ pub struct SystemConnector<'a, R: Processes> {
     guard: Option<Guard<R::Started>>,
     reason: String,
     faults: u64,
+    shortages: u64,
 }
 
 impl<'a, R: rt::Clock + rt::Env + Processes + Files<File = File> + Net + Eprint> SystemConnector<
@@ -56,6 +59,7 @@ impl<'a, R: rt::Clock + rt::Env + Processes + Files<File = File> + Net + Eprint>
             guard: None,
             reason: String::new(alloc),
             faults: 0,
+            shortages: 0,
         })
     }
 }
@@ -69,14 +73,14 @@ impl<'a, R: rt::Clock + rt::Env + Processes + Files<File = File> + Net + Eprint>
       sought = None;
       opened = None;
       met = None;
+      launches = None;
       faults = c.faults;
+      shortages = c.shortages;
     } };
 
     ghost terminal = { λ c. words_of c.env };
 
     ghost reason = { λ c. string_bytes c.reason };
-
-    ghost launches = { λ _. None };
 
     fn find(&mut self, folder: Option<&str>, seconds: Option<u32>) -> Result<Agents, Unmet> {
         self.limits = Limits::new(seconds);
@@ -127,7 +131,7 @@ impl<'a, R: rt::Clock + rt::Env + Processes + Files<File = File> + Net + Eprint>
         self.reason.as_str()
     }
 
-    fn launched(&mut self, text: &[u8]) {
+    fn launched(&mut self, text: &[u8], _peer: &Peer<AgentLink<'a, R>>) {
         self.release_guard(true);
         self.guard = Guard::of_pinentry(self.rt, self.alloc, text, self.env.ttyname.as_slice());
     }
@@ -140,6 +144,7 @@ impl<R: rt::Clock + rt::Env + Processes + Files<File = File> + Net + Eprint> Sys
     /// The prompt is over, or isn't: then the guard ends it.
     fn release_guard(&mut self, is_over: bool)
         ensures faults { self.new.faults ≡ self.old.faults }
+        ensures shortages { self.new.shortages ≡ self.old.shortages }
         ensures env { self.new.env ≡ self.old.env }
         ensures reason { self.new.reason ≡ self.old.reason }
     {
@@ -153,10 +158,15 @@ impl<R: rt::Clock + rt::Env + Processes + Files<File = File> + Net + Eprint> Sys
     fn fail(&mut self, failure: Failure) -> Unmet
         ensures failed { result ≡ Unmet.Fault → Rose self.old.faults self.new.faults }
         ensures faults { self.old.faults ≤ self.new.faults }
+        ensures no_memory { result ≡ Unmet.NoMemory → Rose self.old.shortages self.new.shortages }
+        ensures shortages { self.old.shortages ≤ self.new.shortages }
         ensures env { self.new.env ≡ self.old.env }
     {
         match failure {
-            Failure::NoMemory => Unmet::NoMemory,
+            Failure::NoMemory => {
+                self.shortages = self.shortages.saturating_add(1);
+                Unmet::NoMemory
+            }
             Failure::Said(reason) => {
                 self.reason = reason;
                 self.faults = self.faults.saturating_add(1);
@@ -167,7 +177,9 @@ impl<R: rt::Clock + rt::Env + Processes + Files<File = File> + Net + Eprint> Sys
 
     /// A connection to the agent at this place.
     fn opened(&mut self, place: Place) -> Result<Opened, Failure>
-        ensures { (self.new.faults ≡ self.old.faults) × (self.new.env ≡ self.old.env) }
+        ensures faults { self.new.faults ≡ self.old.faults }
+        ensures shortages { self.new.shortages ≡ self.old.shortages }
+        ensures env { self.new.env ≡ self.old.env }
     {
         let (rt, alloc) = (self.rt, self.alloc);
         match place {

@@ -2,7 +2,7 @@
 //! stopped, it ends the pinentry and sets the terminal right. It is a script of the shell in a
 //! process of its own, and is handed no passphrase. Begin with `Guard::of_pinentry`.
 
-use crate::process_state::is_younger;
+use crate::process_state::{Pinentry, pinentry_of};
 use child_environment::hand_on;
 use std::alloc::Global;
 use std::fs::{File, Files};
@@ -14,29 +14,57 @@ use std::{io, str};
 /// In a session of its own, so that no signal of the terminal reaches it (setsid(1)).
 const SETSID: &str = "setsid";
 
-/// What the guard does, in the shell's words: `$1` is the pinentry's process, and `$2` the terminal,
-/// if any. A line on its input says that all is over; its end without one that this program has
-/// ended. A stopped program is seen by proc(5), `status`. The pinentry is halted while the terminal
-/// is set right: once it has ended the agent may open another prompt there.
+/// What the guard does, in the shell's words: `$1` is the pinentry's process, `$2` its user, `$3`
+/// when it was started, and `$4` the terminal, if any. A line on its input says that all is over;
+/// its end without one that this program has ended. A stopped program is seen by proc(5), `status`.
+/// The pinentry is halted while the terminal is set right: once it has ended the agent may open
+/// another prompt there.
+///
+/// Before each signal it looks whether the process is still the one that was seen: its number may
+/// be another's since, and it may run another program. It heeds no signal that ends this program
+/// too, as the end of a session or of a service sends one to all at once.
 const SCRIPT: &str = r#"
+trap '' HUP INT TERM
+pinentry=$1 user=$2 start=$3 terminal=$4
+tab=$(printf '\t')
+is_seen() {
+    name='' group='' users='' last=''
+    while IFS=$tab read -r key value others; do
+        case $key in
+            Name:) name=$value ;;
+            Tgid:) group=$value ;;
+            Uid:) users=$value$tab$others ;;
+        esac
+    done <"/proc/$pinentry/status" || return
+    case $name in
+        pinentry* | .pinentry*) ;;
+        *) return 1 ;;
+    esac
+    [ "$group" = "$pinentry" ] || return
+    [ "$users" = "$user$tab$user$tab$user$tab$user" ] || return
+    while read -r line; do last=$line; done <"/proc/$pinentry/stat" || return
+    set -- ${last##*) }
+    [ "${20}" = "$start" ]
+}
+signal() { is_seen && kill "$1" "$pinentry"; }
 clean() {
-    kill -STOP "$1" || return
-    if [ -n "$2" ]; then timeout 1 stty sane <"$2"; fi
-    kill "$1"
-    kill -CONT "$1"
-    for look in 1 2 3 4 5 6 7 8 9; do kill -0 "$1" || return; sleep 0.1; done
-    kill -9 "$1"
+    signal -STOP || return
+    if [ -n "$terminal" ]; then timeout -s KILL 1 stty sane <"$terminal"; fi
+    signal -TERM
+    signal -CONT
+    for look in 1 2 3 4 5 6 7 8 9; do is_seen || return; sleep 0.1; done
+    signal -KILL
 }
 watch() {
     while sleep 0.3; do
-        while read -r key value rest; do
-            case $key$value in State:T) clean "$@"; kill -9 $$; exit ;; esac
+        while read -r key value others; do
+            case $key$value in State:T) clean; kill -9 $$; exit ;; esac
         done <"/proc/$PPID/status" || return
     done
 }
-watch "$@" </dev/null &
-if ! read -r word; then clean "$@"; fi
-kill $! 2>/dev/null
+watch </dev/null &
+if ! read -r word; then clean; fi
+kill -9 $! 2>/dev/null
 "#;
 
 /// The guard of a prompt. It is handed no passphrase.
@@ -46,19 +74,17 @@ pub(crate) struct Guard<P: OpenProcess> {
 }
 
 impl<P: OpenProcess + Drop> Guard<P> {
-    /// Guards the prompt of the pinentry that the agent tells so, at this terminal. There is no guard
-    /// where none can be started. One that is older than this process was launched for no request of
-    /// it: some agents tell a number that the pinentry didn't.
+    /// Guards the prompt of the pinentry that the agent tells so, at this terminal. There is no
+    /// guard where none can be started, and none of a process that isn't a pinentry of the user's,
+    /// started since this one was: an agent may tell any number.
     pub(crate) fn of_pinentry<R: Env + Files<File = File> + Processes<Started = P>>(
         rt: &R,
         alloc: Global,
         text: &[u8],
         terminal: &[u8],
     ) -> Option<Self> {
-        let pinentry = process_in(text)?;
-        if !is_younger(rt, alloc, pinentry).unwrap_or(false) {
-            return None;
-        }
+        let number = process_in(text)?;
+        let pinentry = pinentry_of(rt, alloc, number).unwrap_or(None)?;
         let child = started(rt, alloc, pinentry, terminal).ok()?;
         Some(Guard { child })
     }
@@ -74,11 +100,20 @@ impl<P: OpenProcess + Drop> Guard<P> {
 fn started<R: Env + Processes>(
     rt: &R,
     alloc: Global,
-    pinentry: u32,
+    pinentry: Pinentry,
     terminal: &[u8],
 ) -> io::Result<Child<R::Started>> {
     let terminal = str::from_utf8(terminal).map_err(|_| ErrorKind::InvalidFilename)?;
-    let number = format!(in alloc; "{pinentry}")?;
+    let Pinentry {
+        number,
+        user,
+        start,
+    } = pinentry;
+    let (number, user, start) = (
+        format!(in alloc; "{number}")?,
+        format!(in alloc; "{user}")?,
+        format!(in alloc; "{start}")?,
+    );
     let mut command = Command::new(alloc, SETSID)?;
     for word in [
         "/bin/sh",
@@ -86,6 +121,8 @@ fn started<R: Env + Processes>(
         SCRIPT,
         "passphrase-guard",
         number.as_str(),
+        user.as_str(),
+        start.as_str(),
         terminal,
     ] {
         command.arg(word)?;

@@ -9,18 +9,13 @@
 
 mod asked;
 mod connector;
-#[cfg(test)]
-mod entries;
 mod failure;
-mod folders;
 mod guard;
 mod link;
 mod patience;
 mod process_state;
 mod reach;
-mod redirect;
 mod set_up;
-mod socket_path;
 mod starting;
 mod terminal;
 mod wire;

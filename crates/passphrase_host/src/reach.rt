@@ -2,18 +2,17 @@
 //! sockets and reads the greeting (Assuan manual, "server responses"). Begin with `reach`, and with
 //! `greet` for whether it answers.
 
-use crate::failure::{Failure, if_there, said};
+use crate::failure::{Failure, refused, said};
 use crate::patience::Deadline;
-use crate::redirect::{Redirect, named_socket};
 use arrayvec::ArrayVec;
+use gnupg_home::{MAX_PATH, OwnFile, Redirect, named_socket, own_file};
 use std::alloc::Global;
 use std::fs::{File, Files};
+use std::io;
 use std::io::{ErrorKind, Read};
 use std::net::Net;
-use std::os::unix::fs::FileTypeExt;
 use std::os::unix::net::UnixStream;
 use std::rt::{Clock, Env};
-use std::{fs, io};
 
 /// How many bytes a line has at most, with its end (Assuan manual, "server responses").
 pub(crate) const MAX_LINE: usize = 1002;
@@ -36,27 +35,48 @@ pub(crate) fn reach<R: Env + Files<File = File> + Net>(
     Ok(None)
 }
 
-/// A connection to what this path is: a socket, or a file that says where that is.
+/// A connection to what this path is: a socket, or a file that says where that is. Each of them is
+/// the user's own, in a folder that passes.
 fn reach_at<R: Env + Files<File = File> + Net>(
     rt: &R,
     alloc: Global,
     path: &str,
 ) -> Result<Option<UnixStream>, Failure> {
-    let Ok(found) = fs::metadata(rt, path) else {
+    let Some(found) = found_at(rt, alloc, path)? else {
         return Ok(None);
     };
-    if found.file_type().is_socket() {
-        return connect(rt, alloc, path);
+    if found.is_socket {
+        return connect(rt, alloc, path, &found);
     }
-    if !found.is_file() {
-        return Ok(None);
-    }
-    match redirect_at(rt, alloc, path)? {
-        Redirect::To(other) => connect(rt, alloc, other.as_str()),
+    match redirect_at(rt, alloc, found.path.as_str())? {
+        Redirect::To(other) => reach_named(rt, alloc, other.as_str()),
         Redirect::Other => Ok(None),
         Redirect::Nameless => Err(said(format!(in alloc;
             "the redirect file {path} names no socket: %Assuan%, and then socket=PATH"
         ))),
+    }
+}
+
+/// A connection to the socket that a redirect file names.
+fn reach_named<R: Files<File = File> + Net>(
+    rt: &R,
+    alloc: Global,
+    path: &str,
+) -> Result<Option<UnixStream>, Failure> {
+    match found_at(rt, alloc, path)? {
+        Some(found) if found.is_socket => connect(rt, alloc, path, &found),
+        _ => Ok(None),
+    }
+}
+
+fn found_at<R: Files<File = File>>(
+    rt: &R,
+    alloc: Global,
+    path: &str,
+) -> Result<Option<OwnFile>, Failure> {
+    match own_file(rt, alloc, path) {
+        Ok(found) => Ok(found),
+        Err(fault) => Err(refused(alloc, &fault)),
     }
 }
 
@@ -77,10 +97,22 @@ fn front<R: Files<File = File>>(rt: &R, path: &str, buf: &mut [u8]) -> io::Resul
     File::open(rt, path)?.read(buf)
 }
 
-fn connect(net: &impl Net, alloc: Global, path: &str) -> Result<Option<UnixStream>, Failure> {
+/// A connection to the socket that was found at this path: by its own path, on which there are no
+/// links, or where that is too long for a system call by the one that was named.
+fn connect(
+    net: &impl Net,
+    alloc: Global,
+    named: &str,
+    found: &OwnFile,
+) -> Result<Option<UnixStream>, Failure> {
+    let path = if found.path.len() > MAX_PATH {
+        named
+    } else {
+        found.path.as_str()
+    };
     match UnixStream::connect(net, path) {
         Ok(stream) => Ok(Some(stream)),
-        Err(error) if error.kind() == ErrorKind::InvalidInput => Err(too_long(alloc, path)),
+        Err(error) if error.kind() == ErrorKind::InvalidInput => Err(too_long(alloc, named)),
         Err(_) => Ok(None),
     }
 }

@@ -2,8 +2,8 @@
 //! started: `gpg-agent`'s stand-in, which is a script. It reads GnuPG's option files and looks at
 //! programs, and changes nothing. Begin with `set_up` and `stand_in`.
 
-use crate::failure::if_there;
-use crate::folders::joined;
+use crate::failure::{Failure, if_there, refused};
+use gnupg_home::{check_program, joined, real_path};
 use std::alloc::{AllocError, Global};
 use std::fs::{File, Files};
 use std::io::Read;
@@ -18,9 +18,6 @@ const GPG_CONF_OF_ALL: &str = "/etc/gnupg/gpg.conf";
 
 /// Where the package puts its programs.
 const INSTALLED: [&str; 2] = ["/usr/local/lib/dogwoodcatch", "/usr/lib/dogwoodcatch"];
-
-/// What the stand-in's path ends with where it is installed.
-const INSTALLED_NAME: &str = "/dogwoodcatch/gpg-agent";
 
 /// The bits of a mode by which a file may be run.
 const MAY_RUN: u32 = 0o111;
@@ -58,42 +55,74 @@ pub(crate) fn program_folder<R: Files>(
     }
 }
 
-/// The stand-in: beside this program, or where the package puts it.
-pub(crate) fn stand_in<R: Files<File = File>>(
-    rt: &R,
-    alloc: Global,
-) -> Result<Option<String>, AllocError> {
-    if let Some(folder) = program_folder(rt, alloc)? {
-        if let Some(path) = script_in(rt, alloc, folder.as_str())? {
-            return Ok(Some(path));
-        }
-    }
-    for folder in INSTALLED {
-        if let Some(path) = script_in(rt, alloc, folder)? {
-            return Ok(Some(path));
-        }
-    }
-    Ok(None)
+/// gpg-agent's stand-in, as this program starts it.
+#[derive(Drop)]
+pub(crate) enum StandIn {
+    /// It is at this path, on which there are no links.
+    At(String),
+    /// It isn't run, for this reason: others can change it.
+    Refused(String),
+    Missing,
 }
 
-fn script_in<R: Files<File = File>>(
+/// The stand-in: beside this program, or where the package puts it. Where none of them passes the
+/// first one is told.
+pub(crate) fn stand_in<R: Files<File = File>>(rt: &R, alloc: Global) -> Result<StandIn, Failure> {
+    let mut refused = StandIn::Missing;
+    for path in stand_ins(rt, alloc)? {
+        match checked(rt, alloc, path)? {
+            StandIn::At(path) => return Ok(StandIn::At(path)),
+            other => {
+                if matches!(refused, StandIn::Missing) {
+                    refused = other;
+                }
+            }
+        }
+    }
+    Ok(refused)
+}
+
+/// The scripts in its places, by paths without links.
+fn stand_ins<R: Files<File = File>>(rt: &R, alloc: Global) -> Result<Vec<String>, AllocError> {
+    let mut found = Vec::new(alloc);
+    if let Some(folder) = program_folder(rt, alloc)? {
+        push_script(rt, alloc, &mut found, folder.as_str())?;
+    }
+    for folder in INSTALLED {
+        push_script(rt, alloc, &mut found, folder)?;
+    }
+    Ok(found)
+}
+
+fn push_script<R: Files<File = File>>(
     rt: &R,
     alloc: Global,
+    found: &mut Vec<String>,
     folder: &str,
-) -> Result<Option<String>, AllocError> {
+) -> Result<(), AllocError> {
     let path = joined(alloc, folder, "gpg-agent")?;
-    Ok(if is_script(rt, path.as_str()) {
-        Some(path)
-    } else {
-        None
-    })
+    match real_path(rt, alloc, path.as_str())? {
+        Some(real) if is_script(rt, real.as_str()) => Ok(found.push(real)?),
+        _ => Ok(()),
+    }
+}
+
+/// The program, where nobody but the user and root can change it.
+fn checked<R: Files<File = File>>(rt: &R, alloc: Global, path: String) -> Result<StandIn, Failure> {
+    match check_program(rt, alloc, path.as_str()) {
+        Ok(()) => Ok(StandIn::At(path)),
+        Err(fault) => match refused(alloc, &fault) {
+            Failure::Said(reason) => Ok(StandIn::Refused(reason)),
+            failure => Err(failure),
+        },
+    }
 }
 
 /// How a folder stands to the agent of this repository.
 #[derive(Drop)]
 pub(crate) enum SetUp {
     /// GnuPG's programs start this program there, which is the stand-in.
-    By(String),
+    By(StandIn),
     /// It has the mark.
     Marked,
     /// It isn't this agent's.
@@ -101,16 +130,15 @@ pub(crate) enum SetUp {
 }
 
 /// Whether the agent of the folder is to be ours: GnuPG's programs start the stand-in there, or the
-/// folder has the mark.
+/// folder has the mark. A program of another place isn't the stand-in, whatever its name.
 pub(crate) fn set_up<R: Files<File = File>>(
     rt: &R,
     alloc: Global,
     folder: &str,
-    stand_in: Option<&str>,
-) -> Result<SetUp, AllocError> {
+) -> Result<SetUp, Failure> {
     if let Some(program) = agent_program(rt, alloc, folder)? {
-        if is_stand_in(rt, alloc, program.as_str(), stand_in)? {
-            return Ok(SetUp::By(program));
+        if let Some(found) = stand_in_at(rt, alloc, program.as_str())? {
+            return Ok(SetUp::By(checked(rt, alloc, found)?));
         }
     }
     let conf = joined(alloc, folder, "gpg-agent.conf")?;
@@ -120,34 +148,26 @@ pub(crate) fn set_up<R: Files<File = File>>(
     })
 }
 
-fn has_mark(conf: &[u8]) -> bool {
-    conf.split(|byte| *byte == b'\n')
-        .any(|line| line.starts_with(MARK.as_bytes()))
-}
-
-/// Whether this program is the stand-in: this one, or that of another place where it is installed.
-fn is_stand_in<R: Files<File = File>>(
+/// The stand-in in one of its places that this program is, if it is.
+fn stand_in_at<R: Files<File = File>>(
     rt: &R,
     alloc: Global,
     program: &str,
-    stand_in: Option<&str>,
-) -> Result<bool, AllocError> {
-    if !is_script(rt, program) {
-        return Ok(false);
-    }
-    let Some(found) = if_there(fs::canonicalize(&(rt, alloc), program))? else {
-        return Ok(false);
+) -> Result<Option<String>, AllocError> {
+    let Some(real) = real_path(rt, alloc, program)? else {
+        return Ok(None);
     };
-    if found.as_str().ends_with(INSTALLED_NAME) {
-        return Ok(true);
+    for path in stand_ins(rt, alloc)? {
+        if path.as_str() == real.as_str() {
+            return Ok(Some(path));
+        }
     }
-    let Some(stand_in) = stand_in else {
-        return Ok(false);
-    };
-    Ok(match if_there(fs::canonicalize(&(rt, alloc), stand_in))? {
-        Some(wanted) => wanted.as_str() == found.as_str(),
-        None => false,
-    })
+    Ok(None)
+}
+
+fn has_mark(conf: &[u8]) -> bool {
+    conf.split(|byte| *byte == b'\n')
+        .any(|line| line.starts_with(MARK.as_bytes()))
 }
 
 /// The program that GnuPG's programs start as the agent of this folder: the last line counts, and

@@ -3,9 +3,9 @@
 //! and writes that folder and a file with its mark. Begin with `start`.
 
 use crate::failure::{Failure, if_there, said};
-use crate::folders::joined;
 use crate::set_up::{MARK, program_folder};
 use child_environment::hand_on;
+use gnupg_home::{check_program, joined, real_path};
 use std::alloc::{AllocError, Global};
 use std::fs::{DirBuilder, File, Files, OpenOptions};
 use std::io::Write;
@@ -119,6 +119,12 @@ fn clients<R: Env + Files<File = File> + Processes>(
         return Ok(None);
     };
     let program = joined(alloc, here.as_str(), "dogwoodcatch-setup")?;
+    let Some(program) = real_path(rt, alloc, program.as_str())? else {
+        return Ok(None);
+    };
+    if check_program(rt, alloc, program.as_str()).is_err() {
+        return Ok(None);
+    }
     let Some(output) = if_there(told_clients(rt, alloc, program.as_str(), folder))? else {
         return Ok(None);
     };

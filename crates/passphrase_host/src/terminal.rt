@@ -6,9 +6,9 @@ ghost use Rattle.std.specs.Prelude.{◌≡◌, false};
 ghost use Rattle.session_options.specs.Text.{has_line_end, ends_line};
 
 use crate::failure::if_there;
-use crate::folders::variable;
 use crate::process_state::{Field, OWN_STATE};
 use arrayvec::ArrayVec;
+use gnupg_home::variable;
 use session_options::{Env, MAX_VALUE_LEN};
 use std::alloc::{AllocError, Global};
 use std::fs::{File, Files};

@@ -51,6 +51,9 @@ id_word id is =
     and_false : (a b : Bool) → a ≡ false → (a && b) ≡ false
     and_false a b is = ap (λ c. c && b) is
 
+pub cached : (id : List ℕ) → IdWord id → cache_id id ≡ Some id
+cached id is = ap (λ (b : Bool). cond (b && nat_le (length id) 50) (Some id) None) is.some ∙ ap (λ (b : Bool). cond b (Some id) None) is.short
+
 -- ---- the words of a request
 
 module _ (id prompt description : List ℕ) where
@@ -78,9 +81,6 @@ module _ (id prompt description : List ℕ) where
         next_word id (codes "X" ++ 32 ∷ (prompt ++ 32 ∷ description)) is.word
         ∙ ap (λ (w : List (List ℕ)). id ∷ w) (next_word (codes "X") (prompt ++ 32 ∷ description) (record { some = omega arith; whole = refl }))
         ∙ ap (λ (w : List (List ℕ)). id ∷ codes "X" ∷ w) (next_word prompt description prompt_is ∙ ap (λ (w : List (List ℕ)). prompt ∷ w) (last_word description description_is))
-
-    cached : cache_id id ≡ Some id
-    cached = ap (λ (b : Bool). cond (b && nat_le (length id) 50) (Some id) None) is.some ∙ ap (λ (b : Bool). cond b (Some id) None) is.short
 
     named : unless_placeholder id ≡ Some id
     named = ap (λ (b : Bool). cond b None (Some id)) is.not_x
@@ -118,7 +118,7 @@ module _ (id prompt description : List ℕ) where
         ap (λ (w : List (List ℕ)). get_of (options_of w) (arguments_of w)) ws_are
         ∙ ap (λ (n : ℕ). get_of (take n (option ∷ arguments)) (without_mark (drop n (option ∷ arguments)))) count
         ∙ ap (λ (a : List (List ℕ)). get_of (option ∷ []) a) marked
-        ∙ ap (λ (c : Option (List ℕ)). with_id (option ∷ []) c) cached ∙ computes ∙ ap (λ (w : Option (List ℕ)). Ok (get_passphrase (fields no_ask repeat w))) named
+        ∙ ap (λ (c : Option (List ℕ)). with_id (option ∷ []) c) (cached id is) ∙ computes ∙ ap (λ (w : Option (List ℕ)). Ok (get_passphrase (fields no_ask repeat w))) named
 
     two_options : (no_ask : Bool) (repeat : ℕ) (option other : List ℕ) → is_option option ≡ true → is_option other ≡ true
         → with_id (option ∷ other ∷ []) (Some id) ≡ Ok (get_passphrase (fields no_ask repeat (unless_placeholder id)))
@@ -130,7 +130,7 @@ module _ (id prompt description : List ℕ) where
         ap (λ (w : List (List ℕ)). get_of (options_of w) (arguments_of w)) ws_are
         ∙ ap (λ (n : ℕ). get_of (take n (option ∷ other ∷ arguments)) (without_mark (drop n (option ∷ other ∷ arguments)))) count
         ∙ ap (λ (a : List (List ℕ)). get_of (option ∷ other ∷ []) a) marked
-        ∙ ap (λ (c : Option (List ℕ)). with_id (option ∷ other ∷ []) c) cached ∙ computes ∙ ap (λ (w : Option (List ℕ)). Ok (get_passphrase (fields no_ask repeat w))) named
+        ∙ ap (λ (c : Option (List ℕ)). with_id (option ∷ other ∷ []) c) (cached id is) ∙ computes ∙ ap (λ (w : Option (List ℕ)). Ok (get_passphrase (fields no_ask repeat w))) named
 
     data_word : (more : List ℕ) → words (codes "--data " ++ more) ≡ codes "--data" ∷ words more
     data_word more = next_word (codes "--data") more (record { some = omega arith; whole = refl })

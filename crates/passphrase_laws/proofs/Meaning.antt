@@ -1,8 +1,9 @@
 -- What words mean, their task says.
-use Rattle.std.proofs.{Common.{◌≡◌, ◌≢◌, ℕ, ◌&&◌, true, false, List, [], ◌∷◌, codes, get_or, Option, Some, None, inl, inr, refl, ap, sym, ◌∙◌}, lemmas.Bool.{and_parts, cases_Bool, cond-true, cond-false, false≢true}}
-use Rattle.std.{proofs.lemmas.Slice.Eq.bytes_eq-Decides, specs.{Option.option_and_then, Prelude.not, Str.bytes_eq}}
-use Rattle.passphrase_words.specs.{Options.form_of, Rules.{are_sound, fits}, Spelling.{Setting, is_set, value_given}, Tasks.{TaskValue, WantsTask}, Texts.texts_of, Words.{Reads, ReadsAskpass}}
-use Rattle.passphrase_laws.specs.Asking.{HasTexts, Means, Says, command, askpass}
+use Rattle.std.proofs.{Common.{◌≡◌, ◌≢◌, ℕ, ◌&&◌, Bool, true, false, List, [], ◌∷◌, codes, get_or, Option, Some, None, inl, inr, refl, ap, sym, subst, ◌∙◌}, lemmas.Bool.{and_parts, leb-true, cases_Bool, cond-true, cond-false, false≢true}}
+use Rattle.std.{proofs.lemmas.Slice.Eq.bytes_eq-Decides, specs.{Option.option_and_then, Prelude.{if◌then◌else◌, nat_le, not}, Str.bytes_eq}}
+use Rattle.passphrase_words.specs.{Options.{form_of, if_seconds, seconds_of}, Requests.act_ttl, Rules.{are_sound, fits, seconds_given}, Spelling.{Setting, is_set, value_given}, Tasks.{TaskValue, WantsTask}, Texts.texts_of, Words.{Reads, ReadsAskpass}}
+use Rattle.{assuan_text.specs.Numbers.number_of, passphrase_words.specs.declared.task.Act.TheVariants.{Cached, Forget, Give, Store}}
+use Rattle.passphrase_laws.specs.Asking.{AreSeconds, HasTexts, Means, Says, command, askpass}
 use Rattle.passphrase_words.specs.Words as reading
 
 abbrev prompt_name : List ℕ
@@ -42,6 +43,33 @@ says words task prompt description (askpass {text} words_are task_is fit) = reco
   some = λ is. cc is;
   texts_are = ap (λ (t : TaskValue). t.texts) task_is ∙ ap (λ (i : List ℕ). texts_of i None text) (sym (ap (λ (t : TaskValue). t.id) task_is));
 }
+
+-- ---- seconds
+
+if_are : (n : ℕ) (within : Bool) → (nat_le 1 n && nat_le n 2147483647) ≡ within → AreSeconds (if within then Some n else None)
+if_are n true is = let parts = and_parts (nat_le 1 n) (nat_le n 2147483647) is in (leb-true 1 n parts.0, leb-true n 2147483647 parts.1)
+if_are n false is = tt
+
+number_are : (number : Option ℕ) → AreSeconds (option_and_then if_seconds number)
+number_are None = tt
+number_are (Some n) = if_are n (nat_le 1 n && nat_le n 2147483647) refl
+
+value_are : (value : Option (List ℕ)) → AreSeconds (option_and_then seconds_of value)
+value_are None = tt
+value_are (Some digits) = number_are (number_of digits)
+
+act_are : (forget store cached repeats quiet feeds : Bool) (ttl : Option ℕ) → AreSeconds ttl → AreSeconds (act_ttl (if forget then Forget else if store then Store else if cached then Cached else Give repeats quiet ttl feeds))
+act_are true store cached repeats quiet feeds ttl are = tt
+act_are false true cached repeats quiet feeds ttl are = tt
+act_are false false true repeats quiet feeds ttl are = tt
+act_are false false false repeats quiet feeds ttl are = are
+
+pub seconds : (words : List (List ℕ)) (task : TaskValue) (prompt : Option (List ℕ)) (description : List ℕ) → Means words task prompt description → AreSeconds (act_ttl task.act)
+seconds words task prompt description (command {given} spelled behind is) =
+    subst (λ (t : TaskValue). AreSeconds (act_ttl t.act)) (sym is.task_is)
+    (act_are (is_set (codes "--forget") given) (is_set (codes "--store") given) (is_set (codes "--cached") given) (is_set (codes "--new") given) (is_set (codes "--no-ask") given)
+    (not (is_set (codes "--null") given)) (seconds_given (codes "--ttl") given) (value_are (value_given (codes "--ttl") given)))
+seconds words task prompt description (askpass words_are task_is fit) = subst (λ (t : TaskValue). AreSeconds (act_ttl t.act)) (sym task_is) tt
 
 pub read_texts : (words : List (List ℕ)) (task : TaskValue) → Reads words (WantsTask task) → HasTexts words task
 read_texts words task (reading.task {given} {operands = operands} spelled behind is) =

@@ -1,9 +1,8 @@
 -- Before its last line, a request for a passphrase tells its client at most that a pinentry was launched, and once.
 use Rattle.std.{specs.{List.AllByRecursion, Prelude.⊤}, proofs.Common.{◌≢◌, ℕ, zero, suc, Bool, true, false, List, [], ◌∷◌, ◌++◌, Option, Some, None, Result, Ok, Err, refl, sym, subst, append_assoc}}
 use Rattle.agent_ask.specs.{Events.{PromptEvent, Called, Notified, OutOfMemory, Shut}, Session.{PortCalls.Prompt, Actions.{◌>>=◌, Follows, goes_on, stops, Returns, returns, Refuses, refuses, needed, or_else}, SessionEvents.Port}}
-use Rattle.agent_ask.specs.{Session.TurnActions.{Asks, Seats, Closes}, PinActions.{PromptsPin, prompted}, Prompts.{AsksBefore, Opens, Tries, IsTry, Repeats, repeated}}
-use Rattle.agent_ask.specs.{SessionPrompts.{AnyInSession, note}, Tests.PinTest, declared.prompt.ask.Asked.Asked}
-use Rattle.{agent_ask.specs.declared.prompt.spec.{AskPlan.AskPlan, PromptSpec.PromptSpec}, agent_commands.specs.Actions.{CacheEvent, CacheAction}}
+use Rattle.agent_ask.specs.{Session.TurnActions.{Asks, Seats, Closes}, PinActions.{PromptsPin, prompted}, Prompts.{AsksBefore, Opens, Tries, IsTry, Repeats, repeated}, SessionPrompts.{AnyInSession, note}, Tests.PinTest}
+use Rattle.{agent_ask.specs.declared.prompt.{ask.Asked.Asked, spec.{AskPlan.AskPlan, PromptSpec.PromptSpec}}, agent_commands.specs.Actions.{CacheEvent, CacheAction}}
 use Rattle.agent_commands.specs.{Passphrases.{Passphrase, passphrase_by, as_wanted, WithoutPrompt, ByUser, ByCache, LooksFor, WantsPrompt, Prompts, PromptsAny, Uncached}, Requests.GetFields, declared.request.Texts.Texts}
 use Rattle.{assuan_server.specs.Clients.session_lines, cache_policy.specs.declared.mark.MarkStep.{MarkStep, TheVariants.Seat}, session_client.specs.declared.{code.Code.Code, refusal.Refusal.{Refusal, TheVariants.Agent}}}
 use Rattle.session_options.specs.{OptionValues.OptionValues, declared.{options.PinMode.PinMode, rules.Rules.Rules}}

@@ -2,110 +2,118 @@
 use Rattle.std.{specs.List.AllByRecursion, proofs.{Common.{◌≡◌, ℕ, List, [], ◌∷◌, ◌++◌, Option, Some, None, refl, ap, sym, subst, ◌∙◌, append-nil, append_assoc}, lemmas.List.Concat.flat_map-append}}
 use Rattle.{agent_ask.specs.{Session.{Answering.{whole, cut}, SessionEvents.{Sent, CutAtLast}, Worlds.{Does, Outside}}, Events.Call}, agent_commands.specs.{Exchanges.LineExchange, Actions.CacheEvent, Requests.request_of}}
 use Rattle.{agent_commands.specs.{Talks.{Session, Talk}, declared.{request.{CacheCommand.CacheCommand, Request.TheVariants.Cache}, went.{SessionEnd.SessionEnd, Went.{Went, TheVariants.{End, On}}}}}, agent_origin.specs.PortStates.PortWorld}
-use Rattle.{agent_origin.specs.{SessionExchanges.{SessionExchange, kept_at_start}, declared.session_state.SessionState.SessionState}, agent_ports.specs.{Leads.Leads, Sides.with_bytes}}
+use Rattle.{agent_origin.specs.{SessionExchanges.kept_at_start, declared.session_state.SessionState.SessionState}, agent_session.specs.{Completeness.Exchanges, OwnPassphrases.Served}, agent_ports.specs.{Leads.Leads, Sides.with_bytes}}
 use Rattle.{assuan_line.specs.declared.reader.Took.TheVariants.Line, assuan_server.specs.{Reading.Supply, Written.greeting}, assuan_text.specs.LineEnds.line_of, cache_policy.specs.{Turns.Turn, declared.mark.MarkStep.MarkStep}}
-use Rattle.session_options.specs.{OptionValues.OptionValues, declared.{options.PinMode.PinMode, rules.Rules.Rules}}
-use Rattle.passphrase_laws.{specs.{Exchanges.{text_of, texts_of}, Roads.{AreReplies, IsWhole}, Served.{IsPassed, IsReply, Passes, Serves, lines_read}}, proofs.{Passing.on_cache, Texts.{whole_at, whole_front}}}
+use Rattle.session_options.specs.{OptionValues.OptionValues, declared.rules.Rules.Rules}
+use Rattle.passphrase_laws.{specs.{Exchanges.{text_of, texts_of}, Roads.{AreReplies, IsWhole, session_text}, Served.{IsNext, IsPassed, IsReply, Passes, Serves, lines_read}}, proofs.{Passing.{IsPlain, on_cache}, Texts.{whole_at, whole_behind, whole_front}}}
 use Rattle.agent_ask.specs.Session.SessionEvents as event
 use Rattle.agent_ask.specs.Session.Worlds as does
 use Rattle.agent_commands.specs.Talks as talks
 use Rattle.agent_ports.specs.Leads as leads
+use Rattle.agent_session.specs.OwnPassphrases as answering
 use Rattle.passphrase_laws.specs.Roads as road
 use Rattle.passphrase_laws.specs.Served as served
 
 abbrev Whole : List CacheEvent → Type 0
 Whole events = AllByRecursion IsWhole events
 
-whole_behind : (first more : List CacheEvent) → Whole (first ++ more) → Whole more
-whole_behind [] more each = each
-whole_behind (event ∷ first) more each = whole_behind first more each.1
-
 -- no write failed
 uncut : {events done : List CacheEvent} → CutAtLast events done → Whole done → ⊥
 uncut last each = whole_at last.before (event.Cut last.sent) [] (subst (λ (e : List CacheEvent). Whole e) last.done_is each)
 
-module _ (rules : Rules) (line : List ℕ) (more_lines : List (List ℕ)) (command : CacheCommand) (is : request_of line ≡ Cache command) where
-  -- what is written from some place of a session on, which is in this mode there
-  record Reached (options : List (List ℕ)) (mode : PinMode) (events : List CacheEvent) : Type 0 where
+next_read : {exchange : Exchanges} {kept : SessionState} {events : List CacheEvent} {end : SessionEnd} → Talk exchange kept events end → IsNext events
+next_read (talks.goes_on line exchange talk) = served.reads
+next_read (talks.over line exchange) = served.reads
+next_read talks.ended = served.reads
+next_read talks.spent = served.reads
+next_read talks.read_fault = served.reads
+next_read talks.too_long = served.reads
+next_read (talks.cut_too_long last) = served.reads
+
+module _ (rules : Rules) (exchange : Exchanges) (line : List ℕ) (more_lines : List (List ℕ)) (command : CacheCommand) (is : request_of line ≡ Cache command) (plain : IsPlain rules exchange line) where
+  -- what is done from some place of a session on, where this is kept
+  record Reached (options : List (List ℕ)) (start : SessionState) (events : List CacheEvent) : Type 0 where
+    front : List CacheEvent
+    kept : SessionState
+    answered : Served rules exchange start front kept
+    options_are : lines_read front ≡ options
     replies : List ℕ
     are_replies : AreReplies options replies
-    values : OptionValues
-    mode_is : values.mode ≡ mode
+    front_texts : texts_of front ≡ replies
+    mode_is : kept.options.mode ≡ start.options.mode
     own : List CacheEvent
     after : OptionValues
     went : Went
-    exchange : LineExchange rules values line own after went
+    exchanges : LineExchange rules kept.options line own after went
     is_whole : Whole own
-    behind : List ℕ
-    writes : texts_of events ≡ replies ++ (texts_of own ++ behind)
+    later : List CacheEvent
+    next : IsNext later
+    at : events ≡ front ++ event.Received (Line line) ∷ (own ++ later)
 
-  -- a line that was read before is no text
-  behind_line : {options : List (List ℕ)} {mode : PinMode} {events : List CacheEvent} (said : List ℕ) → Reached options mode events → Reached options mode (event.Received (Line said) ∷ events)
-  behind_line said it = record {
-    replies = it.replies;
-    are_replies = it.are_replies;
-    values = it.values;
-    mode_is = it.mode_is;
-    own = it.own;
-    after = it.after;
-    went = it.went;
-    exchange = it.exchange;
-    is_whole = it.is_whole;
-    behind = it.behind;
-    writes = it.writes;
-  }
-
-  at_request : {kept after : SessionState} {said : List ℕ} {events : List CacheEvent} {went : Went} → SessionExchange rules kept said events after went → said ≡ line → Whole events → (more : List CacheEvent)
-      → Reached [] kept.options.mode (events ++ more)
-  at_request {kept} {after} {events = events} {went} exchange same each more = record {
+  at_request : {kept after : SessionState} {said : List ℕ} {events : List CacheEvent} {went : Went} → exchange kept said events after went → said ≡ line → Whole events → (more : List CacheEvent) → IsNext more
+      → Reached [] kept (event.Received (Line said) ∷ (events ++ more))
+  at_request {kept} {after} {events = events} {went} exchanged same each more next = record {
+    front = [];
+    kept = kept;
+    answered = answering.none;
+    options_are = refl;
     replies = [];
     are_replies = road.none;
-    values = kept.options;
+    front_texts = refl;
     mode_is = refl;
     own = events;
     after = after.options;
     went = went;
-    exchange = on_cache is (subst (λ (l : List ℕ). SessionExchange rules kept l events after went) same exchange);
+    exchanges = on_cache is (plain kept after events went (subst (λ (l : List ℕ). exchange kept l events after went) same exchanged));
     is_whole = each;
-    behind = texts_of more;
-    writes = flat_map-append text_of events more;
+    later = more;
+    next = next;
+    at = ap (λ (l : List ℕ). event.Received (Line l) ∷ (events ++ more)) same;
   }
 
-  behind_option : {option : List ℕ} {options : List (List ℕ)} {kept after : OptionValues} {events more : List CacheEvent} {went : Went} → Passes kept events after went → Reached options after.mode more
-      → Reached (option ∷ options) kept.mode (events ++ more)
-  behind_option {option} {options} {more = more} passes rest = record {
+  behind_option : {option said : List ℕ} {options : List (List ℕ)} {kept after : SessionState} {events more : List CacheEvent} → exchange kept said events after On → said ≡ option
+      → Passes kept.options events after.options On → Reached options after more → Reached (option ∷ options) kept (event.Received (Line said) ∷ (events ++ more))
+  behind_option {option} {said} {options} {events = events} {more} exchanged same passes rest = record {
+    front = event.Received (Line said) ∷ (events ++ rest.front);
+    kept = rest.kept;
+    answered = answering.one_more said exchanged rest.answered;
+    options_are =
+        ap (λ (e : List CacheEvent). said ∷ lines_read (e ++ rest.front)) passes.events_are ∙ ap (λ (l : List (List ℕ)). said ∷ l) rest.options_are
+        ∙ ap (λ (l : List ℕ). l ∷ options) same;
     replies = passes.reply ++ rest.replies;
     are_replies = by_reply passes.is_reply;
-    values = rest.values;
+    front_texts = ap (λ (e : List CacheEvent). texts_of (e ++ rest.front)) passes.events_are ∙ ap (λ (t : List ℕ). passes.reply ++ t) rest.front_texts;
     mode_is = rest.mode_is ∙ passes.mode;
     own = rest.own;
     after = rest.after;
     went = rest.went;
-    exchange = rest.exchange;
+    exchanges = rest.exchanges;
     is_whole = rest.is_whole;
-    behind = rest.behind;
-    writes =
-        ap (λ (e : List CacheEvent). texts_of (e ++ more)) passes.events_are ∙ ap (λ (t : List ℕ). passes.reply ++ t) rest.writes
-        ∙ sym (append_assoc passes.reply rest.replies (texts_of rest.own ++ rest.behind));
+    later = rest.later;
+    next = rest.next;
+    at =
+        ap (λ (e : List CacheEvent). event.Received (Line said) ∷ (events ++ e)) rest.at
+        ∙ ap (λ (e : List CacheEvent). event.Received (Line said) ∷ e) (sym (append_assoc events rest.front (event.Received (Line line) ∷ (rest.own ++ rest.later))));
   }
     where
       by_reply : {reply : List ℕ} → IsReply reply → AreReplies (option ∷ options) (reply ++ rest.replies)
       by_reply served.taken = road.taken option rest.are_replies
       by_reply (served.refused why origin) = road.refused option why origin rest.are_replies
 
-  reach : (options : List (List ℕ)) → AllByRecursion (IsPassed rules) options → {kept : SessionState} {events : List CacheEvent} {end : SessionEnd} → Talk (SessionExchange rules) kept events end
-      → lines_read events ≡ options ++ line ∷ more_lines → Whole events → Reached options kept.options.mode events
-  reach [] pass (talks.goes_on {events} {more} said (whole exchange) talk) reads each = behind_line said (at_request exchange (cc reads) (whole_front events more each.1) more)
-  reach [] pass {kept} (talks.over {events} said (whole exchange)) reads each =
-      behind_line said (subst (λ (e : List CacheEvent). Reached [] kept.options.mode e) (append-nil events) (at_request exchange (cc reads) each.1 []))
-  reach (option ∷ options) pass {kept} (talks.goes_on {after} {events} {more} said (whole exchange) talk) reads each =
-      let passes = pass.0 kept after events On (subst (λ (l : List ℕ). SessionExchange rules kept l events after On) (cc reads) exchange) in
+  reach : (options : List (List ℕ)) → AllByRecursion (IsPassed exchange) options → {kept : SessionState} {events : List CacheEvent} {end : SessionEnd} → Talk exchange kept events end
+      → lines_read events ≡ options ++ line ∷ more_lines → Whole events → Reached options kept events
+  reach [] pass (talks.goes_on {events} {more} said (whole exchanged) talk) reads each = at_request exchanged (cc reads) (whole_front events more each.1) more (next_read talk)
+  reach [] pass {kept} (talks.over {events} said (whole exchanged)) reads each =
+      subst (λ (e : List CacheEvent). Reached [] kept (event.Received (Line said) ∷ e)) (append-nil events) (at_request exchanged (cc reads) each.1 [] served.over)
+  reach (option ∷ options) pass {kept} (talks.goes_on {after} {events} {more} said (whole exchanged) talk) reads each =
+      let passes = pass.0 kept after events On (subst (λ (l : List ℕ). exchange kept l events after On) (cc reads) exchanged) in
       let later : lines_read (events ++ more) ≡ options ++ line ∷ more_lines = cc reads in
-      behind_line said (behind_option passes (reach options pass.1 talk (sym (ap (λ (e : List CacheEvent). lines_read (e ++ more)) passes.events_are) ∙ later) (whole_behind events more each.1)))
-  reach (option ∷ options) pass {kept} (talks.over {after} {events} {end} said (whole exchange)) reads each =
-      let passes = pass.0 kept after events (End end) (subst (λ (l : List ℕ). SessionExchange rules kept l events after (End end)) (cc reads) exchange) in
+      behind_option exchanged (cc reads) passes
+      (reach options pass.1 talk (sym (ap (λ (e : List CacheEvent). lines_read (e ++ more)) passes.events_are) ∙ later) (whole_behind events more each.1))
+  reach (option ∷ options) pass {kept} (talks.over {after} {events} {end} said (whole exchanged)) reads each =
+      let passes = pass.0 kept after events (End end) (subst (λ (l : List ℕ). exchange kept l events after (End end)) (cc reads) exchanged) in
       let goes : End end ≡ On = passes.goes_on in absurd (cc goes)
-  reach options pass (talks.over said (cut exchange last)) reads each = absurd (uncut last each.1)
+  reach options pass (talks.over said (cut exchanged last)) reads each = absurd (uncut last each.1)
   reach [] pass talks.ended reads each = absurd (cc reads)
   reach [] pass talks.spent reads each = absurd (cc reads)
   reach [] pass talks.read_fault reads each = absurd (cc reads)
@@ -116,24 +124,35 @@ module _ (rules : Rules) (line : List ℕ) (more_lines : List (List ℕ)) (comma
   reach (option ∷ options) pass talks.too_long reads each = absurd (cc reads)
   reach options pass (talks.cut_too_long last) reads each = absurd (uncut last each.1)
 
-  pub serves : (options : List (List ℕ)) → AllByRecursion (IsPassed rules) options → {events : List CacheEvent} {end : SessionEnd} → Session (SessionExchange rules) (kept_at_start rules) events end
-      → lines_read events ≡ options ++ line ∷ more_lines → Whole events → Serves rules options line events
+  pub serves : (options : List (List ℕ)) → AllByRecursion (IsPassed exchange) options → {events : List CacheEvent} {end : SessionEnd} → Session exchange (kept_at_start rules) events end
+      → lines_read events ≡ options ++ line ∷ more_lines → Whole events → Serves rules exchange options line events
   serves options pass (talks.greeted talk) reads each =
       let it = reach options pass talk reads each.1 in record {
+        front = it.front;
+        kept = it.kept;
+        answered = it.answered;
+        options_are = it.options_are;
         replies = it.replies;
         are_replies = it.are_replies;
-        values = it.values;
         mode = it.mode_is;
         own = it.own;
         after = it.after;
         went = it.went;
-        exchange = it.exchange;
+        exchanges = it.exchanges;
         whole = it.is_whole;
-        behind = it.behind;
-        writes =
-            ap (λ (t : List ℕ). line_of greeting ++ t) (it.writes ∙ sym (append_assoc it.replies (texts_of it.own) it.behind))
-            ∙ sym (append_assoc (line_of greeting) (it.replies ++ texts_of it.own) it.behind);
+        later = it.later;
+        next = it.next;
+        at = ap (λ (e : List CacheEvent). event.Sent (line_of greeting) ∷ e) it.at;
+        writes = ap (λ (e : List CacheEvent). line_of greeting ++ texts_of e) it.at ∙ writes_so it.front it.own it.later it.front_texts;
       }
+    where
+      writes_so : (front own later : List CacheEvent) {replies : List ℕ} → texts_of front ≡ replies
+          → line_of greeting ++ texts_of (front ++ event.Received (Line line) ∷ (own ++ later)) ≡ session_text replies own ++ texts_of later
+      writes_so front own later {replies} are =
+          ap (λ (t : List ℕ). line_of greeting ++ t)
+          (flat_map-append text_of front (event.Received (Line line) ∷ (own ++ later)) ∙ ap (λ (t : List ℕ). texts_of front ++ t) (flat_map-append text_of own later)
+          ∙ ap (λ (t : List ℕ). t ++ (texts_of own ++ texts_of later)) are ∙ sym (append_assoc replies (texts_of own) (texts_of later)))
+          ∙ sym (append_assoc (line_of greeting) (replies ++ texts_of own) (texts_of later))
   serves options pass (talks.cut_greeting last) reads each = absurd (uncut last each)
 
 -- ---- the bytes

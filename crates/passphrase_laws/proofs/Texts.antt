@@ -28,6 +28,10 @@ pub whole_front : (first more : List CacheEvent) → AllByRecursion IsWhole (fir
 whole_front [] more whole = tt
 whole_front (event ∷ first) more whole = (whole.0, whole_front first more whole.1)
 
+pub whole_behind : (first more : List CacheEvent) → AllByRecursion IsWhole (first ++ more) → AllByRecursion IsWhole more
+whole_behind [] more whole = whole
+whole_behind (event ∷ first) more whole = whole_behind first more whole.1
+
 pub note_whole : (pid : ℕ) (inquired : Inquired) → IsWhole (note pid inquired) → IsParams (decimal pid) × (text_of (note pid inquired) ≡ line_of (inquire_text launched (decimal pid)))
-note_whole pid (Asked outcome) is = (subst IsParams (sym is.1) (are_params is.0 is.2), refl)
+note_whole pid (Asked outcome) is = (subst IsParams (sym is.0.1) (are_params is.0.0 is.0.2), refl)
 note_whole pid (NotAsked text) is = absurd is

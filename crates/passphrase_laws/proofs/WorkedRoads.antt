@@ -1,11 +1,11 @@
 -- A request of the command on a worked example: its line, how the agent reads it, what is written for it, and what that is read as.
-use Rattle.std.{specs.List.AllByRecursion, proofs.{Common.{◌≡◌, ◌<◌, ℕ, true, List, [], ◌∷◌, ◌++◌, codes, All, None, refl, sym, subst, arith}, lemmas.List.Elements.{All-cons, All-nil}}}
-use Rattle.{agent_ask.specs.Session.{ActionExchanges.answered, Actions.{goes_on, returns}, SessionEvents.{Received, Sent, cache_turn}}, agent_commands.specs.{Exchanges.{CacheExchange, LineExchange, reply, tells}, Actions.CacheEvent}}
+use Rattle.std.{specs.List.AllByRecursion, proofs.{Common.{◌≡◌, ◌<◌, ℕ, true, List, [], ◌∷◌, ◌++◌, codes, All, None, refl, ap, sym, subst, ◌∙◌, arith}, lemmas.List.Elements.{All-cons, All-nil}}}
+use Rattle.{agent_ask.specs.Session.{ActionExchanges.answered, Actions.{goes_on, returns}, SessionEvents.{CacheTurn, Received, Sent, cache_turn}}, agent_commands.specs.{Exchanges.{CacheExchange, LineExchange, reply, tells}, Actions.CacheEvent}}
 use Rattle.agent_commands.specs.{Passphrases.ask, Requests.get_passphrase, Talks.Session, declared.{request.Request.{Request, TheVariants.Cache}, went.{SessionEnd.TheVariants.Ended, Went.TheVariants.On}}}
 use Rattle.{agent_origin.specs.SessionExchanges.{SessionExchange, cache, kept_at_start}, assuan_escape.specs.DataLines.IsPiece, assuan_server.specs.Written.{IsDataAnswer, greeting}, assuan_text.specs.LineEnds.line_of}
-use Rattle.{cache_policy.specs.{Turns.Given, declared.{grant.Grant.Grant, mode.Mode.TheVariants.User}}, passphrase_words.specs.{Options.form_of, Requests.{Looks, line_of_request}, Tasks.TaskValue, Texts.texts_of as words_of}}
+use Rattle.{cache_policy.specs.{Turns.{Turn, Given}, declared.{grant.Grant.Grant, mode.Mode.TheVariants.User}}, passphrase_words.specs.{Options.form_of, Requests.{Looks, line_of_request}, Tasks.TaskValue, Texts.texts_of as words_of}}
 use Rattle.{passphrase_words.specs.declared.task.Act.TheVariants.Cached, session_options.specs.{OptionValues.OptionValues, declared.rules.Rules.Rules}}
-use Rattle.passphrase_laws.{specs.{Asking.{Means, Says, command, fields_of}, Exchanges.texts_of, Readings.{IsSecret, IsReadAs}, Roads.{IsWhole, AreReplies, session_text}, Served.Serves}, proofs.{Asked.looks_read, ReadAs.passphrase_read}}
+use Rattle.passphrase_laws.{specs.{Asking.{Means, Says, command, fields_of}, Exchanges.texts_of, Readings.{IsSecret, IsReadAs}, Roads.{IsWhole, AreReplies, session_text}, Served.{Serves, lines_read}}, proofs.{Asked.looks_read, Passing.plain_session, ReadAs.passphrase_read}}
 use Rattle.passphrase_laws.proofs.Serving.{serves}
 use Rattle.agent_ask.specs.Session.Answering as answering
 use Rattle.agent_ask.specs.Session.TurnActions as turn
@@ -101,12 +101,35 @@ line = line_of_request task Looks
 abbrev spoken : Grant → List CacheEvent
 spoken grant = Sent (line_of greeting) ∷ Received (took.Line line) ∷ (events grant ++ Received took.End ∷ [])
 
+-- the entry that the third event gives
+abbrev given_by : Grant → Turn → Grant
+given_by else_this (Given grant) = grant
+given_by else_this _ = else_this
+
+abbrev third : Grant → List CacheEvent → Grant
+third else_this (first ∷ second ∷ CacheTurn taken ∷ more) = given_by else_this taken.turn
+third else_this _ = else_this
+
 module _ (rules : Rules) (grant : Grant) (id : grant.id ≡ codes "mail") (mode : grant.mode ≡ User) (is : grant.entry.secret ≡ secret) where
   session : Session (SessionExchange rules) (kept_at_start rules) (spoken grant) Ended
   session = talks.greeted (talks.goes_on line (answering.whole (cache (exchange rules (kept_at_start rules).options grant id mode is))) talks.ended)
 
-  it_serves : Serves rules [] line (spoken grant)
-  it_serves = serves rules line [] (get_passphrase (fields_of task None [] true 0)) (looks_read task None [] (meaning.says words task None [] meant)) [] tt session refl (tt, (tt, (tt, (tt, (tt, tt)))))
+  it_serves : Serves rules (SessionExchange rules) [] line (spoken grant)
+  it_serves =
+      serves rules (SessionExchange rules) line [] (get_passphrase (fields_of task None [] true 0)) (looks_read task None [] (meaning.says words task None [] meant)) (plain_session rules line) [] tt session refl
+      (tt, (tt, (tt, (tt, (tt, tt)))))
+
+  -- the entry that is given stands in the session: another one of the same passphrase writes the same bytes, but wasn't given here
+  only_grant : (other : Grant) (it : Serves rules (SessionExchange rules) [] line (spoken grant)) → it.own ≡ events other → other ≡ grant
+  only_grant other it is = by_front it.front it.options_are it.own it.later is it.at where
+    by_front : (front : List CacheEvent) → lines_read front ≡ [] → (own later : List CacheEvent) → own ≡ events other
+        → spoken grant ≡ Sent (line_of greeting) ∷ (front ++ Received (took.Line line) ∷ (own ++ later)) → other ≡ grant
+    by_front [] none own later is at =
+        let there : spoken grant ≡ Sent (line_of greeting) ∷ Received (took.Line line) ∷ (events other ++ later) =
+        at ∙ ap (λ (e : List CacheEvent). Sent (line_of greeting) ∷ Received (took.Line line) ∷ (e ++ later)) is in sym (ap (third grant) there)
+    by_front (first ∷ front) none own later is at =
+        let head : first ≡ Received (took.Line line) = cc at in
+        let reads : lines_read (Received (took.Line line) ∷ front) ≡ [] = ap (λ (e : CacheEvent). lines_read (e ∷ front)) (sym head) ∙ none in absurd (cc reads)
 
   it_writes : texts_of (spoken grant) ≡ codes "OK Pleased to meet you" ++ 10 ∷ written
   it_writes = refl

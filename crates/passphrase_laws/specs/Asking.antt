@@ -1,7 +1,7 @@
 -- The requests of the command `passphrase` as the agent reads them (GnuPG manual, "Agent GET_PASSPHRASE").
-use Rattle.std.specs.Prelude.{◌≡◌, ◌≢◌, ℕ, Bool, true, false, List, [], ◌∷◌, map, codes, get_or, Option, Some, None, if◌then◌else◌}
-use Rattle.{arrayvec.specs.ArrayVec.ArrayVec, agent_ask.specs.Plans.text, agent_commands.specs.Requests.GetFields, assuan_text.specs.Blanks.is_blank, passphrase_words.specs.{Ids.is_id, Rules.{IsTask, askpass_task}}}
-use Rattle.passphrase_words.specs.{Spelling.{Setting, Spells, operands_of, value_given}, Tasks.TaskValue, Texts.{Fits, texts_of, description_or}, declared.task.Act.{Act, TheVariants.Give}}
+use Rattle.std.specs.Prelude.{◌≡◌, ◌≢◌, ◌≤◌, ℕ, ⊤, Bool, true, false, List, [], ◌∷◌, map, codes, get_or, Option, Some, None, if◌then◌else◌}
+use Rattle.{arrayvec.specs.ArrayVec.ArrayVec, agent_ask.specs.Plans.text, agent_commands.specs.Requests.GetFields, assuan_text.specs.Blanks.is_blank, cache_policy.specs.declared.life.{Life.{Life, TheVariants.{Endless, Seconds}}, TheConstants.MAX_SECONDS}, passphrase_words.specs.{Ids.is_id, Rules.{IsTask, askpass_task}}}
+use Rattle.passphrase_words.specs.{Requests.{Asks, Looks, line_of_request}, Spelling.{Setting, Spells, operands_of, value_given}, Tasks.TaskValue, Texts.{Fits, texts_of, description_or}, declared.task.Act.{Act, TheVariants.Give}}
 
 -- a text as the agent has it: a tab counts as a blank
 abbrev pub as_read : List ℕ → ArrayVec ℕ
@@ -56,3 +56,18 @@ fields_of task prompt description no_ask repeat = record {
   id = Some task.id;
   texts = Some (record { error = text []; prompt = prompt_read prompt; description = as_read (description_or task.id description) });
 }
+
+-- the two requests for a passphrase that a task sends: the line of each, and what is read of it
+pub data SaysRequest (task : TaskValue) (prompt : Option (List ℕ)) (description : List ℕ) : List ℕ → GetFields → Type 0 where
+  looks : SaysRequest task prompt description (line_of_request task Looks) (fields_of task prompt description true 0)
+  asks : SaysRequest task prompt description (line_of_request task Asks) (fields_of task prompt description (is_quiet task.act) (repeats_of task.act))
+
+-- the seconds that a task may name: 1 to 2^31 - 1
+abbrev pub AreSeconds : Option ℕ → Type 0
+AreSeconds None = ⊤
+AreSeconds (Some seconds) = (1 ≤ seconds) × (seconds ≤ MAX_SECONDS)
+
+-- for how long the agent keeps what is stored for these; none are as long as it keeps anything
+abbrev pub life_of : Option ℕ → Life
+life_of None = Endless
+life_of (Some seconds) = Seconds seconds

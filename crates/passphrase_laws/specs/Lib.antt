@@ -3,3 +3,4 @@ pub mod Exchanges
 pub mod Roads
 pub mod Asking
 pub mod Served
+pub mod Joined

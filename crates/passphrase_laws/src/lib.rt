@@ -10,14 +10,18 @@
 
 mod asking;
 mod exchange;
+mod joined;
 mod options;
 mod reading;
 mod road;
 mod said;
 mod session;
 
-pub use asking::a_request_is_read_as_meant;
+pub use asking::{
+    a_cancelled_probe_stores_nothing, a_change_is_read_as_meant, a_request_is_read_as_meant,
+};
 pub use exchange::a_request_for_a_passphrase_is_answered_so;
+pub use joined::what_is_given_was_live_or_typed;
 pub use options::{an_option_is_taken_or_refused, an_option_sets_what_it_says};
 pub use reading::{a_passphrase_is_read, an_error_is_read};
 pub use road::{a_request_for_a_passphrase_is_told_it, a_task_is_told_what_its_request_came_to};

@@ -1,4 +1,4 @@
--- A dialogue never says that there was no connection.
+-- A dialogue never says that there was no connection, or no memory for one.
 use Rattle.std.proofs.Common.{◌≡◌, ◌∷◌, [], List, arith, rules}
 use Rattle.assuan_client.specs.declared.answer.Answer.{Answer}
 use Rattle.passphrase_talk.specs.{declared.{dialogue.Course.Course, told.Told.Told}, Dialogues.{told_of, told_from, told_behind, told_by, loss_of, quiet, after_said}, Turns.{Said, Hello, OptionLine, Request, End, Cancel, Turn}}
@@ -29,3 +29,30 @@ from_turn Cancel last (turn ∷ turns) later not is = not is
 pub never_unmet : (turns : List Turn) → told_of turns ≡ told.Lost loss.Unmet → ⊥
 never_unmet [] is = grind (arith, rules)
 never_unmet (turn ∷ turns) is = from_turn turn.said turn.answer turns (told_of turns) (never_unmet turns) is
+
+-- ---- no memory
+
+has_memory : (course : Course) (last : Answer) → told_by course last ≡ told.NoMemory → ⊥
+has_memory course last is = grind (arith, rules)
+
+had_memory : (course : Course) (last : Answer) (turns : List Turn) → told_behind course last turns ≡ told.NoMemory → ⊥
+had_memory course last [] is = has_memory course last is
+had_memory course last (turn ∷ turns) is = had_memory (after_said turn.said course) turn.answer turns is
+
+loss_has_memory : (last : Answer) → told.Lost (loss_of last) ≡ told.NoMemory → ⊥
+loss_has_memory last is = grind (arith, rules)
+
+turn_has_memory : (said : Said) (last : Answer) (turns : List Turn) (later : Told) → (later ≡ told.NoMemory → ⊥) → told_from said last turns later ≡ told.NoMemory → ⊥
+turn_has_memory (Request line) last turns later not is = had_memory quiet last turns is
+turn_has_memory Hello last [] later not is = loss_has_memory last is
+turn_has_memory Hello last (turn ∷ turns) later not is = not is
+turn_has_memory (OptionLine option) last [] later not is = loss_has_memory last is
+turn_has_memory (OptionLine option) last (turn ∷ turns) later not is = not is
+turn_has_memory End last [] later not is = loss_has_memory last is
+turn_has_memory End last (turn ∷ turns) later not is = not is
+turn_has_memory Cancel last [] later not is = loss_has_memory last is
+turn_has_memory Cancel last (turn ∷ turns) later not is = not is
+
+pub never_short : (turns : List Turn) → told_of turns ≡ told.NoMemory → ⊥
+never_short [] is = grind (arith, rules)
+never_short (turn ∷ turns) is = turn_has_memory turn.said turn.answer turns (told_of turns) (never_short turns) is

@@ -2,11 +2,12 @@
 use Rattle.std.proofs.{Common.{◌≡◌, ◌<◌, ◌≤◌, ◌+◌, ℕ, suc, false, drop, get_or, arith, drop-cons, List, [], ◌∷◌, ◌++◌, Option, Some, None, Result, Ok, Err, refl, ap, sym, subst, ◌∙◌}, lemmas.List.{append-nil, append_assoc}}
 use Rattle.std.{proofs.Math.ListN.drop_of_length-le, specs.List.flat_map}
 use Rattle.{assuan_client.specs.{Connections.Connection, declared.answer.Answer.Answer}, session_options.specs.OptionValues.EnvWords}
-use Rattle.passphrase_talk.specs.Contacts.{HasLaunched}
+use Rattle.passphrase_talk.specs.Contacts.{HasLaunched, HandsOver}
 use Rattle.passphrase_talk.specs.Dialogues.{all_settings, option_lines, Replies, Requests, IsDialogue, Leads, Tells, stopped, goes_on, requested, ended, asked, not_greeted, greeted, launch_in, launches_behind, launches_of, told_of}
-use Rattle.passphrase_talk.specs.{Dialogues.{told_behind, told_by, loss_of, passed, quiet, reply_to, after_said, is_inquiry, is_ok}, Turns.{Hello, OptionLine, Request, Turn, turn_of, IsAnswered, none, one}, declared.dialogue.Course.Course}
+use Rattle.passphrase_talk.specs.{Dialogues.{told_behind, told_by, loss_of, passed, quiet, reply_to, after_said, is_inquiry, is_ok}, Turns.{Hello, OptionLine, Request, Turn, turn_of, IsAnswered, none, one}, declared.{connector.Waits.Waits, dialogue.Course.Course}}
 use Rattle.passphrase_talk.specs.declared.{options.Setting.{Setting, TheVariants.Notify}, told.{Loss.Loss, Told.Told}}
 use Rattle.assuan_client.specs.declared.answer.Answer.TheVariants as answer
+use Rattle.passphrase_talk.specs.declared.connector.Waits.TheVariants as waits
 use Rattle.passphrase_talk.specs.declared.told.Told.TheVariants as told
 
 pub not_asked : (said : Answer) → ((word text : List ℕ) → said ≡ answer.Asked word text → ⊥) → is_inquiry said ≡ false
@@ -18,19 +19,28 @@ not_asked (answer.Broken why) not = refl
 not_asked answer.ReadFault not = refl
 not_asked answer.WriteFault not = refl
 
+none_launched : (launches : Option (List (List ℕ))) → HasLaunched launches [] launches
+none_launched None = tt
+none_launched (Some all) = (all, refl, sym (append-nil all))
+
 -- nothing was handed on
-pub no_launch : (launches : Option (List (List ℕ))) → HasLaunched launches [] launches
-no_launch None = tt
-no_launch (Some all) = (all, refl, sym (append-nil all))
+pub no_launch : (wait : Waits) (launches : Option (List (List ℕ))) → HandsOver wait [] launches launches
+no_launch waits.Answer launches = refl
+no_launch waits.Prompt launches = none_launched launches
 
 -- one after another
-pub launches_join : (before between after : Option (List (List ℕ))) (texts others : List (List ℕ)) → HasLaunched before texts between → HasLaunched between others after
+launched_join : (before between after : Option (List (List ℕ))) (texts others : List (List ℕ)) → HasLaunched before texts between → HasLaunched between others after
     → HasLaunched before (texts ++ others) after
-launches_join before between None texts others first second = tt
-launches_join before None (Some all) texts others first second = absurd (cc second.1)
-launches_join before (Some earlier) (Some all) texts others first second =
+launched_join before between None texts others first second = tt
+launched_join before None (Some all) texts others first second = absurd (cc second.1)
+launched_join before (Some earlier) (Some all) texts others first second =
     let same : second.0 ≡ earlier = ap (λ o. elim o [ None ↦ [] | Some x ↦ x ]) (sym second.1) in
     (first.0, first.1, second.2 ∙ ap (λ (l : List (List ℕ)). l ++ others) (same ∙ first.2) ∙ append_assoc first.0 texts others)
+
+pub launches_join : (wait : Waits) (before between after : Option (List (List ℕ))) (texts others : List (List ℕ)) → HandsOver wait texts before between → HandsOver wait others between after
+    → HandsOver wait (texts ++ others) before after
+launches_join waits.Answer before between after texts others first second = second ∙ first
+launches_join waits.Prompt before between after texts others first second = launched_join before between after texts others first second
 
 no_inquiry : (last : Answer) → is_inquiry last ≡ false → launch_in last ≡ []
 no_inquiry answer.Ok not = refl
@@ -42,32 +52,32 @@ no_inquiry answer.ReadFault not = refl
 no_inquiry answer.WriteFault not = refl
 
 -- behind an answer that is no inquiry
-pub ends : {course : Course} {last : Answer} {now : Connection} {what : Told} {launches : Option (List (List ℕ))} → is_inquiry last ≡ false → what ≡ told_by course last
-    → Leads (Replies last) (told_behind course last) (launches_behind last) now what now launches launches
-ends {last} {launches} not is = record {
+pub ends : {wait : Waits} {course : Course} {last : Answer} {now : Connection} {what : Told} {launches : Option (List (List ℕ))} → is_inquiry last ≡ false → what ≡ told_by course last
+    → Leads wait (Replies last) (told_behind course last) (launches_behind last) now what now launches launches
+ends {wait} {last} {launches} not is = record {
   turns = [];
   follows = ended not;
   taken = none;
   told_is = is;
-  handed = subst (λ (l : List (List ℕ)). HasLaunched launches l launches) (sym (no_inquiry last not)) (no_launch launches);
+  handed = subst (λ (l : List (List ℕ)). HandsOver wait l launches launches) (sym (no_inquiry last not)) (no_launch wait launches);
 }
 
 -- an inquiry is answered
-pub replies : {course later : Course} {word text : List ℕ} {next : Answer} {before mid after : Connection} {what : Told} {earlier between launched : Option (List (List ℕ))}
-    → IsAnswered (reply_to word) next before mid → later ≡ after_said (reply_to word) course → HasLaunched earlier (launch_in (answer.Asked word text)) between
-    → Leads (Replies next) (told_behind later next) (launches_behind next) mid what after between launched
-    → Leads (Replies (answer.Asked word text)) (told_behind course (answer.Asked word text)) (launches_behind (answer.Asked word text)) before what after earlier launched
-replies {word} {text} {next} {earlier} {between} {launched} answered same one_launch rest = record {
+pub replies : {wait : Waits} {course later : Course} {word text : List ℕ} {next : Answer} {before mid after : Connection} {what : Told} {earlier between launched : Option (List (List ℕ))}
+    → IsAnswered (reply_to word) next before mid → later ≡ after_said (reply_to word) course → HandsOver wait (launch_in (answer.Asked word text)) earlier between
+    → Leads wait (Replies next) (told_behind later next) (launches_behind next) mid what after between launched
+    → Leads wait (Replies (answer.Asked word text)) (told_behind course (answer.Asked word text)) (launches_behind (answer.Asked word text)) before what after earlier launched
+replies {wait} {word} {text} {next} {earlier} {between} {launched} answered same one_launch rest = record {
   turns = turn_of (reply_to word) next ∷ rest.turns;
   follows = asked rest.follows;
   taken = one answered rest.taken;
   told_is = rest.told_is ∙ ap (λ (c : Course). told_behind c next rest.turns) same;
-  handed = launches_join earlier between launched (launch_in (answer.Asked word text)) (launches_behind next rest.turns) one_launch rest.handed;
+  handed = launches_join wait earlier between launched (launch_in (answer.Asked word text)) (launches_behind next rest.turns) one_launch rest.handed;
 }
 
 -- the request is made
-pub requests : {line : List ℕ} {next : Answer} {before mid after : Connection} {what : Told} {earlier launched : Option (List (List ℕ))} → IsAnswered (Request line) next before mid
-    → Leads (Replies next) (told_behind quiet next) (launches_behind next) mid what after earlier launched → Leads (Requests line []) told_of launches_of before what after earlier launched
+pub requests : {wait : Waits} {line : List ℕ} {next : Answer} {before mid after : Connection} {what : Told} {earlier launched : Option (List (List ℕ))} → IsAnswered (Request line) next before mid
+    → Leads wait (Replies next) (told_behind quiet next) (launches_behind next) mid what after earlier launched → Leads wait (Requests line []) told_of launches_of before what after earlier launched
 requests {line} {next} answered rest = record {
   turns = turn_of (Request line) next ∷ rest.turns;
   follows = requested rest.follows;
@@ -93,9 +103,9 @@ passed_or answer.ReadFault is = (refl, cc is)
 passed_or answer.WriteFault is = (refl, cc is)
 
 -- an option is passed, or none is said
-pub tells_on : {line : List ℕ} {first options : List (List ℕ)} {before mid after : Connection} {end : Result (Unit {0}) Loss} {what : Told} {earlier launched : Option (List (List ℕ))}
-    → Tells first before end mid → end ≡ Ok tt → Leads (Requests line options) told_of launches_of mid what after earlier launched
-    → Leads (Requests line (first ++ options)) told_of launches_of before what after earlier launched
+pub tells_on : {wait : Waits} {line : List ℕ} {first options : List (List ℕ)} {before mid after : Connection} {end : Result (Unit {0}) Loss} {what : Told} {earlier launched : Option (List (List ℕ))}
+    → Tells first before end mid → end ≡ Ok tt → Leads wait (Requests line options) told_of launches_of mid what after earlier launched
+    → Leads wait (Requests line (first ++ options)) told_of launches_of before what after earlier launched
 tells_on Tells.unsaid well rest = rest
 tells_on (Tells.said {option} next answered) well rest = record {
   turns = turn_of (OptionLine option) next ∷ rest.turns;
@@ -106,17 +116,17 @@ tells_on (Tells.said {option} next answered) well rest = record {
 }
 
 -- it isn't passed
-pub tells_last : {line : List ℕ} {first : List (List ℕ)} (options : List (List ℕ)) {before after : Connection} {end : Result (Unit {0}) Loss} {why : Loss} {launches : Option (List (List ℕ))}
-    → Tells first before end after → Err why ≡ end → Leads (Requests line (first ++ options)) told_of launches_of before (told.Lost why) after launches launches
+pub tells_last : {wait : Waits} {line : List ℕ} {first : List (List ℕ)} (options : List (List ℕ)) {before after : Connection} {end : Result (Unit {0}) Loss} {why : Loss} {launches : Option (List (List ℕ))}
+    → Tells first before end after → Err why ≡ end → Leads wait (Requests line (first ++ options)) told_of launches_of before (told.Lost why) after launches launches
 tells_last options Tells.unsaid stops = absurd (cc stops)
-tells_last options {launches} (Tells.said {option} next answered) stops =
+tells_last {wait} options {launches} (Tells.said {option} next answered) stops =
     let not = passed_or next stops in
     record {
       turns = turn_of (OptionLine option) next ∷ [];
       follows = stopped not.0;
       taken = one answered none;
       told_is = ap (λ (l : Loss). told.Lost l) not.1;
-      handed = no_launch launches;
+      handed = no_launch wait launches;
     }
 
 pub not_ok : (said : Answer) → (said ≡ answer.Ok → ⊥) → is_ok said ≡ false
@@ -147,8 +157,8 @@ behind_greeting (goes_on passes rest) = refl
 behind_greeting (requested rest) = refl
 
 -- the agent greets
-pub greets : {line : List ℕ} {options : List (List ℕ)} {before mid after : Connection} {what : Told} {earlier launched : Option (List (List ℕ))} → IsAnswered Hello answer.Ok before mid
-    → Leads (Requests line options) told_of launches_of mid what after earlier launched → Leads (IsDialogue options line) told_of launches_of before what after earlier launched
+pub greets : {wait : Waits} {line : List ℕ} {options : List (List ℕ)} {before mid after : Connection} {what : Told} {earlier launched : Option (List (List ℕ))} → IsAnswered Hello answer.Ok before mid
+    → Leads wait (Requests line options) told_of launches_of mid what after earlier launched → Leads wait (IsDialogue options line) told_of launches_of before what after earlier launched
 greets answered rest = record {
   turns = turn_of Hello answer.Ok ∷ rest.turns;
   follows = greeted rest.follows;
@@ -158,6 +168,6 @@ greets answered rest = record {
 }
 
 -- it doesn't
-pub greets_not : {line : List ℕ} {options : List (List ℕ)} {last : Answer} {before after : Connection} {what : Told} {launches : Option (List (List ℕ))} → IsAnswered Hello last before after
-    → is_ok last ≡ false → what ≡ told.Lost (loss_of last) → Leads (IsDialogue options line) told_of launches_of before what after launches launches
-greets_not {last} {launches} answered not is = record { turns = turn_of Hello last ∷ []; follows = not_greeted not; taken = one answered none; told_is = is; handed = no_launch launches }
+pub greets_not : {wait : Waits} {line : List ℕ} {options : List (List ℕ)} {last : Answer} {before after : Connection} {what : Told} {launches : Option (List (List ℕ))} → IsAnswered Hello last before after
+    → is_ok last ≡ false → what ≡ told.Lost (loss_of last) → Leads wait (IsDialogue options line) told_of launches_of before what after launches launches
+greets_not {wait} {last} {launches} answered not is = record { turns = turn_of Hello last ∷ []; follows = not_greeted not; taken = one answered none; told_is = is; handed = no_launch wait launches }

@@ -6,3 +6,4 @@ pub mod Connected
 mod Places
 mod OnlyVisit
 mod ItsReply
+mod WorkedNumbers

@@ -2,7 +2,7 @@
 -- order, and what is told of them. Which options are said, and what breaks the protocol, is this project's own.
 use Rattle.std.specs.{Prelude.{◌≡◌, ℕ, Bool, true, false, if◌then◌else◌, List, [], ◌∷◌, ◌++◌, codes, Option, Some, None, Result, Ok, Err}, List.{flat_map, list_any}, Str.bytes_eq}
 use Rattle.{assuan_client.specs.{Connections.Connection, declared.answer.Answer.Answer}, session_options.specs.OptionValues.EnvWords}
-use Rattle.passphrase_talk.specs.{Contacts.HasLaunched, Turns.{Said, Hello, OptionLine, Request, End, Cancel, Turn, turn_of, IsAnswered, AreTaken}, declared.{connector.Waits.Waits, dialogue.Course.Course, options.Setting.Setting}}
+use Rattle.passphrase_talk.specs.{Contacts.HandsOver, Turns.{Said, Hello, OptionLine, Request, End, Cancel, Turn, turn_of, IsAnswered, AreTaken}, declared.{connector.Waits.Waits, dialogue.Course.Course, options.Setting.Setting}}
 use Rattle.passphrase_talk.specs.declared.told.{Loss.Loss, Told.Told}
 use Rattle.assuan_client.specs.declared.answer.Answer.TheVariants as answer
 use Rattle.assuan_line.specs.declared.breach.Breach.TheVariants as breach
@@ -60,7 +60,7 @@ passed answer.Ok = Ok tt
 passed (answer.Err number) = Ok tt
 passed other = Err (loss_of other)
 
--- What an inquiry is answered: that a pinentry was launched is taken note of, and nothing else is given.
+-- What an inquiry is answered: END, where it is the notice that a pinentry was launched, and nothing else is given.
 abbrev pub reply_to : List ℕ → Said
 reply_to word = if bytes_eq word (codes "PINENTRY_LAUNCHED") then End else Cancel
 
@@ -146,14 +146,14 @@ abbrev pub launches_of : List Turn → List (List ℕ)
 launches_of [] = []
 launches_of (turn ∷ turns) = launches_from turn.said turn.answer turns (launches_of turns)
 
--- Turns by this rule were taken, this is told of them, and their launches were handed on.
-pub record Leads (Rule : List Turn → Type 0) (told_as : List Turn → Told) (launches_as : List Turn → List (List ℕ)) (before : Connection) (what : Told) (after : Connection)
-    (earlier later : Option (List (List ℕ))) : Type 0 where
+-- Turns by this rule were taken, this is told of them, and of their launches that was handed on which such a contact hands on.
+pub record Leads (waits : Waits) (Rule : List Turn → Type 0) (told_as : List Turn → Told) (launches_as : List Turn → List (List ℕ)) (before : Connection) (what : Told)
+    (after : Connection) (earlier later : Option (List (List ℕ))) : Type 0 where
   pub turns : List Turn
   pub follows : Rule turns
   pub taken : AreTaken before turns after
   pub told_is : what ≡ told_as turns
-  pub handed : HasLaunched earlier (launches_as turns) later
+  pub handed : HandsOver waits (launches_as turns) earlier later
 
 -- an option is said, if there is one
 pub data Tells : List (List ℕ) → Connection → Result (Unit {0}) Loss → Connection → Type 0 where

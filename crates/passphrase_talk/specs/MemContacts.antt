@@ -1,5 +1,5 @@
 -- The contacts of a connector in memory, from its fields.
-use Rattle.std.specs.{Prelude.{ℕ, List, [], ◌∷◌, map, drop, Option, Some, None, Box}, Option.option_map, declared.alloc.Global.Global}
+use Rattle.std.specs.{Prelude.{ℕ, Bool, true, false, List, [], ◌∷◌, map, drop, Option, Some, None, Box}, Option.option_map, declared.alloc.Global.Global}
 use Rattle.agent_ports.specs.{Plans.Plan, Sides.Side, declared.mem.link.{MemLink.MemLink, PlannedLink.PlannedLink}}
 use Rattle.passphrase_talk.specs.{Contacts.{Contact, Sought, Opening}, declared.{connector.{Place.Place, Waits.Waits}, mem_connector.MemConnector.MemConnector}}
 use Rattle.passphrase_talk.specs.declared.mem_connector.{MemContact.{MemContact, MemContact', Held-MemContact-earlier, None', Some', out-MemContact}, MemMeeting.MemMeeting, MemSought.MemSought}
@@ -46,6 +46,11 @@ sought_of sought = record { folder = option_map (λ name. name.bytes.items) soug
 -- a connection that was made
 abbrev pub opening_of : Place × Waits → Opening
 opening_of made = record { place = made.0; waits = made.1 }
+
+-- what was handed on, unless there was no memory for some of it
+abbrev pub launches_with : Bool → List (List ℕ) → Option (List (List ℕ))
+launches_with true launches = None
+launches_with false launches = Some launches
 
 -- the calls of a connector that are to fail
 abbrev pub call_plan : MemConnector → Plan

@@ -1,7 +1,7 @@
 -- One contact with an agent: the connection, its turns, and what is told of it.
 use Rattle.std.specs.Prelude.{◌≡◌, ◌≢◌, ◌≤◌, ℕ, List, [], ◌++◌, Option, None, IfSome}
 use Rattle.{agent_ports.specs.{Counts.Rose, Launches.{IsFresh, child_then}}, assuan_client.specs.{Connections.Connection, Skipping.nothing, declared.answer.State.TheVariants.Ready}, session_options.specs.OptionValues.EnvWords}
-use Rattle.passphrase_talk.specs.{Contacts.{Contacts, HasLaunched, then_met, then_opened}, Dialogues.{IsDialogue, options_of, told_of, launches_of}, Turns.{Turn, AreTaken, texts_of}, declared.connector.{Place.Place, Waits.Waits}}
+use Rattle.passphrase_talk.specs.{Contacts.{Contacts, HandsOver, then_met, then_opened}, Dialogues.{IsDialogue, options_of, told_of, launches_of}, Turns.{Turn, AreTaken, texts_of}, declared.connector.{Place.Place, Waits.Waits}}
 use Rattle.passphrase_talk.specs.declared.{told.Told.Told, visits.TheConstants.BUDGET}
 use Rattle.passphrase_talk.specs.declared.told.Loss.TheVariants as loss
 use Rattle.passphrase_talk.specs.declared.told.Told.TheVariants as told
@@ -32,10 +32,14 @@ pub record IsUnmet (what : Told) (before after : Contacts) : Type 0 where
   pub sought : after.sought ≡ before.sought
   pub opened : after.opened ≡ before.opened
   pub met : after.met ≡ before.met
+  pub launches : after.launches ≡ before.launches
   pub faults : before.faults ≤ after.faults
+  pub shortages : before.shortages ≤ after.shortages
   pub rose : what ≡ told.Lost loss.Unmet → Rose before.faults after.faults
+  pub no_memory_rose : what ≡ told.NoMemory → Rose before.shortages after.shortages
 
--- A connection was made with this agent and for this wait, which is the next to come; the dialogue was led, and it was left.
+-- A connection was made with this agent and for this wait, which is the next to come; the dialogue was led, and it was left. What the agent said in
+-- it of pinentries that it launched for the request was handed on, in its order, and nothing else; and where no user may have to type, nothing was.
 pub record IsMet (place : Place) (waits : Waits) (options : List (List ℕ)) (line : List ℕ) (what : Told) (before after : Contacts) : Type 0 where
   pub turns : List Turn
   pub given : Option (List ℕ)
@@ -48,7 +52,9 @@ pub record IsMet (place : Place) (waits : Waits) (options : List (List ℕ)) (li
   pub sought : after.sought ≡ before.sought
   pub opened : after.opened ≡ then_opened before.opened place waits
   pub met : after.met ≡ then_met before.met place left written
+  pub handed : HandsOver waits (launches_of turns) before.launches after.launches
   pub faults : before.faults ≤ after.faults
+  pub shortages : before.shortages ≤ after.shortages
   pub read_rose : what ≡ told.Lost loss.Read → Rose before.faults after.faults
   pub write_rose : what ≡ told.Lost loss.Write → Rose before.faults after.faults
 
@@ -58,10 +64,3 @@ pub data Visits (place : Place) (waits : Waits) (line : List ℕ) (terminal : En
   unmet : {before after : Contacts} → IsUnmet (told.Lost loss.Unmet) before after → Visits place waits line terminal (told.Lost loss.Unmet) before after
   met : {what : Told} {before after : Contacts} → IsMet place waits (options_of waits terminal) line what before after
       → Visits place waits line terminal what before after
-
--- What the agent said in this contact of pinentries that it launched for the request was handed to the connector, in its order, and nothing else.
-abbrev pub HandsOn : {place : Place} {waits : Waits} {line : List ℕ} {terminal : EnvWords} {what : Told} {before after : Contacts} → Visits place waits line terminal what before after
-    → Option (List (List ℕ)) → Option (List (List ℕ)) → Type 0
-HandsOn (no_memory un) earlier later = later ≡ earlier
-HandsOn (unmet un) earlier later = later ≡ earlier
-HandsOn (met contact) earlier later = HasLaunched earlier (launches_of contact.turns) later

@@ -7,9 +7,11 @@ ghost use Rattle.std.specs.{Prelude.Option, Option.option_map};
 ghost use Rattle.agent_ports.specs.{Counts.{Rose, RoseBy}, Launches.{IsFresh, child_then}};
 ghost use Rattle.session_options.specs.OptionValues.{EnvWords, words_of};
 ghost use Rattle.passphrase_talk.specs.Contacts.{Contacts, HasLaunched, then_met, then_sought};
-ghost use Rattle.passphrase_talk.specs.Contacts.{then_opened};
+ghost use Rattle.passphrase_talk.specs.Contacts.{then_opened, with_launches};
+ghost use Rattle.assuan_client.specs.declared.answer.State.TheVariants.{Asked};
 
 use agent_ports::Link;
+use assuan_client::Peer;
 use session_options::Env;
 
 /// Which agent is asked.
@@ -42,6 +44,7 @@ pub enum Waits {
 /// Why there is no agent, or no connection to it.
 #[derive(Clone, Copy, Debug, PartialEq, Eq)]
 pub enum Unmet {
+    /// This is counted by itself.
     NoMemory,
     /// [`Connector::reason`] says more.
     Fault,
@@ -53,7 +56,8 @@ pub trait Connector {
     type Link: Link;
 
     /// The links to come, the agents that were found, the connections that were made, the contacts
-    /// that were left, and how many calls failed.
+    /// that were left, and what was handed on of each pinentry that was launched: in contacts that
+    /// wait for a prompt, and in no other. And how many calls failed, and had no memory.
     ghost contacts: { Self → Contacts };
 
     /// The terminal and the locale of the user. No call changes them.
@@ -61,9 +65,6 @@ pub trait Connector {
 
     /// Why the last call failed.
     ghost reason: { Self → List ℕ };
-
-    /// What it was told of each pinentry that was launched, where that is known.
-    ghost launches: { Self → Option (List (List ℕ)) };
 
     /// Finds the agents that are asked: for this folder, or the GnuPG home where none is named, and
     /// given this many seconds for an answer.
@@ -77,7 +78,10 @@ pub trait Connector {
         ensures failed { result ≡ Err Unmet.Fault
             → Rose (contacts self.old).faults (contacts self.new).faults }
         ensures faults { (contacts self.old).faults ≤ (contacts self.new).faults }
-        ensures launches { launches self.new ≡ launches self.old }
+        ensures no_memory { result ≡ Err Unmet.NoMemory
+            → Rose (contacts self.old).shortages (contacts self.new).shortages }
+        ensures shortages { (contacts self.old).shortages ≤ (contacts self.new).shortages }
+        ensures launches { (contacts self.new).launches ≡ (contacts self.old).launches }
         ensures terminal { terminal self.new ≡ terminal self.old };
 
     /// Connects to the agent at this place. What the link then holds is all that the agent gives.
@@ -95,7 +99,10 @@ pub trait Connector {
         ensures failed { result ≡ Err Unmet.Fault
             → Rose (contacts self.old).faults (contacts self.new).faults }
         ensures faults { (contacts self.old).faults ≤ (contacts self.new).faults }
-        ensures launches { launches self.new ≡ launches self.old }
+        ensures no_memory { result ≡ Err Unmet.NoMemory
+            → Rose (contacts self.old).shortages (contacts self.new).shortages }
+        ensures shortages { (contacts self.old).shortages ≤ (contacts self.new).shortages }
+        ensures launches { (contacts self.new).launches ≡ (contacts self.old).launches }
         ensures terminal { terminal self.new ≡ terminal self.old };
 
     /// Closes the connection. What failed there counts here too.
@@ -108,7 +115,8 @@ pub trait Connector {
         ensures rose { RoseBy ((Self.Link.input link).faults + (Self.Link.output link).faults)
             (contacts self.old).faults (contacts self.new).faults }
         ensures faults { (contacts self.old).faults ≤ (contacts self.new).faults }
-        ensures launches { launches self.new ≡ launches self.old }
+        ensures shortages { (contacts self.new).shortages ≡ (contacts self.old).shortages }
+        ensures launches { (contacts self.new).launches ≡ (contacts self.old).launches }
         ensures terminal { terminal self.new ≡ terminal self.old };
 
     /// What the agent is told of the terminal.
@@ -119,10 +127,14 @@ pub trait Connector {
     fn reason(&self) -> &str
         ensures { result.now ≡ reason self.now };
 
-    /// A pinentry was launched, of which the agent says this text.
-    fn launched(&mut self, text: &[u8])
-        ensures launches { HasLaunched (launches self.old) (text.now ∷ []) (launches self.new) }
-        ensures contacts { contacts self.new ≡ contacts self.old }
+    /// A pinentry was launched where a user may have to type, of which the agent says this text. Its
+    /// prompt is open: the inquiry that says so isn't answered yet.
+    fn launched(&mut self, text: &[u8], peer: &Peer<Self::Link>)
+        requires open { peer.now.state ≡ Asked }
+        ensures launches { HasLaunched (contacts self.old).launches (text.now ∷ [])
+            (contacts self.new).launches }
+        ensures contacts { contacts self.new
+            ≡ with_launches (contacts self.old) (contacts self.new).launches }
         ensures terminal { terminal self.new ≡ terminal self.old }
         ensures reason { reason self.new ≡ reason self.old };
 }

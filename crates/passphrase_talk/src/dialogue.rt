@@ -1,7 +1,7 @@
 //! The dialogue of one contact: the greeting, options, one request, and the inquiries that come
 //! before its answer (Assuan manual, "server responses"). It writes and reads by a `Peer`, and
-//! tells the connector of a pinentry. Begin with `lead`; its rule is `IsDialogue`
-//! (`specs/Dialogues`).
+//! tells the connector of a pinentry where a user may have to type. Begin with `lead`; its rule is
+//! `IsDialogue` (`specs/Dialogues`).
 
 ghost use Rattle.std.specs.{Prelude.{◌≡◌, ◌<◌, [], true, OnOk}, List.flat_map};
 ghost use Rattle.{assuan_client.specs.Answers.state_after, assuan_line.specs.Next.held};
@@ -12,7 +12,7 @@ ghost use Rattle.passphrase_talk.specs.Dialogues.{told_behind, told_by, loss_of,
 ghost use Rattle.passphrase_talk.specs.Dialogues.{passed, options_of, option_lines, launch_in};
 ghost use Rattle.passphrase_talk.specs.Dialogues.{launches_behind, launches_of, all_settings};
 ghost use Rattle.passphrase_talk.specs.Dialogues.{reply_to, after_said, Tells};
-ghost use Rattle.passphrase_talk.specs.Contacts.{HasLaunched};
+ghost use Rattle.passphrase_talk.specs.Contacts.{HandsOver, with_launches};
 ghost use Rattle.assuan_client.specs.declared.answer.State.TheVariants as state;
 
 use crate::options::{SETTINGS, Setting, setting_line};
@@ -27,7 +27,7 @@ use wiping::Wiped;
 /// How a request goes.
 #[derive(Clone, Copy)]
 pub(crate) struct Course {
-    /// A pinentry was launched.
+    /// The agent said that a pinentry was launched.
     launched: bool,
     /// An inquiry wasn't answered.
     cancelled: bool,
@@ -41,15 +41,16 @@ pub(crate) fn lead<C: Connector>(
     line: &Line,
 ) -> Told
     requires { peer.old.state ≡ state.Ready }
-    ensures leads { Leads (IsDialogue (options_of waits (C.terminal connector.old)) line.now)
+    ensures leads { Leads waits (IsDialogue (options_of waits (C.terminal connector.old)) line.now)
         told_of launches_of peer.old result peer.new
-        (C.launches connector.old) (C.launches connector.new) }
-    ensures contacts { C.contacts connector.new ≡ C.contacts connector.old }
+        (C.contacts connector.old).launches (C.contacts connector.new).launches }
+    ensures contacts { C.contacts connector.new
+        ≡ with_launches (C.contacts connector.old) (C.contacts connector.new).launches }
     ensures terminal { C.terminal connector.new ≡ C.terminal connector.old }
 {
     match peer.hello() {
         Answer::Ok => match waits {
-            Waits::Answer => request(connector, peer, line),
+            Waits::Answer => request(connector, peer, waits, line),
             Waits::Prompt => request_with_options(connector, peer, line),
         },
         last => Told::Lost(loss_of(&last)),
@@ -63,11 +64,12 @@ fn request_with_options<C: Connector>(
     line: &Line,
 ) -> Told
     requires { peer.old.state ≡ state.Ready }
-    ensures leads { Leads (Requests line.now
+    ensures leads { Leads Waits.Prompt (Requests line.now
         (flat_map (option_lines (C.terminal connector.old)) all_settings))
         told_of launches_of peer.old result peer.new
-        (C.launches connector.old) (C.launches connector.new) }
-    ensures contacts { C.contacts connector.new ≡ C.contacts connector.old }
+        (C.contacts connector.old).launches (C.contacts connector.new).launches }
+    ensures contacts { C.contacts connector.new
+        ≡ with_launches (C.contacts connector.old) (C.contacts connector.new).launches }
     ensures terminal { C.terminal connector.new ≡ C.terminal connector.old }
 {
     for setting in SETTINGS {
@@ -75,7 +77,7 @@ fn request_with_options<C: Connector>(
             return Told::Lost(loss);
         }
     }
-    request(connector, peer, line)
+    request(connector, peer, Waits::Prompt, line)
 }
 
 /// Says an option, if it has a value. An agent may refuse it.
@@ -101,23 +103,35 @@ fn passed(answer: &Answer) -> Result<(), Loss>
 }
 
 /// Makes the request.
-fn request<C: Connector>(connector: &mut C, peer: &mut Peer<C::Link>, line: &Line) -> Told
+fn request<C: Connector>(
+    connector: &mut C,
+    peer: &mut Peer<C::Link>,
+    waits: Waits,
+    line: &Line,
+) -> Told
     requires { peer.old.state ≡ state.Ready }
-    ensures leads { Leads (Requests line.now []) told_of launches_of peer.old result peer.new
-        (C.launches connector.old) (C.launches connector.new) }
-    ensures contacts { C.contacts connector.new ≡ C.contacts connector.old }
+    ensures leads { Leads waits (Requests line.now []) told_of launches_of peer.old result peer.new
+        (C.contacts connector.old).launches (C.contacts connector.new).launches }
+    ensures contacts { C.contacts connector.new
+        ≡ with_launches (C.contacts connector.old) (C.contacts connector.new).launches }
     ensures terminal { C.terminal connector.new ≡ C.terminal connector.old }
 {
     let answer = peer.command(line);
-    settle(connector, peer, answer)
+    settle(connector, peer, waits, answer)
 }
 
 /// Answers what the agent inquires after this answer, up to one that is no inquiry.
-fn settle<C: Connector>(connector: &mut C, peer: &mut Peer<C::Link>, answer: Answer) -> Told
+fn settle<C: Connector>(
+    connector: &mut C,
+    peer: &mut Peer<C::Link>,
+    waits: Waits,
+    answer: Answer,
+) -> Told
     requires { peer.old.state ≡ state_after answer }
-    ensures leads { Leads (Replies answer) (told_behind quiet answer) (launches_behind answer)
-        peer.old result peer.new (C.launches connector.old) (C.launches connector.new) }
-    ensures contacts { C.contacts connector.new ≡ C.contacts connector.old }
+    ensures leads { Leads waits (Replies answer) (told_behind quiet answer) (launches_behind answer)
+        peer.old result peer.new (C.contacts connector.old).launches (C.contacts connector.new).launches }
+    ensures contacts { C.contacts connector.new
+        ≡ with_launches (C.contacts connector.old) (C.contacts connector.new).launches }
     ensures terminal { C.terminal connector.new ≡ C.terminal connector.old }
 {
     let mut course = Course {
@@ -126,7 +140,7 @@ fn settle<C: Connector>(connector: &mut C, peer: &mut Peer<C::Link>, answer: Ans
     };
     let mut answer = answer;
     while let Answer::Asked { word, text } = &mut answer {
-        let next = inquired(connector, peer, &mut course, word, text);
+        let next = inquired(connector, peer, waits, &mut course, word, text);
         word.clear();
         text.clear();
         answer = next;
@@ -134,10 +148,12 @@ fn settle<C: Connector>(connector: &mut C, peer: &mut Peer<C::Link>, answer: Ans
     told_by(course, answer)
 }
 
-/// Answers an inquiry: that a pinentry was launched is passed on, and nothing else is answered.
+/// Answers an inquiry: END, where it is the notice of a pinentry, and nothing else is answered. The
+/// notice is passed on where a user may have to type: elsewhere no prompt of this program can be.
 fn inquired<C: Connector>(
     connector: &mut C,
     peer: &mut Peer<C::Link>,
+    waits: Waits,
     course: &mut Course,
     word: &Wiped<MAX_LINE_LEN>,
     text: &Wiped<MAX_LINE_LEN>,
@@ -146,15 +162,19 @@ fn inquired<C: Connector>(
     ensures answered { IsAnswered (reply_to word.now) result peer.old peer.new }
     ensures course { course.new ≡ after_said (reply_to word.now) course.old }
     ensures state { peer.new.state ≡ state_after result }
-    ensures launches { HasLaunched (C.launches connector.old)
-        (launch_in (Answer.Asked word.now text.now)) (C.launches connector.new) }
+    ensures launches { HandsOver waits (launch_in (Answer.Asked word.now text.now))
+        (C.contacts connector.old).launches (C.contacts connector.new).launches }
     ensures progress { is_inquiry result ≡ true → held peer.new.reader < held peer.old.reader }
-    ensures contacts { C.contacts connector.new ≡ C.contacts connector.old }
+    ensures contacts { C.contacts connector.new
+        ≡ with_launches (C.contacts connector.old) (C.contacts connector.new).launches }
     ensures terminal { C.terminal connector.new ≡ C.terminal connector.old }
 {
     if word.bytes() == b"PINENTRY_LAUNCHED".as_slice() {
         course.launched = true;
-        connector.launched(text.bytes());
+        match waits {
+            Waits::Prompt => connector.launched(text.bytes(), peer),
+            Waits::Answer => {}
+        }
         return peer.reply(&[]);
     }
     course.cancelled = true;

@@ -10,11 +10,12 @@ ghost use Rattle.agent_ports.specs.Plans.{Fails, after_call};
 ghost use Rattle.session_options.specs.OptionValues.{words_of};
 ghost use Rattle.passphrase_talk.specs.MemContacts.{gives_of, contact_of, latest_of, latest_first};
 ghost use Rattle.passphrase_talk.specs.MemContacts.{sought_of, opening_of, meeting_input};
-ghost use Rattle.passphrase_talk.specs.MemContacts.{meeting_output, call_plan};
+ghost use Rattle.passphrase_talk.specs.MemContacts.{meeting_output, call_plan, launches_with};
 ghost use Rattle.passphrase_talk.specs.Contacts.{then_sought, then_opened};
 
 use crate::{Agents, Connector, Place, Unmet, Waits};
 use agent_ports::{Got, Link, MemLink, MemSink, MemSource, PlannedLink, Sent, Sink, Source};
+use assuan_client::Peer;
 use session_options::Env;
 use std::alloc::{AllocError, Global};
 
@@ -151,6 +152,7 @@ pub struct MemConnector {
     failing: Vec<u64>,
     calls: u64,
     faults: u64,
+    shortages: u64,
 }
 
 impl MemConnector {
@@ -167,10 +169,11 @@ impl MemConnector {
           sought = Some [];
           opened = Some [];
           met = Some [];
+          launches = Some [];
           faults = 0;
+          shortages = 0;
         } }
         ensures terminal { ⟦<MemConnector as Connector>⟧.terminal result ≡ words_of terminal }
-        ensures launches { ⟦<MemConnector as Connector>⟧.launches result ≡ Some [] }
         ensures plan { call_plan result ≡ record { failing = failing.items; calls = 0; size = 0 } }
     {
         MemConnector {
@@ -186,6 +189,7 @@ impl MemConnector {
             failing,
             calls: 0,
             faults: 0,
+            shortages: 0,
         }
     }
 
@@ -220,7 +224,7 @@ impl MemConnector {
 
     /// What was told of the pinentry of this number, counted from 0.
     pub fn launch(&self, others: usize) -> Option<&[u8]>
-        ensures { IfSome (⟦<MemConnector as Connector>⟧.launches self.now) (λ all.
+        ensures { IfSome (⟦<MemConnector as Connector>⟧.contacts self.now).launches (λ all.
             option_map (λ text. text.now) result ≡ slice_get all others) }
     {
         match self.launches.get(others) {
@@ -242,6 +246,7 @@ impl MemConnector {
         ensures met { self.new.met ≡ self.old.met }
         ensures launches { self.new.launches ≡ self.old.launches }
         ensures has_lost { self.new.has_lost ≡ self.old.has_lost }
+        ensures shortages { self.new.shortages ≡ self.old.shortages }
         ensures terminal { self.new.terminal ≡ self.old.terminal }
     {
         let fails = self.failing.contains(&self.calls);
@@ -250,6 +255,17 @@ impl MemConnector {
             self.faults = self.faults.saturating_add(1);
         }
         fails
+    }
+
+    /// Counts that there was no memory.
+    fn short(&mut self) -> Unmet
+        ensures why { result ≡ Unmet.NoMemory }
+        ensures rose { Rose self.old.shortages self.new.shortages }
+        ensures never_falls { self.old.shortages ≤ self.new.shortages }
+        ensures others { self.new ≡ record self.old { shortages = self.new.shortages } }
+    {
+        self.shortages = self.shortages.saturating_add(1);
+        Unmet::NoMemory
     }
 
     /// Keeps what is sought, and that these agents are found.
@@ -289,15 +305,14 @@ impl Connector for MemConnector {
       sought = Some (map sought_of c.sought.items);
       opened = Some (map opening_of c.opened.items);
       met = Some (reverse (latest_first c.met));
+      launches = launches_with c.has_lost (map (λ text. text.items) c.launches.items);
       faults = c.faults;
+      shortages = c.shortages;
     } };
 
     ghost terminal = { λ c. words_of c.terminal };
 
     ghost reason = { λ _. codes "it is planned" };
-
-    ghost launches = { λ c.
-        if c.has_lost then None else Some (map (λ text. text.items) c.launches.items) };
 
     /// Where no memory is left for what is sought, nothing was sought.
     fn find(&mut self, folder: Option<&str>, seconds: Option<u32>) -> Result<Agents, Unmet>
@@ -318,8 +333,13 @@ impl Connector for MemConnector {
             (⟦<MemConnector as Connector>⟧.contacts self.new).faults }
         ensures faults { (⟦<MemConnector as Connector>⟧.contacts self.old).faults
             ≤ (⟦<MemConnector as Connector>⟧.contacts self.new).faults }
-        ensures launches { ⟦<MemConnector as Connector>⟧.launches self.new
-            ≡ ⟦<MemConnector as Connector>⟧.launches self.old }
+        ensures no_memory { result ≡ Err Unmet.NoMemory
+            → Rose (⟦<MemConnector as Connector>⟧.contacts self.old).shortages
+            (⟦<MemConnector as Connector>⟧.contacts self.new).shortages }
+        ensures shortages { (⟦<MemConnector as Connector>⟧.contacts self.old).shortages
+            ≤ (⟦<MemConnector as Connector>⟧.contacts self.new).shortages }
+        ensures launches { (⟦<MemConnector as Connector>⟧.contacts self.new).launches
+            ≡ (⟦<MemConnector as Connector>⟧.contacts self.old).launches }
         ensures terminal { ⟦<MemConnector as Connector>⟧.terminal self.new
             ≡ ⟦<MemConnector as Connector>⟧.terminal self.old }
 
@@ -332,7 +352,7 @@ impl Connector for MemConnector {
         }
         match self.keep(folder, seconds) {
             Ok(()) => Ok(self.agents),
-            Err(_) => Err(Unmet::NoMemory),
+            Err(_) => Err(self.short()),
         }
     }
 
@@ -361,8 +381,13 @@ impl Connector for MemConnector {
             (⟦<MemConnector as Connector>⟧.contacts self.new).faults }
         ensures faults { (⟦<MemConnector as Connector>⟧.contacts self.old).faults
             ≤ (⟦<MemConnector as Connector>⟧.contacts self.new).faults }
-        ensures launches { ⟦<MemConnector as Connector>⟧.launches self.new
-            ≡ ⟦<MemConnector as Connector>⟧.launches self.old }
+        ensures no_memory { result ≡ Err Unmet.NoMemory
+            → Rose (⟦<MemConnector as Connector>⟧.contacts self.old).shortages
+            (⟦<MemConnector as Connector>⟧.contacts self.new).shortages }
+        ensures shortages { (⟦<MemConnector as Connector>⟧.contacts self.old).shortages
+            ≤ (⟦<MemConnector as Connector>⟧.contacts self.new).shortages }
+        ensures launches { (⟦<MemConnector as Connector>⟧.contacts self.new).launches
+            ≡ (⟦<MemConnector as Connector>⟧.contacts self.old).launches }
         ensures terminal { ⟦<MemConnector as Connector>⟧.terminal self.new
             ≡ ⟦<MemConnector as Connector>⟧.terminal self.old }
 
@@ -387,10 +412,10 @@ impl Connector for MemConnector {
             earlier: None,
         };
         let Ok(mut contact) = Box::new(self.alloc, contact) else {
-            return Err(Unmet::NoMemory);
+            return Err(self.short());
         };
         if self.opened.push((place, waits)).is_err() {
-            return Err(Unmet::NoMemory);
+            return Err(self.short());
         }
         contact.link = self.coming.remove(0).open(self.alloc);
         Ok(MemMeeting { contact })
@@ -413,7 +438,7 @@ impl Connector for MemConnector {
         "it is planned"
     }
 
-    fn launched(&mut self, text: &[u8]) {
+    fn launched(&mut self, text: &[u8], _peer: &Peer<MemMeeting>) {
         match Vec::from_slice(self.alloc, text) {
             Ok(copy) => self.has_lost = self.launches.push(copy).is_err() || self.has_lost,
             Err(_) => self.has_lost = true,

@@ -11,7 +11,8 @@ pub enum Told {
     Passphrase(Secret),
     /// `OK`, and no byte of data before it.
     Done,
-    /// `ERR` with its number, and whether a pinentry was launched for the request.
+    /// `ERR` with its number, and whether the agent said that it launched a pinentry for the
+    /// request.
     Refused { code: u32, launched: bool },
     /// The agent inquired what this program doesn't answer, and was told `CAN`: the number of the
     /// `ERR` that came then, or none where it was `OK`, of which no data count.

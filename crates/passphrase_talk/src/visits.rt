@@ -3,7 +3,7 @@
 //! (`specs/Visits`).
 
 ghost use Rattle.std.specs.Prelude.{◌≡◌};
-ghost use Rattle.passphrase_talk.specs.Visits.{Visits, HandsOn};
+ghost use Rattle.passphrase_talk.specs.Visits.{Visits};
 
 use crate::dialogue::lead;
 use crate::{Connector, Loss, Place, Told, Unmet, Waits};
@@ -15,7 +15,8 @@ use std::alloc::Global;
 pub const BUDGET: u64 = 1 << 20;
 
 /// Connects to the agent at this place, leads one dialogue for the line, and leaves it. Where a
-/// user may have to type, the agent is told the terminal.
+/// user may have to type, the agent is told the terminal, and the connector what the agent says of
+/// a pinentry; elsewhere neither.
 pub fn visit<C: Connector>(
     alloc: Global,
     connector: &mut C,
@@ -25,9 +26,8 @@ pub fn visit<C: Connector>(
 ) -> Told
     ensures visits { Visits place waits line.now (C.terminal connector.old) result
         (C.contacts connector.old) (C.contacts connector.new) }
-    ensures launches { (visited : Visits place waits line.now (C.terminal connector.old) result
-        (C.contacts connector.old) (C.contacts connector.new))
-        × HandsOn visited (C.launches connector.old) (C.launches connector.new) }
+    ensures unprompted { waits ≡ Waits.Answer
+        → (C.contacts connector.new).launches ≡ (C.contacts connector.old).launches }
     ensures terminal { C.terminal connector.new ≡ C.terminal connector.old }
 {
     let link = match connector.connect(place, waits) {

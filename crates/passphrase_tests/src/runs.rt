@@ -147,6 +147,18 @@ fn first_wrong(alloc: Global, rows: &[Row]) -> Result<Option<String>, AllocError
     Ok(None)
 }
 
+/// The version is the one that the changes name last.
+#[test]
+fn the_version_is_told(rt: HostRuntime) -> Result<(), Fail> {
+    let rows = [Row {
+        words: &["--version"],
+        output: "passphrase (Dogwoodcatch) 0.2.0\n",
+        ..PLAIN
+    }];
+    assert_eq!(rt; first_wrong(rt.alloc(), &rows)?, None);
+    Ok(())
+}
+
 /// What is kept is given, and else what is typed.
 #[test]
 fn a_passphrase_is_given(rt: HostRuntime) -> Result<(), Fail> {
@@ -419,6 +431,34 @@ fn what_is_kept_is_looked_after(rt: HostRuntime) -> Result<(), Fail> {
             status: 2,
             says: "standard input has no passphrase",
             ..PLAIN
+        },
+    ];
+    assert_eq!(rt; first_wrong(rt.alloc(), &rows)?, None);
+    Ok(())
+}
+
+/// No byte that a terminal would obey is said, wherever it stands in a word.
+#[test]
+fn what_is_said_can_be_printed(rt: HostRuntime) -> Result<(), Fail> {
+    let refused = Row { status: 2, ..PLAIN };
+    let rows = [
+        Row {
+            words: &["x\x1b]0;OWN\x07"],
+            says: "an ID is letters, digits and :._@/- (and neither X alone nor begins with -): x?]0;OWN?",
+            ..refused
+        },
+        Row {
+            words: &["--\r\n\x7f~ \u{9b}2J", "id"],
+            says: "there is no option --???~ ??2J",
+            ..refused
+        },
+        Row {
+            words: &[
+                "--aaaaaaaaaaaaaaaaaaaaaaaaaaaaaaaaaaaaaaaaaaaaaaaaaaaaaaaaaaaaaaaaaaaaaaaaaaaaaaaaaaaaaaaaaaaaaaaaaaaaaaaaaaaaaaaaaaaaaaaaaaaaaaaaaaaaaaaaaaaaaaaaaaaaaaaaaaaaaaaaaaaaaaaaaaaaaaaaaaaaaaaaaaaaaaaaaaaaaaaaaaaaaaaaaaaaaaaaaaaaaaaaaaaaaaaaaaaaaaaaaaaaaaaaaaaaaaaaaaaaaaaaaaaaaaaaaaaaaaaaaaaaaaaaaaaaaaaaaaaa\x1b",
+                "id",
+            ],
+            says: "there is no option --aaaaaaaaaaaaaaaaaaaaaaaaaaaaaaaaaaaaaaaaaaaaaaaaaaaaaaaaaaaaaaaaaaaaaaaaaaaaaaaaaaaaaaaaaaaaaaaaaaaaaaaaaaaaaaaaaaaaaaaaaaaaaaaaaaaaaaaaaaaaaaaaaaaaaaaaaaaaaaaaaaaaaaaaaaaaaaaaaaaaaaaaaaaaaaaaaaaaaaaaaaaaaaaaaaaaaaaaaaaaaaaaaaaaaaaaaaaaaaaaaaaaaaaaaaaaaaaaaaaaaaaaaaaaaaaaaaaaaaaaaaaaaaaaaaaaaaaaaaaa?",
+            ..refused
         },
     ];
     assert_eq!(rt; first_wrong(rt.alloc(), &rows)?, None);

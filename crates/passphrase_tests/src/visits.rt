@@ -24,7 +24,7 @@ struct Row {
     connects: &'static [u64],
     reads: &'static [u64],
     writes: &'static [u64],
-    /// What is told, what the agent was written, and what it says of the first pinentry.
+    /// What is told, what the agent was written, and what is handed on of the first pinentry.
     told: &'static str,
     written: &'static str,
     launched: &'static str,
@@ -123,7 +123,7 @@ fn last_written(connector: &MemConnector, waits: Waits) -> &[u8] {
 }
 
 /// How the row comes out, with reads of at most so many bytes: what is told, what the agent was
-/// written, and what it said of the first pinentry that it launched.
+/// written, and what was handed on of the first pinentry that it launched.
 fn come_out(alloc: Global, row: &Row, piece: usize) -> Result<String, AllocError> {
     let mut links = Vec::new(alloc);
     links.push(planned(alloc, row, piece)?)?;
@@ -186,14 +186,12 @@ fn an_answer_is_told(rt: HostRuntime) -> Result<(), Fail> {
         },
         Row {
             gives: "OK\nINQUIRE PINENTRY_LAUNCHED 7 gtk2 1.2.1\nD x\nOK\n",
-            launched: "7 gtk2 1.2.1",
             told: "passphrase x",
             written: "CLEAR_PASSPHRASE id\nEND\n",
             ..ROW
         },
         Row {
             gives: "OK\nINQUIRE PINENTRY_LAUNCHED 7\nERR 83886179 Operation cancelled\n",
-            launched: "7",
             told: "refused 83886179 behind a pinentry",
             written: "CLEAR_PASSPHRASE id\nEND\n",
             ..ROW
@@ -215,7 +213,8 @@ fn an_answer_is_told(rt: HostRuntime) -> Result<(), Fail> {
     Ok(())
 }
 
-/// An agent is told the terminal where a user may have to type.
+/// An agent is told the terminal where a user may have to type, and what it says of a pinentry is
+/// handed on there.
 #[test]
 fn a_prompt_has_a_terminal(rt: HostRuntime) -> Result<(), Fail> {
     let whole = Row {
@@ -226,8 +225,29 @@ fn a_prompt_has_a_terminal(rt: HostRuntime) -> Result<(), Fail> {
             OPTION lc-messages=C\nCLEAR_PASSPHRASE id\n",
         ..ROW
     };
+    let asked = Row {
+        written: "OPTION allow-pinentry-notify\nOPTION ttyname=/dev/pts/1\nOPTION ttytype=xterm\n\
+            OPTION lc-messages=C\nCLEAR_PASSPHRASE id\nEND\n",
+        launched: "7",
+        ..whole
+    };
     let rows = [
         whole,
+        Row {
+            gives: "OK\nOK\nOK\nOK\nOK\nINQUIRE PINENTRY_LAUNCHED 7 gtk2 1.2.1\nD x\nOK\n",
+            launched: "7 gtk2 1.2.1",
+            ..asked
+        },
+        Row {
+            gives: "OK\nOK\nOK\nOK\nOK\nINQUIRE PINENTRY_LAUNCHED 7\nERR 83886179\n",
+            told: "refused 83886179 behind a pinentry",
+            ..asked
+        },
+        Row {
+            gives: "OK\nOK\nOK\nOK\nOK\nINQUIRE PINENTRY_LAUNCHED 7\n",
+            told: "ended",
+            ..asked
+        },
         Row {
             gives: "OK\nOK\nINQUIRE PINENTRY_LAUNCHED\nOK\n",
             told: "broken",
@@ -332,7 +352,6 @@ fn an_end_is_told(rt: HostRuntime) -> Result<(), Fail> {
         },
         Row {
             gives: "OK\nINQUIRE PINENTRY_LAUNCHED 7\n",
-            launched: "7",
             written: "CLEAR_PASSPHRASE id\nEND\n",
             ..ended
         },

@@ -2,4 +2,5 @@ pub mod Pushing
 pub mod Reading
 pub mod Sound
 mod WorkedExamples
+mod WorkedNumbers
 pub mod LineParts

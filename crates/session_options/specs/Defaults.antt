@@ -1,8 +1,8 @@
 -- The defaults: the lifetimes and the fewest bytes of a passphrase are those of the GnuPG manual ("agent options"), the others this
 -- project's own.
-use Rattle.std.{specs.Prelude.{ℕ, true, false, List, codes}, proofs.Common.lit≤}
+use Rattle.std.{specs.Prelude.{ℕ, true, false, List, codes}, proofs.Common.{lit≤, refl}}
 use Rattle.arrayvec.specs.ArrayVec.{ArrayVec}
-use Rattle.session_options.specs.declared.rules.Rules.{Rules}
+use Rattle.session_options.specs.declared.{rules.Rules.Rules, version.Version.Version}
 use Rattle.session_options.specs.declared.rules.TheConstants.{
   DEFAULT_TTL,
   DEFAULT_MAX_TTL,
@@ -18,6 +18,9 @@ use Rattle.session_options.specs.declared.rules.RunMode.TheVariants.{Server}
 abbrev path : List ℕ → ArrayVec ℕ
 path bytes = record { items = bytes }
 
+abbrev pub default_version : Version
+default_version = record { bytes = record { items = codes "2.4.0" }; in_form = refl }
+
 abbrev pub default_rules : Rules
 default_rules = record {
   default_ttl = DEFAULT_TTL;
@@ -27,6 +30,7 @@ default_rules = record {
   pinentry_timeout = 0;
   workers = DEFAULT_WORKERS;
   pid = 0;
+  version = default_version;
   min_len = DEFAULT_MIN_LEN;
   min_nonalpha = DEFAULT_MIN_NONALPHA;
   allow_preset = false;

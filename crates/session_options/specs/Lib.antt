@@ -1,4 +1,5 @@
 pub mod Counts
+pub mod Versions
 pub mod Defaults
 pub mod Text
 pub mod Table

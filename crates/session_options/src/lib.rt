@@ -1,8 +1,8 @@
 //! The rules that an agent is started with, and the options that a client sets in its session.
 //!
 //! Begin with [`Options::set`]: the answer and the values are exactly the table's, and a refusal
-//! changes nothing. [`Rules`] keeps its ranges by its type, and [`Env`] that no word of it ends a
-//! line. Definitions begin in `specs/Table`, the defaults in `specs/Defaults`.
+//! changes nothing. [`Rules`] keeps its ranges by its type, [`Version`] its form, and [`Env`] that
+//! no word of it ends a line. Definitions begin in `specs/Table`, the defaults in `specs/Defaults`.
 #![tactic(auto)]
 
 mod env;
@@ -11,6 +11,7 @@ mod options;
 mod rules;
 mod text;
 mod values;
+mod version;
 
 use arrayvec::ArrayVec;
 
@@ -28,3 +29,4 @@ pub use rules::{
     MIN_WORKERS, Rules, RunMode,
 };
 pub use text::{copied, name_and_value};
+pub use version::{DEFAULT_VERSION, MAX_VERSION_LEN, Version};

@@ -6,7 +6,7 @@ ghost use Rattle.std.specs.Prelude.{◌≡◌, ◌≤◌, length};
 ghost use Rattle.session_options.specs.declared.TheConstants.{MAX_VALUE_LEN};
 ghost use Rattle.session_options.specs.Counts.{IsS2kCount, IsWorkers};
 
-use crate::Word;
+use crate::{Version, Word};
 
 /// The fewest bytes that a passphrase is hashed to.
 pub const MIN_S2K_COUNT: u64 = 65_536;
@@ -73,6 +73,8 @@ pub struct Rules {
     pub workers: u32,
     /// The number of the agent's process, or 0 where it isn't known.
     pub pid: u32,
+    /// The version that the agent tells its clients, which may compare it with their own.
+    pub version: Version,
     /// The fewest bytes of a new passphrase.
     pub min_len: u8,
     /// The fewest bytes of a new passphrase that are no letters.
@@ -110,6 +112,7 @@ impl Default for Rules {
             pinentry_timeout: 0,
             workers: DEFAULT_WORKERS,
             pid: 0,
+            version: Version::default(),
             min_len: DEFAULT_MIN_LEN,
             min_nonalpha: DEFAULT_MIN_NONALPHA,
             allow_preset: false,

@@ -1,6 +1,6 @@
-//! Waiting for the next client, through faults that pass and up to a stop. It touches the listening
-//! socket, and sets the limits of a client's waits. Begin with `accept_next`; no clause speaks of
-//! it, and tests show which faults pass.
+//! Waiting for the next client, through faults that pass and up to a stop or the end of the wait. It
+//! touches the listening socket, and sets the limits of a client's waits. Begin with `accept_next`;
+//! no clause speaks of it, and tests show which faults pass.
 
 use crate::path::SocketName;
 use std::io::ErrorKind;
@@ -24,6 +24,8 @@ const MAX_REMOTE_READ_SECONDS: u64 = 600;
 #[derive(Drop)]
 pub(crate) enum Accepted {
     Client(UnixStream),
+    /// Nobody came while the socket's limit of a wait lasted, where it has one.
+    Nobody,
     /// No client is taken any more.
     Stopped,
     /// The listener is broken for good.
@@ -35,6 +37,8 @@ pub(crate) enum Accepted {
 pub(crate) enum AcceptFault {
     /// It is that client's alone, which is gone again, or a signal came.
     OfOneClient,
+    /// The wait was as long as its limit (socket(7): SO_RCVTIMEO).
+    OutOfTime,
     /// Descriptors or memory are wanting, or anything else that can pass.
     Passing,
     /// The descriptor doesn't listen, now and ever after.
@@ -45,6 +49,7 @@ impl AcceptFault {
     pub(crate) fn of(fault: &io::Error) -> AcceptFault {
         match fault.kind() {
             ErrorKind::ConnectionAborted | ErrorKind::Interrupted => AcceptFault::OfOneClient,
+            ErrorKind::WouldBlock => AcceptFault::OutOfTime,
             _ => match fault.raw_os_error() {
                 Some(EBADF | EFAULT | EINVAL | ENOTSOCK | EOPNOTSUPP) => AcceptFault::Lasting,
                 _ => AcceptFault::Passing,
@@ -64,7 +69,8 @@ const ENOTSOCK: i32 = 88;
 
 const EOPNOTSUPP: i32 = 95;
 
-/// Waits for the next client, and tries again after a fault that passes. Once the listener is
+/// Waits for the next client, as long as the socket's limit, and tries again after a fault that
+/// passes. Once the listener is
 /// stopped it doesn't wait: those that are queued are taken and let go, until accept fails, which
 /// it does where none is left (Linux: EINVAL).
 pub(crate) fn accept_next(
@@ -81,6 +87,7 @@ pub(crate) fn accept_next(
             Err(fault) => match AcceptFault::of(&fault) {
                 AcceptFault::OfOneClient => {}
                 _ if is_stopped => return Accepted::Stopped,
+                AcceptFault::OutOfTime => return Accepted::Nobody,
                 AcceptFault::Passing => thread::sleep(clock, Duration::from_millis(PAUSE_MILLIS)),
                 AcceptFault::Lasting => return Accepted::Failed,
             },

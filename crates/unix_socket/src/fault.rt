@@ -2,16 +2,16 @@
 //! with `BindFault`: a folder that others may change has no socket, beside whatever the system
 //! refuses.
 
+use gnupg_home::HomeFault;
+use std::alloc::AllocError;
 use std::fmt::{Display, Formatter};
 use std::{fmt, io};
 
 /// Why there is no socket in a folder.
 #[derive(Debug, Drop)]
 pub enum BindFault {
-    /// Others than the owner of the folder may write in it.
-    OthersWrite,
-    /// The folder belongs to another user than the process's. Both by their numbers.
-    OtherOwner { owner: u32, user: u32 },
+    /// It isn't the user's alone.
+    Folder(HomeFault),
     /// A call of the system failed.
     System(io::Error),
 }
@@ -19,20 +19,26 @@ pub enum BindFault {
 impl Display for BindFault {
     fn fmt<W: fmt::Write>(&self, f: &mut Formatter<W>) -> fmt::Result {
         match self {
-            BindFault::OthersWrite => f.write_str("others may write in the folder"),
-            BindFault::OtherOwner { owner, user } => {
-                write!(
-                    f,
-                    "the folder belongs to user {owner}, and not to user {user}"
-                )
-            }
+            BindFault::Folder(fault) => write!(f, "{fault}"),
             BindFault::System(error) => write!(f, "{error}"),
         }
+    }
+}
+
+impl From<HomeFault> for BindFault {
+    fn from(fault: HomeFault) -> BindFault {
+        BindFault::Folder(fault)
     }
 }
 
 impl From<io::Error> for BindFault {
     fn from(error: io::Error) -> BindFault {
         BindFault::System(error)
+    }
+}
+
+impl From<AllocError> for BindFault {
+    fn from(error: AllocError) -> BindFault {
+        BindFault::System(error.into())
     }
 }

@@ -3,8 +3,9 @@
 //! `bind_at`; tests show what it does, since no clause speaks of files.
 
 use crate::fault::BindFault;
+use gnupg_home::check_home;
 use std::alloc::Global;
-use std::fs::{DirBuilder, Files, Permissions};
+use std::fs::{DirBuilder, File, Files, Permissions};
 use std::io::ErrorKind;
 use std::net::Net;
 use std::os::fd::OwnedFd;
@@ -40,9 +41,6 @@ const OWNER_FOLDER: u32 = 0o700;
 
 /// A socket to which only its owner may connect.
 const OWNER_SOCKET: u32 = 0o600;
-
-/// By these bits of its mode others than its owner may make, rename and remove what is in a folder.
-const OTHERS_WRITE: u32 = 0o022;
 
 /// Which file a path named when it was looked at.
 #[derive(Clone, Copy, Debug, PartialEq, Eq)]
@@ -81,48 +79,23 @@ pub(crate) struct Bound {
 /// Listens at this path in this folder, which is made where it isn't there. What the path named
 /// before gives way to the socket once that listens, and stays where this fails.
 ///
-/// The folder is its user's alone: in another one somebody else could put a socket in this one's
-/// place. Nobody but the owner reaches the socket at any moment: it is made in a fresh folder that
-/// only the owner may enter, closed to others, and then moved to its path.
-pub(crate) fn bind_at<R: Files + Net>(
+/// The folder is its user's alone, and nobody else can put another one in its place: else somebody
+/// could put a socket in this one's place. Nobody but the owner reaches the socket at any moment:
+/// it is made in a fresh folder that only the owner may enter, closed to others, and then moved to
+/// its path.
+pub(crate) fn bind_at<R: Files<File = File> + Net>(
     rt: &R,
     alloc: Global,
     folder: &str,
     path: &str,
 ) -> Result<Bound, BindFault> {
     make_folder(rt, folder)?;
-    let owner = only_writer(rt, folder)?;
+    check_home(rt, alloc, folder)?;
     let fresh = make_fresh_folder(rt, alloc, folder)?;
-    let bound = bind_as_owner(rt, alloc, owner, &fresh, path);
+    let bound = bind_in(rt, alloc, &fresh, path);
     // It is empty now. Where it stays nevertheless the next start takes another name.
     let _ = fs::remove_dir(rt, &fresh);
-    bound
-}
-
-/// The owner of the folder, where nobody else may write in it. A link is followed: what counts is
-/// the folder at its end.
-fn only_writer(rt: &impl Files, folder: &str) -> Result<u32, BindFault> {
-    let found = fs::metadata(rt, folder)?;
-    if found.mode() & OTHERS_WRITE == 0 {
-        Ok(found.uid())
-    } else {
-        Err(BindFault::OthersWrite)
-    }
-}
-
-/// Listens where the fresh folder, which this process has made, is the owner's too.
-fn bind_as_owner<R: Files + Net>(
-    rt: &R,
-    alloc: Global,
-    owner: u32,
-    fresh: &str,
-    path: &str,
-) -> Result<Bound, BindFault> {
-    let user = fs::symlink_metadata(rt, fresh)?.uid();
-    if user != owner {
-        return Err(BindFault::OtherOwner { owner, user });
-    }
-    Ok(bind_in(rt, alloc, fresh, path)?)
+    Ok(bound?)
 }
 
 /// Makes the folder, closed to others, where nothing has its name.

@@ -4,7 +4,7 @@
 
 use crate::SocketName::{Extra, Standard};
 use crate::accepting::{AcceptFault, limit_waits};
-use crate::{BindFault, SocketEar, SocketListener};
+use crate::{BindFault, Looks, SocketEar, SocketListener};
 use agent_ports::{Ear, Got, Listener, Next, Sent, Sink, Source};
 use std::fs::{DirBuilder, Permissions};
 use std::io::{ErrorKind, Read, Write};
@@ -131,11 +131,12 @@ fn a_path_too_long_makes_nothing_and_an_old_file_gives_way(rt: HostRuntime) -> R
 
 #[test]
 fn an_accept_is_tried_again_unless_the_descriptor_is_wrong(rt: HostRuntime) {
-    // Linux's numbers: EINTR, ECONNABORTED; ENOMEM, ENFILE, EMFILE, EPROTO, ENOBUFS, EPERM; EBADF,
+    // Linux's numbers: EINTR, ECONNABORTED; EAGAIN; ENOMEM, ENFILE, EMFILE, EPROTO, ENOBUFS, EPERM; EBADF,
     // EINVAL, ENOTSOCK, EOPNOTSUPP.
     for (number, wanted) in [
         (4, AcceptFault::OfOneClient),
         (103, AcceptFault::OfOneClient),
+        (11, AcceptFault::OutOfTime),
         (12, AcceptFault::Passing),
         (23, AcceptFault::Passing),
         (24, AcceptFault::Passing),
@@ -256,33 +257,50 @@ fn a_folder_that_others_may_change_has_no_socket(rt: HostRuntime) -> Result<(), 
     // Through a link it is the folder at its end that counts.
     let linked = own_path(&rt, "us_nine")?;
     symlink(&rt, &folder, &linked)?;
-    let others = Some("others may write in the folder");
     for path in [&folder, &linked] {
         for (mode, wanted) in [
             (0o700, None),
             (0o755, None),
-            (0o770, others),
-            (0o707, others),
-            (0o720, others),
-            (0o1777, others),
+            (
+                0o770,
+                Some("others may write in the folder HOME (mode 0770): chmod go-w HOME"),
+            ),
+            (
+                0o1777,
+                Some("others may write in the folder HOME (mode 1777): chmod go-w HOME"),
+            ),
             (0o2700, None),
         ] {
             let fault = fault_in(&rt, path, mode, None)?;
-            assert_eq!(rt; fault.as_ref().map(String::as_str), wanted, "mode {mode:o}");
+            let said = fault.as_ref().map(String::as_str);
+            assert_eq!(rt;
+                said,
+                with_path(&rt, wanted, &folder)?.as_deref(),
+                "mode {mode:o}"
+            );
         }
     }
     // Only root may give a folder away.
     if fs::metadata(&rt, &folder)?.uid() == 0 {
         let fault = fault_in(&rt, &folder, 0o700, Some(65_534))?;
-        assert_eq!(rt;
-            fault.as_ref().map(String::as_str),
-            Some("the folder belongs to user 65534, and not to user 0")
+        let wanted = Some(
+            "the folder HOME belongs to user 65534, and not to user 0: take a folder of your own",
         );
+        let said = fault.as_ref().map(String::as_str);
+        assert_eq!(rt; said, with_path(&rt, wanted, &folder)?.as_deref());
     }
     // Nothing is left in it.
     fs::remove_file(&rt, &linked)?;
     fs::remove_dir(&rt, &folder)?;
     Ok(())
+}
+
+/// The text with the folder's path in place of `HOME`.
+fn with_path(rt: &HostRuntime, text: Option<&str>, folder: &str) -> Result<Option<String>, Fail> {
+    match text {
+        Some(text) => Ok(Some(text.replace(rt.alloc(), "HOME", folder)?)),
+        None => Ok(None),
+    }
 }
 
 #[test]
@@ -293,7 +311,7 @@ fn a_start_that_fails_leaves_what_has_the_name(rt: HostRuntime) -> Result<(), Fa
     let running = UnixListener::bind(&rt, &socket)?;
     fs::set_permissions(&rt, &folder, Permissions::from_mode(0o777))?;
     let fault = SocketListener::bind(&rt, rt.alloc(), &folder, Standard).err();
-    assert!(rt; matches!(fault, Some(BindFault::OthersWrite)));
+    assert!(rt; matches!(fault, Some(BindFault::Folder(_))));
     fs::set_permissions(&rt, &folder, Permissions::from_mode(0o700))?;
     // Each name of a fresh folder is taken.
     for number in 0..1000u32 {
@@ -340,5 +358,108 @@ fn a_wait_behind_its_limit_is_a_fault(rt: HostRuntime) -> Result<(), Fail> {
         Sent::All => return Err(Fail::new("all was sent")),
     }
     drop(silent);
+    Ok(())
+}
+
+/// A listener at its own socket in a fresh folder, with the short waits of a test.
+fn watched<'a>(rt: &'a HostRuntime, folder: &str) -> Result<SocketListener<'a, HostRuntime>, Fail> {
+    let mut listener = SocketListener::bind(rt, rt.alloc(), folder, Standard)?;
+    let looks = Looks {
+        every: Duration::from_millis(200),
+        again: Duration::from_millis(200),
+    };
+    let file = listener.file(rt.alloc())?;
+    listener.watch(looks, file)?;
+    Ok(listener)
+}
+
+/// What the listener itself asks next, as text.
+fn asked<R: std::fs::Files + std::net::Net + std::rt::Clock>(
+    alloc: std::alloc::Global,
+    listener: &SocketListener<'_, R>,
+    ear: &mut SocketEar,
+) -> Result<String, Fail> {
+    let Next::Link(mut link) = listener.next(ear) else {
+        return Err(Fail::new("no link"));
+    };
+    let mut buf = [0u8; 64];
+    let Got::Bytes(count) = link.read(&mut buf) else {
+        return Err(Fail::new("no bytes"));
+    };
+    // It takes its answers, which nobody reads.
+    let _ = link.put(b"OK\n");
+    listener.done(link);
+    Ok(String::from_utf8_lossy(alloc, buf.get(..count).unwrap_or(&buf))?)
+}
+
+#[test]
+fn a_watched_listener_asks_while_nobody_else_does(rt: HostRuntime) -> Result<(), Fail> {
+    let folder = own_path(&rt, "us_eleven")?;
+    let socket = format!(in rt.alloc(); "{folder}/S.gpg-agent")?;
+    let listener = watched(&rt, &folder)?;
+    let mut ear = listener.ear();
+    for _ in 0..2u32 {
+        let line = asked(rt.alloc(), &listener, &mut ear)?;
+        assert_eq!(rt; line.as_str(), "GET_PASSPHRASE --no-ask nobody\nBYE\n");
+    }
+    // A client that stays silent for longer than the wait is served, and has no such limit.
+    let mut client = UnixStream::connect(&rt, &socket)?;
+    let Next::Link(mut link) = listener.next(&mut ear) else {
+        return Err(Fail::new("no link"));
+    };
+    let (got, ()) = thread::join(
+        &rt,
+        || link.read(&mut [0u8; 8]),
+        || {
+            thread::sleep(&rt, Duration::from_millis(600));
+            let _ = client.write_all(b"NOP\n");
+        },
+    );
+    assert_eq!(rt; got, Got::Bytes(4));
+    listener.done(link);
+    listener.stop();
+    assert!(rt; matches!(listener.next(&mut ear), Next::Stopped));
+    assert!(rt; !ear.failed());
+    drop(listener);
+    fs::remove_dir(&rt, &folder)?;
+    Ok(())
+}
+
+#[test]
+fn a_listener_whose_socket_is_lost_forgets_and_fails(rt: HostRuntime) -> Result<(), Fail> {
+    let folder = own_path(&rt, "us_twelve")?;
+    let socket = format!(in rt.alloc(); "{folder}/S.gpg-agent")?;
+    for is_anothers in [false, true] {
+        let listener = watched(&rt, &folder)?;
+        let mut extra = SocketListener::bind(&rt, rt.alloc(), &folder, Extra)?;
+        let looks = Looks {
+            every: Duration::from_millis(200),
+            again: Duration::from_millis(200),
+        };
+        extra.watch(looks, listener.file(rt.alloc())?)?;
+        fs::remove_file(&rt, &socket)?;
+        let other = if is_anothers {
+            Some(UnixListener::bind(&rt, &socket)?)
+        } else {
+            None
+        };
+        let mut ear = listener.ear();
+        let line = asked(rt.alloc(), &listener, &mut ear)?;
+        assert_eq!(rt; line.as_str(), "RELOADAGENT\nBYE\n");
+        assert!(rt; !ear.failed());
+        for faults in 1..3u64 {
+            assert!(rt; matches!(listener.next(&mut ear), Next::Failed));
+            assert_eq!(rt; ear.faults(), faults);
+        }
+        // The extra one ends with it, and asks nothing.
+        assert_eq!(rt; last_of(&extra), (false, true));
+        drop(extra);
+        drop(listener);
+        // What another has there is left.
+        assert_eq!(rt; fs::exists(&rt, &socket)?, is_anothers);
+        drop(other);
+        let _ = fs::remove_file(&rt, &socket);
+    }
+    fs::remove_dir(&rt, &folder)?;
     Ok(())
 }

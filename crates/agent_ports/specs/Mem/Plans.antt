@@ -1,7 +1,7 @@
 -- The plans of the forms in memory, from their fields.
 use Rattle.std.specs.Prelude.{ℕ, List, [], Some, drop, max}
 use Rattle.agent_ports.specs.{Sides.Side, Plans.Plan, declared.{fault_plan.FaultPlan.FaultPlan, mem.{dice.ListDice.ListDice, keys.MapKeys.MapKeys, link.{MemSource.MemSource, MemSink.MemSink, MemLink.MemLink, PlannedLink.PlannedLink}}}}
-use Rattle.agent_ports.specs.declared.mem.trust.MemTrust.{MemTrust}
+use Rattle.agent_ports.specs.declared.mem.{conf.MemConf.MemConf, trust.MemTrust.MemTrust}
 
 -- calls of which some are to fail, with bytes of this size
 abbrev pub plan_of : FaultPlan → ℕ → Plan
@@ -27,6 +27,9 @@ keys_plan keys = plan_of keys.plan 0
 
 abbrev pub trust_plan : MemTrust → Plan
 trust_plan trust = plan_of trust.plan 0
+
+abbrev pub conf_plan : MemConf → Plan
+conf_plan conf = plan_of conf.plan 0
 
 -- a link with both its sides and their plans
 pub record OpenLink : Type 0 where

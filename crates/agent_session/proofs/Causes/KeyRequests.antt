@@ -6,20 +6,18 @@ use Rattle.{session_client.specs.declared.{code.Code.Code, refusal.Refusal.{Refu
 use Rattle.{cache_policy.specs.{Turns.{Refused, Empty, Stopping}, declared.secret.TheConstants.MAX_SECRET_LEN}, secret_file.specs.{Opens.LockedKey, Protects.{ocb_protection, protected_file}}, session_options.specs.OptionValues.OptionValues}
 use Rattle.{session_options.specs.declared.{options.PinMode.PinMode, rules.Rules.Rules}, sexp_keys.specs.{Key.Key, Lists.grip_of}, agent_commands.specs.{Events.EventWith, declared.request.Request.Request}}
 use Rattle.key_commands.specs.Lines.{max_key_data}
-use Rattle.key_commands.specs.Exchanges.{KeyReply, HaveKeyReplies, KeyInfoReplies, ListKeysReplies, KeyWrapReplies, ImportKeyReplies, ExportKeyReplies, PasswdReplies, VerifyReplies, DeleteKeyReplies, KeyReplies, wrap_key, StoresKey}
-use Rattle.key_commands.specs.{Exchanges.{FoundOrNew, RenewsPassphrase, RewritesFile, ChangesOpened}, Files.Rewrites}
-use Rattle.key_commands.specs.KeyActions.{Tells, tells, Protects, IsShort, HasOne as HasOneKey, TellsKeyInfo, ListsGrips, ReadsListed, WritesInfo, TellsListed, WritesInfos, AsksKeyData, Unwraps, ReceivesKey, NamesKey, IsFree, LooksOver}
-use Rattle.key_commands.specs.{KeyActions.{WrapsKey, Consents}, Actions.{Action, read_fault}}
-use Rattle.key_commands.specs.{Passphrases.{ClientOld, UncachedOld, OpensLocked, OldPassphrase, VerifiesPassphrase, ClientNew, NewPassphrase, ask_key, way_of}, Wrapping.WrappedSays}
-use Rattle.{key_commands.specs.declared.request.KeyRequest.KeyRequest, agent_origin.specs.declared.session_state.SessionState.SessionState}
+use Rattle.key_commands.specs.Exchanges.{KeyReply, HaveKeyReplies, ListGripsReplies, KeyInfoReplies, ListKeysReplies, KeyWrapReplies, ImportKeyReplies, ExportKeyReplies, PasswdReplies, VerifyReplies, DeleteKeyReplies, KeyReplies, wrap_key}
+use Rattle.key_commands.specs.{Exchanges.{StoresKey, FoundOrNew, RenewsPassphrase, RewritesFile, ChangesOpened}, Files.Rewrites}
+use Rattle.key_commands.specs.KeyActions.{Tells, tells, Protects, IsShort, HasOne as HasOneKey, TellsKeyInfo, ListsGrips, JoinsGrips, ReadsListed, WritesInfo, TellsListed, WritesInfos, AsksKeyData, Unwraps, ReceivesKey, NamesKey, IsFree}
+use Rattle.key_commands.specs.{KeyActions.{LooksOver, WrapsKey, Consents}, Actions.{Action, read_fault}, Passphrases.{ClientOld, UncachedOld, OpensLocked, OldPassphrase, VerifiesPassphrase, ClientNew, NewPassphrase, ask_key, way_of}}
+use Rattle.{key_commands.specs.{Wrapping.WrappedSays, declared.request.KeyRequest.KeyRequest}, agent_origin.specs.declared.session_state.SessionState.SessionState}
 use Rattle.agent_session.specs.Causes.{Has, here, StandIn, IsCaused, IsSent, AreUnread, LacksKeys, on_keys, IsRefusedBy, one, IsRead, IsReadOf, IsDrawn, IsListOf, protected, IsReadLocked, OpensRead, Unlocks, exports, NamesOld, of_export}
 use Rattle.agent_session.specs.Causes.{of_change, ComesBy, AsksAny, of_new, of_import, new_plan, is_clear, key_data, KeyDataSays, data_says, faulty, long, long_file, by_mode, deletion, stays, empty, no_import, no_export, there, GivesNone}
 use Rattle.agent_session.specs.{Causes.{none_given, GivesNoneFor, ByNonce, HasNoEntry, exported, changed, verified, imported, renewed, IsUnprompted}, Completeness.IsStatus}
 use Rattle.agent_session.proofs.Causes.Explaining.{Caused, Comes, Explains, Anything, IsFound, bind, whatever, returned, refused, is_needed, or_otherwise, is_wanted, seats, changes, peeks, closes_explained, writes, inquires, asks_client}
 use Rattle.agent_session.proofs.Causes.{Explaining.{finds, draws, out_of_memory_first, out_of_memory_second, looks}, Asides.{info_status, limit_status}, Faulty.first_fault_said}
-use Rattle.agent_session.proofs.Causes.KeyActions.{Either, fault_caused, looks_for_nonce, takes_seat, keeps_new, locks, tries, tries_found}
-use Rattle.agent_session.proofs.Causes.KeyActions.{prompts_old, prompts_any, agrees, reads_file, removes, replaces, OpensHere, comes_of, comes_by_nonce}
-use Rattle.agent_session.proofs.{Causes.{KeyActions.{FoundByNonce, nonce_none, none_opens, nonce_none_opens}, Replying.{IsReply, reply_ok, reply_status, reply_nonce, reply_keys}}, Standing.{has_first, has_in, has_right}}
+use Rattle.agent_session.proofs.Causes.KeyActions.{Either, fault_caused, looks_for_nonce, takes_seat, keeps_new, locks, tries, tries_found, prompts_old, prompts_any, agrees, reads_file, removes, replaces, OpensHere, comes_of}
+use Rattle.agent_session.proofs.{Causes.{KeyActions.{comes_by_nonce, FoundByNonce, nonce_none, none_opens, nonce_none_opens}, Replying.{IsReply, reply_ok, reply_status, reply_nonce, reply_keys}}, Standing.{has_first, has_in, has_right}}
 use Rattle.agent_ports.specs.declared.keys.KeyDone.TheVariants as key_done
 use Rattle.agent_ports.specs.declared.keys.KeyRead.TheVariants as key_read
 use Rattle.session_client.specs.declared.code.Code.TheVariants as code
@@ -87,6 +85,10 @@ module _ (rules : Rules) (kept : SessionState) (request : Request) (whole : List
   lists before events result after (actions.listed is) stands = record { silent = (tt, tt); explained = tt }
   lists before events result after actions.faulted stands = record { silent = (tt, tt); explained = one _ tt (has_first stands) }
   lists before events result after actions.no_memory stands = record { silent = (tt, tt); explained = one _ tt (has_first stands) }
+
+  joins_grips : (grips : List Grip) → ExplainsHere (JoinsGrips grips) Anything
+  joins_grips grips before events result after actions.joined stands = record { silent = tt; explained = tt }
+  joins_grips grips before events result after actions.no_memory stands = record { silent = (tt, tt); explained = out_of_memory_first rules kept request whole stands }
 
   unlisted_caused : (grip : Grip) (answer : KeyRead) {why : Code} {more : List (EventWith PortCall)} → answer ≢ key_read.Absent → read_fault answer ≡ Some why
       → StandIn (Port (Keys (Read grip answer)) ∷ more) whole → CausedHere why
@@ -324,9 +326,12 @@ module _ (rules : Rules) (kept : SessionState) (request : Request) (whole : List
     -- a request on keys, whose line may be refused
     module _ (line_caused : (why : Code) → IsRefusedBy request why → IsCaused whole rules kept request why OfAgent) where
       pub replies : (asked : KeyRequest) → on_keys request ≡ Some asked → Explains whole (IsCaused whole rules kept request) (KeyReplies rules kept.options kept.wraps asked) Replied
-      unfolding HaveKeyReplies KeyInfoReplies ListKeysReplies KeyWrapReplies ImportKeyReplies ExportKeyReplies PasswdReplies VerifyReplies DeleteKeyReplies
+      unfolding HaveKeyReplies ListGripsReplies KeyInfoReplies ListKeysReplies KeyWrapReplies ImportKeyReplies ExportKeyReplies PasswdReplies VerifyReplies DeleteKeyReplies
       replies (on.HaveKey grips) asked =
           bind (has_one rules kept request whole grips (λ each. subst (LacksKeys whole) (sym asked) each)) (λ one any. replied _ reply_ok)
+      replies on.ListGrips asked =
+          bind (lists rules kept request whole) (λ grips any. bind (joins_grips rules kept request whole grips)
+          (λ bytes any. bind (told rules kept request whole bytes) (λ text is_reply. replied _ is_reply)))
       replies (on.KeyInfo grip) asked =
           bind (reads_file rules kept request whole grip (causes.tells asked) (λ absent. subst (LacksKeys whole) (sym asked) absent))
           (λ file is_read. bind (tells_info rules kept request whole grip file.key) (λ line status. replied _ (reply_status _ status)))

@@ -1,7 +1,7 @@
 -- By which codes lines are refused.
 use Rattle.std.{proofs.Common.{rules, ◌≡◌, ℕ, Bool, true, false, List, [], ◌∷◌, codes, Option, Some, None, Result, Ok, Err, subst, inl, inr}, specs.Prelude.{if◌then◌else◌, ⊤}}
 use Rattle.{agent_ask.specs.Session.PortCalls.PortCall, session_client.specs.declared.code.Code.Code, assuan_server.specs.declared.errors.Origin.TheVariants.Agent}
-use Rattle.{assuan_text.specs.{Options.{options_of, arguments_of, has_option, last_option, last_value}, Words.{rest_of, words}}, session_options.specs.declared.rules.Rules.Rules, agent_commands.specs.Events.EventWith}
+use Rattle.{assuan_text.specs.{Numbers.number_of, Options.{options_of, arguments_of, has_option, last_option, last_value}, Words.{rest_of, words}}, session_options.specs.declared.rules.Rules.Rules, agent_commands.specs.Events.EventWith}
 use Rattle.agent_commands.specs.{Fields.{cache_id, repeats, texts, life, cleared_mode, given_passphrase}, Requests.request_of, declared.request.{CacheCommand.CacheCommand, Request.{Request, TheVariants.{Cache, Key, Bad}}}}
 use Rattle.{command_table.specs.{Commands.command_in, declared.commands.{Command.Command, CommandName.CommandName, KeyCommandName.KeyCommandName}}, key_commands.specs.{Requests.key_request_of, declared.request.KeyRequest.KeyRequest}}
 use Rattle.agent_origin.specs.declared.session_state.SessionState.{SessionState}
@@ -118,9 +118,20 @@ grips_fit : (words : List (List ℕ)) → Fits (key_requests.all_grips words)
 grips_fit [] = fine tt
 grips_fit (word ∷ more) = field_fits (key_requests.grip word) _ (λ first. then_fits (key_requests.all_grips more) _ (grips_fit more) (λ others. (fine tt)))
 
+limit_fits : (limit : Option ℕ) → FitsSo IsAsked (key_requests.all_from_one limit)
+limit_fits None = fault form
+limit_fits (Some limit) = if_fits _ (fine tt) (fault form)
+
+have_fits : (lists : Bool) (limit : Option (List ℕ)) (arguments : List (List ℕ)) → FitsSo IsAsked (key_requests.have_by lists limit arguments)
+have_fits lists (Some limit) arguments = limit_fits (number_of limit)
+have_fits true None arguments = fine tt
+have_fits false None arguments = then_fits (key_requests.some_grips arguments) _ (if_fits _ (grips_fit arguments) (fault form)) (λ grips. (fine tt))
+
 -- each is made of fields and choices, of which the lemmas above are
 key_asked_fits : (command : KeyCommandName) (rest : List ℕ) → FitsSo IsAsked (key_requests.key_asked_by command rest)
-key_asked_fits key_name.HaveKey rest = let arguments = arguments_of (words rest) in then_fits (key_requests.some_grips arguments) _ (if_fits _ (grips_fit arguments) (fault form)) (λ grips. (fine tt))
+key_asked_fits key_name.HaveKey rest =
+    let options = options_of (words rest) in
+    have_fits (has_option (codes "--list") options) (last_value (codes "--list") options) (arguments_of (words rest))
 key_asked_fits _ rest = search (rules, if_fits, field_fits, fine, fault, unsupported)
 
 either_asked : (result : Result KeyRequest Code) → FitsSo IsAsked result → (why : Code) → key_requests.key_or_bad result ≡ on.Bad why → IsLineCode why

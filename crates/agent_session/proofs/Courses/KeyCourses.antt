@@ -5,7 +5,7 @@ use Rattle.{agent_ask.proofs.Within.{Within, Yields, yields_then, returned_so, r
 use Rattle.{assuan_server.specs.Written.{refusal_line, ok}, session_client.specs.{declared.{code.Code.Code, refusal.Refusal.{Refusal, TheVariants.{Agent, Client}}, client_error.Gone.Gone}, Refusals.gone_by}, cache_policy.specs.Turns.closes}
 use Rattle.{cache_policy.specs.declared.{mark.MarkStep.{MarkStep, TheVariants.Clear}, mode.Mode.TheVariants.{Normal, Nonce}}, session_options.specs.{OptionValues.OptionValues, declared.rules.Rules.Rules}, sexp_keys.specs.Key.Key}
 use Rattle.{agent_commands.specs.declared.request.Request.Request, key_commands.specs.Events.{Event, IsUncalled, read, called}}
-use Rattle.key_commands.specs.Exchanges.{KeyReply, KeyExchange, HaveKeyReplies, KeyInfoReplies, ListKeysReplies, KeyWrapReplies, ImportKeyReplies, ExportKeyReplies, PasswdReplies, VerifyReplies, DeleteKeyReplies, KeyReplies, wrap_key}
+use Rattle.key_commands.specs.Exchanges.{KeyReply, KeyExchange, HaveKeyReplies, ListGripsReplies, KeyInfoReplies, ListKeysReplies, KeyWrapReplies, ImportKeyReplies, ExportKeyReplies, PasswdReplies, VerifyReplies, DeleteKeyReplies, KeyReplies, wrap_key}
 use Rattle.key_commands.specs.{Exchanges.{StoresKey, RewritesFile, ChangesOpened}, KeyActions.{Tells, tells, Replaces, Removes, KeepsNew, TellsKeyInfo, ReceivesKey, IsFree, WrapsKey}}
 use Rattle.key_commands.specs.{Lines.{grip_text, info_line, of_passphrase, of_key_data, of_key}, Actions.{Action, key_went_after}, declared.{request.KeyRequest.KeyRequest, went.KeyWent.KeyWent, keywrap_key.WrapKeys.WrapKeys}}
 use Rattle.{key_commands.proofs.{EachEvent.{each_bind, each_returned, each_needed, each_wanted, each_closes, each_changes, still_uncalled}, EachRequest.{IsPlain, plain_replies}}, assuan_escape.specs.Escapes.hex_text}
@@ -32,8 +32,11 @@ use Rattle.key_commands.proofs.EachEvent as each
 module _ {Fits : Event → Type 0} (fits : FitsKeys Fits) (reads : (grip : Grip) (answer : KeyRead) → Fits (read grip answer)) (lists : (answer : KeyNames) → Fits (called (Listed answer)))
     (draws : (draw : Draw) → Fits (Port (Dice draw))) (rules : Rules) (options : OptionValues) (wraps : WrapKeys) where
   pub plain_works : (asked : KeyRequest) → IsPlain asked → WorksSo Fits (KeyReplies rules options wraps asked)
-  unfolding HaveKeyReplies KeyInfoReplies ListKeysReplies KeyWrapReplies
+  unfolding HaveKeyReplies ListGripsReplies KeyInfoReplies ListKeysReplies KeyWrapReplies
   plain_works (on.HaveKey grips) plain = bind Fits (has_one fits reads grips) (λ one. returned Fits _)
+  plain_works on.ListGrips plain =
+      bind Fits (keeps_works Fits (work.lists Fits fits.memory lists)) (λ grips. bind Fits (keeps_works Fits (work.joins_grips Fits fits.memory)) (λ bytes.
+      bind Fits (keeps_works Fits (work.told Fits fits.memory)) (λ text. returned Fits _)))
   plain_works (on.KeyInfo grip) plain = bind Fits (keeps_works Fits (work.reads_file Fits fits.memory (reads grip))) (λ file. bind Fits (tells_info fits grip file.key) (λ line. returned Fits _))
   plain_works on.ListKeys plain = bind Fits (keeps_works Fits (work.lists Fits fits.memory lists)) (λ grips. bind Fits (writes_infos fits reads grips) (λ written. returned Fits _))
   plain_works (on.KeyWrap way) plain =
@@ -206,8 +209,9 @@ tells_ok_of : (bytes : List ℕ) (make : List ℕ → WrapKeys) (before : Option
 tells_ok_of bytes make _ _ _ _ (goes_on (tells answers) returns) = (reply_ends_in_ok (reply_keys answers), refl)
 
 pub replies_ok : (rules : Rules) (options : OptionValues) (wraps : WrapKeys) (asked : KeyRequest) → ReplyOk (KeyReplies rules options wraps asked)
-unfolding HaveKeyReplies KeyInfoReplies ListKeysReplies KeyWrapReplies ImportKeyReplies ExportKeyReplies PasswdReplies VerifyReplies DeleteKeyReplies
+unfolding HaveKeyReplies ListGripsReplies KeyInfoReplies ListKeysReplies KeyWrapReplies ImportKeyReplies ExportKeyReplies PasswdReplies VerifyReplies DeleteKeyReplies
 replies_ok rules options wraps (on.HaveKey grips) = ok_then (λ one. ok_alone)
+replies_ok rules options wraps on.ListGrips = ok_then (λ grips. ok_then (λ bytes. values_so (tells_ok_of bytes _)))
 replies_ok rules options wraps (on.KeyInfo grip) = ok_then (λ file. values_so (info_ok_of grip file.key wraps))
 replies_ok rules options wraps on.ListKeys = ok_then (λ grips. ok_then (λ written. ok_alone))
 replies_ok rules options wraps (on.KeyWrap way) = ok_then (λ key. values_so (tells_ok_of key _))

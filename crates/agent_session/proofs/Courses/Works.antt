@@ -7,7 +7,7 @@ use Rattle.{agent_ports.specs.declared.keys.{KeyDone.KeyDone, KeyNames.KeyNames,
 use Rattle.{cache_policy.specs.declared.{mark.MarkStep.{MarkStep, TheVariants.{Peek, Close}}, mode.Mode.Mode}, secret_file.specs.Opens.LockedKey, session_client.specs.{Asking.{Asked, said_by}, declared.code.Code.Code}}
 use Rattle.{session_client.specs.declared.{refusal.Refusal.{Refusal, TheVariants.{Agent, Client}}, client_error.ClientError.ClientError}, sexp_keys.specs.Key.Key, key_commands.specs.Lines.max_key_data}
 use Rattle.key_commands.specs.{Events.{Event, called, read, out_of_memory}, Files.Rewrites}
-use Rattle.key_commands.specs.KeyActions.{Tells, tells, ReadsFile, Replaces, KeepsNew, Protects, IsShort, ListsGrips, ReadsListed, AsksKeyData, Unwraps, NamesKey, LooksOver, WrapsKey, file_in, grips_in, change_fault}
+use Rattle.key_commands.specs.KeyActions.{Tells, tells, ReadsFile, Replaces, KeepsNew, Protects, IsShort, ListsGrips, JoinsGrips, ReadsListed, AsksKeyData, Unwraps, NamesKey, LooksOver, WrapsKey, file_in, grips_in, change_fault}
 use Rattle.key_commands.{specs.{Actions.{Action, Finds, Draws, read_fault}, Passphrases.{LooksForNonce, TakesSeat, Locks, TriesPassphrase, TriesFound, ask_nonce, put_key, seat_for}}, proofs.EachEvent.each_append}
 use Rattle.agent_session.specs.Refusals.{turn_refuses, change_refuses, refuses, shuts}
 use Rattle.agent_ask.specs.Session.ClientActions as client
@@ -337,6 +337,10 @@ module _ (Fits : Event → Type 0) where
     lists names _ _ _ _ (actions.listed {answer} is) = (works (listed_names names answer is, tt), refl)
     lists names _ _ _ _ actions.faulted = (refused_by (names _) refl refl, refl)
     lists names _ _ _ _ actions.no_memory = (refused_by (names _) refl refl, refl)
+
+    pub joins_grips : {grips : List Grip} → Keeps (JoinsGrips grips)
+    joins_grips _ _ _ _ actions.joined = (works tt, refl)
+    joins_grips _ _ _ _ actions.no_memory = (no_memory, refl)
 
     -- a change that isn't done
     pub unchanged : {A : Type 0} (answer : KeyDone) {why : Code} (event : KeyDone → Event) → ((given : KeyDone) → given ≢ key_done.Done → Fits (event given))

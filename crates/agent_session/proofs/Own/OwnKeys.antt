@@ -3,13 +3,12 @@
 use Rattle.std.specs.{List.AllByRecursion, Prelude.{not, drop, ⊤}, Option.option_map}
 use Rattle.std.proofs.Common.{◌≡◌, ◌==◌, ℕ, Bool, true, false, List, [], ◌∷◌, ◌++◌, length, codes, Option, Some, None, Result, Ok, Err, refl, sym, ap, subst, append-nil, append_assoc}
 use Rattle.agent_ask.specs.Session.{PortCalls.PortCall, SessionEvents.{Sent, CacheTurn, cache_turn, said_last}, ClientActions.AsksClient, TurnActions.{Asks, Changes, Closes}, Actions.{needed, or_else, goes_on, returns}}
-use Rattle.agent_ask.{specs.PinActions.prompted, proofs.Within.HoldsOf}
-use Rattle.{assuan_server.specs.{Clients.session_lines, Written.{refusal_line, limit_line, failed}}, agent_ports.specs.declared.grip.Grip.Grip, assuan_escape.specs.Escapes.hex_text, cache_policy.specs.Turns.Open}
-use Rattle.{cache_policy.specs.declared.{life.Life.TheVariants.Default, mark.MarkStep.{MarkStep, TheVariants.{Close, Put}}, mode.Mode.TheVariants.Nonce, secret.TheConstants.MAX_SECRET_LEN}, secret_file.specs.Opens.{LockedKey, IsLocked}}
-use Rattle.{session_options.specs.declared.{options.PinMode.PinMode, rules.Rules.Rules}, sexp_keys.specs.Key.Key, agent_commands.specs.{Events.EventWith, declared.request.Request.{Request, TheVariants.{Cache, Bad, Key as OnKeys}}}}
-use Rattle.agent_commands.specs.declared.went.Went.{Went}
-use Rattle.key_commands.specs.Exchanges.{KeyExchange, KeyReplies, HaveKeyReplies, KeyInfoReplies, ListKeysReplies, KeyWrapReplies, DeleteKeyReplies, wrap_key, RewritesFile, ChangesOpened, StoresKey, FoundOrNew, ExportKeyReplies}
-use Rattle.key_commands.specs.{Exchanges.{PasswdReplies, VerifyReplies, ImportKeyReplies, KeyReply}, Lines.{max_key_data, IsNotice}, KeyActions.{KeepsNew, ReceivesKey, NamesKey, IsFree, Consents, tells, is_wrapped}}
+use Rattle.{agent_ask.{specs.PinActions.prompted, proofs.Within.HoldsOf}, assuan_server.specs.{Clients.session_lines, Written.{refusal_line, limit_line, failed}}, agent_ports.specs.declared.grip.Grip.Grip}
+use Rattle.{assuan_escape.specs.Escapes.hex_text, cache_policy.specs.{Turns.Open, declared.{life.Life.TheVariants.Default, mark.MarkStep.{MarkStep, TheVariants.{Close, Put}}, mode.Mode.TheVariants.Nonce}}}
+use Rattle.{cache_policy.specs.declared.secret.TheConstants.MAX_SECRET_LEN, secret_file.specs.Opens.{LockedKey, IsLocked}, session_options.specs.declared.{options.PinMode.PinMode, rules.Rules.Rules}, sexp_keys.specs.Key.Key}
+use Rattle.agent_commands.specs.{Events.EventWith, declared.{request.Request.{Request, TheVariants.{Cache, Bad, Key as OnKeys}}, went.Went.Went}}
+use Rattle.key_commands.specs.Exchanges.{KeyExchange, KeyReplies, HaveKeyReplies, ListGripsReplies, KeyInfoReplies, ListKeysReplies, KeyWrapReplies, DeleteKeyReplies, wrap_key, RewritesFile, ChangesOpened, StoresKey, FoundOrNew}
+use Rattle.key_commands.specs.{Exchanges.{ExportKeyReplies, PasswdReplies, VerifyReplies, ImportKeyReplies, KeyReply}, Lines.{max_key_data, IsNotice}, KeyActions.{KeepsNew, ReceivesKey, NamesKey, IsFree, Consents, tells, is_wrapped}}
 use Rattle.key_commands.specs.{Actions.{Action, refusal_events, Draws}, Passphrases.{OpensBy, PromptsOld, PromptsNew, ClientOld, UncachedOld, OpensLocked, ClientNew, TakesSeat, TriesFound, Locks, ask_key, put_key, way_of}}
 use Rattle.key_commands.specs.{declared.{request.{Direction.Direction, KeyRequest.KeyRequest}, went.KeyWent.KeyWent, keywrap_key.WrapKeys.WrapKeys}, Events.Event}
 use Rattle.key_commands.proofs.EachEvent.{each_append, each_shown, IsStill, EachSo, each_bind, each_returned, each_refused, each_wanted, each_seats, each_changes, finds, draws, lists, told, removes, agrees_to}
@@ -21,7 +20,7 @@ use Rattle.agent_session.specs.OwnPassphrases.{IsAccepted, any, opening, IsGiven
 use Rattle.agent_session.proofs.Own.OwnFacts.{sent_more, key_data_more, drawn_more, read_more, locked_more, about_more, ticket_more, accepted_more, given_more, FoundNew, opens_more}
 use Rattle.agent_session.proofs.Own.OwnActions.{IsQuiet, kept_none, Fit, AreOwn, own_then, each_quiet, quiet_keeps, OwnSo, owns, own_bind, own_weaker, own_there, own_where, Stays, quiet_with, quietly, quiet_are_own, Anything, own_returned}
 use Rattle.agent_session.proofs.{Own.{OwnActions.{own_refused, own_needed, own_wanted}, OwnLines.{in_either, in_first, in_second}}, Causes.{Prompted.has_prompt, KeyRequests.old_passphrase}, AtOnce.FitsTurn}
-use Rattle.agent_session.proofs.Standing.{has_right, each_left, each_right, has_first, stand_all, stand_left, stand_right}
+use Rattle.agent_session.proofs.Standing.{has_left, has_right, each_left, each_right, has_first, stand_all, stand_left, stand_right}
 use Rattle.session_client.specs.declared.code.Code.TheVariants as code
 use Rattle.session_options.specs.declared.options.PinMode.TheVariants as mode
 use Rattle.agent_ask.specs.Session.ActionExchanges as action_exchanges
@@ -541,8 +540,9 @@ module _ (rules : Rules) (kept : SessionState) (request : Request) where
 
   reply_of : (asked : KeyRequest) → on_keys request ≡ Some asked → (more : List Event) (reply : KeyReply) (held : Option ℕ) → KeyReplies rules kept.options kept.wraps asked None more (Ok reply) held
       → TellsOfKeys rules kept request more reply.text
-  unfolding HaveKeyReplies KeyInfoReplies ListKeysReplies KeyWrapReplies ImportKeyReplies ExportKeyReplies PasswdReplies VerifyReplies DeleteKeyReplies
+  unfolding HaveKeyReplies ListGripsReplies KeyInfoReplies ListKeysReplies KeyWrapReplies ImportKeyReplies ExportKeyReplies PasswdReplies VerifyReplies DeleteKeyReplies
   reply_of (on.HaveKey grips) is _ _ _ (goes_on has returns) = whose.succeeds
+  reply_of on.ListGrips is _ _ _ (goes_on (key_actions.listed names) (goes_on key_actions.joined (goes_on (tells data_so) returns))) = whose.listed is here names data_so
   reply_of (on.KeyInfo grip) is _ _ _ (goes_on {value = file} reads (goes_on (goes_on {value = is_cached} peeks returns) returns)) = whose.known is_cached file.key.is_clear is
   reply_of on.ListKeys is _ _ _ (goes_on lists (goes_on writes returns)) = whose.succeeds
   reply_of (on.KeyWrap way) is _ _ _ (goes_on draws (goes_on (tells data_so) returns)) = whose.wrap is (more_wrap _ (wrap_of way (wrap_key way kept.wraps) refl _ _ draws)) data_so
@@ -568,6 +568,7 @@ module _ (rules : Rules) (kept : SessionState) (request : Request) where
   more_told more (whose.fails why by) = whose.fails why by
   more_told more whose.succeeds = whose.succeeds
   more_told more (whose.notes is) = whose.notes is
+  more_told more (whose.listed is has names data_so) = whose.listed is (has_left more has) names data_so
   more_told more (whose.known is_cached clear is) = whose.known is_cached clear is
   more_told more (whose.drawn is drawn_so) = whose.drawn is (drawn_more more drawn_so)
   more_told more (whose.wrap is wraps_so data_so) = whose.wrap is (more_wrap more wraps_so) data_so

@@ -16,6 +16,11 @@ returns-in_ok-has_one-in-HaveKey-clause-carries g c =
     rw (c.in-HaveKey.is, c.requires.free)
     (replies_ok (action_then (action_called c.requires.open c.in_ok-has_one-in-HaveKey.ensures) (action_still c.requires.open refl is_returned)))
 
+pub returns-in-ListGrips-clause-carries : goal.returns-in-ListGrips-clause-carries
+returns-in-ListGrips-clause-carries g c =
+    rw (c.in-ListGrips.is, c.requires.free)
+    (carries_beside_desk (c.list_all.ensures c.args.rules.now c.args.options.now c.args.wraps.now c.args.conn.now (g.R.Dice.draws c.args.dice.now) c.requires.open))
+
 pub returns-in-KeyInfo-clause-carries : goal.returns-in-KeyInfo-clause-carries
 returns-in-KeyInfo-clause-carries g c =
     rw (c.in-KeyInfo.is, c.requires.free)

@@ -1,5 +1,5 @@
-use Rattle.std.{proofs.Common.{◌≡◌, true, false, ◌++◌, [], ◌∷◌, ℕ, List, drop, ap, sym, ◌∙◌}, specs.List.{concat, prefix_len, take_while}}
-use Rattle.key_lines.{specs.{Lines.{lines_of, line_text}, Items.{goes_on, value_in}, KeyItem.{is_more, value_of, after_item}}, proofs.{LineLemmas.concat_lines, KeyLemmas.{joined, join_is, more_step, rest_step, more_stops, add_line}}}
+use Rattle.std.{proofs.Common.{◌≡◌, true, false, ◌++◌, ◌∷◌, ℕ, List, drop, ap, sym, ◌∙◌}, specs.List.{concat, prefix_len, take_while}}
+use Rattle.key_lines.{specs.{Lines.{lines_of, line_text}, Items.{goes_on, value_in}, KeyItem.{is_more, piece_of, value_of, after_item}}, proofs.{LineLemmas.concat_lines, KeyLemmas.{joined, join_is, more_step, rest_step, more_stops, add_line}}}
 use Rattle.key_lines.proofs.item.item_at.Goals as goal
 
 pub loop-line-init : goal.loop-line-init
@@ -8,10 +8,12 @@ loop-line-init c =
     let after = c.in-Some.after.now in
     let more = take_while is_more (lines_of after) in
     let is = c.in-Some.ensures.lines in
-    let added : c.extend_from_slice.new.self ≡ c.value_in.result.now = c.in_ok-extend_from_slice.ensures.ok ∙ ap (λ (t : List ℕ). t ++ c.value_in.result.now) c.new-value.ensures in
-    let value : c.extend_from_slice.new.self ≡ value_in (line_text line) = added ∙ c.value_in.ensures ∙ ap value_in c.line_text.ensures in
+    let piece = c.piece_of.result.now in
+    let added : c.extend_from_slice.new.self ≡ piece = c.in_ok-extend_from_slice.ensures.ok ∙ ap (λ (t : List ℕ). t ++ piece) c.new-value.ensures in
+    let first = piece_of (value_in (line_text line)) in
+    let value : c.extend_from_slice.new.self ≡ first = added ∙ c.piece_of.ensures ∙ ap piece_of (c.value_in.ensures ∙ ap value_in c.line_text.ensures) in
     record {
-      value = ap (λ (t : List ℕ). t ++ joined more) value ∙ sym (ap value_of is ∙ join_is (value_in (line_text line)) more);
+      value = ap (λ (t : List ℕ). t ++ joined more) value ∙ sym (ap value_of is ∙ ap (λ (t : List ℕ). first ++ t) (join_is more));
       after = sym (ap (λ (ls : List (List ℕ)). concat (after_item ls)) is);
     }
 
@@ -33,14 +35,12 @@ loop-line-preserved c =
     let more = take_while is_more (lines_of after) in
     let is = c.in-Some-next_line.ensures.lines in
     let goes : is_more line ≡ true = sym (c.goes_on.ensures ∙ ap goes_on c.line_form.ensures) ∙ c.if-not-goes_on.false in
-    let text = c.line_text-in-Some-next_line.result.now in
-    let new = c.extend_from_slice-in-Some-next_line-2.new.self in
-    let added : new ≡ (c.loop-line.value ++ 32 ∷ []) ++ text =
-    c.in_ok-extend_from_slice-3.ensures.ok ∙ ap (λ (t : List ℕ). t ++ text) c.in_ok-extend_from_slice-2.ensures.ok in
+    let piece = c.piece_of-in-Some-next_line.result.now in
+    let is-piece : piece ≡ piece_of (line_text line) = c.piece_of-in-Some-next_line.ensures ∙ ap piece_of c.line_text-in-Some-next_line.ensures in
     let lines : take_while is_more (lines_of rest) ≡ line ∷ more = ap (take_while is_more) is ∙ more_step line (lines_of after) goes in
     record {
-      value = ap (λ (t : List ℕ). t ++ joined more) added
-          ∙ add_line c.loop-line.value text line more c.line_text-in-Some-next_line.ensures
+      value = ap (λ (t : List ℕ). t ++ joined more) c.in_ok-extend_from_slice-2.ensures.ok
+          ∙ add_line c.loop-line.value piece line more is-piece
           ∙ sym (ap (λ (ls : List (List ℕ)). c.loop-line.value ++ joined ls) lines)
           ∙ i.value;
       after = sym (ap (λ (ls : List (List ℕ)). concat (drop (prefix_len is_more ls) ls)) is ∙ ap concat (rest_step line (lines_of after) goes)) ∙ i.after;

@@ -1,5 +1,5 @@
 use Rattle.std.proofs.{Common.{sym, ◌≡◌, ◌∙◌, ◌∷◌, []}, lemmas.List.nil_from_length}
-use Rattle.passphrase_client.specs.Runs.{behind_all, stops, gives, ends, goes_on, notes, holds}
+use Rattle.passphrase_client.{specs.Runs.{behind_all, stops, gives, ends, goes_on, notes, holds}, proofs.Unprompted.{first_waits, others_wait}}
 use Rattle.passphrase_client.proofs.course.+come_to.Goals as goal
 
 pub returns-in_default-clause-comes : goal.returns-in_default-clause-comes
@@ -37,3 +37,16 @@ pub returns-in-Ends-clause-comes : goal.returns-in-Ends-clause-comes
 returns-in-Ends-clause-comes g t c =
     let does = c.in-Ends.ensures.does in
     rw c.in-Some.ensures.cases.0 (record { to = c.in-Some.step.now; told = does.0 } ∷ [], ends (sym c.stops_at.ensures ∙ c.in_default-stops_at.is) does.1)
+
+pub returns-in-GoesOn-clause-unprompted : goal.returns-in-GoesOn-clause-unprompted
+returns-in-GoesOn-clause-unprompted g t c = λ all.
+    c.come_to.ensures.unprompted (others_wait c.in-Some.step.now c.in-Some.rest.now (rw c.in-Some.ensures.cases.0 at all))
+    ∙ c.in-GoesOn.ensures.unprompted (first_waits c.in-Some.step.now c.in-Some.rest.now (rw c.in-Some.ensures.cases.0 at all))
+
+pub returns-in-Notes-clause-unprompted : goal.returns-in-Notes-clause-unprompted
+returns-in-Notes-clause-unprompted g t c = λ all.
+    c.come_to-in-Notes.ensures.unprompted (others_wait c.in-Some.step.now c.in-Some.rest.now (rw c.in-Some.ensures.cases.0 at all))
+    ∙ c.in-Notes.ensures.unprompted (first_waits c.in-Some.step.now c.in-Some.rest.now (rw c.in-Some.ensures.cases.0 at all))
+
+pub returns-in-Ends-clause-unprompted : goal.returns-in-Ends-clause-unprompted
+returns-in-Ends-clause-unprompted g t c = λ all. c.in-Ends.ensures.unprompted (first_waits c.in-Some.step.now c.in-Some.rest.now (rw c.in-Some.ensures.cases.0 at all))

@@ -1,5 +1,5 @@
 use Rattle.std.proofs.Common.{refl}
-use Rattle.passphrase_client.proofs.Losing.{counted, run_lost, run_without_agent, run_unwritten}
+use Rattle.passphrase_client.proofs.{Losing.{counted, run_lost, run_without_agent, run_unwritten}, Wanting.run_short}
 use Rattle.passphrase_client.proofs.laws.each_failure_is_counted.Goals as goal
 
 pub returns-clause-lost : goal.returns-clause-lost
@@ -10,3 +10,6 @@ returns-clause-no_agent c = λ task terminal before after goes. run_without_agen
 
 pub returns-clause-unwritten : goal.returns-clause-unwritten
 returns-clause-unwritten c = λ task terminal before after goes. run_unwritten refl goes
+
+pub returns-clause-no_memory : goal.returns-clause-no_memory
+returns-clause-no_memory c = λ task terminal before after goes. run_short refl goes

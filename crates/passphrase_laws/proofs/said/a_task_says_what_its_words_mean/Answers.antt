@@ -1,5 +1,5 @@
-use Rattle.passphrase_laws.proofs.Meaning.{askpass_texts, read_texts, says}
+use Rattle.passphrase_laws.proofs.Meaning.{askpass_texts, read_texts, says, seconds}
 use Rattle.passphrase_laws.proofs.said.a_task_says_what_its_words_mean.Goals as goal
 
 pub returns : goal.returns
-returns c = record { read = read_texts; askpass = askpass_texts; says = says }
+returns c = record { read = read_texts; askpass = askpass_texts; says = says; seconds = seconds }

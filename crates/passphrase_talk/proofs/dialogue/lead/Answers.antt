@@ -4,7 +4,7 @@ use Rattle.passphrase_talk.specs.declared.told.Told.TheVariants as told
 use Rattle.passphrase_talk.proofs.dialogue.lead.Goals as goal
 
 pub returns-in-Answer-clause-leads : goal.returns-in-Answer-clause-leads
-returns-in-Answer-clause-leads g c = rw c.in-Answer.is (greets c.in-Ok.ensures c.request.ensures.leads)
+returns-in-Answer-clause-leads g c = rw c.in-Answer.is (greets c.in-Ok.ensures (rw c.in-Answer.is at c.request.ensures.leads))
 
 pub returns-in-Prompt-clause-leads : goal.returns-in-Prompt-clause-leads
 returns-in-Prompt-clause-leads g c = rw c.in-Prompt.is (greets c.in-Ok.ensures c.request_with_options.ensures.leads)

@@ -1,0 +1,13 @@
+pub mod Lines
+pub mod Limits
+pub mod Numbers
+pub mod Paths
+pub mod Places
+pub mod Settled
+pub mod Starts
+pub mod Table
+pub mod Texts
+pub mod Told
+pub mod Verdicts
+pub mod Words
+pub mod Written
