@@ -1,4 +1,4 @@
--- What a listener gave, seen otherwise.
+-- Private: what a listener gave, seen otherwise.
 use Rattle.agent_ports.specs.declared.listener.Next.{Next, TheVariants.{Link, Failed, Stopped}}
 
 abbrev pub map_next : {A B : Type 0} → (A → B) → Next A → Next B
