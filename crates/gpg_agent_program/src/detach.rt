@@ -3,13 +3,12 @@
 //! greets. Begin with `start`.
 
 use crate::call::Call;
-use crate::stand_in::{Options, Starter, read_options};
 use crate::starter::{SystemStarter, say_pinentry};
 use agent_conf::Mode;
 use agent_start::{
     Fault, Found, HomeConf, Sockets, SystemConf, Voice, cut, found_at, lock, open_log, reason,
 };
-use agent_top::Status;
+use agent_top::{Options, Starter, Status, read_options};
 use child_environment::hand_on;
 use std::alloc::Global;
 use std::fs::{File, Files};
