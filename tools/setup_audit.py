@@ -3,7 +3,6 @@ import ctypes
 import os
 import pathlib
 import shutil
-import subprocess
 import sys
 import time
 
