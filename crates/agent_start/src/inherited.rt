@@ -100,8 +100,7 @@ mod tests {
     fn a_core_dump_is_limited_to_a_byte(rt: HostRuntime) {
         for (limits, wanted) in [
             (
-                b"Limit  Soft  Hard  Units\nMax core file size        0                    unlimited            bytes     \n"
-                    .as_slice(),
+                b"Limit   Soft  Hard  Units\nMax core file size   0   unlimited   bytes \n".as_slice(),
                 CoreDumps::Open,
             ),
             (
