@@ -3,17 +3,16 @@ import ctypes
 import os
 import pathlib
 import shutil
-import subprocess
 import sys
 import time
 
 sys.path.insert(0, str(pathlib.Path(__file__).resolve().parent / "with-gnupg"))
 from harness.clients import linked
-from scripted import LIMIT, SCRIPTS
+from scripted import LIMIT
 
 NOBODY = 65534
 
-# How many clients the stand-in has its agent serve at a time.
+# How many clients the agent serves at a time.
 WORKERS = 64
 
 # Lines of start files, and whether ssh asks gpg-agent by them.
@@ -31,7 +30,7 @@ RUNNING = [
     (["max-cache-ttl 2147483647"], ["max-cache-ttl 99999999999"], []),
     (["default-cache-ttl 10", "default-cache-ttl 20"], ["default-cache-ttl 10"], ["with default-cache-ttl 20, the file says 10"]),
     (["default-cache-ttl 10", "max-cache-ttl 20"], [], ["with default-cache-ttl 10, of which no file says anything", "with max-cache-ttl 20, of which no file says anything"]),
-    ([], ["min-passphrase-len 12"], ["without min-passphrase-len 12, which the file says"]),
+    ([], ["min-passphrase-len 12"], ["with min-passphrase-len 8, the file says 12"]),
     ([], ["pinentry-timeout 60"], ["with pinentry-timeout 300, the file says 60"]),
     (["pinentry-timeout 300"], [], []),
     (["pinentry-program ~/pinentry"], ['pinentry-program "{}/pinentry"'], []),
@@ -127,7 +126,7 @@ class Audit:
         cases = self.cases
         for name, holds in [
             ("check: this agent answers", self.this), ("check: GnuPG's own answers", self.gnupg), ("check: none answers, and it is set up", self.none), ("check: none answers, and it isn't set up", self.not_set_up),
-            ("check: this agent answers by the name of GnuPG's", self.by_that_name), ("check: all workers have clients", self.full), ("clients: two, and none", self.clients), ("clients: a name that a terminal would obey", self.named_clients),
+            ("check: this agent, whose program its user may read", self.readable), ("check: all workers have clients", self.full), ("clients: two, and none", self.clients), ("clients: a name that a terminal would obey", self.named_clients),
             ("check: lines of the trust list", self.trust_lines), ("check: a trust list whose lines count", self.trusted), ("check: the folder is open to others", self.open_folder), ("check: no pinentry", self.no_pinentry),
             ("check: another socket, and a pinentry for terminals", self.extra_terminal), ("check: another socket, and a pinentry for a display", self.extra_display), ("check: secret keys", self.with_keys), ("check: secret keys, and it isn't set up", self.with_keys_alone),
             ("check: a folder that its owner has closed", self.closed_folder), ("a folder that its owner has closed", self.closed_set_up), ("check: the terminal", self.terminal), ("check: no terminal", self.no_terminal),
@@ -140,7 +139,7 @@ class Audit:
             cases.case(f"check: the daemon runs with {', '.join(before) or 'no lines'}, the file says {', '.join(after) or 'nothing'}", self.running, before, after, lines)
         for line, says in KEPT_OUT:
             cases.case(f"no agent starts by the line {line}", self.kept_out, line, says)
-        if self.as_user and cases.is_binary():
+        if self.as_user:
             for name, holds in [("check: all is well", self.well), ("check: a program that is open", self.open_program), ("check: a program that its user may change", self.own_program),
                                 ("check: a build that is older than the program", self.older)]:
                 cases.case(name, self.given, holds, alone=True)
@@ -164,7 +163,7 @@ class Audit:
     def start(self, user, *lines):
         """A folder that is set up, with a pinentry that is there, and its agent, with these lines of gpg-agent.conf."""
         self.folder(user, *lines)
-        return wrong(user.setup(**self.as_user), 0) or wrong(user.run(self.cases.stand_in, "--homedir", user.gnupg, **self.as_user), 0)
+        return wrong(user.setup(**self.as_user), 0) or wrong(user.run(self.cases.program, "--homedir", user.gnupg, **self.as_user), 0)
 
     def folder(self, user, *lines):
         user.conf("")
@@ -191,22 +190,14 @@ class Audit:
         done = self.check(user)
         return self.says(done, f"GnuPG's own gpg-agent answers for {user.gnupg} (process ", "to do: gpg starts GnuPG's own agent") or wrong(done, 1)
 
-    def by_that_name(self, user):
-        """The program itself, where it is called gpg-agent."""
+    def readable(self, user):
+        """The system tells its path then, as it doesn't of one that is installed."""
         self.folder(user)
         named = user.place / "gpg-agent"
         shutil.copy(self.cases.program, named)
         named.chmod(0o755)
-        # As the one that is installed, of which the system tells nobody its path.
-        daemon = subprocess.Popen([named, "--daemon", "--homedir", user.gnupg], stdin=subprocess.DEVNULL, stdout=subprocess.DEVNULL, **self.as_user)
-        try:
-            end = time.monotonic() + LIMIT
-            while not self.number(user) and time.monotonic() < end:
-                time.sleep(0.05)
-            return ("" if user.agent() == "gpg-agent" else "it has another name") or self.says(self.check(user), f"Dogwoodcatch's agent answers for {user.gnupg} (process {daemon.pid})")
-        finally:
-            user.run("gpgconf", "--kill", "gpg-agent")
-            daemon.wait(LIMIT)
+        started = user.run(named, "--homedir", user.gnupg, **self.as_user)
+        return wrong(started, 0) or self.says(self.check(user), f"Dogwoodcatch's agent answers for {user.gnupg} (process {self.number(user)})")
 
     def none(self, user):
         user.setup(**self.as_user)
@@ -375,11 +366,11 @@ class Audit:
         """What stands there counts, as long as it is of this daemon's start."""
         told = self.start(user, "default-cache-ttl 10")
         listed = user.gnupg / "agent.options"
-        listed.write_text("default-cache-ttl 7\npinentry-program /bin/true\npinentry-timeout 300\n")
-        listed.chmod(0o600)
+        if not told:
+            listed.write_text(listed.read_text().replace("--default-cache-ttl=10\n", "--default-cache-ttl=7\n"))
         done = self.check(user)
         os.utime(listed, (1, 1))
-        return told or self.says(done, "Dogwoodcatch's", "to do: the agent still runs with default-cache-ttl 7, the file says 10") or self.says(self.check(user), "Dogwoodcatch's", "ok: the daemon runs with the options of the files")
+        return told or self.says(done, "Dogwoodcatch's", "to do: the agent still runs with default-cache-ttl 7, the file says 10") or self.says(self.check(user), "Dogwoodcatch's", "note: the options that the daemon runs with are not seen")
 
     def kept_out(self, user, line, says):
         self.folder(user, line)
@@ -435,12 +426,10 @@ class Audit:
         return told or self.says(done, f"Dogwoodcatch's agent answers for {own}", "ok: gpg starts this agent, or the folder is for it alone")
 
     def options(self, user):
-        """As the stand-in says, where it can."""
+        """As the program says."""
         self.folder(user, "enable-ssh-support")
         user.setup(**self.as_user)
-        can = "--check-options" in (SCRIPTS / "gpg-agent").read_text()
-        done = self.check(user)
-        return self.says(done, "no agent answers", f"to do: {user.gnupg}/gpg-agent.conf, line 2" if can else "note: what of gpg-agent.conf") or ("" if not can or "enable-ssh-support" in done.stdout else done.stdout)
+        return self.says(self.check(user), "no agent answers", f"to do: {user.gnupg}/gpg-agent.conf, line 2, is passed over: enable-ssh-support")
 
     def systemd(self, user):
         systemd = user.place / "systemd"

@@ -1,11 +1,10 @@
 """Which folder's agent `passphrase` asks, for `tools/passphrase-cases`."""
 import os
-import pathlib
 import shutil
 import threading
 import time
 
-from scripted import EVERY
+from scripted import EVERY, WHOSE, whose
 
 NO_PRESETS = "the agent takes no presets: allow-preset-passphrase in gpg-agent.conf"
 NO_END = "the agent takes no presets with an end, as GnuPG's own doesn't: --ttl wants passphrase --homedir DIR"
@@ -41,9 +40,8 @@ class User:
         return self.run("gpg-connect-agent", "--homedir", path, "--no-autostart", "-q", *lines, "/bye").stdout.decode()
 
     def agent(self, path):
-        """The program that answers for a folder: none, gpg-agent or agent_program."""
-        number = self.told(path, "GETINFO pid").partition("\n")[0][2:]
-        return pathlib.Path(f"/proc/{number}/comm").read_text().strip() if number.isdigit() else None
+        """Whose agent answers for a folder: ours, gnupg or none."""
+        return whose(self.told(path, *WHOSE))
 
     def keeps(self, path, name):
         """What an agent keeps under an id: none, or hexadecimal digits."""
@@ -100,7 +98,7 @@ class Folders:
     def own(self, user):
         wrong = self.first(user)
         mode = user.own.stat().st_mode & 0o777
-        return wrong or ("" if user.agent(user.own) == "agent_program" and user.agent(user.home) is None and mode == 0o700 and (user.own / "gpg-agent.conf").exists() and (user.own / "agent.log").exists()
+        return wrong or ("" if user.agent(user.own) == "ours" and user.agent(user.home) is None and mode == 0o700 and (user.own / "gpg-agent.conf").exists() and (user.own / "agent.log").exists()
                          else f"{user.agent(user.own)}, {user.agent(user.home)}, mode {mode:o}")
 
     def once(self, user):
@@ -117,23 +115,23 @@ class Folders:
             return "no signature is made beforehand"
         user.scripted.end(user.home)
         wrong = self.first(user)
-        return wrong or ("" if user.run(*sign).returncode == 0 and user.agent(user.home) == "gpg-agent" and user.agent(user.own) == "agent_program" else "gpg -s fails")
+        return wrong or ("" if user.run(*sign).returncode == 0 and user.agent(user.home) == "gnupg" and user.agent(user.own) == "ours" else "gpg -s fails")
 
     def data_home(self, user):
         other = user.place / "data"
         wrong = self.first(user, environment={"XDG_DATA_HOME": str(other)})
         user.folders.append(other / "dogwoodcatch")
-        wrong = wrong or ("" if user.agent(other / "dogwoodcatch") == "agent_program" and not user.own.exists() else "it isn't used")
+        wrong = wrong or ("" if user.agent(other / "dogwoodcatch") == "ours" and not user.own.exists() else "it isn't used")
         # One that isn't absolute doesn't count.
         wrong = wrong or self.first(user, environment={"XDG_DATA_HOME": "data"})
-        return wrong or ("" if user.agent(user.own) == "agent_program" else "a relative one is used")
+        return wrong or ("" if user.agent(user.own) == "ours" else "a relative one is used")
 
     def link(self, user):
         other = user.place / "elsewhere"
         other.mkdir(mode=0o700)
         user.own.parent.mkdir(parents=True)
         user.own.symlink_to(other)
-        return self.first(user) or ("" if user.agent(user.own) == "agent_program" else "no agent")
+        return self.first(user) or ("" if user.agent(user.own) == "ours" else "no agent")
 
     def gnupg_words(self, user):
         user.gnupg()
@@ -146,7 +144,7 @@ class Folders:
             if wrong := user.wrong(user.passphrase(*words), status, out, says):
                 return f"{words}: {wrong}"
         wrong = user.wrong(user.passphrase("--store", "id", data=b"stored"), 1, None, NO_PRESETS)
-        return wrong or ("" if user.agent(user.home) == "gpg-agent" and not user.own.exists() else "ours was started")
+        return wrong or ("" if user.agent(user.home) == "gnupg" and not user.own.exists() else "ours was started")
 
     def gnupg_stores(self, user):
         user.gnupg("allow-preset-passphrase")
@@ -232,29 +230,29 @@ class Folders:
         other = user.place / "secrets"
         user.folder(other, "# dogwoodcatch: this folder is for its agent")
         wrong = self.first(user, environment={"GNUPGHOME": str(other)})
-        return wrong or ("" if user.agent(other) == "agent_program" and not user.own.exists() else "it isn't started there")
+        return wrong or ("" if user.agent(other) == "ours" and not user.own.exists() else "it isn't started there")
 
     def other_program(self, user):
-        """A script of the user's own is no stand-in."""
+        """A script of the user's own isn't ours."""
         other = user.place / "gpg-agent"
         other.write_text("#!/bin/sh\nexec /usr/bin/gpg-agent \"$@\"\n")
         other.chmod(0o755)
         user.home.mkdir(mode=0o700)
         (user.home / "gpg.conf").write_text(f"agent-program {other}\n")
-        return self.first(user) or ("" if user.agent(user.own) == "agent_program" and user.agent(user.home) is None else "it is started there")
+        return self.first(user) or ("" if user.agent(user.own) == "ours" and user.agent(user.home) is None else "it is started there")
 
     def quoted(self, user):
-        """By a link too it is the stand-in beside the program that is named."""
+        """By a link too it is the agent beside `passphrase` that is named."""
         other = user.place / "linked"
         other.symlink_to(user.scripted.installed)
         user.home.mkdir(mode=0o700)
         (user.home / "gpg.conf").write_text(f'\t--agent-program = "{other}/gpg-agent" \r\n')
-        return self.first(user) or ("" if user.agent(user.home) == "agent_program" and not user.own.exists() else "it isn't started there")
+        return self.first(user) or ("" if user.agent(user.home) == "ours" and not user.own.exists() else "it isn't started there")
 
     def last_counts(self, user):
         user.home.mkdir(mode=0o700)
         (user.home / "gpg.conf").write_text(f"agent-program {user.scripted.installed}/gpg-agent\n# agent-program /none\nagent-program /usr/bin/gpg-agent\n")
-        return self.first(user) or ("" if user.agent(user.own) == "agent_program" and user.agent(user.home) is None else "it is started there")
+        return self.first(user) or ("" if user.agent(user.own) == "ours" and user.agent(user.home) is None else "it is started there")
 
     def named(self, user):
         other = user.folder(user.place / "named")
@@ -269,7 +267,7 @@ class Folders:
         user.gnupg()
         user.scripted.answers("another")
         wrong = wrong or user.wrong(user.passphrase("--homedir", user.home, "id"), 0, "another", "")
-        return wrong or ("" if user.agent(other) == "agent_program" and user.agent(user.home) == "gpg-agent" and not user.own.exists() else "another one was started")
+        return wrong or ("" if user.agent(other) == "ours" and user.agent(user.home) == "gnupg" and not user.own.exists() else "another one was started")
 
     def secret_key(self, user):
         (user.home / "private-keys-v1.d").mkdir(mode=0o700, parents=True)
@@ -283,7 +281,7 @@ class Folders:
     def named_set_up(self, user):
         self.secret_key(user)
         (user.home / "gpg.conf").write_text(f"agent-program {user.scripted.installed}/gpg-agent\n")
-        return self.first(user) or ("" if user.agent(user.home) == "agent_program" else "no agent")
+        return self.first(user) or ("" if user.agent(user.home) == "ours" else "no agent")
 
     def not_allowed(self, user):
         return user.wrong(user.passphrase("--homedir", user.place / "named", "--store", "id", data=b"a"), 1, None, NO_PRESETS) or user.folders.append(user.place / "named") or ""

@@ -25,7 +25,7 @@ class Owners:
             ("a home folder of mode 0750", lambda user: self.passes(user, 0o750, 0o755)), ("another user's socket in one's own folder", self.anothers_socket),
             ("a redirect file to another user's folder", self.redirect_to_folder), ("a redirect file to another user's socket", self.redirect_to_socket),
             ("a redirect file to a socket where others may write", self.redirect_to_open), ("agent-program of another user's, in a folder dogwoodcatch", self.anothers_program),
-            ("a stand-in that others may change", self.open_program),
+            ("an agent that others may change", self.open_program),
         ]:
             self.cases.case(name, lambda: self.tried(holds))
 
@@ -123,7 +123,7 @@ class Owners:
         for _ in range(2):
             if wrong := user.wrong(user.passphrase("--homedir", home, "--no-ask", "id"), 1, None, "nothing is kept as id"):
                 return wrong
-        return "" if user.agent(home) == "agent_program" else "no agent"
+        return "" if user.agent(home) == "ours" else "no agent"
 
     def anothers_socket(self, user):
         if os.geteuid():
@@ -166,7 +166,7 @@ class Owners:
             os.chown(program, NOBODY, NOBODY)
         (self.folder(user.home) / "gpg.conf").write_text(f"agent-program {program}\n")
         wrong = user.wrong(user.passphrase("--no-ask", "id"), 1, None, "nothing is kept as id")
-        return wrong or ("it was run" if (user.place / "ran").exists() else "" if user.agent(user.own) == "agent_program" else "no agent of its own")
+        return wrong or ("it was run" if (user.place / "ran").exists() else "" if user.agent(user.own) == "ours" else "no agent of its own")
 
     def open_program(self, user):
         """Beside the program it isn't run, and where the package has put another one that is."""

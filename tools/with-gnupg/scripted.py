@@ -82,26 +82,42 @@ def as_bytes(environment):
 
 def install(passphrase, folder):
     """Puts the program into a folder as it is installed, with its mode and by both names."""
-    shutil.copy(passphrase, folder / "passphrase_program")
-    (folder / "passphrase_program").chmod(0o711)
+    put_program(passphrase, folder / "passphrase_program")
     for name in ("passphrase", "passphrase-askpass"):
         (folder / name).symlink_to("passphrase_program")
 
 
+def install_agent(program, folder):
+    """Puts the agent there by its name, and with its mode. Its path."""
+    return put_program(program, folder / "gpg-agent")
+
+
+def put_program(built, path):
+    shutil.copy(built, path)
+    path.chmod(0o711)
+    return path
+
+
+# What an agent is asked that is to be told from another one.
+WHOSE = ("GETINFO pid", "HELP")
+
+
+def whose(answers):
+    """Whose agent has answered WHOSE: ours, or gnupg, which alone serves smartcards; or none."""
+    return None if not answers.startswith("D ") else "gnupg" if "# SCD" in answers else "ours"
+
+
 class ScriptedHome(Transcript):
-    """`passphrase`, the stand-in and the agent side by side, as they are installed, and a home folder that is set up for them."""
+    """`passphrase` and the agent side by side, as they are installed, and a home folder that is set up for them."""
 
     def __init__(self, agent, passphrase, place, conf=()):
         self.place, self.installed, self.home = place, place / "installed", place / "home"
         self.files, self.asked = place / "files", place / "pinentry"
         for folder in (self.installed, self.home, self.files, self.asked):
             folder.mkdir(mode=0o700)
-        for name in ("gpg-agent", "gpg-agent-options"):
-            shutil.copy(SCRIPTS / name, self.installed / name)
-        (self.installed / "agent_program").symlink_to(agent)
         install(passphrase, self.installed)
         self.pinentry = write_pinentry(self.asked)
-        (self.home / "gpg.conf").write_text(f"agent-program {self.installed / 'gpg-agent'}\n")
+        (self.home / "gpg.conf").write_text(f"agent-program {install_agent(agent, self.installed)}\n")
         (self.home / "gpg-agent.conf").write_text("".join(line + "\n" for line in (f"pinentry-program {self.pinentry}", *conf)))
         # What a job of cron has.
         self.environment = {"HOME": str(place), "PATH": f"{self.installed}:/usr/bin:/bin", "GNUPGHOME": str(self.home), "LC_ALL": "C.UTF-8"}

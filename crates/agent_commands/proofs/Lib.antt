@@ -2,6 +2,7 @@ mod Asking
 pub mod Carrying
 mod Helping
 pub mod Replying
+pub mod Secrets
 mod Quieting
 mod VersionLines
 mod WorkedExamples

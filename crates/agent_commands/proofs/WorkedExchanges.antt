@@ -5,10 +5,10 @@ use Rattle.{agent_ask.specs.Session.TurnActions.{empty, done, interrupted, unhel
 use Rattle.cache_policy.specs.declared.{grant.Grant.Grant, life.Life.TheVariants.{Default, Endless}, mark.MarkStep.TheVariants.{Put, Clear, Flush, Stop}, mode.Mode.TheVariants.{Any, User}, secret.TheConstants.MAX_SECRET_LEN}
 use Rattle.{cache_policy.specs.Turns.{Given, Empty, Done, Stopping}, session_client.specs.{Asking.Asked, declared.refusal.Refusal.TheVariants.{Agent, Client}}}
 use Rattle.session_options.specs.{OptionValues.{OptionValues, applied, at_start, with_description}, Table.{named, mode_of}, Defaults.default_version, declared.{rules.Rules.Rules, version.Version.Version as TheVersion}}
-use Rattle.agent_commands.specs.{Answers.{closing, help}, Exchanges.{last_reply, reply, tells, TellsInfo, CacheExchange}, Actions.CacheEvent, Passphrases.ask, Requests.{GetFields, get_passphrase}}
+use Rattle.agent_commands.specs.{Answers.{closing, help, IsPassphrase}, Exchanges.{last_reply, reply, tells, TellsInfo, CacheExchange}, Actions.CacheEvent, Passphrases.ask, Requests.{GetFields, get_passphrase}}
 use Rattle.agent_commands.specs.declared.request.{CacheCommand.TheVariants.{Nop, Reset, Bye, Help, SetOption, SetKeyDesc, GetInfo, PresetPassphrase, ClearPassphrase, ReloadAgent, KillAgent}, Info.TheVariants.Version}
 use Rattle.agent_commands.specs.declared.{request.{Request.TheVariants.{Cache, Bad}, Texts.Texts}, went.Went.TheVariants.{On, End}}
-use Rattle.agent_commands.proofs.VersionLines.{version_lines, version_data}
+use Rattle.agent_commands.proofs.{Secrets.is_secret, VersionLines.{version_lines, version_data}}
 use Rattle.agent_ask.specs.Session.TurnActions as turn
 use Rattle.session_client.specs.declared.code.Code.TheVariants as code
 use Rattle.session_client.specs.declared.client_error.Gone.TheVariants as gone
@@ -50,6 +50,9 @@ secret_data = record {
   are_data = record { joined = refl; each = All-cons IsPiece (codes "secret") [] (omega arith, omega arith) (All-nil IsPiece); full = (tt, tt) };
   text_is = refl;
 }
+
+secret_told : IsPassphrase true (codes "secret") (written_lines (codes "D secret" ∷ codes "OK" ∷ []))
+secret_told = record { is = is_secret (codes "secret") (omega arith, (omega arith, (omega arith, (omega arith, (omega arith, (omega arith, tt)))))) (omega arith); written = secret_data }
 
 -- of an id alone: by the cache, as data
 abbrev quiet : GetFields
@@ -99,7 +102,7 @@ module _ (rules : Rules) (before : OptionValues) where
   given_live : (grant : Grant) → grant.id ≡ codes "id1" → grant.mode ≡ User → grant.entry.secret ≡ codes "secret"
       → CacheExchange rules before (Cache (get_passphrase quiet)) (cache_turn (ask (codes "id1")) (Given grant) ∷ Sent (written_lines (codes "D secret" ∷ codes "OK" ∷ [])) ∷ []) before On
   given_live grant id mode is = answered (cache_turn (ask (codes "id1")) (Given grant) ∷ []) None (reply before (written_lines (codes "D secret" ∷ codes "OK" ∷ [])))
-      (goes_on (goes_on (turn.Asks.given (id, mode)) returns) (goes_on (tells (rw is secret_data)) returns)) unheld
+      (goes_on (goes_on (turn.Asks.given (id, mode)) returns) (goes_on (tells (rw is secret_told)) returns)) unheld
 
   nothing_cached : CacheExchange rules before (Cache (get_passphrase quiet)) (cache_turn (ask (codes "id1")) Empty ∷ Sent (failed code.NoData) ∷ []) before On
   nothing_cached = refused (cache_turn (ask (codes "id1")) Empty ∷ []) None (Agent code.NoData) (stops (goes_on (empty tt) refuses)) unheld
@@ -163,7 +166,7 @@ module _ (rules : Rules) (options : OptionValues) (texts : Texts) where
   client_gives =
       answered (cache_turn (ask (codes "id1")) Empty ∷ Sent (limit_line MAX_SECRET_LEN) ∷ inquired (Data (codes "secret")) ∷ cache_turn (Put (codes "id1") User Default (codes "secret")) Done ∷ []) None
       (reply loopback (written_lines (codes "D secret" ∷ codes "OK" ∷ [])))
-      (goes_on (goes_on (empty tt) (goes_on (goes_on written (given refl)) (goes_on (done tt) returns))) (goes_on (tells secret_data) returns)) unheld
+      (goes_on (goes_on (empty tt) (goes_on (goes_on written (given refl)) (goes_on (done tt) returns))) (goes_on (tells secret_told) returns)) unheld
 
   -- it says CAN
   client_cancels : CacheExchange rules loopback (Cache (get_passphrase by_client))

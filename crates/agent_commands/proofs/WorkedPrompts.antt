@@ -6,7 +6,8 @@ use Rattle.agent_ask.specs.{Session.TurnActions.{opened, unheld, closed}, PinAct
 use Rattle.agent_ask.proofs.WorkedPrompts.{any_given, called_by, shown_by, prompts, first_try, second_try, third_try}
 use Rattle.{assuan_escape.specs.DataLines.IsPiece, assuan_server.specs.{Clients.session_lines, Written.{failed, failed_at_pinentry, ok, IsDataAnswer}}, cache_policy.specs.declared.mark.MarkStep.TheVariants.{Seat, Close}}
 use Rattle.{cache_policy.specs.Turns.{Open, Done}, session_client.specs.{Asking.Asked, declared.refusal.Refusal.TheVariants.{Agent, Pinentry, Client}}, session_options.specs.{OptionValues.OptionValues, declared.rules.Rules.Rules}}
-use Rattle.agent_commands.specs.{Exchanges.{reply, tells, CacheExchange}, Actions.CacheEvent, Passphrases.ask_or_open, Requests.{GetFields, get_passphrase}, declared.request.CacheCommand.TheVariants.GetConfirmation}
+use Rattle.agent_commands.proofs.Secrets.{is_secret}
+use Rattle.agent_commands.specs.{Answers.IsPassphrase, Exchanges.{reply, tells, CacheExchange}, Actions.CacheEvent, Passphrases.ask_or_open, Requests.{GetFields, get_passphrase}, declared.request.CacheCommand.TheVariants.GetConfirmation}
 use Rattle.agent_commands.specs.declared.{request.{Request.TheVariants.Cache, Texts.Texts}, went.Went.TheVariants.On}
 use Rattle.agent_ask.specs.ConsentActions as consent
 use Rattle.agent_ask.specs.Consents as consents
@@ -50,6 +51,9 @@ escaped_data = record {
   text_is = refl;
 }
 
+escaped_told : IsPassphrase true escaped (written_lines (codes "D 100%25%0D%0A" ∷ codes "OK" ∷ []))
+escaped_told = record { is = is_secret escaped (omega arith, (omega arith, (omega arith, (omega arith, (omega arith, (omega arith, tt)))))) (omega arith); written = escaped_data }
+
 -- a passphrase that is checked, in one data line
 checked_data : IsDataAnswer (codes "abcdefg1") (written_lines (codes "D abcdefg1" ∷ codes "OK" ∷ []))
 checked_data = record {
@@ -57,6 +61,9 @@ checked_data = record {
   are_data = record { joined = refl; each = All-cons IsPiece (codes "abcdefg1") [] (omega arith, omega arith) (All-nil IsPiece); full = (tt, tt) };
   text_is = refl;
 }
+
+checked_told : IsPassphrase true (codes "abcdefg1") (written_lines (codes "D abcdefg1" ∷ codes "OK" ∷ []))
+checked_told = record { is = is_secret (codes "abcdefg1") (omega arith, (omega arith, (omega arith, (omega arith, (omega arith, (omega arith, (omega arith, (omega arith, tt)))))))) (omega arith); written = checked_data }
 
 -- calls of the prompter as a session's events
 abbrev shown : List Call → List CacheEvent
@@ -93,7 +100,7 @@ module _ (rules : Rules) (options : OptionValues) (spec : PromptSpec) (ticket pi
         (goes_on {first = shown (start ∷ GetPin [] (outcome.Pin escaped) ∷ Shut ∷ [])}
         (prompted spec is_spec (prompts session_lines pid (GetPin [] (outcome.Pin escaped) ∷ []) refl (Tries.good first_try (IsTry.accepted tt tt Repeats.same))) any_given)
         (goes_on (closed Done tt) returns)))
-        (goes_on (tells escaped_data) returns)) unheld
+        (goes_on (tells escaped_told) returns)) unheld
 
     -- a cancel is the pinentry's error; nothing is kept
     cancelled : CacheExchange rules asking (Cache (get_passphrase plain))
@@ -164,7 +171,7 @@ module _ (rules : Rules) (options : OptionValues) (spec : PromptSpec) (ticket pi
         (goes_on {first = cache_turn (Seat None None) (Open ticket) ∷ (shown (begin ∷ (three_tries ++ Shut ∷ [])) ++ cache_turn (Close ticket (Some (codes "abcdefg1"))) Done ∷ [])}
         (goes_on (goes_on (opened tt) returns)
         (goes_on {first = shown (begin ∷ (three_tries ++ Shut ∷ []))} (prompted spec is_spec (prompts session_lines pid three_tries refl three) any_given) (goes_on (closed Done tt) returns)))
-        (goes_on (tells checked_data) returns)) unheld
+        (goes_on (tells checked_told) returns)) unheld
 
     none_is_good : CacheExchange checking ready (Cache (get_passphrase checked))
         (cache_turn (Seat None None) (Open ticket) ∷ (shown (begin ∷ (three_weak ++ Shut ∷ [])) ++ cache_turn (Close ticket None) Done ∷ Sent (failed code.BadPass) ∷ [])) ready On

@@ -3,7 +3,7 @@
 //! passphrase. Begin with `respond`; what it writes is `RespondsTo` (`specs/Steps`), and the text
 //! of each response `IsText`.
 
-ghost use Rattle.std.specs.Prelude.{◌≡◌, ℕ, List, [], All, if◌then◌else◌};
+ghost use Rattle.std.specs.Prelude.{◌≡◌, ◌<◌, ℕ, List, [], All, if◌then◌else◌, true};
 ghost use Rattle.{assuan_line.specs.Lines.IsLine, assuan_text.specs.LineEnds.line_of};
 ghost use Rattle.{assuan_text.specs.Rows.rows_of, assuan_escape.specs.Escapes.hex_text};
 ghost use Rattle.assuan_server.specs.Written.{comment_text, ok_text, IsDataAnswer, WritesText};
@@ -100,11 +100,22 @@ fn write_passphrase<L: Link>(
     ensures { (text : List ℕ) × IsPassphrase plain secret.now text
         × WritesText text conn.old result conn.new }
 {
+    let bytes = secret.bytes();
+    // No definition of the cache or of prompts says so, but there is no other passphrase.
+    prove!(are_bytes(bytes));
     if plain {
-        write_data(conn, secret.bytes())
+        write_data(conn, bytes)
     } else {
         write_digits(conn, secret)
     }
+}
+
+/// They are bytes, as all are: contracts learn that of those that are looked at.
+fn are_bytes(bytes: &[u8]) -> bool
+    ensures always { result ≡ true }
+    ensures each { All (λ byte. byte < 256) bytes.now }
+{
+    bytes.iter().all(|byte| *byte <= u8::MAX)
 }
 
 /// Writes these bytes as data lines, and that this is all.

@@ -1,7 +1,7 @@
 -- What limits isn't passed over.
 use Rattle.std.proofs.{Common.{◌≡◌, ℕ, Bool, true, false, cond, List, Option, Some, None, refl, sym, subst}, lemmas.{List.{Elements.All-contains, Sums.AllPass-from_list_all}}}
 use Rattle.std.specs.{Prelude.{not, ◌==◌, ◌&&◌, Contains, length, nat_le, slice_index}, List.{list_all}, Option.option_map_or}
-use Rattle.agent_conf.specs.{Limits.{is_passed_over, limits, may_pass}, Numbers.{greatest_of, kept_in, number_in}, Paths.{expanded}, Settled.option_of, Table.row_of, Written.Written}
+use Rattle.agent_conf.specs.{Limits.{holds_by, is_listed, is_passed_over, limits, may_pass}, Numbers.{greatest_of, kept_in, number_in}, Paths.{expanded}, Settled.option_of, Table.{row_of, rows}, Written.Written}
 use Rattle.agent_conf.specs.{Verdicts.{begins_group, is_text, kept_verdict, known_verdict, named_verdict, number_verdict, path_verdict, row_verdict, verdict_of}, declared.{TheConstants.MAX_PATH_LEN, setting.Place.Place}}
 use Rattle.agent_conf.specs.declared.{numbers.Range.Range, verdict.{Refusal.TheVariants.{ForSomeUsers, HasValue, NotAbsolute, NotText, TooLong}, Verdict.{Verdict, TheVariants.{Kept, Nearest, Refused}}}, table.Row.Row}
 use Rattle.agent_conf.specs.declared.table.Row.TheVariants.{Number, Flag, Pinentry, ExtraSocket, IgnoresNames, SoAnyway, Unkept, LimitsNothing, Folder, OfWords, Supervised}
@@ -30,7 +30,7 @@ row_counts home user place (Number range) value limits = number_counts range (nu
 row_counts home user place Flag value limits = neither (length value == 0) Kept (Refused HasValue) refl refl
 row_counts home user place Pinentry value limits = path_counts (expanded user value)
 row_counts home user place ExtraSocket value limits = absurd (cc limits)
-row_counts home user place IgnoresNames value limits = refl
+row_counts home user place IgnoresNames value limits = absurd (cc limits)
 row_counts home user place SoAnyway value limits = refl
 row_counts home user place (Unkept unkept takes) value limits = refl
 row_counts home user place (LimitsNothing takes) value limits = absurd (cc limits)
@@ -59,3 +59,17 @@ limit_counts home user before setting name named among =
     (neither (begins_group setting.place name) (Refused ForSomeUsers) (known_verdict home user before setting name (row_of name))
     refl (known_counts home user before setting name (row_of name) counts)))
     refl
+
+all_hold : list_all (λ name. option_map_or (holds_by name) (row_of name) false) limits ≡ true
+unfolding row_of
+all_hold = refl
+
+-- each of them is kept, refused, or so anyway
+pub limit_holds : (name : List ℕ) → Contains limits name → option_map_or (holds_by name) (row_of name) false ≡ true
+limit_holds name among =
+    All-contains (λ (n : List ℕ). option_map_or (holds_by n) (row_of n) false ≡ true) limits name
+    (AllPass-from_list_all (λ (n : List ℕ). option_map_or (holds_by n) (row_of n) false) limits all_hold) among
+
+-- the table has no other limit
+pub rows_are_listed : list_all is_listed rows ≡ true
+rows_are_listed = refl

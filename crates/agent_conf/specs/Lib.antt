@@ -6,6 +6,7 @@ pub mod Places
 pub mod Settled
 pub mod Starts
 pub mod Table
+pub mod Telling
 pub mod Texts
 pub mod Told
 pub mod Verdicts

@@ -1,6 +1,6 @@
 -- Which of gpg-agent's options limit (GnuPG manual, "Agent Options"): how long a passphrase is kept or a prompt stays, which new passphrases
 -- are taken and how often they are hashed, and what clients and users are forbidden.
-use Rattle.std.specs.Prelude.{ℕ, Bool, true, false, List, [], ◌∷◌, codes}
+use Rattle.std.specs.{Prelude.{ℕ, Bool, true, false, not, ◌||◌, List, [], ◌∷◌, codes}, List.list_any, Str.bytes_eq}
 use Rattle.agent_conf.specs.declared.table.Row.{Row, TheVariants.{Number, Flag, Pinentry, ExtraSocket, IgnoresNames, SoAnyway, Unkept, LimitsNothing, Folder, OfWords, Supervised}}
 use Rattle.agent_conf.specs.declared.verdict.Verdict.{Verdict, TheVariants.{Kept, Nearest, PassedOver, Refused}}
 
@@ -25,10 +25,55 @@ limits =
     ∷ codes "no-allow-loopback-pinentry"
     ∷ codes "no-allow-mark-trusted"
     ∷ codes "no-user-trustlist"
+    ∷ codes "keep-tty"
     ∷ codes "disable-scdaemon"
     ∷ codes "batch"
     ∷ codes "inactivity-timeout"
     ∷ []
+
+-- those of them that hold of this agent whether they are set or not: it has no other socket's cache, no scdaemon, and refuses a passphrase that is too weak
+abbrev pub kept_anyway : List (List ℕ)
+kept_anyway =
+    codes "enforce-passphrase-constraints"
+    ∷ codes "ignore-cache-for-signing"
+    ∷ codes "no-allow-external-cache"
+    ∷ codes "disable-scdaemon"
+    ∷ []
+
+abbrev pub is_named : List (List ℕ) → List ℕ → Bool
+is_named names name = list_any (λ one. bytes_eq one name) names
+
+-- what is set by this row is kept, or refused where it can't be, or so anyway
+abbrev pub holds_by : List ℕ → Row → Bool
+holds_by name (Number range) = true
+holds_by name Flag = true
+holds_by name Pinentry = false
+holds_by name ExtraSocket = false
+holds_by name IgnoresNames = false
+holds_by name SoAnyway = is_named kept_anyway name
+holds_by name (Unkept unkept takes) = true
+holds_by name (LimitsNothing takes) = false
+holds_by name Folder = false
+holds_by name (OfWords takes) = false
+holds_by name Supervised = false
+
+-- a row of a number, or of what can't be kept, is one of a limit
+abbrev pub is_limit : Row → Bool
+is_limit (Number range) = true
+is_limit Flag = false
+is_limit Pinentry = false
+is_limit ExtraSocket = false
+is_limit IgnoresNames = false
+is_limit SoAnyway = false
+is_limit (Unkept unkept takes) = true
+is_limit (LimitsNothing takes) = false
+is_limit Folder = false
+is_limit (OfWords takes) = false
+is_limit Supervised = false
+
+-- a row of the table is one of a limit only where it is listed above
+abbrev pub is_listed : List ℕ × Row → Bool
+is_listed row = not (is_limit row.1) || is_named limits row.0
 
 -- what an option of this row is set to may be passed over
 abbrev pub may_pass : Row → Bool
@@ -36,7 +81,7 @@ may_pass (Number range) = false
 may_pass Flag = false
 may_pass Pinentry = false
 may_pass ExtraSocket = true
-may_pass IgnoresNames = false
+may_pass IgnoresNames = true
 may_pass SoAnyway = false
 may_pass (Unkept unkept takes) = false
 may_pass (LimitsNothing takes) = true

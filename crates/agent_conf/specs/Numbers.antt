@@ -3,7 +3,7 @@
 use Rattle.std.specs.{Prelude.{◌≡◌, ℕ, ◌≤◌, ◌==◌, ◌&&◌, ◌⊎◌, nat_le, min, max, Bool, true, false, List, length, take, drop, Option, Some, None, if◌then◌else◌}, Char.is_ascii_digit, List.prefix_len}
 use Rattle.{assuan_text.specs.{Numbers.decimal, Forms.is_ignored}, cache_policy.specs.declared.{life.TheConstants.MAX_SECONDS, secret.TheConstants.MAX_SECRET_LEN}}
 use Rattle.session_options.specs.declared.rules.TheConstants.{MIN_S2K_COUNT, MAX_S2K_COUNT}
-use Rattle.agent_conf.specs.declared.numbers.{Range.{Range, TheVariants.{Seconds, Bytes, Count, Thousandths}}, Stricter.{Stricter, TheVariants.{Smaller, Greater, GreaterOfFormat}}}
+use Rattle.agent_conf.specs.declared.numbers.{Range.{Range, TheVariants.{Seconds, Bytes, Count, Milliseconds}}, Stricter.{Stricter, TheVariants.{Smaller, Greater, GreaterOfFormat}}}
 
 abbrev pub digits_in : List ℕ → List ℕ
 digits_in value = take (prefix_len is_ascii_digit value) value
@@ -18,32 +18,31 @@ number_in value =
     then Some (decimal (digits_in value))
     else None
 
--- a lifetime, or how long a prompt stays; the fewest bytes of a new passphrase; the bytes that one is hashed to; the thousandths of a second that this
--- takes
+-- a lifetime, or how long a prompt stays; the fewest bytes of a new passphrase; the bytes that one is hashed to; the milliseconds that this takes
 abbrev pub stricter_of : Range → Stricter
 stricter_of Seconds = Smaller
 stricter_of Bytes = Greater
 stricter_of Count = GreaterOfFormat
-stricter_of Thousandths = Greater
+stricter_of Milliseconds = Greater
 
 abbrev pub least_of : Range → ℕ
 least_of Seconds = 0
 least_of Bytes = 0
 least_of Count = MIN_S2K_COUNT
-least_of Thousandths = 0
+least_of Milliseconds = 0
 
 abbrev pub greatest_of : Range → ℕ
 greatest_of Seconds = MAX_SECONDS
 greatest_of Bytes = MAX_SECRET_LEN
 greatest_of Count = MAX_S2K_COUNT
-greatest_of Thousandths = 99999
+greatest_of Milliseconds = 99999
 
 -- a count of 0 stands for one that is measured
 abbrev pub is_measured : Range → ℕ → Bool
 is_measured Count number = number == 0
 is_measured Seconds number = false
 is_measured Bytes number = false
-is_measured Thousandths number = false
+is_measured Milliseconds number = false
 
 -- what is kept of a number on the stricter side, where these are the least and the greatest that can be; none where each of them is laxer
 abbrev pub kept_number : Stricter → ℕ → ℕ → ℕ → Option ℕ
@@ -65,5 +64,5 @@ IsKept range number = (is_measured range number ≡ true) ⊎ ((least_of range �
 abbrev pub NoLaxer : Range → ℕ → ℕ → Type 0
 NoLaxer Seconds kept written = kept ≤ written
 NoLaxer Bytes kept written = written ≤ kept
-NoLaxer Thousandths kept written = written ≤ kept
+NoLaxer Milliseconds kept written = written ≤ kept
 NoLaxer Count kept written = (written ≤ kept) ⊎ (kept ≡ MAX_S2K_COUNT)

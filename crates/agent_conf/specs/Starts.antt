@@ -3,7 +3,7 @@
 use Rattle.std.specs.{Prelude.{◌≡◌, ℕ, ◌==◌, ◌&&◌, not, nat_le, Bool, true, false, List, [], ◌∷◌, length, map, codes, is_some, unwrap_or, Option, Some, None, if◌then◌else◌}, Option.{option_and_then, option_map_or}}
 use Rattle.session_options.specs.{Defaults.default_rules, declared.rules.{Rules.Rules, TheConstants.MAX_WORKERS, RunMode.{RunMode, TheVariants.{Server, Daemon}}}}
 use Rattle.agent_conf.specs.{Lines.settings_in, Numbers.{kept_in, number_in}, Paths.{expanded, socket_choice}, Settled.{Texts, is_of, last_of, settled, all_of}, Told.told_by, Verdicts.{Told, has_refusal, told_from}, Words.settings_of}
-use Rattle.agent_conf.specs.{Written.Written, declared.{numbers.Range.{Range, TheVariants.{Seconds, Bytes, Count, Thousandths}}, setting.Place.TheVariants.{Machine, Home}, rules.Mode.{Mode, TheVariants.{Serve, Detach, Stay, Check}}}}
+use Rattle.agent_conf.specs.{Written.Written, declared.{numbers.Range.{Range, TheVariants.{Seconds, Bytes, Count, Milliseconds}}, setting.Place.TheVariants.{Machine, Home}, rules.Mode.{Mode, TheVariants.{Serve, Detach, Stay, Check}}}}
 use Rattle.agent_conf.specs.declared.{rules.TheConstants.PROMPT_SECONDS, TheConstants.MAX_PATH_LEN, start.{TheConstants.CALIBRATION, Start.Start, StartFault.{StartFault, TheVariants.{Refused, NoMemory}}}}
 
 -- a file that isn't there sets nothing
@@ -76,6 +76,13 @@ extra_of home user texts =
 abbrev pub count_named : Texts → ℕ
 count_named texts = number_or 0 Count (codes "s2k-count") texts
 
+-- the milliseconds that a measured count takes, of which 0 stands for the default
+abbrev pub calibration_of : Texts → ℕ
+calibration_of texts =
+    if number_or 0 Milliseconds (codes "s2k-calibration") texts == 0
+    then CALIBRATION
+    else number_or 0 Milliseconds (codes "s2k-calibration") texts
+
 -- the rules say what counts of the words and the files, and else what this project starts an agent with
 pub record AreSettled (home user : List ℕ) (texts : Texts) (rules : Rules) : Type 0 where
   pub default_ttl : rules.default_ttl ≡ number_or default_rules.default_ttl Seconds (codes "default-cache-ttl") texts
@@ -103,7 +110,7 @@ pub record IsStart (home user : List ℕ) (texts : Texts) (start : Start) : Type
   pub mode : start.mode ≡ mode_of texts.words
   pub rules : AreSettled home user texts start.rules
   pub forces_network_home : start.forces_network_home ≡ is_set (codes "force-network-home") texts
-  pub calibration : start.calibration ≡ number_or CALIBRATION Thousandths (codes "s2k-calibration") texts
+  pub calibration : start.calibration ≡ calibration_of texts
   pub measures_count : start.measures_count ≡ (count_named texts == 0)
 
 -- some are refused, and all is told that is told of them, or there was no memory

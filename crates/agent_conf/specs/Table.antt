@@ -1,8 +1,8 @@
 -- The options of gpg-agent by their names (GnuPG manual, "Invoking GPG-AGENT"), and what each of them is to this agent, which is this project's own.
 -- So is `force-network-home`.
-use Rattle.std.specs.Prelude.{Bool, true, false, List, ℕ, [], ◌∷◌, codes, Option}
+use Rattle.std.specs.Prelude.{Bool, true, false, not, ◌==◌, List, ℕ, [], ◌∷◌, codes, slice_index, Option}
 use Rattle.assuan_text.specs.Rows.{found}
-use Rattle.agent_conf.specs.declared.{numbers.Range.TheVariants.{Seconds, Bytes, Count, Thousandths}, table.{Takes.{Takes, TheVariants.{Value, Nothing}}, Unkept.TheVariants.{TrustList, PassphraseRule, NoPrompts, IdleTime}}}
+use Rattle.agent_conf.specs.declared.{numbers.Range.TheVariants.{Seconds, Bytes, Count, Milliseconds}, table.{Takes.{Takes, TheVariants.{Value, Optional, Nothing}}, Unkept.TheVariants.{TrustList, PassphraseRule, NoPrompts, IdleTime, Terminal}}}
 use Rattle.agent_conf.specs.declared.table.Row.{Row, TheVariants.{Number, Flag, Pinentry, ExtraSocket, IgnoresNames, SoAnyway, Unkept, LimitsNothing, Folder, OfWords, Supervised}}
 
 abbrev pub rows : List (List ℕ × Row)
@@ -15,13 +15,13 @@ rows =
     ∷ (codes "min-passphrase-len", Number Bytes)
     ∷ (codes "min-passphrase-nonalpha", Number Bytes)
     ∷ (codes "s2k-count", Number Count)
-    ∷ (codes "s2k-calibration", Number Thousandths)
+    ∷ (codes "s2k-calibration", Number Milliseconds)
     ∷ (codes "allow-preset-passphrase", Flag)
     ∷ (codes "no-allow-loopback-pinentry", Flag)
-    ∷ (codes "allow-loopback-pinentry", SoAnyway)
+    ∷ (codes "allow-loopback-pinentry", Flag)
     ∷ (codes "pinentry-program", Pinentry)
     ∷ (codes "extra-socket", ExtraSocket)
-    ∷ (codes "force-network-home", SoAnyway)
+    ∷ (codes "force-network-home", Flag)
     ∷ (codes "ignore-invalid-option", IgnoresNames)
     ∷ (codes "no-allow-mark-trusted", Unkept TrustList Nothing)
     ∷ (codes "no-user-trustlist", Unkept TrustList Nothing)
@@ -31,6 +31,7 @@ rows =
     ∷ (codes "enable-passphrase-history", Unkept PassphraseRule Nothing)
     ∷ (codes "batch", Unkept NoPrompts Nothing)
     ∷ (codes "inactivity-timeout", Unkept IdleTime Value)
+    ∷ (codes "keep-tty", Unkept Terminal Nothing)
     ∷ (codes "enforce-passphrase-constraints", SoAnyway)
     ∷ (codes "no-allow-external-cache", SoAnyway)
     ∷ (codes "ignore-cache-for-signing", SoAnyway)
@@ -69,13 +70,12 @@ rows =
     ∷ (codes "sys-trustlist-name", LimitsNothing Value)
     ∷ (codes "pinentry-touch-file", LimitsNothing Value)
     ∷ (codes "pinentry-invisible-char", LimitsNothing Value)
-    ∷ (codes "write-env-file", LimitsNothing Value)
+    ∷ (codes "write-env-file", LimitsNothing Optional)
     ∷ (codes "debug-all", LimitsNothing Nothing)
     ∷ (codes "debug-quick-random", LimitsNothing Nothing)
     ∷ (codes "debug-pinentry", LimitsNothing Nothing)
     ∷ (codes "steal-socket", LimitsNothing Nothing)
     ∷ (codes "disable-check-own-socket", LimitsNothing Nothing)
-    ∷ (codes "keep-tty", LimitsNothing Nothing)
     ∷ (codes "keep-display", LimitsNothing Nothing)
     ∷ (codes "enable-ssh-support", LimitsNothing Nothing)
     ∷ (codes "enable-putty-support", LimitsNothing Nothing)
@@ -102,20 +102,22 @@ rows =
 unfoldable pub row_of : List ℕ → Option Row
 row_of name = found name rows
 
-abbrev pub is_value : Takes → Bool
-is_value Value = true
-is_value Nothing = false
+-- the next word is the value: always, where it doesn't begin with a dash, or never
+abbrev pub is_value : Takes → List ℕ → Bool
+is_value Value next = true
+is_value Optional next = not (slice_index next 0 == 45)
+is_value Nothing next = false
 
--- a word that names such an option may have its value in the next word
-abbrev pub takes_value : Row → Bool
-takes_value (Number range) = true
-takes_value Flag = false
-takes_value Pinentry = true
-takes_value ExtraSocket = true
-takes_value IgnoresNames = true
-takes_value SoAnyway = false
-takes_value (Unkept unkept takes) = is_value takes
-takes_value (LimitsNothing takes) = is_value takes
-takes_value Folder = true
-takes_value (OfWords takes) = is_value takes
-takes_value Supervised = false
+-- a word that names such an option has this next word as its value
+abbrev pub takes_value : Row → List ℕ → Bool
+takes_value (Number range) next = true
+takes_value Flag next = false
+takes_value Pinentry next = true
+takes_value ExtraSocket next = true
+takes_value IgnoresNames next = true
+takes_value SoAnyway next = false
+takes_value (Unkept unkept takes) next = is_value takes next
+takes_value (LimitsNothing takes) next = is_value takes next
+takes_value Folder next = true
+takes_value (OfWords takes) next = is_value takes next
+takes_value Supervised next = false

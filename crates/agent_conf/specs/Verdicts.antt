@@ -5,7 +5,7 @@ use Rattle.assuan_text.specs.Words.{words}
 use Rattle.agent_conf.specs.{Written.Written, Paths.{expanded, socket_choice}, Settled.{is_of, option_of}, Numbers.{greatest_of, kept_in, number_in}, Table.row_of, declared.{TheConstants.MAX_PATH_LEN, setting.Place.Place}}
 use Rattle.agent_conf.specs.declared.{setting.Place.TheVariants.{Machine, Home, Words}, numbers.Range.Range, table.Row.Row}
 use Rattle.agent_conf.specs.declared.{table.Row.TheVariants.{Number, Flag, Pinentry, ExtraSocket, IgnoresNames, SoAnyway, Unkept, LimitsNothing, Folder, OfWords, Supervised}, verdict.Verdict.Verdict}
-use Rattle.agent_conf.specs.declared.verdict.{Verdict.TheVariants.{Kept, Nearest, PassedOver, Refused}, Passed.TheVariants.{NoLimit, WordsAlone, OtherSocket}}
+use Rattle.agent_conf.specs.declared.verdict.{Verdict.TheVariants.{Kept, Nearest, PassedOver, Refused}, Passed.TheVariants.{NoLimit, WordsAlone, FilesAlone, OtherSocket}}
 use Rattle.agent_conf.specs.declared.verdict.Refusal.TheVariants.{NotText, ForSomeUsers, Unknown, NoNumber, Laxer, HasValue, NotAbsolute, TooLong, NotKept, NoFolder, NoSockets, NoCommand}
 
 -- text without a zero byte
@@ -39,7 +39,7 @@ abbrev pub folder_verdict : List ℕ → Verdict
 folder_verdict value = if nat_le 1 (length value) && nat_le (length value) MAX_PATH_LEN then Kept else Refused NoFolder
 
 -- the first on the command line, else the second
-abbrev pub by_place : Place → Verdict → Verdict → Verdict
+abbrev pub by_place : {A : Type 0} → Place → A → A → A
 by_place Words first second = first
 by_place Machine first second = second
 by_place Home first second = second
@@ -49,7 +49,7 @@ row_verdict home user place (Number range) value = number_verdict range (number_
 row_verdict home user place Flag value = flag_verdict value
 row_verdict home user place Pinentry value = path_verdict (expanded user value)
 row_verdict home user place ExtraSocket value = socket_verdict (socket_choice home user value)
-row_verdict home user place IgnoresNames value = Kept
+row_verdict home user place IgnoresNames value = by_place place (PassedOver FilesAlone) Kept
 row_verdict home user place SoAnyway value = Kept
 row_verdict home user place (Unkept unkept takes) value = Refused (NotKept unkept)
 row_verdict home user place (LimitsNothing takes) value = PassedOver NoLimit
@@ -62,8 +62,10 @@ abbrev pub is_ignored_by : List ℕ → Written → Bool
 is_ignored_by name setting =
     is_of (codes "ignore-invalid-option" ∷ []) setting && list_any (bytes_eq name) (words setting.value)
 
-abbrev pub unknown_verdict : List ℕ → List Written → Verdict
-unknown_verdict name before = if list_any (is_ignored_by name) before then PassedOver NoLimit else Refused Unknown
+-- nobody says of a word of the command line that it may be ignored
+abbrev pub unknown_verdict : Place → List ℕ → List Written → Verdict
+unknown_verdict place name before =
+    if by_place place false true && list_any (is_ignored_by name) before then PassedOver NoLimit else Refused Unknown
 
 -- the part of a file that holds for some users alone begins so
 abbrev pub begins_group : Place → List ℕ → Bool
@@ -72,7 +74,7 @@ begins_group Machine name = slice_index name 0 == 91
 begins_group Home name = slice_index name 0 == 91
 
 abbrev pub known_verdict : List ℕ → List ℕ → List Written → Written → List ℕ → Option Row → Verdict
-known_verdict home user before setting name None = unknown_verdict name before
+known_verdict home user before setting name None = unknown_verdict setting.place name before
 known_verdict home user before setting name (Some row) = row_verdict home user setting.place row setting.value
 
 abbrev pub is_short : List ℕ → Bool

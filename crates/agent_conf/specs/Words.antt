@@ -24,15 +24,20 @@ abbrev pub apart : ℕ → List ℕ → List ℕ → Written
 apart number word next = word_setting number word word next
 
 -- the next word is the value of this one
-abbrev pub wants_value : List ℕ → Bool
-wants_value word =
-    not (list_any is_equals word) && option_map_or takes_value (option_and_then row_of (after_dashes word)) false
+abbrev pub wants_value : List ℕ → List ℕ → Bool
+wants_value word next =
+    not (list_any is_equals word) && option_map_or (λ row. takes_value row next) (option_and_then row_of (after_dashes word)) false
+
+-- the first of these words is the value of the one in front of them
+abbrev pub wants_first : List ℕ → List (List ℕ) → Bool
+wants_first word [] = false
+wants_first word (next ∷ words) = wants_value word next
 
 -- what words set, the first of which has this number
 abbrev pub settings_of : ℕ → List (List ℕ) → List Written
 settings_of number [] = []
 settings_of number (word ∷ []) = alone number word ∷ []
 settings_of number (word ∷ next ∷ words) =
-    if wants_value word
+    if wants_value word next
     then apart number word next ∷ settings_of (number + 2) words
     else alone number word ∷ settings_of (number + 1) (next ∷ words)

@@ -21,9 +21,8 @@ pub enum Range {
     /// The bytes that a passphrase is hashed to, where 0 stands for a count that is measured. The
     /// greater one is the stricter one, and the greatest is all that the format has.
     Count,
-    /// The thousandths of a second that a measured count takes. The greater one is the stricter
-    /// one.
-    Thousandths,
+    /// The milliseconds that a measured count takes. The greater one is the stricter one.
+    Milliseconds,
 }
 
 /// Which of two numbers limits more.
@@ -45,7 +44,7 @@ impl Range {
     {
         match self {
             Range::Seconds => Stricter::Smaller,
-            Range::Bytes | Range::Thousandths => Stricter::Greater,
+            Range::Bytes | Range::Milliseconds => Stricter::Greater,
             Range::Count => Stricter::GreaterOfFormat,
         }
     }
@@ -55,7 +54,7 @@ impl Range {
         ensures { result ≡ least_of self }
     {
         match self {
-            Range::Seconds | Range::Bytes | Range::Thousandths => 0,
+            Range::Seconds | Range::Bytes | Range::Milliseconds => 0,
             Range::Count => MIN_S2K_COUNT,
         }
     }
@@ -69,7 +68,7 @@ impl Range {
             Range::Seconds => u64::from(MAX_SECONDS),
             Range::Bytes => MAX_SECRET_LEN as u64,
             Range::Count => MAX_S2K_COUNT,
-            Range::Thousandths => 99_999,
+            Range::Milliseconds => 99_999,
         }
     }
 }

@@ -5,7 +5,8 @@ ghost use Rattle.std.specs.Prelude.{◌≡◌, ◌==◌, ◌⊎◌, map, IfSome,
 ghost use Rattle.std.specs.Option.{option_and_then, option_map};
 ghost use Rattle.session_options.specs.{Counts.IsS2kCount, Defaults.default_rules};
 ghost use Rattle.agent_conf.specs.{Numbers.{IsKept, kept_in}, Paths.expanded};
-ghost use Rattle.agent_conf.specs.Starts.{AreSettled, count_named, counts_before, extra_of, is_set};
+ghost use Rattle.agent_conf.specs.Starts.{AreSettled, calibration_of, count_named, counts_before};
+ghost use Rattle.agent_conf.specs.Starts.{extra_of, is_set};
 ghost use Rattle.agent_conf.specs.Starts.{kept_of, mode_by, mode_of, number_or, path_within};
 ghost use Rattle.agent_conf.specs.{Starts.{pinentry_of, run_of, serves_one}, Texts.texts_in};
 ghost use Rattle.agent_conf.specs.Written.{written};
@@ -16,6 +17,7 @@ use crate::paths::{Folders, expanded, socket_choice};
 use crate::setting::Setting;
 use crate::settings::Settings;
 use crate::settled::{is_of, last_of};
+use crate::start::CALIBRATION;
 use arrayvec::ArrayVec;
 use session_options::{MAX_VALUE_LEN, MAX_WORKERS, Rules, RunMode, copied};
 
@@ -143,8 +145,18 @@ pub(crate) fn count_named(settings: &Settings<'_>) -> u64
     number_or(settings, Range::Count, b"s2k-count", 0)
 }
 
+/// The milliseconds that are set, of which 0 stands for the default.
+pub(crate) fn calibration_of(settings: &Settings<'_>) -> u64
+    ensures { result ≡ calibration_of (texts_in settings.now) }
+{
+    match number_or(settings, Range::Milliseconds, b"s2k-calibration", 0) {
+        0 => CALIBRATION,
+        milliseconds => milliseconds,
+    }
+}
+
 /// The number that an option is set to, or else the default.
-pub(crate) fn number_or(settings: &Settings<'_>, range: Range, name: &[u8], default: u64) -> u64
+fn number_or(settings: &Settings<'_>, range: Range, name: &[u8], default: u64) -> u64
     ensures number { result ≡ number_or default range name.now (texts_in settings.now) }
     ensures within { (result ≡ default) ⊎ IsKept range result }
 {

@@ -7,15 +7,14 @@ ghost use Rattle.std.specs.Option.{option_map};
 ghost use Rattle.agent_conf.specs.Starts.{IsStart, IsRefused, texts_of, told_of};
 ghost use Rattle.agent_conf.specs.{Told.told_by, Verdicts.has_refusal};
 
-use crate::numbers::Range;
 use crate::paths::Folders;
-use crate::rules::{Mode, count_named, is_set, mode_of, number_or, rules_of};
+use crate::rules::{Mode, calibration_of, count_named, is_set, mode_of, rules_of};
 use crate::settings::Settings;
 use crate::told::{Told, has_refusal, told_of};
 use session_options::Rules;
 use std::alloc::{AllocError, Global};
 
-/// The thousandths of a second that a measured count takes where nobody says.
+/// The milliseconds that a measured count takes where nobody says.
 pub const CALIBRATION: u64 = 100;
 
 /// What an agent is started with.
@@ -27,7 +26,7 @@ pub struct Start<'a> {
     pub told: Vec<Told<'a>>,
     /// Whether a home folder that other hosts may have is taken: `force-network-home`.
     pub forces_network_home: bool,
-    /// The thousandths of a second that a measured count takes: `s2k-calibration`.
+    /// The milliseconds that a measured count takes: `s2k-calibration`.
     pub calibration: u64,
     /// Whether nobody names a count, so that one is to be measured. The rules have the usual one.
     pub measures_count: bool,
@@ -81,12 +80,7 @@ pub fn read_start<'a>(
         rules: rules_of(folders, &settings),
         told,
         forces_network_home: is_set(&settings, b"force-network-home"),
-        calibration: number_or(
-            &settings,
-            Range::Thousandths,
-            b"s2k-calibration",
-            CALIBRATION,
-        ),
+        calibration: calibration_of(&settings),
         measures_count: count_named(&settings) == 0,
     })
 }

@@ -3,7 +3,7 @@
 //! the rows again.
 
 ghost use Rattle.std.specs.Prelude.{◌≡◌};
-ghost use Rattle.agent_conf.specs.Table.{row_of, takes_value};
+ghost use Rattle.agent_conf.specs.Table.{is_value, row_of, takes_value};
 
 use crate::numbers::Range;
 use assuan_text::found;
@@ -12,6 +12,8 @@ use assuan_text::found;
 #[derive(Clone, Copy, Debug, PartialEq, Eq)]
 pub enum Takes {
     Value,
+    /// Where that one doesn't begin with a dash.
+    Optional,
     Nothing,
 }
 
@@ -26,6 +28,8 @@ pub enum Unkept {
     NoPrompts,
     /// How long the agent stays when nobody calls it.
     IdleTime,
+    /// In which terminal it asks.
+    Terminal,
 }
 
 /// What an option of gpg-agent is to this agent.
@@ -41,7 +45,7 @@ pub enum Row {
     ExtraSocket,
     /// Names that may be passed over though nobody knows them.
     IgnoresNames,
-    /// What is so in any case, or what the program itself keeps.
+    /// What is so in any case.
     SoAnyway,
     /// What limits and can't be kept.
     Unkept(Unkept, Takes),
@@ -64,13 +68,13 @@ const ROWS: [(&[u8], Row); 89] = [
     (b"min-passphrase-len", Row::Number(Range::Bytes)),
     (b"min-passphrase-nonalpha", Row::Number(Range::Bytes)),
     (b"s2k-count", Row::Number(Range::Count)),
-    (b"s2k-calibration", Row::Number(Range::Thousandths)),
+    (b"s2k-calibration", Row::Number(Range::Milliseconds)),
     (b"allow-preset-passphrase", Row::Flag),
     (b"no-allow-loopback-pinentry", Row::Flag),
-    (b"allow-loopback-pinentry", Row::SoAnyway),
+    (b"allow-loopback-pinentry", Row::Flag),
     (b"pinentry-program", Row::Pinentry),
     (b"extra-socket", Row::ExtraSocket),
-    (b"force-network-home", Row::SoAnyway),
+    (b"force-network-home", Row::Flag),
     (b"ignore-invalid-option", Row::IgnoresNames),
     (
         b"no-allow-mark-trusted",
@@ -101,6 +105,7 @@ const ROWS: [(&[u8], Row); 89] = [
         b"inactivity-timeout",
         Row::Unkept(Unkept::IdleTime, Takes::Value),
     ),
+    (b"keep-tty", Row::Unkept(Unkept::Terminal, Takes::Nothing)),
     (b"enforce-passphrase-constraints", Row::SoAnyway),
     (b"no-allow-external-cache", Row::SoAnyway),
     (b"ignore-cache-for-signing", Row::SoAnyway),
@@ -139,7 +144,7 @@ const ROWS: [(&[u8], Row); 89] = [
     (b"sys-trustlist-name", Row::LimitsNothing(Takes::Value)),
     (b"pinentry-touch-file", Row::LimitsNothing(Takes::Value)),
     (b"pinentry-invisible-char", Row::LimitsNothing(Takes::Value)),
-    (b"write-env-file", Row::LimitsNothing(Takes::Value)),
+    (b"write-env-file", Row::LimitsNothing(Takes::Optional)),
     (b"debug-all", Row::LimitsNothing(Takes::Nothing)),
     (b"debug-quick-random", Row::LimitsNothing(Takes::Nothing)),
     (b"debug-pinentry", Row::LimitsNothing(Takes::Nothing)),
@@ -148,7 +153,6 @@ const ROWS: [(&[u8], Row); 89] = [
         b"disable-check-own-socket",
         Row::LimitsNothing(Takes::Nothing),
     ),
-    (b"keep-tty", Row::LimitsNothing(Takes::Nothing)),
     (b"keep-display", Row::LimitsNothing(Takes::Nothing)),
     (b"enable-ssh-support", Row::LimitsNothing(Takes::Nothing)),
     (b"enable-putty-support", Row::LimitsNothing(Takes::Nothing)),
@@ -191,16 +195,26 @@ pub fn row_of(name: &[u8]) -> Option<Row>
     found(name, &ROWS)
 }
 
-/// Whether a word that names such an option may have its value in the next word.
-pub(crate) fn takes_value(row: Row) -> bool
-    ensures { result ≡ takes_value row }
+/// Whether a word that names such an option has this next word as its value.
+pub(crate) fn takes_value(row: Row, next: &[u8]) -> bool
+    ensures { result ≡ takes_value row next.now }
 {
     match row {
         Row::Number(_) => true,
         Row::Pinentry | Row::ExtraSocket | Row::IgnoresNames | Row::Folder => true,
         Row::Flag | Row::SoAnyway | Row::Supervised => false,
         Row::Unkept(_, takes) | Row::LimitsNothing(takes) | Row::OfWords(takes) => {
-            matches!(takes, Takes::Value)
+            is_value(takes, next)
         }
+    }
+}
+
+fn is_value(takes: Takes, next: &[u8]) -> bool
+    ensures { result ≡ is_value takes next.now }
+{
+    match takes {
+        Takes::Value => true,
+        Takes::Optional => next.first() != Some(&b'-'),
+        Takes::Nothing => false,
     }
 }

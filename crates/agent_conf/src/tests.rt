@@ -1,7 +1,7 @@
 //! Files and words as users write them, and what becomes of them. The rows are those by which the
 //! script in gpg-agent's place is tried (`tools/daemon-cases`).
 
-use crate::{Folders, Mode, Path, Start, StartFault, Told, read_start};
+use crate::{Folders, Mode, Path, Start, StartFault, Told, read_start, told_text};
 use std::alloc::{AllocError, Global};
 use std::test::Fail;
 
@@ -15,7 +15,7 @@ type Row = (
     &'static str,
 );
 
-const SET: [Row; 25] = [
+const SET: [Row; 28] = [
     (
         b"",
         b"max-cache-ttl 60\r\ndefault-cache-ttl 30\r\nno-allow-loopback-pinentry\r\n",
@@ -179,9 +179,30 @@ const SET: [Row; 25] = [
         "server force-network-home s2k-calibration=200 ",
         "",
     ),
+    (
+        b"s2k-calibration 200\n",
+        b"s2k-calibration 0\n",
+        "--write-env-file --no-allow-loopback-pinentry",
+        "no-allow-loopback-pinentry ",
+        "a word of the command line is passed over: --write-env-file\n",
+    ),
+    (
+        b"",
+        b"",
+        "--write-env-file ~/.env --ignore-invalid-option=soon",
+        "",
+        "a word of the command line is passed over: --write-env-file ~/.env\na word of the command line is passed over: --ignore-invalid-option=soon (it counts in files alone)\n",
+    ),
+    (
+        b"",
+        b"min-passphrase-len 255\nmin-passphrase-nonalpha 0\nmax-cache-ttl 2147483647\n",
+        "",
+        "max-cache-ttl=2147483647 min-passphrase-len=255 min-passphrase-nonalpha=0 ",
+        "",
+    ),
 ];
 
-const REFUSED: [Row; 23] = [
+const REFUSED: [Row; 26] = [
     (
         b"",
         b"\nmax-cache-ttl abc\n",
@@ -343,6 +364,27 @@ const REFUSED: [Row; 23] = [
         "refused",
         "line 1, keeps the agent from starting: inactivity-timeout 60 (the agent stays when nobody calls it: take it out, or leave this folder to GnuPG's own agent)\na word of the command line keeps the agent from starting: xterm (no command is run beside the agent: start it by itself)\n",
     ),
+    (
+        b"",
+        b"ignore-invalid-option soon\n",
+        "--soon",
+        "refused",
+        "a word of the command line keeps the agent from starting: --soon (gpg-agent has no such option: see how it is spelled, or take it out)\n",
+    ),
+    (
+        b"",
+        b"keep-tty\nallow-loopback-pinentry no\n",
+        "",
+        "refused",
+        "line 1, keeps the agent from starting: keep-tty (the agent asks in the terminal that its client names: take it out, or leave this folder to GnuPG's own agent)\nline 2, keeps the agent from starting: allow-loopback-pinentry no (it has no value: take the value out, or the line)\n",
+    ),
+    (
+        b"force-network-home=1\n",
+        b"s2k-calibration 100000\n",
+        "",
+        "refused",
+        "line 1, keeps the agent from starting: force-network-home=1 (it has no value: take the value out, or the line)\nline 1, keeps the agent from starting: s2k-calibration 100000 (the agent counts up to 99999, which is laxer: write at most 99999)\n",
+    ),
 ];
 
 #[test]
@@ -375,8 +417,8 @@ fn comes_out(alloc: Global, row: &Row) -> Result<bool, AllocError> {
         user: b"/home/u",
     };
     let (options, told) = match read_start(alloc, &folders, &words, Some(machine), Some(home)) {
-        Ok(start) => (options_of(alloc, &start)?, told_text(alloc, &start.told)?),
-        Err(StartFault::Refused(told)) => (text(alloc, "refused")?, told_text(alloc, &told)?),
+        Ok(start) => (options_of(alloc, &start)?, told_lines(alloc, &start.told)?),
+        Err(StartFault::Refused(told)) => (text(alloc, "refused")?, told_lines(alloc, &told)?),
         Err(StartFault::NoMemory) => (text(alloc, "no memory")?, text(alloc, "")?),
     };
     Ok(options.as_str() == *wanted && told.as_str() == *says)
@@ -403,11 +445,12 @@ fn words_of(alloc: Global, line: &str) -> Result<Vec<String>, AllocError> {
 }
 
 /// A line for each.
-fn told_text(alloc: Global, told: &[Told<'_>]) -> Result<String, AllocError> {
+fn told_lines(alloc: Global, told: &[Told<'_>]) -> Result<String, AllocError> {
     let mut all = String::new(alloc);
     for one in told {
-        let line = format!(in alloc; "{one}\n")?;
-        all.push_str(&line)?;
+        let line = told_text(alloc, one)?;
+        all.push_str(&String::from_utf8_lossy(alloc, &line)?)?;
+        all.push('\n')?;
     }
     Ok(all)
 }

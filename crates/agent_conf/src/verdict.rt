@@ -1,7 +1,7 @@
 //! What becomes of one setting, by the row of its option. Pure. Begin with `verdict_of`;
 //! definitions are in `specs/Verdicts`.
 
-ghost use Rattle.std.specs.Prelude.{◌≡◌, ◌==◌, length, map};
+ghost use Rattle.std.specs.Prelude.{◌≡◌, ◌==◌, false, length, map, true};
 ghost use Rattle.std.specs.{List.list_any, Option.option_map, Str.{bytes_eq, Lossy.utf8_valid_len}};
 ghost use Rattle.assuan_text.specs.Words.{words};
 ghost use Rattle.agent_conf.specs.{Numbers.number_in, Paths.expanded, Written.written};
@@ -39,6 +39,8 @@ pub enum Passed {
     NoLimit,
     /// An option of the command line in a file.
     WordsAlone,
+    /// An option of files on the command line.
+    FilesAlone,
     /// An extra socket elsewhere.
     OtherSocket,
 }
@@ -75,6 +77,9 @@ pub enum Refusal {
 /// What becomes of a word of the command line that stands in a file.
 const OUT_OF_PLACE: Verdict = Verdict::PassedOver(Passed::WordsAlone);
 
+/// What becomes of an option of files on the command line.
+const FOR_FILES: Verdict = Verdict::PassedOver(Passed::FilesAlone);
+
 /// What becomes of a setting that comes after these.
 #[tactic(auto, unfolding(crate::specs::Verdicts::verdict_of))]
 pub(crate) fn verdict_of(
@@ -96,7 +101,7 @@ pub(crate) fn verdict_of(
     }
     match row_of(name) {
         Some(row) => row_verdict(folders, setting.place, row, setting.value),
-        None => unknown_verdict(name, before),
+        None => unknown_verdict(setting.place, name, before),
     }
 }
 
@@ -149,13 +154,22 @@ fn begins_group(place: Place, name: &[u8]) -> bool
     }
 }
 
-fn unknown_verdict(name: &[u8], before: &[Setting<'_>]) -> Verdict
-    ensures { result ≡ unknown_verdict name.now (map written before.now) }
+fn unknown_verdict(place: Place, name: &[u8], before: &[Setting<'_>]) -> Verdict
+    ensures { result ≡ unknown_verdict place name.now (map written before.now) }
 {
-    if is_ignored(name, before) {
+    if is_of_file(place) && is_ignored(name, before) {
         Verdict::PassedOver(Passed::NoLimit)
     } else {
         Verdict::Refused(Refusal::Unknown)
+    }
+}
+
+fn is_of_file(place: Place) -> bool
+    ensures { result ≡ by_place place false true }
+{
+    match place {
+        Place::Words => false,
+        Place::Machine | Place::Home => true,
     }
 }
 
@@ -199,7 +213,8 @@ fn row_verdict(folders: &Folders<'_>, place: Place, row: Row, value: &[u8]) -> V
         Row::Flag => flag_verdict(value),
         Row::Pinentry => path_verdict(folders.user, value),
         Row::ExtraSocket => socket_verdict(socket_choice(folders, value)),
-        Row::IgnoresNames | Row::SoAnyway => Verdict::Kept,
+        Row::IgnoresNames => by_place(place, FOR_FILES, Verdict::Kept),
+        Row::SoAnyway => Verdict::Kept,
         Row::Unkept(unkept, _) => Verdict::Refused(Refusal::NotKept(unkept)),
         Row::LimitsNothing(_) => Verdict::PassedOver(Passed::NoLimit),
         Row::Folder => by_place(place, folder_verdict(value), OUT_OF_PLACE),

@@ -1,9 +1,10 @@
 //! The words of the command line as settings. It takes memory for the list alone. Begin with
 //! `settings_of`; `specs/Words` has the definitions.
 
-ghost use Rattle.std.specs.Prelude.{◌≡◌, ◌≤◌, ◌+◌, ◌∷◌, ◌⊎◌, [], IfOk, IfSome, MatchOption, drop};
+ghost use Rattle.std.specs.Prelude.{◌≡◌, ◌≤◌, ◌+◌, ◌∷◌, [], IfNone, IfOk, IfSome, MatchOption, drop};
 ghost use Rattle.std.specs.{Prelude.{false, length, map, string_bytes, true}, List.position_or_len};
-ghost use Rattle.agent_conf.specs.Words.{alone, apart, is_equals, settings_of, wants_value};
+ghost use Rattle.agent_conf.specs.Words.{alone, apart, is_equals, settings_of, wants_first};
+ghost use Rattle.agent_conf.specs.Words.{wants_value};
 ghost use Rattle.agent_conf.specs.Written.{written};
 
 use crate::setting::{Place, Setting};
@@ -46,17 +47,18 @@ fn next_setting(number: usize, words: &[String]) -> Option<(Setting<'_>, &[Strin
 
 /// The next word, where it is the value of this one, and the words behind it.
 fn value_behind<'a>(word: &[u8], rest: &'a [String]) -> Option<(&'a [u8], &'a [String])>
-    ensures parts { MatchOption result
-        ((wants_value word.now ≡ false) ⊎ (map string_bytes rest.entry.now ≡ []))
-        (λ parts. (wants_value word.now ≡ true) × (map string_bytes rest.entry.now
-        ≡ parts.0.now ∷ map string_bytes parts.1.now)) }
+    ensures none { IfNone result (wants_first word.now (map string_bytes rest.entry.now) ≡ false) }
+    ensures parts { IfSome result (λ parts. (wants_value word.now parts.0.now ≡ true)
+        × (map string_bytes rest.entry.now ≡ parts.0.now ∷ map string_bytes parts.1.now)) }
     ensures shorter { IfSome result (λ parts. length parts.1.now + 1 ≡ length rest.entry.now) }
 {
-    if !wants_value(word) {
-        return None;
-    }
     let (next, others) = rest.split_first()?;
-    Some((next.as_bytes(), others))
+    let next = next.as_bytes();
+    if wants_value(word, next) {
+        Some((next, others))
+    } else {
+        None
+    }
 }
 
 /// A word by itself: its value comes after the first `=`.
@@ -97,14 +99,14 @@ fn apart<'a>(number: usize, word: &'a [u8], next: &'a [u8]) -> Setting<'a>
 }
 
 /// Whether the next word is the value of this one.
-fn wants_value(word: &[u8]) -> bool
-    ensures { result ≡ wants_value word.now }
+fn wants_value(word: &[u8], next: &[u8]) -> bool
+    ensures { result ≡ wants_value word.now next.now }
 {
     if word.contains(&b'=') {
         return false;
     }
     match after_dashes(word).and_then(row_of) {
-        Some(row) => takes_value(row),
+        Some(row) => takes_value(row, next),
         None => false,
     }
 }

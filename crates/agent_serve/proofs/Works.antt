@@ -2,7 +2,7 @@
 use Rattle.std.proofs.Common.{◌≡◌, ◌<◌, ◌≤◌, ◌-◌, ◌^◌, ◌⊎◌, inl, inr, List, [], ◌∷◌, Option, None, Some, refl, sym, subst, ap, arith, ◌∙◌}
 use Rattle.{agent_ports.specs.{Counts.Rose, declared.listener.Next.{Next, TheVariants.{Failed, Stopped}}}, counted_lock.specs.Passes.{AtCounted, AtPass, AreOf}, session_options.specs.declared.rules.Rules.Rules}
 use Rattle.agent_origin.specs.declared.door.Door.TheVariants.{Outer}
-use Rattle.agent_serve.{proofs.Pairs.by_either, specs.{Pairs.PairedTo, Working.{HostViews, Post, post_at, home_post, last_post, ServesNext, ServesLinks, EndsWork, Works, WorkEach, none, one_more, failed, stopped, numbers_spent}}}
+use Rattle.agent_serve.{proofs.Pairs.by_either, specs.{Arrivals.map_next, Pairs.PairedTo, Working.{HostViews, Post, post_at, home_post, last_post, ServesNext, ServesLinks, EndsWork, Works, WorkEach, none, one_more, failed, stopped, numbers_spent}}}
 
 module _ {Ls E Li La C R K T : Type 0} (host : HostViews Ls E Li La C R K T) (rules : Rules) where
   -- the workers stand at these posts
@@ -34,11 +34,13 @@ module _ {Ls E Li La C R K T : Type 0} (host : HostViews Ls E Li La C R K T) (ru
   stay_of counted listener extra (j ∷ js) (f ∷ fs) (k ∷ ks) [] all each = absurd each
 
   -- a listener that gives no link ends its worker
-  pub ends_without_link : (post : Post Ls) (early last : E) (now : AtPass) (back : E) (answer : Next Li) → (answer ≡ Failed) ⊎ (answer ≡ Stopped) → host.answers post.listener last answer back
-      → (answer ≡ Stopped → host.is_told post.listener) → (answer ≡ Failed → Rose (host.faults last) (host.faults back)) → host.faults early ≤ host.faults last → EndsWork host rules post early last now back
-  ends_without_link post early last now back answer (inl is) answers told rose unfallen =
-      failed (subst (λ a. host.answers post.listener last a back) is answers) (omega (arith, rose is, unfallen))
-  ends_without_link post early last now back answer (inr is) answers told rose unfallen = stopped (subst (λ a. host.answers post.listener last a back) is answers) (told is)
+  pub ends_without_link : {A : Type 0} (link_of : A → Li) (post : Post Ls) (early last : E) (now : AtPass) (back : E) (answer : Next A) → (answer ≡ Failed) ⊎ (answer ≡ Stopped)
+      → host.answers post.listener last (map_next link_of answer) back → (answer ≡ Stopped → host.is_told post.listener) → (answer ≡ Failed → Rose (host.faults last) (host.faults back))
+      → host.faults early ≤ host.faults last → EndsWork host rules post early last now back
+  ends_without_link link_of post early last now back answer (inl is) answers told rose unfallen =
+      failed (subst (λ a. host.answers post.listener last (map_next link_of a) back) is answers) (omega (arith, rose is, unfallen))
+  ends_without_link link_of post early last now back answer (inr is) answers told rose unfallen =
+      stopped (subst (λ a. host.answers post.listener last (map_next link_of a) back) is answers) (told is)
 
   -- where nothing failed and there are numbers left, the listener answered that it is stopped, as it was told to be
   pub told_where_nothing_failed : (post : Post Ls) (pass : AtPass) (ear : E) (now : AtPass) (back : E) → Works host rules post pass ear now back → ¬ Rose (host.faults ear) (host.faults back) → now.sessions < 2 ^ 64 - 1

@@ -1,3 +1,4 @@
+pub mod Arrivals
 pub mod Gates
 pub mod Pairs
 pub mod Serves

@@ -7,6 +7,7 @@
 //! `specs/Working`.
 #![tactic(auto)]
 
+mod arrivals;
 mod each;
 mod gated;
 mod laws;

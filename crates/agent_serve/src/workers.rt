@@ -8,6 +8,7 @@ ghost use Rattle.{agent_ports.specs.Listening.NothingFailed, counted_lock.specs.
 ghost use Rattle.agent_serve.specs.Working.{ServesNext, StopsAfter, TellsToStop, Works, WorkEach};
 ghost use Rattle.agent_serve.specs.Working.{post_at};
 
+use crate::arrivals::{Arrival, next_at};
 use crate::each::{Task, run_each};
 use crate::serving::serve_one;
 use crate::shared::SharedHost;
@@ -59,8 +60,8 @@ where
             if pass.sessions() == u64::MAX {
                 return (pass, ear);
             }
-            match self.listener.next(&mut ear) {
-                Next::Link(link) => pass = self.serve(pass, link, &mut ear),
+            match next_at(self.listener, &mut ear) {
+                Next::Link(arrival) => pass = self.serve(pass, arrival, &mut ear),
                 Next::Failed | Next::Stopped => return (pass, ear),
             }
         }
@@ -69,19 +70,25 @@ where
 
     /// Serves the session of one link. One that stopped the agent also stops the listeners, whether
     /// or not its client stayed for the answer.
-    fn serve(&self, pass: CountedPass, link: H::Link, ear: &mut H::Ear) -> CountedPass
+    fn serve(
+        &self,
+        pass: CountedPass,
+        arrival: Arrival<'_, H::Listener>,
+        ear: &mut H::Ear,
+    ) -> CountedPass
         requires own { pass.table ≡ self.now.counted.now.table }
         requires numbered { pass.sessions < 2 ^ 64 - 1 }
-        requires came { H.Listener.gives self.now.listener.now link }
-        requires fresh { NothingFailed (H.Link.input link) (H.Link.output link) }
+        requires came { H.Listener.gives self.now.listener.now arrival.link }
+        requires origin { arrival.origin ≡ self.now.listener.now }
+        requires fresh { NothingFailed (H.Link.input arrival.link) (H.Link.output arrival.link) }
         ensures serves { ServesNext (⟦<H as ViewedHost>⟧.views (H.homedir self.now.host.now))
             self.now.rules.now (post_at self.now.door self.now.listener.now
-            (option_copied self.now.other)) pass link ear.old result ear.new }
+            (option_copied self.now.other)) pass arrival.entry.link ear.old result ear.new }
         ensures own { (whose : H.Listener)
             → H.Listener.hears whose ear.old → H.Listener.hears whose ear.new }
         ensures faults { H.Ear.faults ear.new ≡ H.Ear.faults ear.old }
     {
-        let mut link = link;
+        let Arrival { mut link, origin } = arrival;
         let session = SessionId {
             pass: pass.number(),
             count: pass.sessions(),
@@ -97,7 +104,7 @@ where
             &mut link,
             self.door,
         );
-        self.listener.done(link);
+        origin.take_back(link);
         self.stop_after(end, &pass, ear);
         pass
     }

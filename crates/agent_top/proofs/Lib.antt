@@ -1,5 +1,6 @@
 mod Answered
 mod EndingWell
+mod GpgAgent
 mod Ears
 mod LawfulRuns
 mod Lifting

@@ -18,17 +18,21 @@ module _ {La C R K : Type 0} (views : Views La C R K) where
       Runs (machine input output (views.readings had.clock) (views.launches had.launcher) (views.keys had.keys) (views.draws had.dice)) number
       (machine input_now output_now (views.readings has.clock) (views.launches has.launcher) (views.keys has.keys) (views.draws has.dice))
 
+  -- a server that ran in the folder
+  abbrev pub RunsSettled : Rules → Machine → ℕ → Machine → Type 0
+  RunsSettled rules before number after = RunsServer rules (in_folder rules before) number after
+
   -- what it does with parts that were settled, it does in the folder with those that they were before
   pub uses_settled : (rules : Rules) (input output : Side) (number : ℕ) (input_now output_now : Side) (before mid after : Option (Parts La C R K)) → IsSome before
       → AreSettled views rules.homedir.items before mid → UsesParts (DoesWith (RunsServer rules) input output number input_now output_now) mid after
-      → UsesParts (DoesWith (RunsInFolder rules) input output number input_now output_now) before after
+      → UsesParts (DoesWith (RunsSettled rules) input output number input_now output_now) before after
   uses_settled rules input output number input_now output_now (Some had) (Some has) after there alike uses = record {
     had = had;
     has = uses.has;
     had_is = refl;
     has_is = uses.has_is;
-    goes_on = settled (subst (λ around. RunsServer rules around number (left uses.has)) same
-        (subst (λ parts. DoesWith (RunsServer rules) input output number input_now output_now parts uses.has) (sym (some_is uses.had_is)) uses.goes_on));
+    goes_on = subst (λ around. RunsServer rules around number (left uses.has)) same
+        (subst (λ parts. DoesWith (RunsServer rules) input output number input_now output_now parts uses.has) (sym (some_is uses.had_is)) uses.goes_on);
   } where
     some_is : {x y : Parts La C R K} → Some x ≡ Some y → x ≡ y
     some_is e = cc e
@@ -41,6 +45,15 @@ module _ {La C R K : Type 0} (views : Views La C R K) where
     same = rw (alike.clock, alike.launcher, alike.keys, alike.dice) refl
   uses_settled rules input output number input_now output_now (Some had) None after there alike uses = absurd alike
   uses_settled rules input output number input_now output_now None mid after there alike uses = absurd (cc there)
+
+-- one that ran so ran in the folder of the words
+pub in_its_folder : {La C R K : Type 0} (views : Views La C R K) (rules : Rules) (run : RunMode) (input output : Side) (number : ℕ) (input_now output_now : Side) (before after : Option (Parts La C R K))
+    → IfServer run (UsesParts (DoesWith views (RunsSettled views rules) input output number input_now output_now) before after)
+    → IfServer run (UsesParts (DoesWith views (RunsInFolder rules) input output number input_now output_now) before after)
+in_its_folder views rules Server input output number input_now output_now before after uses =
+    record { had = uses.had; has = uses.has; had_is = uses.had_is; has_is = uses.has_is; goes_on = settled uses.goes_on }
+in_its_folder views rules Daemon input output number input_now output_now before after uses = tt
+in_its_folder views rules (Load load) input output number input_now output_now before after uses = tt
 
 if_daemon : (run : RunMode) {P : Type 0} → P → IfDaemon run P
 if_daemon Server p = tt

@@ -1,6 +1,7 @@
 pub mod Cache
 pub mod Completeness
 pub mod Daemon
+pub mod GpgAgent
 pub mod Faults
 pub mod Forms
 pub mod LawfulRuns

@@ -3,12 +3,14 @@
 //!
 //! Begin with [`run_agent`], whose four clauses are the release guarantee (`docs/PROOFS.md` reads
 //! them): words that are refused, a server, a daemon, a load. [`read_words`] gives exactly the
-//! rules that the words mean, or none. Definitions begin in `specs/Top`, `specs/Daemon` and
-//! `specs/Words`.
+//! rules that the words mean, or none. [`run_gpg_agent`] is the agent in gpg-agent's place: its
+//! clause begins at the bytes of `gpg-agent.conf`. Definitions begin in `specs/Top`,
+//! `specs/Daemon`, `specs/Words` and `specs/GpgAgent`.
 #![tactic(auto)]
 
 mod completeness;
 mod daemon;
+mod gpg_agent;
 mod lawful;
 mod load;
 mod own_passphrases;
@@ -24,6 +26,7 @@ pub use completeness::{
     each_error_of_a_daemon_has_its_cause, each_error_of_a_server_has_its_cause,
 };
 pub use daemon::run_daemon;
+pub use gpg_agent::{Options, StartPlace, Starter, read_options, run_gpg_agent};
 pub use lawful::{run_lawful_daemon, run_lawful_load, run_lawful_server};
 pub use load::run_load;
 pub use own_passphrases::{a_daemon_stores_its_sessions_own, a_session_of_a_daemon_stores_its_own};

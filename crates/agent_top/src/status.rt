@@ -5,6 +5,7 @@
 ghost use Rattle.std.specs.Prelude.{◌≡◌};
 
 use agent_commands::SessionEnd;
+use std::alloc::AllocError;
 
 /// With what status the agent's process ends.
 #[derive(Clone, Copy, PartialEq, Eq)]
@@ -57,5 +58,15 @@ impl Status {
             Status::Spent => 6,
             Status::TooLong => 7,
         }
+    }
+}
+
+impl From<AllocError> for Status {
+    ghost use Rattle.agent_top.specs.declared.status.Status.{Status};
+
+    ghost from_gives = { λ _ status. status ≡ Status.NoMemory };
+
+    fn from(_error: AllocError) -> Status {
+        Status::NoMemory
     }
 }

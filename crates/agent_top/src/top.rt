@@ -8,7 +8,8 @@ ghost use Rattle.{agent_core.specs.Solos.seen, pinentry_client.specs.States.at_p
 ghost use Rattle.agent_ports.specs.HostParts.{AreSettled};
 ghost use Rattle.agent_top.specs.{Cache.{limits_of, fresh_desk}, Words.rules_of, Daemon.RunsDaemon};
 ghost use Rattle.agent_top.specs.Load.{RunsLoad};
-ghost use Rattle.agent_top.specs.Top.{exit_number, machine, with_pid, IsRefusal, no_child};
+ghost use Rattle.agent_top.specs.Top.{exit_number, in_folder, machine, with_pid, IsRefusal};
+ghost use Rattle.agent_top.specs.Top.{no_child};
 ghost use Rattle.agent_top.specs.Top.{UsesParts, KeepsParts, RunsServer, RunsInFolder, HadNoMemory};
 ghost use Rattle.agent_top.specs.Top.{IfServer, IfDaemon, IfLoad};
 
@@ -88,17 +89,50 @@ where
     match read_words(alloc, words) {
         Ok(rules) => {
             let rules = with_pid(rules, host.pid());
-            settle(&rules, host);
-            if rules.run == RunMode::Daemon {
-                return run_daemon(rt, alloc, &rules, stdio, host);
-            }
-            if let RunMode::Load(number) = rules.run {
-                return run_load(alloc, number, stdio);
-            }
-            run_server(alloc, &rules, stdio, host)
+            run_rules(rt, alloc, &rules, stdio, host)
         }
         Err(WordsFault::Bad) => Status::BadWords.number(),
         Err(WordsFault::NoMemory) => Status::NoMemory.number(),
+    }
+}
+
+/// Settles the host at the folder of the rules, and serves a session on standard input and output,
+/// or as a daemon those of a listener, or a load. Its answer is as `run_agent`'s.
+pub(crate) fn run_rules<W: Threads + Wait + rt::Clock + Sync, S: Link, H: SharedHost>(
+    rt: &W,
+    alloc: Global,
+    rules: &Rules,
+    stdio: &mut S,
+    host: &mut H,
+) -> u8
+where
+    H::Listener: Drop,
+    requires { IsSome (H.server host.old) }
+    ensures one { IfServer rules.now.run (UsesParts (λ had has. RunsServer rules.now
+        (in_folder rules.now (machine (S.input stdio.old) (S.output stdio.old)
+        (H.Clock.readings had.clock) (H.Launcher.launches had.launcher) (H.Keys.keys had.keys)
+        (H.Dice.draws had.dice))) result
+        (machine (S.input stdio.new) (S.output stdio.new) (H.Clock.readings has.clock)
+        (H.Launcher.launches has.launcher) (H.Keys.keys has.keys) (H.Dice.draws has.dice)))
+        (H.server host.old) (H.server host.new)) }
+    ensures many { IfDaemon rules.now.run (RunsDaemon
+        (⟦<H as ViewedHost>⟧.views rules.now.homedir.items) rules.now (H.listens host.old)
+        (S.output stdio.old) result (H.listens host.new) (S.output stdio.new)
+        × (S.input stdio.new ≡ S.input stdio.old)
+        × KeepsParts (⟦<H as ViewedHost>⟧.views rules.now.homedir.items).parts
+        rules.now.homedir.items (H.server host.old) (H.server host.new)) }
+    ensures load { IfLoad rules.now.run (λ number. RunsLoad number (S.output stdio.old) result
+        (S.output stdio.new) × (S.input stdio.new ≡ S.input stdio.old)
+        × KeepsParts (⟦<H as ViewedHost>⟧.views rules.now.homedir.items).parts
+        rules.now.homedir.items (H.server host.old) (H.server host.new)) }
+    ensures homedir { H.homedir host.new ≡ rules.now.homedir.items }
+    ensures process { H.process host.new ≡ H.process host.old }
+{
+    settle(rules, host);
+    match rules.run {
+        RunMode::Daemon => run_daemon(rt, alloc, rules, stdio, host),
+        RunMode::Load(number) => run_load(alloc, number, stdio),
+        RunMode::Server => run_server(alloc, rules, stdio, host),
     }
 }
 

@@ -1,12 +1,12 @@
 //! What the words of the command line and the environment say before a file is read: what is to be
 //! done, and in which home folder. It takes memory for the paths. Begin with `Call::read`.
 
-use crate::stand_in::StartPlace;
 use agent_conf::{
     ConfFile, Environment, Folders, MAX_PATH_LEN, Mode, Path, Refusal, StartFault, Told, Verdict,
     read_places, read_start,
 };
 use agent_start::{Fault, HomeConf, MACHINE_CONF, Voice, log_path, said};
+use agent_top::StartPlace;
 use gnupg_home::{absolute, variable};
 use printable::Printable;
 use std::alloc::{AllocError, Global};

@@ -3,13 +3,13 @@
 //! greets. Begin with `start`.
 
 use crate::call::Call;
-use crate::stand_in::{Options, Starter, read_options};
 use crate::starter::{SystemStarter, say_pinentry};
 use agent_conf::Mode;
 use agent_start::{
-    Fault, Found, HomeConf, Sockets, SystemConf, Voice, cut, found_at, lock, open_log, reason,
+    CoreDumps, Fault, Found, HomeConf, Sockets, SystemConf, Voice, core_dumps, cut, found_at,
+    ignores_ends, lock, open_log, reason,
 };
-use agent_top::Status;
+use agent_top::{Options, Starter, Status, read_options};
 use child_environment::hand_on;
 use std::alloc::Global;
 use std::fs::{File, Files};
@@ -17,23 +17,30 @@ use std::net::Net;
 use std::process::{Child, Command, OpenProcess, Processes, Stdio};
 use std::rt::{Clock, Env};
 use std::time::Duration;
-use std::{env, io, thread};
+use std::{env, fs, io, thread};
 
 /// It makes a session (setsid(1)): a daemon that shares a shell's is stopped by its terminal.
 const SETSID: &str = "/usr/bin/setsid";
 
-/// It sets back which signals are heeded (env(1) of the GNU coreutils): an ignored hangup would be
-/// ignored by the daemon too, and a file that would grow past a limit is a fault to it and no end.
+/// It sets back which signals are heeded (env(1) of the GNU coreutils): a hangup that its caller
+/// ignores would be ignored by the daemon too.
 const ENV: &str = "/usr/bin/env";
 
-const SIGNALS: [&str; 2] = ["--default-signal=HUP,TERM,INT", "--ignore-signal=XFSZ"];
+const HEEDED: &str = "--default-signal=HUP,TERM,INT";
 
-/// Limits a core dump to one byte: none, and by the kernel's rule none to a program that takes them
-/// either, which a limit of 0 doesn't keep from it (core(5)). What is made is closed to others.
+/// It limits a core dump to one byte: none, and by the kernel's rule none to a program that takes
+/// them either, which a limit of 0 doesn't keep from it (core(5)).
+const PRLIMIT: &str = "/usr/bin/prlimit";
+
+const ONE_BYTE: &str = "--core=1:1";
+
+/// What is made is closed to others, and a file that would grow past a limit is a fault to the daemon
+/// and no end. Where there is no other way it writes no core dump to a file.
 const SHELL: &str = "/bin/sh";
 
-const LIMITED: &str =
-    "prlimit --pid $$ --core=1:1 2>/dev/null || ulimit -c 0; umask 077; exec \"$@\"";
+const CLOSED: &str = "trap '' XFSZ; umask 077; exec \"$@\"";
+
+const CLOSED_WITHOUT_CORE: &str = "ulimit -c 0; trap '' XFSZ; umask 077; exec \"$@\"";
 
 /// Where a daemon and its pinentry find programs: the caller's may be anybody's.
 const PROGRAMS: &str = "/usr/local/bin:/usr/bin:/bin";
@@ -146,13 +153,13 @@ fn spawn<R: Env + Files<File = File> + Processes>(
 ) -> io::Result<Child<R::Started>> {
     let log = open_log(rt, &call.log)?;
     let mut command = Command::new(alloc, SETSID)?;
-    if sets_signals(rt, alloc) {
+    // Each program in front takes a thousandth of a second: most callers want none of these two.
+    if ignores_ends(rt, alloc) && sets_signals(rt, alloc) {
         command.arg(ENV)?;
-        for word in SIGNALS {
-            command.arg(word)?;
-        }
+        command.arg(HEEDED)?;
     }
-    for word in [SHELL, "-c", LIMITED, "gpg-agent"] {
+    let closed = limit_core(rt, alloc, &mut command)?;
+    for word in [SHELL, "-c", closed, "gpg-agent"] {
         command.arg(word)?;
     }
     command.arg(env::current_exe(&(rt, alloc))?.as_str())?;
@@ -166,16 +173,31 @@ fn spawn<R: Env + Files<File = File> + Processes>(
     command.spawn(rt)
 }
 
-/// Whether env(1) knows these words, as not each does.
+/// Has a core dump limited, and gives what the shell is to do besides.
+fn limit_core<R: Files<File = File>>(
+    rt: &R,
+    alloc: Global,
+    command: &mut Command,
+) -> io::Result<&'static str> {
+    match core_dumps(rt, alloc) {
+        CoreDumps::Limited => Ok(CLOSED),
+        CoreDumps::Open if fs::exists(rt, PRLIMIT).unwrap_or(false) => {
+            command.arg(PRLIMIT)?;
+            command.arg(ONE_BYTE)?;
+            Ok(CLOSED)
+        }
+        CoreDumps::Open | CoreDumps::Unknown => Ok(CLOSED_WITHOUT_CORE),
+    }
+}
+
+/// Whether env(1) knows that word, as not each does.
 fn sets_signals<R: Processes>(rt: &R, alloc: Global) -> bool {
     knows_signals(rt, alloc).unwrap_or(false)
 }
 
 fn knows_signals<R: Processes>(rt: &R, alloc: Global) -> io::Result<bool> {
     let mut command = Command::new(alloc, ENV)?;
-    for word in SIGNALS {
-        command.arg(word)?;
-    }
+    command.arg(HEEDED)?;
     command.arg("/bin/true")?;
     command.env_clear();
     command.stdin(Stdio::null());

@@ -8,15 +8,13 @@
 mod call;
 mod detach;
 mod preparing;
-mod stand_in;
 mod starter;
 
 use crate::preparing::prepare;
-use crate::stand_in::run_gpg_agent;
 use crate::starter::SystemStarter;
 use agent_host::{Log, Looks, SystemHost};
 use agent_start::{SystemConf, fill_standard, reason};
-use agent_top::Status;
+use agent_top::{Status, run_gpg_agent};
 use std::process;
 use std::process::ExitCode;
 use std::time::Duration;

@@ -3,10 +3,10 @@
 
 use crate::call::{Call, words_of};
 use crate::detach::{leave_if_answered, start};
-use crate::stand_in::read_options;
 use crate::starter::say_pinentry;
 use agent_conf::Mode;
 use agent_start::{Fault, Sockets, SystemConf, Voice, answer, check, enter, is_asked, lock};
+use agent_top::read_options;
 use std::alloc::Global;
 use std::fs::{File, Files};
 use std::net::Net;

@@ -2,16 +2,15 @@
 //! folder, and measures and asks what isn't kept there. Begin with `SystemStarter`; the promise is
 //! that of `Starter` (`agent_top`).
 
-ghost use Rattle.std.specs.Prelude.{◌≡◌, ◌≤◌, false};
-ghost use Rattle.agent_ports.specs.Counts.{Rose};
+ghost use Rattle.std.specs.Prelude.{None};
 
 use crate::call::Call;
-use crate::stand_in::Starter;
 use agent_conf::Mode;
 use agent_start::{
     Fault, Sockets, Voice, installed_version, make_keys_folder, measured_count, network_kind, said,
     write_options,
 };
+use agent_top::Starter;
 use gnupg_home::real_path;
 use printable::Printable;
 use session_options::{Rules, Version};
@@ -84,7 +83,7 @@ impl<'a, R: Clock + Env + Files<File = File> + Net + Processes + Print + Eprint>
 
 impl<R: Clock + Env + Files<File = File> + Net + Processes + Print + Eprint> Starter
     for SystemStarter<'_, R> {
-    ghost refusals = { λ s. s.refusals };
+    ghost starter = { λ s. record { calls = None; refusals = s.refusals } };
 
     fn admits(&mut self, forces_network_home: bool) -> bool {
         match self.refusal(forces_network_home) {
@@ -101,8 +100,8 @@ impl<R: Clock + Env + Files<File = File> + Net + Processes + Print + Eprint> Sta
         installed_version(self.rt, self.alloc, &self.call.home)
     }
 
-    fn measured_count(&mut self, thousandths: u64) -> u64 {
-        measured_count(self.rt, self.alloc, &self.call.home, thousandths)
+    fn measured_count(&mut self, milliseconds: u64) -> u64 {
+        measured_count(self.rt, self.alloc, &self.call.home, milliseconds)
     }
 
     fn starts(&mut self, rules: &Rules) {

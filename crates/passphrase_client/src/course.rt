@@ -52,6 +52,7 @@ pub(crate) fn come_to<C: Connector>(
     match take_step(alloc, connector, task, *step, held) {
         Verdict::GoesOn => come_to(alloc, connector, task, rest, held, noted),
         Verdict::Notes(ending) => {
+            connector.keep_reason();
             come_to(alloc, connector, task, rest, held, first_of(noted, ending))
         }
         Verdict::Holds(mut secret) => {

@@ -2,9 +2,12 @@
 //! sockets, files and processes by `reach.rt`, `set_up.rt` and `starting.rt`. Begin with
 //! `find_agents`.
 
+ghost use Rattle.std.specs.Prelude.{IfOk};
+ghost use Rattle.passphrase_host.specs.Paths.{IsAt};
+
 use crate::failure::{Failure, refused, said};
 use crate::patience::{Deadline, Limits};
-use crate::reach::{Ahead, Greeting, greet, reach, too_long};
+use crate::reach::{Ahead, Greeting, Reached, greet, reach, too_long};
 use crate::set_up::{SetUp, StandIn, has_keys, set_up, stand_in};
 use crate::starting::{make_own, silence, start};
 use gnupg_home::{
@@ -13,24 +16,35 @@ use gnupg_home::{
 use std::alloc::Global;
 use std::fs;
 use std::fs::{File, Files};
+use std::marker::Model;
 use std::net::Net;
 use std::os::unix::fs::FileTypeExt;
-use std::os::unix::net::UnixStream;
 use std::process::Processes;
 use std::rt::{Clock, Env};
 
-/// An agent that is asked.
+/// An agent that is asked. Contracts see where it may listen.
 #[derive(Drop)]
 pub(crate) struct Asked {
     pub(crate) folder: String,
     paths: Vec<String>,
-    open: Option<Opened>,
+    made: Option<Opened>,
+}
+
+impl Model for Asked {
+    ghost use Rattle.std.specs.Prelude.{List, ℕ, map, string_bytes};
+    ghost use Rattle.passphrase_host.specs.Paths.{IsMadeAt};
+
+    ghost Value = { List (List ℕ) };
+
+    ghost view = { λ asked. map string_bytes asked.paths.items };
+
+    ghost invariant = { λ asked. IsMadeAt (map string_bytes asked.paths.items) asked.made };
 }
 
 /// A connection that was made already, and what was read of it.
 #[derive(Drop)]
 pub(crate) struct Opened {
-    pub(crate) stream: UnixStream,
+    pub(crate) reached: Reached,
     pub(crate) ahead: Ahead,
 }
 
@@ -226,7 +240,7 @@ impl Asked {
         Ok(Asked {
             folder,
             paths,
-            open: None,
+            made: None,
         })
     }
 
@@ -238,12 +252,16 @@ impl Asked {
         alloc: Global,
         limits: Limits,
     ) -> Result<bool, Failure> {
-        let Some(mut stream) = reach(rt, alloc, self.paths.as_slice())? else {
+        let Some(mut reached) = reach(rt, alloc, self.paths.as_slice())? else {
             return Ok(false);
         };
-        match greet(rt, &mut stream, Deadline::in_seconds(rt, limits.answer)) {
+        match greet(
+            rt,
+            &mut reached.stream,
+            Deadline::in_seconds(rt, limits.answer),
+        ) {
             Greeting::Agent(ahead) => {
-                self.open = Some(Opened { stream, ahead });
+                self.made = Some(Opened { reached, ahead });
                 Ok(true)
             }
             Greeting::Other => Ok(false),
@@ -257,11 +275,11 @@ impl Asked {
         rt: &R,
         alloc: Global,
     ) -> Result<bool, Failure> {
-        let Some(stream) = reach(rt, alloc, self.paths.as_slice())? else {
+        let Some(reached) = reach(rt, alloc, self.paths.as_slice())? else {
             return Ok(false);
         };
         let ahead = Ahead::new();
-        self.open = Some(Opened { stream, ahead });
+        self.made = Some(Opened { reached, ahead });
         Ok(true)
     }
 
@@ -288,13 +306,15 @@ impl Asked {
         &mut self,
         rt: &R,
         alloc: Global,
-    ) -> Result<Opened, Failure> {
-        if let Some(opened) = self.open.take() {
+    ) -> Result<Opened, Failure>
+        ensures at { IfOk result (IsAt self.old) }
+    {
+        if let Some(opened) = self.made.take() {
             return Ok(opened);
         }
         match reach(rt, alloc, self.paths.as_slice())? {
-            Some(stream) => Ok(Opened {
-                stream,
+            Some(reached) => Ok(Opened {
+                reached,
                 ahead: Ahead::new(),
             }),
             None => {

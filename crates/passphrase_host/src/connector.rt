@@ -3,8 +3,12 @@
 //! `SystemConnector::new`; the promise is that of `Connector` (`passphrase_talk`), and how agents
 //! are found is in `asked.rt`.
 
-ghost use Rattle.std.specs.Prelude.{◌≡◌, ◌≤◌, None, string_bytes};
-ghost use Rattle.{agent_ports.specs.Counts.Rose, session_options.specs.OptionValues.words_of};
+ghost use Rattle.std.specs.Prelude.{◌≡◌, ◌≤◌, Contains, Err, IfOk, MatchResult, None};
+ghost use Rattle.std.specs.Prelude.{string_bytes};
+ghost use Rattle.agent_ports.specs.{Counts.Rose, Launches.{IsFresh, child_then}};
+ghost use Rattle.session_options.specs.OptionValues.{words_of};
+ghost use Rattle.passphrase_talk.specs.Contacts.{then_opened};
+ghost use Rattle.passphrase_host.specs.Paths.{IsAt, paths_at, paths_of};
 
 use crate::asked::{Asked, Found, Opened, find_agents};
 use crate::failure::{Failure, said};
@@ -14,6 +18,7 @@ use crate::patience::Limits;
 use crate::starting::silence;
 use crate::terminal::environment_of;
 use crate::wire::WireLoss;
+use agent_ports::{Sink, Source};
 use assuan_client::Peer;
 use passphrase_talk::{Agents, Connector, Place, Unmet, Waits};
 use session_options::Env;
@@ -39,6 +44,8 @@ pub struct SystemConnector<'a, R: Processes> {
     beside: Option<Asked>,
     guard: Option<Guard<R::Started>>,
     reason: String,
+    /// It stays so.
+    is_kept: bool,
     faults: u64,
     shortages: u64,
 }
@@ -58,6 +65,7 @@ impl<'a, R: rt::Clock + rt::Env + Processes + Files<File = File> + Net + Eprint>
             beside: None,
             guard: None,
             reason: String::new(alloc),
+            is_kept: false,
             faults: 0,
             shortages: 0,
         })
@@ -99,16 +107,34 @@ impl<'a, R: rt::Clock + rt::Env + Processes + Files<File = File> + Net + Eprint>
         }
     }
 
-    fn connect(&mut self, place: Place, waits: Waits) -> Result<AgentLink<'a, R>, Unmet> {
+    fn connect(&mut self, place: Place, waits: Waits) -> Result<AgentLink<'a, R>, Unmet>
+        // The socket is that of the agent at this place: it was looked for at one of its paths.
+        ensures path { IfOk result
+            (λ link. Contains (paths_at place self.old.home self.old.beside) (string_bytes link.at)) }
+        ensures fresh { IfOk result (λ link. IsFresh (⟦<AgentLink<'a, R> as Source>⟧.input link)
+            (⟦<AgentLink<'a, R> as Sink>⟧.output link)) }
+        ensures coming { MatchResult result (λ link. (⟦<SystemConnector<'a, R> as Connector>⟧.contacts self.old).coming
+            ≡ child_then (⟦<AgentLink<'a, R> as Source>⟧.input link).bytes (⟦<SystemConnector<'a, R> as Connector>⟧.contacts self.new).coming)
+            (λ _. (⟦<SystemConnector<'a, R> as Connector>⟧.contacts self.new).coming ≡ (⟦<SystemConnector<'a, R> as Connector>⟧.contacts self.old).coming) }
+        ensures opened { MatchResult result (λ _. (⟦<SystemConnector<'a, R> as Connector>⟧.contacts self.new).opened
+            ≡ then_opened (⟦<SystemConnector<'a, R> as Connector>⟧.contacts self.old).opened place waits)
+            (λ _. (⟦<SystemConnector<'a, R> as Connector>⟧.contacts self.new).opened ≡ (⟦<SystemConnector<'a, R> as Connector>⟧.contacts self.old).opened) }
+        ensures sought { (⟦<SystemConnector<'a, R> as Connector>⟧.contacts self.new).sought ≡ (⟦<SystemConnector<'a, R> as Connector>⟧.contacts self.old).sought }
+        ensures met { (⟦<SystemConnector<'a, R> as Connector>⟧.contacts self.new).met ≡ (⟦<SystemConnector<'a, R> as Connector>⟧.contacts self.old).met }
+        ensures failed { result ≡ Err Unmet.Fault → Rose self.old.faults self.new.faults }
+        ensures faults { self.old.faults ≤ self.new.faults }
+        ensures no_memory { result ≡ Err Unmet.NoMemory
+            → Rose self.old.shortages self.new.shortages }
+        ensures shortages { self.old.shortages ≤ self.new.shortages }
+        ensures launches { (⟦<SystemConnector<'a, R> as Connector>⟧.contacts self.new).launches ≡ (⟦<SystemConnector<'a, R> as Connector>⟧.contacts self.old).launches }
+        ensures terminal { words_of self.new.env ≡ words_of self.old.env }
+    {
         let seconds = match waits {
             Waits::Answer => self.limits.answer,
             Waits::Prompt => self.limits.prompt,
         };
         match self.opened(place) {
-            Ok(Opened { stream, ahead }) => {
-                let prompts = waits == Waits::Prompt;
-                Ok(AgentLink::new(self.rt, stream, ahead, seconds, prompts))
-            }
+            Ok(opened) => Ok(AgentLink::new(self.rt, opened, seconds, waits == Waits::Prompt)),
             Err(failure) => Err(self.fail(failure)),
         }
     }
@@ -118,7 +144,7 @@ impl<'a, R: rt::Clock + rt::Env + Processes + Files<File = File> + Net + Eprint>
         self.faults = self.faults.saturating_add(reads).saturating_add(writes);
         self.release_guard(reads == 0 && writes == 0);
         if let Some(reason) = self.why_lost(place, &link) {
-            self.reason = reason;
+            self.note(reason);
         }
         drop(link);
     }
@@ -129,6 +155,10 @@ impl<'a, R: rt::Clock + rt::Env + Processes + Files<File = File> + Net + Eprint>
 
     fn reason(&self) -> &str {
         self.reason.as_str()
+    }
+
+    fn keep_reason(&mut self) {
+        self.is_kept = true;
     }
 
     fn launched(&mut self, text: &[u8], _peer: &Peer<AgentLink<'a, R>>) {
@@ -154,7 +184,18 @@ impl<R: rt::Clock + rt::Env + Processes + Files<File = File> + Net + Eprint> Sys
         }
     }
 
-    /// Notes why a call failed.
+    /// Takes this for the reason, where another one isn't to stay.
+    fn note(&mut self, reason: String)
+        ensures faults { self.new.faults ≡ self.old.faults }
+        ensures shortages { self.new.shortages ≡ self.old.shortages }
+        ensures env { self.new.env ≡ self.old.env }
+    {
+        if !self.is_kept {
+            self.reason = reason;
+        }
+    }
+
+    /// Counts a call that failed, and notes why.
     fn fail(&mut self, failure: Failure) -> Unmet
         ensures failed { result ≡ Unmet.Fault → Rose self.old.faults self.new.faults }
         ensures faults { self.old.faults ≤ self.new.faults }
@@ -168,7 +209,7 @@ impl<R: rt::Clock + rt::Env + Processes + Files<File = File> + Net + Eprint> Sys
                 Unmet::NoMemory
             }
             Failure::Said(reason) => {
-                self.reason = reason;
+                self.note(reason);
                 self.faults = self.faults.saturating_add(1);
                 Unmet::Fault
             }
@@ -177,6 +218,7 @@ impl<R: rt::Clock + rt::Env + Processes + Files<File = File> + Net + Eprint> Sys
 
     /// A connection to the agent at this place.
     fn opened(&mut self, place: Place) -> Result<Opened, Failure>
+        ensures at { IfOk result (IsAt (paths_at place self.old.home self.old.beside)) }
         ensures faults { self.new.faults ≡ self.old.faults }
         ensures shortages { self.new.shortages ≡ self.old.shortages }
         ensures env { self.new.env ≡ self.old.env }
@@ -216,7 +258,9 @@ fn opened_of<R: rt::Env + Files<File = File> + Net>(
     rt: &R,
     alloc: Global,
     asked: &mut Option<Asked>,
-) -> Result<Opened, Failure> {
+) -> Result<Opened, Failure>
+    ensures { IfOk result (IsAt (paths_of asked.old)) }
+{
     match asked {
         Some(asked) => asked.opened(rt, alloc),
         None => Err(said(format!(in alloc; "no agent was found"))),

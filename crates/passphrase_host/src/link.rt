@@ -4,10 +4,10 @@
 
 ghost use Rattle.std.specs.Prelude.{◌≡◌, length, None, refl};
 
-use crate::reach::Ahead;
+use crate::asked::Opened;
+use crate::reach::Reached;
 use crate::wire::{Wire, WireLoss};
 use agent_ports::{Got, Link, Sent, Sink, Source};
-use std::os::unix::net::UnixStream;
 use std::rt::Clock;
 
 /// One connection to an agent, whose time is limited as a whole. What was read of it beforehand it
@@ -15,6 +15,9 @@ use std::rt::Clock;
 #[derive(Drop)]
 pub struct AgentLink<'a, R> {
     wire: Wire<'a, R>,
+    /// Where the agent was looked for, and the path of its socket that the system was handed.
+    at: String,
+    path: String,
     ended: bool,
     read_faults: u64,
     write_faults: u64,
@@ -23,17 +26,17 @@ pub struct AgentLink<'a, R> {
 impl<'a, R: Clock + Eprint> AgentLink<'a, R> {
     /// A link over this connection, of which no call has failed, and of which this was read already.
     /// It has so many seconds. It says that another prompt is open where a user may have to type.
-    pub(crate) fn new(
-        rt: &'a R,
-        stream: UnixStream,
-        ahead: Ahead,
-        seconds: u32,
-        prompts: bool,
-    ) -> Self
-        ensures { (result.read_faults ≡ 0) × (result.write_faults ≡ 0) }
+    pub(crate) fn new(rt: &'a R, opened: Opened, seconds: u32, prompts: bool) -> Self
+        ensures fresh { (result.read_faults ≡ 0) × (result.write_faults ≡ 0) }
+        ensures at { result.at ≡ opened.reached.at }
+        ensures path { result.path ≡ opened.reached.path }
     {
+        let Opened { reached, ahead } = opened;
+        let Reached { stream, at, path } = reached;
         AgentLink {
             wire: Wire::new(rt, stream, ahead, seconds, prompts),
+            at,
+            path,
             ended: false,
             read_faults: 0,
             write_faults: 0,

@@ -2,6 +2,9 @@
 //! sockets and reads the greeting (Assuan manual, "server responses"). Begin with `reach`, and with
 //! `greet` for whether it answers.
 
+ghost use Rattle.std.specs.Prelude.{◌≡◌, Contains, IfOk, IfSome, map, string_bytes};
+ghost use Rattle.passphrase_host.specs.Paths.{handed};
+
 use crate::failure::{Failure, refused, said};
 use crate::patience::Deadline;
 use arrayvec::ArrayVec;
@@ -20,16 +23,30 @@ pub(crate) const MAX_LINE: usize = 1002;
 /// What was read of an agent before its link is.
 pub(crate) type Ahead = ArrayVec<u8, MAX_LINE>;
 
+/// A connection to an agent, and by which paths it was made.
+#[derive(Drop)]
+pub(crate) struct Reached {
+    pub(crate) stream: UnixStream,
+    /// Where the agent was looked for.
+    pub(crate) at: String,
+    /// What the system was handed: the path of the socket that was found there, or that a redirect
+    /// file there names.
+    pub(crate) path: String,
+}
+
 /// A connection to the agent that listens at one of these paths; the first that somebody listens at
 /// counts.
 pub(crate) fn reach<R: Env + Files<File = File> + Net>(
     rt: &R,
     alloc: Global,
     paths: &[String],
-) -> Result<Option<UnixStream>, Failure> {
+) -> Result<Option<Reached>, Failure>
+    ensures { IfOk result (λ found. IfSome found
+        (λ reached. Contains (map string_bytes paths.now) (string_bytes reached.at))) }
+{
     for path in paths {
-        if let Some(stream) = reach_at(rt, alloc, path.as_str())? {
-            return Ok(Some(stream));
+        if let Some(reached) = reach_at(rt, alloc, path.as_str())? {
+            return Ok(Some(reached));
         }
     }
     Ok(None)
@@ -41,15 +58,18 @@ fn reach_at<R: Env + Files<File = File> + Net>(
     rt: &R,
     alloc: Global,
     path: &str,
-) -> Result<Option<UnixStream>, Failure> {
+) -> Result<Option<Reached>, Failure>
+    ensures { IfOk result
+        (λ found. IfSome found (λ reached. string_bytes reached.at ≡ path.now)) }
+{
     let Some(found) = found_at(rt, alloc, path)? else {
         return Ok(None);
     };
     if found.is_socket {
-        return connect(rt, alloc, path, &found);
+        return connect(rt, alloc, path, path, &found);
     }
     match redirect_at(rt, alloc, found.path.as_str())? {
-        Redirect::To(other) => reach_named(rt, alloc, other.as_str()),
+        Redirect::To(other) => reach_named(rt, alloc, path, other.as_str()),
         Redirect::Other => Ok(None),
         Redirect::Nameless => Err(said(format!(in alloc;
             "the redirect file {path} names no socket: %Assuan%, and then socket=PATH"
@@ -57,14 +77,18 @@ fn reach_at<R: Env + Files<File = File> + Net>(
     }
 }
 
-/// A connection to the socket that a redirect file names.
+/// A connection to the socket that a redirect file names, which stands at this path.
 fn reach_named<R: Files<File = File> + Net>(
     rt: &R,
     alloc: Global,
+    at: &str,
     path: &str,
-) -> Result<Option<UnixStream>, Failure> {
+) -> Result<Option<Reached>, Failure>
+    ensures { IfOk result
+        (λ found. IfSome found (λ reached. string_bytes reached.at ≡ at.now)) }
+{
     match found_at(rt, alloc, path)? {
-        Some(found) if found.is_socket => connect(rt, alloc, path, &found),
+        Some(found) if found.is_socket => connect(rt, alloc, at, path, &found),
         _ => Ok(None),
     }
 }
@@ -97,21 +121,25 @@ fn front<R: Files<File = File>>(rt: &R, path: &str, buf: &mut [u8]) -> io::Resul
     File::open(rt, path)?.read(buf)
 }
 
-/// A connection to the socket that was found at this path: by its own path, on which there are no
-/// links, or where that is too long for a system call by the one that was named.
+/// A connection to the socket that was found at the path that was named: by its own path, on which
+/// there are no links, or where that is too long for a system call by the one that was named.
 fn connect(
     net: &impl Net,
     alloc: Global,
+    at: &str,
     named: &str,
     found: &OwnFile,
-) -> Result<Option<UnixStream>, Failure> {
-    let path = if found.path.len() > MAX_PATH {
-        named
-    } else {
-        found.path.as_str()
-    };
-    match UnixStream::connect(net, path) {
-        Ok(stream) => Ok(Some(stream)),
+) -> Result<Option<Reached>, Failure>
+    ensures at { IfOk result
+        (λ made. IfSome made (λ reached. string_bytes reached.at ≡ at.now)) }
+    ensures path { IfOk result (λ made. IfSome made
+        (λ reached. string_bytes reached.path ≡ handed named.now (string_bytes found.now.path))) }
+{
+    let own = found.path.as_str();
+    let path = String::from_str(alloc, if own.len() > MAX_PATH { named } else { own })?;
+    let at = String::from_str(alloc, at)?;
+    match UnixStream::connect(net, path.as_str()) {
+        Ok(stream) => Ok(Some(Reached { stream, at, path })),
         Err(error) if error.kind() == ErrorKind::InvalidInput => Err(too_long(alloc, named)),
         Err(_) => Ok(None),
     }

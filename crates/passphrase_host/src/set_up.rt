@@ -1,14 +1,13 @@
 //! Whether an agent of this repository is to answer for a folder, and by which program it is
-//! started: `gpg-agent`'s stand-in, which is a script. It reads GnuPG's option files and looks at
-//! programs, and changes nothing. Begin with `set_up` and `stand_in`.
+//! started: `gpg-agent`'s stand-in, which is called so too. It reads GnuPG's option files and looks
+//! at programs, and changes nothing. Begin with `set_up` and `stand_in`.
 
 use crate::failure::{Failure, if_there, refused};
 use gnupg_home::{check_program, joined, real_path};
 use std::alloc::{AllocError, Global};
 use std::fs::{File, Files};
-use std::io::Read;
 use std::os::unix::fs::PermissionsExt;
-use std::{fs, io, str};
+use std::{fs, str};
 
 /// What a line of `gpg-agent.conf` begins with in a folder that is for this agent alone.
 pub(crate) const MARK: &str = "# dogwoodcatch: this folder is for its agent";
@@ -22,10 +21,17 @@ const INSTALLED: [&str; 2] = ["/usr/local/lib/dogwoodcatch", "/usr/lib/dogwoodca
 /// The bits of a mode by which a file may be run.
 const MAY_RUN: u32 = 0o111;
 
-/// Whether this is the stand-in, as far as can be seen: GnuPG's own program of its name is no
-/// script.
-fn is_script<R: Files<File = File>>(rt: &R, path: &str) -> bool {
-    may_run(rt, path) && begins_as_script(rt, path).unwrap_or(false)
+/// A program of GnuPG's that lies beside its own gpg-agent, and never beside the stand-in.
+const BESIDE_GNUPGS: &str = "gpgconf";
+
+/// Whether the program at this path is the stand-in, as far as can be seen: GnuPG's own program of
+/// its name lies beside others of GnuPG's. The stand-in's bytes may be closed to its user.
+fn is_stand_in(files: &impl Files, alloc: Global, path: &str) -> Result<bool, AllocError> {
+    let Some((folder, _)) = path.rsplit_once('/') else {
+        return Ok(false);
+    };
+    let other = joined(alloc, folder, BESIDE_GNUPGS)?;
+    Ok(may_run(files, path) && !fs::exists(files, other.as_str()).unwrap_or(false))
 }
 
 fn may_run(files: &impl Files, path: &str) -> bool {
@@ -33,12 +39,6 @@ fn may_run(files: &impl Files, path: &str) -> bool {
         Ok(found) => found.is_file() && found.permissions().mode() & MAY_RUN != 0,
         Err(_) => false,
     }
-}
-
-fn begins_as_script<R: Files<File = File>>(rt: &R, path: &str) -> io::Result<bool> {
-    let mut front = [0u8; 2];
-    File::open(rt, path)?.read(&mut front)?;
-    Ok(front == *b"#!")
 }
 
 /// The folder of this program.
@@ -82,29 +82,31 @@ pub(crate) fn stand_in<R: Files<File = File>>(rt: &R, alloc: Global) -> Result<S
     Ok(refused)
 }
 
-/// The scripts in its places, by paths without links.
+/// The programs in its places, by paths without links.
 fn stand_ins<R: Files<File = File>>(rt: &R, alloc: Global) -> Result<Vec<String>, AllocError> {
     let mut found = Vec::new(alloc);
     if let Some(folder) = program_folder(rt, alloc)? {
-        push_script(rt, alloc, &mut found, folder.as_str())?;
+        push_stand_in(rt, alloc, &mut found, folder.as_str())?;
     }
     for folder in INSTALLED {
-        push_script(rt, alloc, &mut found, folder)?;
+        push_stand_in(rt, alloc, &mut found, folder)?;
     }
     Ok(found)
 }
 
-fn push_script<R: Files<File = File>>(
+fn push_stand_in<R: Files<File = File>>(
     rt: &R,
     alloc: Global,
     found: &mut Vec<String>,
     folder: &str,
 ) -> Result<(), AllocError> {
     let path = joined(alloc, folder, "gpg-agent")?;
-    match real_path(rt, alloc, path.as_str())? {
-        Some(real) if is_script(rt, real.as_str()) => Ok(found.push(real)?),
-        _ => Ok(()),
+    if let Some(real) = real_path(rt, alloc, path.as_str())? {
+        if is_stand_in(rt, alloc, real.as_str())? {
+            found.push(real)?;
+        }
     }
+    Ok(())
 }
 
 /// The program, where nobody but the user and root can change it.

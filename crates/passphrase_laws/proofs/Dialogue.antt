@@ -5,7 +5,7 @@ use Rattle.{agent_ask.specs.Session.SessionEvents.{Sent, said_last}, agent_comma
 use Rattle.{assuan_client.specs.declared.answer.Answer.Answer, assuan_line.specs.Next.{Reader, held}, assuan_server.specs.{Errors.{error_text, error_number}, Written.{greeting, ok, refusal_line}}, assuan_text.specs.LineEnds.line_of}
 use Rattle.passphrase_talk.specs.{Dialogues.{Requests, IsDialogue, stopped, goes_on, requested, not_greeted, greeted, told_of, loss_of, passed, is_ok}, Turns.{Hello, OptionLine, Turn, turn_of, AreTaken, one}, Visits.Talk}
 use Rattle.{passphrase_talk.specs.declared.{told.Told.Told, visits.TheConstants.BUDGET}, session_client.specs.declared.refusal.Refusal.Refusal}
-use Rattle.passphrase_laws.{specs.{Exchanges.{TellsLast, gone, IsSilent, Notes, texts_of, text_of}, Readings.Comes, Roads.{IsWhole, IfSecret, AreReplies, session_text, Hears}}, proofs.Finding.{ComesTo, is_found}}
+use Rattle.passphrase_laws.{specs.{Exchanges.{TellsLast, gone, IsSilent, Notes, texts_of, text_of}, Readings.Comes, Roads.{IsWhole, AreReplies, session_text, Hears}}, proofs.Finding.{ComesTo, is_found}}
 use Rattle.passphrase_laws.proofs.{Hearing.{Takes, takes, no_read, no_write, by_finds, begun, command_takes, front, rest, IsLast, last_is, requested_hears}, Replying.{error_comes, ok_comes, greeting_comes}}
 use Rattle.passphrase_laws.proofs.Texts.{silent_texts, whole_front}
 use Rattle.assuan_client.specs.declared.answer.Answer.TheVariants as answer
@@ -105,13 +105,13 @@ fresh_comes text behind talk few = record {
 }
 
 pub hears_it : (result : Result (List ℕ) Refusal) (last : Option (List ℕ)) (was : Bool) (work back events : List CacheEvent) {options : List (List ℕ)} (replies behind line : List ℕ) {turns : List Turn}
-    {left written : Option (List ℕ)} → TellsLast result last → ((why : Refusal) → result ≡ Err why → AllByRecursion IsWhole work → refusal_line why ≢ None) → IfSecret result → Notes work was → AllByRecursion IsSilent back → events ≡ work ++ (back ++ said_last last) → AllByRecursion IsWhole events
+    {left written : Option (List ℕ)} → TellsLast result last → ((why : Refusal) → result ≡ Err why → AllByRecursion IsWhole work → refusal_line why ≢ None) → Notes work was → AllByRecursion IsSilent back → events ≡ work ++ (back ++ said_last last) → AllByRecursion IsWhole events
     → AreReplies options replies → length (session_text replies events) ≤ BUDGET → Talk options line turns (Some (session_text replies events ++ behind)) left written → Hears was result (told_of turns)
-hears_it result None was work back events replies behind line (gone {why} is) told secret notes silent events_are whole are few talk =
+hears_it result None was work back events replies behind line (gone {why} is) told notes silent events_are whole are few talk =
     absurd (told why refl (whole_front work (back ++ said_last None) (subst (λ (e : List CacheEvent). AllByRecursion IsWhole e) events_are whole)) is)
-hears_it result (Some text) was work back events replies behind line tells told secret notes silent events_are whole are few talk =
+hears_it result (Some text) was work back events replies behind line tells told notes silent events_are whole are few talk =
     let texts : texts_of events ≡ texts_of work ++ text = ap texts_of events_are ∙ last_texts work back text silent in
     let whole_work : AllByRecursion IsWhole work = whole_front work (back ++ said_last (Some text)) (subst (λ (e : List CacheEvent). AllByRecursion IsWhole e) events_are whole) in
     let comes : Comes (session_text replies events) behind talk.fresh = fresh_comes (session_text replies events) behind talk few in
-    dialogue_hears result text behind (last_is tells secret) line was work notes whole_work are talk.follows
+    dialogue_hears result text behind (last_is tells) line was work notes whole_work are talk.follows
     (subst (λ (t : List ℕ). Comes (line_of greeting ++ (replies ++ t)) behind talk.fresh) texts comes) talk.taken

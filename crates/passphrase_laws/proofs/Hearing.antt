@@ -5,7 +5,7 @@ use Rattle.{agent_ask.specs.SessionPrompts.note, agent_commands.specs.Actions.Ca
 use Rattle.{assuan_client.specs.declared.answer.Answer.Answer, assuan_line.specs.Next.held, assuan_server.specs.{Errors.{error_text, error_number}, Inquiries.inquire_text, Written.refusal_line, declared.errors.Origin.Origin}}
 use Rattle.{assuan_text.specs.LineEnds.line_of, passphrase_talk.specs.{Dialogues.{Replies, ended, asked, told_behind, told_by, quiet, after_said, is_inquiry}, Turns.{End, Turn, AreTaken, one}, declared.told.Told.Told}}
 use Rattle.session_client.specs.declared.{code.Code.Code, refusal.Refusal.Refusal}
-use Rattle.passphrase_laws.specs.{Exchanges.{TellsLast, passphrase, gone, IsSilent, Notes, texts_of, text_of}, Readings.{unread, Comes, IsBegun, Finds, found, failed}, Roads.{IsWhole, IfSecret, AreReplies, session_text, Hears}}
+use Rattle.passphrase_laws.specs.{Exchanges.{TellsLast, passphrase, gone, IsSilent, Notes, texts_of, text_of}, Readings.{unread, Comes, IsBegun, Finds, found, failed}, Roads.{IsWhole, AreReplies, session_text, Hears}}
 use Rattle.passphrase_laws.proofs.{Finding.{ComesTo, is_found}, NoteLines.{launched, note_comes}, Texts.{silent_texts, noted_texts, whole_at, note_whole}, Replying.{data_comes, error_comes}}
 use Rattle.assuan_client.specs.declared.answer.Answer.TheVariants as answer
 use Rattle.passphrase_laws.specs.Exchanges as exchanges
@@ -109,14 +109,14 @@ unwritten_hears : {result : Result (List ℕ) Refusal} (was : Bool) → Hears wa
 unwritten_hears false = road.unwritten
 unwritten_hears true = road.unwritten
 
-pub last_is : {result : Result (List ℕ) Refusal} {text : List ℕ} → TellsLast result (Some text) → IfSecret result → IsLast result text
-last_is (passphrase {secret} {text} are reads) is = record {
+pub last_is : {result : Result (List ℕ) Refusal} {text : List ℕ} → TellsLast result (Some text) → IsLast result text
+last_is (passphrase {secret} {text} told reads) = record {
   says = success_of secret;
-  comes = λ tally starts. data_comes tally secret text starts is.bytes is.short are;
+  comes = λ tally starts. data_comes tally secret text starts told.is.bytes told.is.short told.written;
   ends = success_ends secret;
   hears = success_hears secret;
 }
-last_is (exchanges.refused code origin is reads) so = record {
+last_is (exchanges.refused code origin is reads) = record {
   says = answer.Err (error_number code origin);
   comes = λ tally starts. error_comes tally code origin;
   ends = refl;

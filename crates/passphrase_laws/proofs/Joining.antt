@@ -101,9 +101,9 @@ module _ {Ls E Li La C R K T : Type 0} (host : HostViews Ls E Li La C R K T) (ru
         let has = has_fields task prompt description at in
         record {
           answers = answers;
-          from = λ short.
+          from =
               let came =
-              subst (λ (r : Result (List ℕ) Refusal). Passphrase rules values fields None by.work r by.held) (heard (answers.reaches.hears short) refl) by.came
+              subst (λ (r : Result (List ℕ) Refusal). Passphrase rules values fields None by.work r by.held) (heard answers.reaches.hears refl) by.came
               in
               elim (source rules values fields has.texts by.held answers.serves.mode has.id_is has.texts_are came) [
                 | was_given given ↦

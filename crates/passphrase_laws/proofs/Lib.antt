@@ -6,6 +6,7 @@ pub mod Replying
 pub mod ReadAs
 pub mod Sourcing
 pub mod Telling
+mod Giving
 pub mod Turning
 pub mod Noting
 pub mod NoteLines

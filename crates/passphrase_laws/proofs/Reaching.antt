@@ -14,7 +14,7 @@ reaches rules values after fields line replies behind events went options turns 
       told = by;
       launched = noted.launched;
       notes = noted.notes;
-      hears = λ secret. hears_it by.result by.last noted.launched by.work by.back events replies behind line by.tells
-          (λ why is. (passphrase_told rules values fields not).of None by.work why by.held (subst (λ (r : Result (List ℕ) Refusal). Passphrase rules values fields None by.work r by.held) is by.came)) secret noted.notes
+      hears = hears_it by.result by.last noted.launched by.work by.back events replies behind line by.tells
+          (λ why is. (passphrase_told rules values fields not).of None by.work why by.held (subst (λ (r : Result (List ℕ) Refusal). Passphrase rules values fields None by.work r by.held) is by.came)) noted.notes
           ((turn_closes None).of by.held by.back (Ok tt) None by.closed) by.events_are whole are few talk;
     }

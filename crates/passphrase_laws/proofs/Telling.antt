@@ -2,7 +2,7 @@
 use Rattle.std.proofs.Common.{◌≡◌, ℕ, Bool, true, List, ◌++◌, Option, Some, None, Ok, Err, refl, ap, sym, subst, append-nil}
 use Rattle.{agent_ask.specs.Session.{ActionExchanges.{AnyExchange, answered, refused}, Actions.{goes_on, stops, Returns, returns}, SessionEvents.said_last, TurnActions.Closes}, agent_commands.specs.Answers.IsPassphrase}
 use Rattle.agent_commands.specs.{Endings.went_after, Exchanges.{CacheReply, GetReplies, TellsPassphrase, tells}, Actions.CacheEvent, Passphrases.Passphrase, Requests.GetFields, declared.went.Went.Went}
-use Rattle.{assuan_server.specs.{Errors.error_text, Written.{IsDataAnswer, refusal_line}, declared.errors.Origin.Origin}, assuan_text.specs.LineEnds.line_of, session_client.specs.declared.{code.Code.Code, refusal.Refusal.Refusal}}
+use Rattle.{assuan_server.specs.{Errors.error_text, Written.refusal_line, declared.errors.Origin.Origin}, assuan_text.specs.LineEnds.line_of, session_client.specs.declared.{code.Code.Code, refusal.Refusal.Refusal}}
 use Rattle.session_options.specs.{OptionValues.OptionValues, declared.rules.Rules.Rules}
 use Rattle.passphrase_laws.{specs.Exchanges.{TellsLast, passphrase, gone, IsTold}, proofs.ReadAs.{passphrase_read, error_read}}
 use Rattle.assuan_server.specs.declared.errors.Origin.TheVariants as origin
@@ -80,7 +80,7 @@ module _ (rules : Rules) (values : OptionValues) (fields : GetFields) where
       → IsTold rules values fields events
   told plain (answered events held reply {back} parts given_back) =
       let by = came_by parts in
-      let data_is : IsDataAnswer by.secret reply.text = subst (λ (p : Bool). IsPassphrase p by.secret reply.text) plain by.is in record {
+      let is : IsPassphrase true by.secret reply.text = subst (λ (p : Bool). IsPassphrase p by.secret reply.text) plain by.is in record {
         work = events;
         held = held;
         result = Ok by.secret;
@@ -89,6 +89,6 @@ module _ (rules : Rules) (values : OptionValues) (fields : GetFields) where
         closed = given_back;
         last = Some reply.text;
         events_are = refl;
-        tells = passphrase data_is (λ is. passphrase_read by.secret reply.text is data_is);
+        tells = passphrase is (passphrase_read by.secret reply.text is);
       }
   told plain (refused events held why {back} parts given_back) = by_refusal why events back (not_by parts) given_back (refused_by why)

@@ -3,9 +3,9 @@ use mathlib.Core.List.{IsPrefix}
 use Rattle.std.proofs.Common.{◌≡◌, ℕ, List, [], ◌∷◌, ◌++◌, Some, None, refl, ap, sym, subst, ◌∙◌, append-nil, append_assoc}
 use Rattle.{agent_ask.specs.Session.SessionEvents.{Received, Sent, Cut, Inquiry, CacheTurn, Port, turns_in}, agent_commands.specs.Actions.CacheEvent, agent_ports.specs.{Readings.Readings, declared.session.SessionId.SessionId}}
 use Rattle.{agent_serve.specs.Serves.{PassTurns, none, turned}, agent_session.specs.Causes.{Has, here, later}}
-use Rattle.cache_policy.specs.{Desks.{IsOwnMark, MakesMarks, marked, refused, spent}, Extending.Taken, Histories.{History, with_mark}, Live.live, Runs.last_history, Turns.{FitsStep, Given, Turn}}
-use Rattle.cache_policy.specs.declared.{grant.Grant.Grant, life.Limits.Limits, mark.{Mark.Mark, MarkStep.{MarkStep, TheVariants.Ask}, Way.Way}, mode.Mode.{Mode, TheVariants.User}}
-use Rattle.{counted_lock.specs.{Logs.run_of_log, Passes.AtPass, Turns.TurnsPass}, passphrase_laws.specs.Joined.WasLive}
+use Rattle.cache_policy.specs.{Desks.{IsOwnMark, MakesMarks, marked, refused, spent}, Extending.Taken, Histories.{History, with_mark}, Live.live, Runs.last_history, Turns.{FitsStep, Given, Turn, since_of}}
+use Rattle.cache_policy.specs.declared.{entry.Entry.Entry, grant.Grant.Grant, life.Limits.Limits, mark.{Mark.Mark, MarkStep.{MarkStep, TheVariants.Ask}, Way.Way}, mode.Mode.{Mode, TheVariants.User}}
+use Rattle.{counted_lock.specs.{Logs.run_of_log, Passes.AtPass, Turns.TurnsPass}, passphrase_laws.{specs.Joined.WasLive, proofs.Giving.gave_rightly}}
 
 pub prefix_trans : (a b c : List Mark) → IsPrefix a b → IsPrefix b c → IsPrefix a c
 prefix_trans a b c first second = (first.0 ++ second.0, sym (append_assoc a first.0 second.0) ∙ ap (λ (l : List Mark). l ++ second.0) first.1 ∙ second.1)
@@ -62,20 +62,23 @@ was_live {session} {limits} {run} {id} {way = way} {grant} taken fits secret_is 
     let by_limits = λ (l : Limits). live l made.is.before grant.id grant.mode made.mark.moment ≡ Some grant.entry in
     let by_id = λ (i : List ℕ). live limits made.is.before i grant.mode made.mark.moment ≡ Some grant.entry in
     let by_mode = λ (m : Mode). live limits made.is.before id m made.mark.moment ≡ Some grant.entry in
+    let is_live = subst by_mode fits.1 (subst by_id fits.0 (subst by_limits taken.limits_are made.is.shows.1)) in
+    let gave = gave_rightly limits made.is.before made.mark id User way (since_of made.mark.step) grant.entry made.is.asked_is is_live in
     record {
       earlier = does.found;
       mark = made.mark;
       later = taken.stands.0;
       run_is = sym taken.stands.1 ∙ ap (λ (l : List Mark). l ++ taken.stands.0) seen ∙ append_assoc does.found (made.mark ∷ []) taken.stands.0;
       by = made.is.by;
-      way = way;
-      asked = made.is.asked_is;
+      number = grant.entry.number;
+      given = made.is.shows.0;
       before = made.is.before;
       last = subst (λ (l : List Mark). last_history (run_of_log l) ≡ Some (with_mark made.is.before made.mark)) seen made.is.last;
-      entry = grant.entry;
-      given = made.is.shows.0;
-      is_live = subst by_mode fits.1 (subst by_id fits.0 (subst by_limits taken.limits_are made.is.shows.1));
-      secret_is = secret_is;
+      rightly = gave.rightly;
+      id_is = gave.id_is;
+      mode_is = gave.mode_is;
+      is_live = is_live ∙ ap (λ (e : Entry). Some e) (sym gave.entry_is);
+      secret_is = ap (λ (e : Entry). e.secret) gave.entry_is ∙ secret_is;
     }
 
 turn_in : {taken : Taken} (events : List CacheEvent) → Has (CacheTurn taken) events → Has taken (turns_in events)

@@ -1,11 +1,11 @@
 -- A request of the command on a worked example: its line, how the agent reads it, what is written for it, and what that is read as.
 use Rattle.std.{specs.List.AllByRecursion, proofs.{Common.{◌≡◌, ◌<◌, ℕ, true, List, [], ◌∷◌, ◌++◌, codes, All, None, refl, ap, sym, subst, ◌∙◌, arith}, lemmas.List.Elements.{All-cons, All-nil}}}
-use Rattle.{agent_ask.specs.Session.{ActionExchanges.answered, Actions.{goes_on, returns}, SessionEvents.{CacheTurn, Received, Sent, cache_turn}}, agent_commands.specs.{Exchanges.{CacheExchange, LineExchange, reply, tells}, Actions.CacheEvent}}
+use Rattle.{agent_ask.specs.Session.{ActionExchanges.answered, Actions.{goes_on, returns}, SessionEvents.{CacheTurn, Received, Sent, cache_turn}}, agent_commands.{proofs.Secrets.is_secret, specs.{Answers.IsPassphrase, Exchanges.{CacheExchange, LineExchange, reply, tells}, Actions.CacheEvent}}}
 use Rattle.agent_commands.specs.{Passphrases.ask, Requests.get_passphrase, Talks.Session, declared.{request.Request.{Request, TheVariants.Cache}, went.{SessionEnd.TheVariants.Ended, Went.TheVariants.On}}}
 use Rattle.{agent_origin.specs.SessionExchanges.{SessionExchange, cache, kept_at_start}, assuan_escape.specs.DataLines.IsPiece, assuan_server.specs.Written.{IsDataAnswer, greeting}, assuan_text.specs.LineEnds.line_of}
 use Rattle.{cache_policy.specs.{Turns.{Turn, Given}, declared.{grant.Grant.Grant, mode.Mode.TheVariants.User}}, passphrase_words.specs.{Options.form_of, Requests.{Looks, line_of_request}, Tasks.TaskValue, Texts.texts_of as words_of}}
 use Rattle.{passphrase_words.specs.declared.task.Act.TheVariants.Cached, session_options.specs.{OptionValues.OptionValues, declared.rules.Rules.Rules}}
-use Rattle.passphrase_laws.{specs.{Asking.{Means, Says, command, fields_of}, Exchanges.texts_of, Readings.{IsSecret, IsReadAs}, Roads.{IsWhole, AreReplies, session_text}, Served.{Serves, lines_read}}, proofs.{Asked.looks_read, Passing.plain_session, ReadAs.passphrase_read}}
+use Rattle.passphrase_laws.{specs.{Asking.{Means, Says, command, fields_of}, Exchanges.texts_of, Readings.IsReadAs, Roads.{IsWhole, AreReplies, session_text}, Served.{Serves, lines_read}}, proofs.{Asked.looks_read, Passing.plain_session, ReadAs.passphrase_read}}
 use Rattle.passphrase_laws.proofs.Serving.{serves}
 use Rattle.agent_ask.specs.Session.Answering as answering
 use Rattle.agent_ask.specs.Session.TurnActions as turn
@@ -33,16 +33,6 @@ secret = codes "50% off"
 abbrev written : List ℕ
 written = codes "D 50%25 off" ++ 10 ∷ (codes "OK" ++ 10 ∷ [])
 
-small : (bytes : List ℕ) → AllByRecursion (λ byte. byte < 256) bytes → All (λ byte. byte < 256) bytes
-small [] each = All-nil (λ byte. byte < 256)
-small (byte ∷ bytes) each = All-cons (λ byte. byte < 256) byte bytes each.0 (small bytes each.1)
-
-is_secret : IsSecret secret
-is_secret = record {
-  bytes = small secret (omega arith, (omega arith, (omega arith, (omega arith, (omega arith, (omega arith, (omega arith, tt)))))));
-  short = omega arith;
-}
-
 as_data : IsDataAnswer secret written
 as_data = record {
   pieces = secret ∷ [];
@@ -50,9 +40,15 @@ as_data = record {
   text_is = refl;
 }
 
+as_told : IsPassphrase true secret written
+as_told = record {
+  is = is_secret secret (omega arith, (omega arith, (omega arith, (omega arith, (omega arith, (omega arith, (omega arith, tt))))))) (omega arith);
+  written = as_data;
+}
+
 -- and read as the passphrase
 read : IsReadAs written (answer.Got secret)
-read = passphrase_read secret written is_secret as_data
+read = passphrase_read secret written as_told
 
 abbrev events : Grant → List CacheEvent
 events grant = cache_turn (ask (codes "mail")) (Given grant) ∷ Sent written ∷ []
@@ -65,7 +61,7 @@ exchange rules values grant id mode is =
       given : CacheExchange rules values (Cache (get_passphrase (fields_of task None [] true 0))) (events grant) values On
       given =
           answered (cache_turn (ask (codes "mail")) (Given grant) ∷ []) None (reply values written)
-          (goes_on (goes_on (turn.Asks.given (id, mode)) returns) (goes_on (tells (rw is as_data)) returns)) turn.unheld
+          (goes_on (goes_on (turn.Asks.given (id, mode)) returns) (goes_on (tells (rw is as_told)) returns)) turn.unheld
 
 whole : (grant : Grant) → AllByRecursion IsWhole (events grant)
 whole grant = (tt, (tt, tt))

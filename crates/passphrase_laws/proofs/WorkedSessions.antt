@@ -4,7 +4,8 @@ use Rattle.std.{specs.{List.AllByRecursion, Prelude.{⊤}, Fmt.digits}, proofs.{
 use Rattle.agent_ask.{specs.{Events.{Called, GetPin, Notified, Shut, Start}, Plans.{IsSpec, plan_of, text}, Prompts.{AsksBefore, IsTry, Opens, Repeats, Tries, typed}, SessionPrompts.{AnyInSession, note}, Tests.test_of}, proofs.WorkedPrompts.{any_given, first_try}}
 use Rattle.agent_ask.specs.{PinActions.{PromptsPin, prompted}, Session.{ActionExchanges.{AnyExchange, answered}, Actions.{goes_on, returns}, PortCalls.Prompt, SessionEvents.{Port, Received, Sent, cache_turn}}}
 use Rattle.agent_ask.specs.declared.prompt.{spec.{AskPlan.AskPlan, PromptSpec.PromptSpec}, test.Tested.TheVariants.Yes}
-use Rattle.agent_commands.specs.{Actions.CacheEvent, Endings.went_after, Exchanges.{CacheExchange, LineExchange, option_replies, reply, tells}, Passphrases.ask_or_open, Requests.get_passphrase, Talks.Session}
+use Rattle.agent_commands.proofs.Secrets.{is_secret}
+use Rattle.agent_commands.specs.{Actions.CacheEvent, Answers.IsPassphrase, Endings.went_after, Exchanges.{CacheExchange, LineExchange, option_replies, reply, tells}, Passphrases.ask_or_open, Requests.get_passphrase, Talks.Session}
 use Rattle.{agent_commands.specs.declared.{request.Request.{Request, TheVariants.Cache}, went.{SessionEnd.TheVariants.Ended as AtEnd, Went.TheVariants.On}}, agent_origin.specs.{SessionExchanges.{SessionExchange, cache, kept_at_start}, declared.session_state.SessionState.SessionState}}
 use Rattle.{assuan_escape.specs.DataLines.IsPiece, assuan_server.specs.{Clients.session_lines, Inquiries.{Data, Ended}, Written.{IsDataAnswer, greeting, ok, refusal_line}}, assuan_text.specs.LineEnds.line_of, cache_policy.specs.{Turns.{Done, Open}, declared.mark.MarkStep.TheVariants.Close}}
 use Rattle.{passphrase_talk.specs.Dialogues.options_of, passphrase_words.specs.{Requests.{Asks, line_of_request}, Tasks.TaskValue, Texts.texts_of as words_of, declared.task.Act.TheVariants.Give}}
@@ -57,6 +58,12 @@ as_data = record {
   pieces = secret ∷ [];
   are_data = record { joined = refl; each = All-cons IsPiece secret [] (omega arith, omega arith) (All-nil IsPiece); full = (tt, tt) };
   text_is = refl;
+}
+
+as_told : IsPassphrase true secret written
+as_told = record {
+  is = is_secret secret (omega arith, (omega arith, (omega arith, (omega arith, (omega arith, (omega arith, (omega arith, (omega arith, (omega arith, tt))))))))) (omega arith);
+  written = as_data;
 }
 
 -- an option whose value can be kept is set
@@ -119,7 +126,7 @@ module _ (rules : Rules) (ticket : ℕ) (spec : PromptSpec) where
           answered (cache_turn (ask_or_open (codes "mail")) (Open ticket) ∷ (shown ++ cache_turn (Close ticket (Some secret)) Done ∷ [])) None (reply kept.options written)
           (goes_on {first = cache_turn (ask_or_open (codes "mail")) (Open ticket) ∷ (shown ++ cache_turn (Close ticket (Some secret)) Done ∷ [])}
           (goes_on (turn.Asks.opened tt) (goes_on {first = shown} (prompted spec is_spec prompts any_given) (goes_on (turn.closed Done tt) returns)))
-          (goes_on (tells as_data) returns)) turn.unheld
+          (goes_on (tells as_told) returns)) turn.unheld
 
     -- what the session does
     abbrev front : List CacheEvent

@@ -1,16 +1,16 @@
 -- The exchange of a request for a passphrase (GnuPG manual, "Agent GET_PASSPHRASE"), as its client reads it.
 use Rattle.std.specs.{List.{AllByRecursion, flat_map}, Prelude.{◌≡◌, ℕ, Bool, true, false, List, [], ◌∷◌, ◌++◌, Option, Some, None, Result, Ok, Err, ⊤}}
-use Rattle.{agent_ask.specs.{Session.{SessionEvents.{Sent, Cut, Inquiry, CacheTurn, Port, said_last}, TurnActions.Closes}, SessionPrompts.note}, agent_commands.specs.{Events.Inquired, Actions.CacheEvent, Passphrases.Passphrase}}
-use Rattle.{agent_commands.specs.Requests.GetFields, assuan_client.specs.Answers.success_of, assuan_server.specs.{Errors.{error_text, error_number}, Inquiries.inquire_text, Written.{IsDataAnswer, refusal_line}}}
+use Rattle.{agent_ask.specs.{Session.{SessionEvents.{Sent, Cut, Inquiry, CacheTurn, Port, said_last}, TurnActions.Closes}, SessionPrompts.note}, agent_commands.specs.{Answers.IsPassphrase, Events.Inquired, Actions.CacheEvent, Passphrases.Passphrase}}
+use Rattle.{agent_commands.specs.Requests.GetFields, assuan_client.specs.Answers.success_of, assuan_server.specs.{Errors.{error_text, error_number}, Inquiries.inquire_text, Written.refusal_line}}
 use Rattle.{assuan_server.specs.declared.errors.Origin.Origin, assuan_text.specs.LineEnds.line_of, session_client.specs.{Asking.{Asked, NotAsked}, declared.{code.Code.Code, refusal.Refusal.Refusal}}}
 use Rattle.session_options.specs.{OptionValues.OptionValues, declared.rules.Rules.Rules}
-use Rattle.passphrase_laws.specs.Readings.{IsSecret, IsReadAs}
+use Rattle.passphrase_laws.specs.Readings.{IsReadAs}
 use Rattle.assuan_client.specs.declared.answer.Answer.TheVariants as answer
 
 -- The last line, if there is one, by what the request came to: the passphrase in data lines, and read so; or the error by which it is
 -- refused, and read as that. A client that is gone is told nothing.
 pub data TellsLast : Result (List ℕ) Refusal → Option (List ℕ) → Type 0 where
-  passphrase : {secret text : List ℕ} → IsDataAnswer secret text → (IsSecret secret → IsReadAs text (success_of secret)) → TellsLast (Ok secret) (Some text)
+  passphrase : {secret text : List ℕ} → IsPassphrase true secret text → IsReadAs text (success_of secret) → TellsLast (Ok secret) (Some text)
   refused : {why : Refusal} (code : Code) (origin : Origin) → refusal_line why ≡ Some (line_of (error_text code origin))
       → IsReadAs (line_of (error_text code origin)) (answer.Err (error_number code origin)) → TellsLast (Err why) (Some (line_of (error_text code origin)))
   gone : {why : Refusal} → refusal_line why ≡ None → TellsLast (Err why) None

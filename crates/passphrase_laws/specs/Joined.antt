@@ -3,11 +3,11 @@ use Rattle.std.specs.{List.AllByRecursion, Prelude.{◌≡◌, ◌≤◌, true, 
 use Rattle.{agent_ask.specs.{Plans.plan_of, Session.SessionEvents.cache_turn, declared.prompt.ask.Asked.TheVariants.Pin}, agent_commands.specs.{Actions.CacheEvent, Passphrases.ask_or_open, Requests.GetFields, declared.request.Texts.Texts}}
 use Rattle.{agent_origin.specs.{DoorSessions.DoorExchange, declared.door.Door.TheVariants.Home}, agent_ports.specs.{Sides.Side, declared.session.SessionId.SessionId}, agent_serve.specs.Working.{HostViews, Post, ServesLinks, ServesNext, WorkEach, next_session, none, one_more}}
 use Rattle.{agent_session.specs.Causes.{Has, HasPrompt}, agent_top.specs.{Cache.limits_of, Daemon.{Rounds, RunsDaemon, no_listener, one_more_round, one_round, summed}}}
-use Rattle.cache_policy.specs.{Histories.{History, with_mark}, Live.live, Runs.last_history, Turns.{Open, since_of}, declared.{entry.Entry.Entry, life.Limits.Limits, mark.{Mark.Mark, MarkReply.TheVariants.Given, MarkStep.TheVariants.Ask, Way.Way}, mode.Mode.TheVariants.User}}
+use Rattle.cache_policy.specs.{Histories.{History, with_mark}, Live.live, Return.IsGivenRightly, Runs.last_history, Turns.Open, declared.{life.Limits.Limits, mark.{Mark.Mark, MarkReply.TheVariants.Given}, mode.Mode.TheVariants.User}}
 use Rattle.{counted_lock.specs.{Logs.run_of_log, Passes.AtPass}, passphrase_client.specs.{Laws.WasAnswered, Runs.{World, RunsAskpass, RunsBy, refused, helps, tells_version, runs, refused_askpass, runs_askpass}, Steps.{request_of, waits_of}, declared.{ending.Lifetime.Lifetime, steps.Step.Step}}}
 use Rattle.passphrase_talk.specs.{Dialogues.options_of, Visits.{Visits, met, no_memory, unmet}, declared.{connector.{Place.Place, Waits.Waits}, told.Told.{Told, TheVariants.Passphrase}, visits.TheConstants.BUDGET}, Contacts.Contacts}
 use Rattle.{passphrase_words.specs.{Requests.line_of_request, Tasks.TaskValue}, session_options.specs.{OptionValues.{EnvWords, OptionValues}, declared.rules.Rules.Rules}}
-use Rattle.passphrase_laws.specs.{Asking.{HasTexts, fields_of, is_quiet, repeats_of}, Exchanges.texts_of, Roads.{IfSecret, IsWhole}, Served.{AnswersRequest, lines_read}}
+use Rattle.passphrase_laws.specs.{Asking.{HasTexts, fields_of, is_quiet, repeats_of}, Exchanges.texts_of, Roads.IsWhole, Served.{AnswersRequest, lines_read}}
 use Rattle.agent_top.specs.Daemon as daemon
 use Rattle.passphrase_client.specs.declared.ending.Ending.TheVariants as ending
 use Rattle.passphrase_client.specs.declared.steps.Step.TheVariants as step
@@ -30,22 +30,23 @@ CarriedIn (no_memory un) events start end = ⊥
 CarriedIn (unmet un) events start end = ⊥
 CarriedIn {waits = waits} {line = line} {terminal = terminal} (met contact) events start end = Carries waits terminal line contact.given events start end
 
--- By a turn of this session the cache, which goes by these lifetimes, gave the passphrase of this id: the turn's mark stands in the run, and on the history before it the entry was the live
--- one of the id, the newest that serves it, not taken away, and within both lifetimes at the mark's moment.
+-- By a turn of this session the cache, which goes by these lifetimes, gave the passphrase of this id: the turn's mark stands in the run, and on the history before it the entry that it names was given
+-- rightly, in the words of the law that nothing comes back: it was the newest one that serves the id, not taken away, and within both lifetimes at the mark's moment. So it is the live one.
 pub record WasLive (limits : Limits) (run : List Mark) (session : SessionId) (id secret : List ℕ) : Type 0 where
   pub earlier : List Mark
   pub mark : Mark
   pub later : List Mark
   pub run_is : run ≡ earlier ++ mark ∷ later
   pub by : mark.session ≡ session
-  pub way : Way
-  pub asked : mark.step ≡ Ask id User way (since_of mark.step)
+  pub number : ℕ
+  pub given : mark.reply ≡ Given number
   pub before : History
   pub last : last_history (run_of_log (earlier ++ mark ∷ [])) ≡ Some (with_mark before mark)
-  pub entry : Entry
-  pub given : mark.reply ≡ Given entry.number
-  pub is_live : live limits before id User mark.moment ≡ Some entry
-  pub secret_is : entry.secret ≡ secret
+  pub rightly : IsGivenRightly limits before mark number
+  pub id_is : rightly.id ≡ id
+  pub mode_is : rightly.mode ≡ User
+  pub is_live : live limits before id User mark.moment ≡ Some rightly.entry
+  pub secret_is : rightly.entry.secret ≡ secret
 
 -- The request itself opened a prompt, where nothing was cached for its id, and the prompt accepted this passphrase.
 pub record WasTyped (rules : Rules) (values : OptionValues) (fields : GetFields) (own : List CacheEvent) (id secret : List ℕ) : Type 0 where
@@ -60,12 +61,11 @@ pub data IsFrom (rules : Rules) (limits : Limits) (run : List Mark) (session : S
   by_cache : WasLive limits run session id secret → IsFrom rules limits run session values fields own id secret
   by_prompt : WasTyped rules values fields own id secret → IsFrom rules limits run session values fields own id secret
 
--- The session's own exchange of the line told this passphrase, and it is from there: by a turn of that session in the run, or by its own prompt. That a
--- passphrase has at most 255 bytes is a property of the agent's type for them.
+-- The session's own exchange of the line told this passphrase, and it is from there: by a turn of that session in the run, or by its own prompt.
 pub record IsAccountedFor (rules : Rules) (limits : Limits) (run : List Mark) (session : SessionId) (waits : Waits) (terminal : EnvWords) (line : List ℕ) (fields : GetFields) (id secret : List ℕ)
     (events : List CacheEvent) : Type 0 where
   pub answers : AnswersRequest rules (DoorExchange Home rules) waits terminal line fields events (Passphrase secret)
-  pub from : IfSecret answers.reaches.told.result → IsFrom rules limits run session answers.serves.kept.options fields answers.serves.own id secret
+  pub from : IsFrom rules limits run session answers.serves.kept.options fields answers.serves.own id secret
 
 -- what is read of a question
 abbrev pub fields_at : Step → TaskValue → Option (List ℕ) → List ℕ → GetFields

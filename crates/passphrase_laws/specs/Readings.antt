@@ -1,16 +1,11 @@
 -- What a client reads of what an agent writes, in whatever pieces that comes, and whatever comes behind it.
-use Rattle.std.specs.Prelude.{◌≡◌, ◌≤◌, ◌<◌, ◌+◌, ℕ, List, ◌++◌, [], length, All, Option, Some}
+use Rattle.std.specs.Prelude.{◌≡◌, ◌≤◌, ◌<◌, ◌+◌, ℕ, List, ◌++◌, [], length, Option, Some}
 use Rattle.{agent_ports.specs.{Counts.Rose, Sides.followed_by}, assuan_client.specs.{Answers.ReadOn, Connections.Connection, Skipping.Tally, declared.{answer.Answer.{Answer, TheVariants.ReadFault}, tally.TheConstants.MAX_NOTES}}}
-use Rattle.{assuan_line.specs.Next.held, cache_policy.specs.declared.secret.TheConstants.MAX_SECRET_LEN}
+use Rattle.assuan_line.specs.Next.{held}
 
 -- the bytes that a connection has still to read, where they are known
 abbrev pub unread : Connection → Option (List ℕ)
 unread conn = followed_by conn.reader.ahead conn.input.bytes
-
--- a passphrase: bytes, and not too many
-pub record IsSecret (secret : List ℕ) : Type 0 where
-  pub bytes : All (λ byte. byte < 256) secret
-  pub short : length secret ≤ MAX_SECRET_LEN
 
 -- this text comes next, and other bytes behind it; as many as the text has may be taken
 pub record Comes (text behind : List ℕ) (conn : Connection) : Type 0 where

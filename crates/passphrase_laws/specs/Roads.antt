@@ -4,7 +4,7 @@ use Rattle.std.specs.Prelude.{◌≡◌, ◌<◌, ◌^◌, ℕ, Bool, List, [], 
 use Rattle.{agent_ask.specs.Session.SessionEvents.{Cut, Inquiry}, agent_commands.specs.{Actions.CacheEvent, Requests.GetFields}, assuan_server.specs.{Errors.{error_text, error_number}, Inquiries.{Outcome, Ended, Spent, ReadFault}, Written.{greeting, ok, refusal_line}}}
 use Rattle.{assuan_server.specs.declared.errors.Origin.Origin, assuan_text.specs.LineEnds.line_of, passphrase_talk.specs.declared.told.Told.Told, session_client.specs.{Asking.{Asked, NotAsked}, declared.code.Code.Code}}
 use Rattle.{session_client.specs.declared.refusal.Refusal.Refusal, session_options.specs.{OptionValues.OptionValues, declared.rules.Rules.Rules}}
-use Rattle.passphrase_laws.specs.{Exchanges.{IsTold, Notes, texts_of}, Readings.IsSecret}
+use Rattle.passphrase_laws.specs.Exchanges.{IsTold, Notes, texts_of}
 use Rattle.passphrase_talk.specs.declared.told.Loss.TheVariants as loss
 use Rattle.passphrase_talk.specs.declared.told.Told.TheVariants as told
 
@@ -21,11 +21,6 @@ IsWhole (Cut text) = ⊥
 IsWhole (Inquiry word params limit (Asked outcome)) = ((pid : ℕ) × (params ≡ decimal pid) × (pid < 2 ^ 64)) × IsThere outcome
 IsWhole (Inquiry word params limit (NotAsked text)) = ⊥
 IsWhole _ = ⊤
-
--- what comes by is a passphrase, where something does
-abbrev pub IfSecret : Result (List ℕ) Refusal → Type 0
-IfSecret (Ok secret) = IsSecret secret
-IfSecret (Err why) = ⊤
 
 -- the agent's answers to these options: each is taken or refused
 pub data AreReplies : List (List ℕ) → List ℕ → Type 0 where
@@ -53,4 +48,4 @@ pub record Reaches (rules : Rules) (values : OptionValues) (fields : GetFields) 
   pub told : IsTold rules values fields events
   pub launched : Bool
   pub notes : Notes told.work launched
-  pub hears : IfSecret told.result → Hears launched told.result what
+  pub hears : Hears launched told.result what

@@ -5,7 +5,8 @@
 ghost use Rattle.std.specs.Prelude.{List, Option, Some, None, [], true, unwrap_or};
 ghost use Rattle.std.specs.Prelude.{◌++◌, ◌∷◌, ◌≡◌, ◌≢◌, ℕ};
 ghost use Rattle.agent_ask.specs.Session.SessionEvents.{Inquiry, turns_in};
-ghost use Rattle.agent_commands.specs.{Actions.CacheEvent, Exchanges.LineExchange};
+ghost use Rattle.agent_commands.specs.{Actions.CacheEvent, Answers.IsSecret};
+ghost use Rattle.agent_commands.specs.Exchanges.{LineExchange};
 ghost use Rattle.agent_commands.specs.Requests.{get_passphrase, request_of};
 ghost use Rattle.agent_commands.specs.declared.request.CacheCommand.TheVariants.{ClearPassphrase};
 ghost use Rattle.agent_commands.specs.declared.request.CacheCommand.TheVariants.{PresetPassphrase};
@@ -20,7 +21,7 @@ ghost use Rattle.passphrase_words.specs.Requests.{act_ttl, line_of_request};
 ghost use Rattle.session_client.specs.Asking.{Asked};
 ghost use Rattle.session_options.specs.{OptionValues.OptionValues, declared.rules.Rules.Rules};
 ghost use Rattle.passphrase_laws.specs.Asking.{AreSeconds, Says, fields_of, is_quiet, life_of};
-ghost use Rattle.passphrase_laws.specs.{Asking.repeats_of, Readings.IsSecret};
+ghost use Rattle.passphrase_laws.specs.Asking.{repeats_of};
 
 /// The line by which the command looks for a passphrase, and that by which it has the user asked,
 /// is read by the agent as a request for one under the task's id, in data lines, with the prompt

@@ -7,12 +7,12 @@ ghost use Rattle.assuan_client.specs.{Answers.success_of, declared.answer.Answer
 ghost use Rattle.assuan_server.specs.Errors.{error_number, error_text};
 ghost use Rattle.assuan_server.specs.declared.errors.Origin.{Origin};
 ghost use Rattle.{assuan_text.specs.LineEnds.line_of, session_client.specs.declared.code.Code.Code};
-ghost use Rattle.passphrase_laws.specs.Readings.{IsReadAs, IsSecret};
+ghost use Rattle.passphrase_laws.specs.Readings.{IsReadAs};
 
 /// What the agent writes where a request with `--data` is answered by a passphrase, a client reads
 /// as this passphrase, whatever comes behind it; one without a byte as `Ok`.
 pub fn a_passphrase_is_read()
-    ensures { (secret text : List ℕ) → IsSecret secret → IsPassphrase true secret text
+    ensures { (secret text : List ℕ) → IsPassphrase true secret text
         → IsReadAs text (success_of secret) }
 {}
 

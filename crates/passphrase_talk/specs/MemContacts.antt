@@ -1,7 +1,7 @@
 -- The contacts of a connector in memory, from its fields.
-use Rattle.std.specs.{Prelude.{ℕ, Bool, true, false, List, [], ◌∷◌, map, drop, Option, Some, None, Box}, Option.option_map, declared.alloc.Global.Global}
+use Rattle.std.specs.{Prelude.{ℕ, Bool, true, false, List, [], ◌∷◌, map, drop, codes, Option, Some, None, Box}, Option.option_map, declared.alloc.Global.Global}
 use Rattle.agent_ports.specs.{Plans.Plan, Sides.Side, declared.mem.link.{MemLink.MemLink, PlannedLink.PlannedLink}}
-use Rattle.passphrase_talk.specs.{Contacts.{Contact, Sought, Opening}, declared.{connector.{Place.Place, Waits.Waits}, mem_connector.MemConnector.MemConnector}}
+use Rattle.passphrase_talk.specs.{Contacts.{Contact, Sought, Opening}, declared.{connector.{Place.{Place, TheVariants.Beside}, Waits.Waits}, mem_connector.MemConnector.MemConnector}}
 use Rattle.passphrase_talk.specs.declared.mem_connector.{MemContact.{MemContact, MemContact', Held-MemContact-earlier, None', Some', out-MemContact}, MemMeeting.MemMeeting, MemSought.MemSought}
 
 -- all the bytes that each link gives
@@ -55,3 +55,8 @@ launches_with false launches = Some launches
 -- the calls of a connector that are to fail
 abbrev pub call_plan : MemConnector → Plan
 call_plan connector = record { failing = connector.failing.items; calls = connector.calls; size = 0 }
+
+-- why a call failed, by the agent to which the last connection did
+abbrev pub reason_at : Option Place → List ℕ
+reason_at (Some Beside) = codes "it is planned beside"
+reason_at _ = codes "it is planned"

@@ -63,7 +63,7 @@ pub trait Connector {
     /// The terminal and the locale of the user. No call changes them.
     ghost terminal: { Self → EnvWords };
 
-    /// Why the last call failed.
+    /// Why the last call failed, of those up to `keep_reason`.
     ghost reason: { Self → List ℕ };
 
     /// Finds the agents that are asked: for this folder, or the GnuPG home where none is named, and
@@ -126,6 +126,12 @@ pub trait Connector {
     /// Why the last call failed, in words for a user.
     fn reason(&self) -> &str
         ensures { result.now ≡ reason self.now };
+
+    /// Has the reason stay as it is, whatever fails behind it: what failed is what the run ends by.
+    fn keep_reason(&mut self)
+        ensures reason { reason self.new ≡ reason self.old }
+        ensures contacts { contacts self.new ≡ contacts self.old }
+        ensures terminal { terminal self.new ≡ terminal self.old };
 
     /// A pinentry was launched where a user may have to type, of which the agent says this text. Its
     /// prompt is open: the inquiry that says so isn't answered yet.

@@ -4,13 +4,14 @@
 
 ghost use Rattle.std.specs.Prelude.{◌≡◌, ◌≤◌, ◌↔◌, ◌⊎◌, IsTrue, IsErr, IfOk, MatchResult, Some};
 ghost use Rattle.std.specs.Prelude.{None, if◌then◌else◌, Err, IfSome, [], map, reverse, slice_get};
-ghost use Rattle.std.specs.{Prelude.{codes, refl}, Bool.{OnTrue, OnFalse}, Option.option_map};
+ghost use Rattle.std.specs.{Prelude.refl, Bool.{OnTrue, OnFalse}, Option.option_map};
 ghost use Rattle.agent_ports.specs.{Counts.Rose, Launches.{IsFresh, child_then}};
 ghost use Rattle.agent_ports.specs.Plans.{Fails, after_call};
 ghost use Rattle.session_options.specs.OptionValues.{words_of};
 ghost use Rattle.passphrase_talk.specs.MemContacts.{gives_of, contact_of, latest_of, latest_first};
 ghost use Rattle.passphrase_talk.specs.MemContacts.{sought_of, opening_of, meeting_input};
 ghost use Rattle.passphrase_talk.specs.MemContacts.{meeting_output, call_plan, launches_with};
+ghost use Rattle.passphrase_talk.specs.MemContacts.{reason_at};
 ghost use Rattle.passphrase_talk.specs.Contacts.{then_sought, then_opened};
 
 use crate::{Agents, Connector, Place, Unmet, Waits};
@@ -153,6 +154,10 @@ pub struct MemConnector {
     calls: u64,
     faults: u64,
     shortages: u64,
+    /// To which agent the last connection failed.
+    unmet: Option<Place>,
+    /// That stays so.
+    is_kept: bool,
 }
 
 impl MemConnector {
@@ -190,6 +195,8 @@ impl MemConnector {
             calls: 0,
             faults: 0,
             shortages: 0,
+            unmet: None,
+            is_kept: false,
         }
     }
 
@@ -257,6 +264,15 @@ impl MemConnector {
         fails
     }
 
+    /// Notes to which agent a connection failed.
+    fn note(&mut self, place: Place)
+        ensures { self.new ≡ record self.old { unmet = self.new.unmet } }
+    {
+        if !self.is_kept {
+            self.unmet = Some(place);
+        }
+    }
+
     /// Counts that there was no memory.
     fn short(&mut self) -> Unmet
         ensures why { result ≡ Unmet.NoMemory }
@@ -312,7 +328,7 @@ impl Connector for MemConnector {
 
     ghost terminal = { λ c. words_of c.terminal };
 
-    ghost reason = { λ _. codes "it is planned" };
+    ghost reason = { λ c. reason_at c.unmet };
 
     /// Where no memory is left for what is sought, nothing was sought.
     fn find(&mut self, folder: Option<&str>, seconds: Option<u32>) -> Result<Agents, Unmet>
@@ -398,10 +414,12 @@ impl Connector for MemConnector {
         ensures calls { call_plan self.new ≡ after_call (call_plan self.old) }
     {
         if self.next_fails() {
+            self.note(place);
             return Err(Unmet::Fault);
         }
         if self.coming.is_empty() {
             self.faults = self.faults.saturating_add(1);
+            self.note(place);
             return Err(Unmet::Fault);
         }
         let contact = MemContact {
@@ -435,7 +453,14 @@ impl Connector for MemConnector {
     }
 
     fn reason(&self) -> &str {
-        "it is planned"
+        match self.unmet {
+            Some(Place::Beside) => "it is planned beside",
+            _ => "it is planned",
+        }
+    }
+
+    fn keep_reason(&mut self) {
+        self.is_kept = true;
     }
 
     fn launched(&mut self, text: &[u8], _peer: &Peer<MemMeeting>) {

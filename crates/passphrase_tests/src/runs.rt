@@ -424,6 +424,31 @@ fn a_failed_look_is_noted(rt: HostRuntime) -> Result<(), Fail> {
             says: "the agent ended the connection",
             ..PLAIN
         },
+        // The reason is that of the failure which is noted, whatever fails behind it.
+        Row {
+            words: &["--no-ask", "id"],
+            agents: Agents::Both,
+            failing: &[1, 2],
+            status: 3,
+            says: "it is planned",
+            ..PLAIN
+        },
+        Row {
+            agents: Agents::Both,
+            failing: &[1, 2],
+            status: 3,
+            says: "it is planned",
+            ..PLAIN
+        },
+        Row {
+            words: &["--no-ask", "id"],
+            agents: Agents::Both,
+            links: &[NO_DATA],
+            failing: &[2],
+            status: 3,
+            says: "it is planned beside",
+            ..PLAIN
+        },
     ];
     assert_eq!(rt; first_wrong(rt.alloc(), &rows)?, None);
     Ok(())

@@ -50,5 +50,5 @@ reply_text true text short = reply_ok
 reply_text false text short = begins (λ e. omega (arith, e)) (record { before = []; asides = none; rest = 32 ∷ text; is = refl; one_line = short })
 
 pub reply_passphrase : (plain : Bool) (secret text : List ℕ) → answers.IsPassphrase plain secret text → IsReply text
-reply_passphrase true secret text answer = reply_cache answer
-reply_passphrase false secret text answer = subst IsReply (sym answer) (reply_text _ (hex_text secret) (has_lf_hex_text secret))
+reply_passphrase true secret text answer = reply_cache answer.written
+reply_passphrase false secret text answer = subst IsReply (sym answer.written) (reply_text _ (hex_text secret) (has_lf_hex_text secret))

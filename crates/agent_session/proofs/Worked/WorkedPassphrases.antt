@@ -6,7 +6,7 @@ use Rattle.{agent_ask.specs.{declared.prompt.{spec.PromptSpec.PromptSpec, test.T
 use Rattle.{assuan_server.specs.{Clients.session_lines, Inquiries.Data, Written.{failed, greeting, ok_text, limit_line, IsDataAnswer}, declared.errors.Origin.TheVariants.Agent as OfAgent}, assuan_text.specs.LineEnds.line_of}
 use Rattle.{cache_policy.specs.{Turns.{Given, Open, Done, Refused, FitsStep}, declared.{grant.Grant.Grant, life.Life.Life, mark.MarkStep.TheVariants.Close}}, secret_file.specs.Protects.{ocb_protection, protected_file}}
 use Rattle.{session_client.specs.{Asking.Asked, declared.refusal.Refusal.TheVariants.Agent}, session_options.specs.{OptionValues.OptionValues, declared.rules.Rules.Rules}, sexp_keys.specs.{Key.Key, Lists.grip_of}}
-use Rattle.agent_commands.specs.{Events.EventWith, Exchanges.{CacheExchange, Presets, put, reply}, Passphrases.{ask_or_open, ByUser, as_wanted}, Requests.{GetFields, get_passphrase, request_of}, Talks.{Session, greeted}}
+use Rattle.agent_commands.specs.{Answers.IsSecret, Events.EventWith, Exchanges.{CacheExchange, Presets, put, reply}, Passphrases.{ask_or_open, ByUser, as_wanted}, Requests.{GetFields, get_passphrase, request_of}, Talks.{Session, greeted}}
 use Rattle.agent_commands.specs.declared.{request.{CacheCommand.TheVariants.PresetPassphrase, Request.{Request, TheVariants.{Cache, Key as OnKeys}}, Texts.Texts}, went.{SessionEnd.TheVariants.Ended, Went.TheVariants.On}}
 use Rattle.key_commands.specs.{Lines.max_key_data, Events.{drew, called}, Exchanges.{KeyExchange, KeyWrapReplies, ImportKeyReplies, key_reply, wrap_key, with_wrap_key}, Actions.Draws, Requests.key_request_of}
 use Rattle.{key_commands.specs.{declared.{request.Direction.Direction, keywrap_key.WrapKeys.WrapKeys}, Passphrases.ask_nonce, Wrapping.WrappedSays}, agent_origin.specs.SessionExchanges.{SessionExchange, RequestExchange, cache, keys}}
@@ -35,7 +35,7 @@ use Rattle.key_commands.specs.declared.request.KeyRequest.TheVariants as on
 
 -- ---- a passphrase is typed, and kept
 
-module _ (rules : Rules) (kept : SessionState) (id pin : List ℕ) (texts : Texts) (spec : PromptSpec) (mode_is : kept.options.mode ≡ mode.Ask) (unnoted : kept.options.notify ≡ false)
+module _ (rules : Rules) (kept : SessionState) (id pin : List ℕ) (is_secret : IsSecret pin) (texts : Texts) (spec : PromptSpec) (mode_is : kept.options.mode ≡ mode.Ask) (unnoted : kept.options.notify ≡ false)
     (is_spec : IsSpec rules kept.options texts.description texts.prompt false spec) (pid ticket : ℕ) where
   abbrev fields : GetFields
   fields = record { plain = false; check = false; no_ask = false; repeat = 0; quality = false; id = Some id; texts = Some texts }
@@ -79,7 +79,7 @@ module _ (rules : Rules) (kept : SessionState) (id pin : List ℕ) (texts : Text
   asked_so =
       action_exchange.answered (before_close ++ cache_turn (Close ticket (Some pin)) Done ∷ []) None (reply kept.options (line_of (ok_text (hex_text pin))))
       (goes_on (subst (λ m. as_wanted rules kept.options fields m texts None (before_close ++ cache_turn (Close ticket (Some pin)) Done ∷ []) (Ok pin) None) (sym mode_is) asked_by)
-      (goes_on (exchanges.tells refl) returns)) turning.unheld
+      (goes_on (exchanges.tells (record { is = is_secret; written = refl })) returns)) turning.unheld
 
   exchange : RequestExchange rules kept request events kept On
   exchange = cache asked_so

@@ -17,5 +17,5 @@ returns-in-Some-clause-first c =
 pub returns-in-None-clause-first : goal.returns-in-None-clause-first
 returns-in-None-clause-first c =
     ap (settings_of c.args.number) (first_word_is (string_bytes {Z = Global}) c.args.words.now _ c.in_ok-word.rest.now c.as_bytes-word.result.now c.in_ok-word.ensures.cases.0 c.as_bytes-word.ensures.value)
-    ∙ alone_first c.args.number c.as_bytes-word.result.now (map (string_bytes {Z = Global}) c.in_ok-word.rest.now) c.in-None.ensures.parts
+    ∙ alone_first c.args.number c.as_bytes-word.result.now (map (string_bytes {Z = Global}) c.in_ok-word.rest.now) c.in-None.ensures.none
     ∙ ap (λ (s : Written). s ∷ settings_of (c.args.number + 1) (map (string_bytes {Z = Global}) c.in_ok-word.rest.now)) (sym c.alone.ensures)

@@ -1,16 +1,11 @@
-use Rattle.std.proofs.Common.{inl, ◌∙◌}
-use Rattle.agent_top.proofs.Running.{if_server, uses_settled, no_words_served, no_words_for_daemon, no_words_for_load, no_words_to_settle}
+use Rattle.agent_top.proofs.Running.{in_its_folder, no_words_served, no_words_for_daemon, no_words_for_load, no_words_to_settle}
 use Rattle.agent_top.proofs.top.run_agent.Goals as goal
 
-pub returns-in_default-clause-served : goal.returns-in_default-clause-served
-returns-in_default-clause-served g c =
-    rw c.in-Ok.ensures.rules (if_server _ (rw (c.with_pid-rules.ensures, c.pid.ensures)
-    at (uses_settled (record { launches = g.H.Launcher.Launcher.launches; readings = g.H.Clock.Clock.readings; draws = g.H.Dice.Dice.draws; keys = g.H.Keys.Keys.keys })
-    _ _ _ _ _ _ _ _ _ c.requires c.settle.ensures.parts c.run_server.ensures.served)))
-
-pub returns-in_default-clause-homedir : goal.returns-in_default-clause-homedir
-returns-in_default-clause-homedir g c =
-    rw c.in-Ok.ensures.rules (inl (c.run_server.ensures.homedir ∙ (rw c.with_pid-rules.ensures at c.settle.ensures.homedir)))
+pub returns-in-Ok-clause-served : goal.returns-in-Ok-clause-served
+returns-in-Ok-clause-served g c =
+    rw c.in-Ok.ensures.rules (rw (c.with_pid-rules.ensures, c.pid.ensures)
+    at (in_its_folder (record { launches = g.H.Launcher.Launcher.launches; readings = g.H.Clock.Clock.readings; draws = g.H.Dice.Dice.draws; keys = g.H.Keys.Keys.keys })
+    _ _ _ _ _ _ _ _ _ c.run_rules.ensures.one))
 
 pub returns-in-Err-NoMemory-clause-homedir : goal.returns-in-Err-NoMemory-clause-homedir
 returns-in-Err-NoMemory-clause-homedir g c = no_words_to_settle _ _ _ _ c.number-in-Err-NoMemory.ensures

@@ -1,5 +1,6 @@
-use Rattle.std.proofs.{Common.{sym, ◌≡◌, ◌∙◌, ◌∷◌, []}, lemmas.List.nil_from_length}
+use Rattle.std.proofs.{Common.{ap, sym, ◌≡◌, ◌∙◌, ◌∷◌, []}, lemmas.List.nil_from_length}
 use Rattle.passphrase_client.{specs.Runs.{behind_all, stops, gives, ends, goes_on, notes, holds}, proofs.Unprompted.{first_waits, others_wait}}
+use Rattle.passphrase_talk.specs.Contacts.{Contacts}
 use Rattle.passphrase_client.proofs.course.+come_to.Goals as goal
 
 pub returns-in_default-clause-comes : goal.returns-in_default-clause-comes
@@ -19,7 +20,7 @@ returns-in-GoesOn-clause-comes g t c =
 pub returns-in-Notes-clause-comes : goal.returns-in-Notes-clause-comes
 returns-in-Notes-clause-comes g t c =
     let does = c.in-Notes.ensures.does in
-    let more = rw (c.take_step.ensures.terminal, c.first_of.ensures) at c.come_to-in-Notes.ensures.comes in
+    let more = rw (c.keep_reason.ensures.terminal, c.keep_reason.ensures.contacts, c.take_step.ensures.terminal, c.first_of.ensures) at c.come_to-in-Notes.ensures.comes in
     rw c.in-Some.ensures.cases.0 (record { to = c.in-Some.step.now; told = does.0 } ∷ more.0, notes (sym c.stops_at.ensures ∙ c.in_default-stops_at.is) does.1 more.1)
 
 pub returns-in-Holds-clause-comes : goal.returns-in-Holds-clause-comes
@@ -46,7 +47,7 @@ returns-in-GoesOn-clause-unprompted g t c = λ all.
 pub returns-in-Notes-clause-unprompted : goal.returns-in-Notes-clause-unprompted
 returns-in-Notes-clause-unprompted g t c = λ all.
     c.come_to-in-Notes.ensures.unprompted (others_wait c.in-Some.step.now c.in-Some.rest.now (rw c.in-Some.ensures.cases.0 at all))
-    ∙ c.in-Notes.ensures.unprompted (first_waits c.in-Some.step.now c.in-Some.rest.now (rw c.in-Some.ensures.cases.0 at all))
+    ∙ ap (λ (k : Contacts). k.launches) c.keep_reason.ensures.contacts ∙ c.in-Notes.ensures.unprompted (first_waits c.in-Some.step.now c.in-Some.rest.now (rw c.in-Some.ensures.cases.0 at all))
 
 pub returns-in-Ends-clause-unprompted : goal.returns-in-Ends-clause-unprompted
 returns-in-Ends-clause-unprompted g t c = λ all. c.in-Ends.ensures.unprompted (first_waits c.in-Some.step.now c.in-Some.rest.now (rw c.in-Some.ensures.cases.0 at all))

@@ -26,8 +26,8 @@ pub returns-in-Failed : goal.returns-in-Failed
 returns-in-Failed g c = record {
   last = c.loop.ear;
   serves = c.loop.invariant.serves;
-  ends = ends_without_link _ c.args.self.now.rules.now (post_at c.args.self.now.door c.args.self.now.listener.now (option_copied c.args.self.now.other)) c.args.ear c.loop.ear c.loop.pass c.next-in-loop.new.ear
-      c.next-in-loop.result c.in-Failed.is c.next-in-loop.ensures.answers c.next-in-loop.ensures.stopped c.next-in-loop.ensures.failed c.loop.invariant.faults;
-  unfallen = omega (arith, c.loop.invariant.faults, c.next-in-loop.ensures.faults);
-  own_ear = λ own. c.next-in-loop.ensures.own (c.loop.invariant.own_ear own);
+  ends = ends_without_link _ c.args.self.now.rules.now (λ arrival. arrival.link) (post_at c.args.self.now.door c.args.self.now.listener.now (option_copied c.args.self.now.other)) c.args.ear c.loop.ear c.loop.pass c.next_at.new.ear
+      c.next_at.result c.in-Failed.is c.next_at.ensures.answers c.next_at.ensures.stopped c.next_at.ensures.failed c.loop.invariant.faults;
+  unfallen = omega (arith, c.loop.invariant.faults, c.next_at.ensures.faults);
+  own_ear = λ own. c.next_at.ensures.own (c.loop.invariant.own_ear own);
 }

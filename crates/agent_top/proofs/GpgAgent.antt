@@ -1,0 +1,40 @@
+-- What is told, one after another.
+use Rattle.std.proofs.{Common.{◌≡◌, ◌∷◌, ◌<◌, ◌+◌, ◌∙◌, [], ℕ, List, take, drop, length, map, sym, ap, subst, true, Global, Vec}, lemmas.List.{map-append, take-append-drop, take_more}}
+use Rattle.std.specs.Prelude.{get_or}
+use Rattle.agent_ports.specs.Sides.{Side}
+use Rattle.agent_conf.specs.{Told.told_by, Settled.Texts, Starts.{IsRefused, told_of}, Verdicts.{Told, has_refusal}, declared.{told.Told.Told as Held, start.StartFault.{StartFault, TheVariants.Refused}}}
+use Rattle.agent_top.specs.{GpgAgent.{Puts, Tells, TellsFirst, one_more, told_line}, declared.gpg_agent.reading.StartPlace.StartPlace}
+
+-- bytes that are these were put
+pub puts_as : {line bytes : List ℕ} {before after : Side} → line ≡ bytes → Puts line before after → Puts bytes before after
+puts_as {line} {bytes} {before} {after} same puts = subst (λ (b : List ℕ). Puts b before after) same puts
+
+-- settings that are these were told
+pub tells_as : {place : StartPlace} {told other : List Told} {before after : Side} → told ≡ other → Tells place before told after → Tells place before other after
+tells_as {place} {told} {other} {before} {after} same tells = subst (λ (t : List Told). Tells place before t after) same tells
+
+pub tells_first_as : {place : StartPlace} {told other : List Told} {before after : Side} → told ≡ other → TellsFirst place before told after → TellsFirst place before other after
+tells_first_as {place} {told} {other} {before} {after} same tells = subst (λ (t : List Told). TellsFirst place before t after) same tells
+
+-- those in front of a place were told, and that at the place
+pub tells_one_more : {place : StartPlace} {before between after : Side} (held : List Held) (index : ℕ) (d : Held) → index < length held
+    → Tells place before (map told_by (take index held)) between → Puts (told_line place (told_by (get_or held index d))) between after
+    → Tells place before (map told_by (take (index + 1) held)) after
+tells_one_more {place} {before} {between} {after} held index d within tells puts =
+    tells_as (sym (ap (map told_by) (take_more held index d within) ∙ map-append told_by (take index held) (get_or held index d ∷ [])))
+    (one_more (map told_by (take index held)) (told_by (get_or held index d)) tells puts)
+
+-- those in front of a place were told, and then there was no memory
+pub tells_first : {place : StartPlace} {before after : Side} (held : List Held) (index : ℕ) → Tells place before (map told_by (take index held)) after
+    → TellsFirst place before (map told_by held) after
+tells_first held index tells = record {
+  first = map told_by (take index held);
+  others = map told_by (drop index held);
+  are = ap (map told_by) (sym (take-append-drop index held)) ∙ map-append told_by (take index held) (drop index held);
+  tells = tells;
+}
+
+-- what is refused, and what is told of it
+pub refused_by : (home user : List ℕ) (texts : Texts) {fault : StartFault} {held : Vec Held Global} → fault ≡ Refused held → IsRefused home user texts fault
+    → (has_refusal (told_of home user texts) ≡ true) × (map told_by held.items ≡ told_of home user texts)
+refused_by home user texts is refused = subst (λ (f : StartFault). IsRefused home user texts f) is refused
