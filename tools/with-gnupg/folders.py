@@ -8,6 +8,7 @@ from scripted import EVERY, WHOSE, whose
 
 NO_PRESETS = "the agent takes no presets: allow-preset-passphrase in gpg-agent.conf"
 NO_END = "the agent takes no presets with an end, as GnuPG's own doesn't: --ttl wants passphrase --homedir DIR"
+KEPT = "id is kept already, and its end wasn't changed: --new --ttl asks anew"
 NO_TTL = "the agent takes no presets: --ttl wants allow-preset-passphrase in its gpg-agent.conf, or passphrase --homedir DIR"
 NO_TERMINAL = "nothing is kept as id, and its prompt was closed: there is no terminal to ask in"
 
@@ -164,7 +165,7 @@ class Folders:
                 return wrong
             user.scripted.end(user.home)
         user.gnupg()
-        return user.wrong(user.passphrase("id"), 0, "typed", "") or user.wrong(user.passphrase("--ttl", "60", "id"), 0, "typed", "")
+        return user.wrong(user.passphrase("id"), 0, "typed", "") or user.wrong(user.passphrase("--ttl", "60", "id"), 0, "typed", KEPT)
 
     def look_up(self, user):
         wrong = self.with_own(user)
