@@ -7,8 +7,10 @@ import time
 from scripted import EVERY, WHOSE, whose
 
 NO_PRESETS = "the agent takes no presets: allow-preset-passphrase in gpg-agent.conf"
-NO_END = "the agent takes no presets with an end"
-NO_TERMINAL = "nothing is kept as id, and there is no terminal to ask in"
+NO_END = "the agent takes no presets with an end, as GnuPG's own doesn't: --ttl wants passphrase --homedir DIR"
+KEPT = "id is kept already, and its end wasn't changed: --new --ttl asks anew"
+NO_TTL = "the agent takes no presets: --ttl wants allow-preset-passphrase in its gpg-agent.conf, or passphrase --homedir DIR"
+NO_TERMINAL = "nothing is kept as id, and its prompt was closed: there is no terminal to ask in"
 
 
 class User:
@@ -68,7 +70,7 @@ class Folders:
             ("nothing is set up: an agent of its own is started", self.own), ("nothing is set up: it is said once", self.once), ("nothing is set up: keys are used by gpg-agent as before", self.keys),
             ("XDG_DATA_HOME", self.data_home), ("the own folder is a link", self.link), ("GnuPG's own agent: its words", self.gnupg_words),
             ("GnuPG's own agent stores where it is allowed to", self.gnupg_stores), ("GnuPG's own agent: --ttl", self.gnupg_ttl),
-            ("two agents: a look-up", self.look_up), ("two agents: --forget", self.forget),
+            ("two agents: a look-up", self.look_up), ("two agents: --forget", self.forget), ("two agents: --forget-all", self.forget_all), ("GnuPG's own agent: --forget-all", self.gnupg_forgets_all),
             ("two agents: --new", self.new), ("two agents: --store", self.store), ("two agents: the own one hangs", self.own_hangs), ("a folder with the mark", self.marked),
             ("agent-program of another program", self.other_program), ("agent-program in quotes, by a link", self.quoted), ("agent-program twice: the last one counts", self.last_counts),
             ("--homedir", self.named), ("--homedir of a folder with keys", self.named_keys), ("--homedir of a folder with keys that was set up", self.named_set_up), ("--store that isn't allowed", self.not_allowed),
@@ -154,7 +156,7 @@ class Folders:
 
     def gnupg_ttl(self, user):
         """It takes no preset with an end, of which is heard before the user is asked."""
-        for lines, says in [((), NO_PRESETS), (("allow-preset-passphrase",), NO_END)]:
+        for lines, says in [((), NO_TTL), (("allow-preset-passphrase",), NO_END)]:
             user.gnupg(*lines)
             user.scripted.prompts()
             user.scripted.answers("typed")
@@ -163,7 +165,7 @@ class Folders:
                 return wrong
             user.scripted.end(user.home)
         user.gnupg()
-        return user.wrong(user.passphrase("id"), 0, "typed", "") or user.wrong(user.passphrase("--ttl", "60", "id"), 0, "typed", "")
+        return user.wrong(user.passphrase("id"), 0, "typed", "") or user.wrong(user.passphrase("--ttl", "60", "id"), 0, "typed", KEPT)
 
     def look_up(self, user):
         wrong = self.with_own(user)
@@ -183,6 +185,22 @@ class Folders:
         user.told(user.home, "PRESET_PASSPHRASE id -1 61")
         wrong = wrong or user.wrong(user.passphrase("--forget", "id"), 0, None, "")
         return wrong or user.wrong(user.passphrase("--no-ask", "id"), 1, None, "nothing is kept as id")
+
+    def forget_all(self, user):
+        """Both forget what they keep, under whatever id."""
+        wrong = self.with_own(user) or user.wrong(user.passphrase("--store", "other", data=b"own"), 0, None, "")
+        user.gnupg("allow-preset-passphrase")
+        user.told(user.home, "PRESET_PASSPHRASE id -1 61")
+        user.told(user.home, "PRESET_PASSPHRASE more -1 61")
+        wrong = wrong or user.wrong(user.passphrase("--forget-all"), 0, None, "")
+        kept = [(folder, name) for folder in (user.home, user.own) for name in ("id", "other", "more") if user.keeps(folder, name) is not None]
+        return wrong or (f"kept: {kept}" if kept else "")
+
+    def gnupg_forgets_all(self, user):
+        user.gnupg("allow-preset-passphrase")
+        user.told(user.home, "PRESET_PASSPHRASE id -1 61")
+        wrong = user.wrong(user.passphrase("--forget-all"), 0, None, "")
+        return wrong or ("" if user.keeps(user.home, "id") is None else "it keeps the passphrase")
 
     def new(self, user):
         wrong = self.with_own(user)
@@ -273,7 +291,7 @@ class Folders:
         user.folder(user.own)
         user.scripted.prompts()
         user.scripted.answers("typed")
-        wrong = user.wrong(user.passphrase("--homedir", user.own, "--ttl", "60", "id"), 1, None, NO_PRESETS)
+        wrong = user.wrong(user.passphrase("--homedir", user.own, "--ttl", "60", "id"), 1, None, NO_TTL)
         return wrong or ("it asked" if user.scripted.prompts() else "")
 
     def longer(self, user):

@@ -3,7 +3,7 @@ use Rattle.std.{proofs.{Common.{◌≡◌, ◌⊎◌, inl, inr, ◌∷◌, [], �
 use Rattle.{passphrase_talk.specs.{Contacts.Contacts, declared.{connector.Agents.{Agents, TheVariants.{One, Both}}, told.Told.Told}}, passphrase_words.specs.{Tasks.TaskValue, declared.task.Act.Act}}
 use Rattle.session_options.specs.OptionValues.{EnvWords}
 use Rattle.passphrase_client.specs.{Laws.{is_question, Visited, visited, visits_of}, Runs.{ComesTo, DoesStep, Reply, Settles, gives, goes_on, notes, holds}, Steps.{steps_of, steps_to_give, looks}, Verdicts.{verdict, is_one_line, emptied_verdict}}
-use Rattle.passphrase_client.specs.declared.{course.Course.TheVariants.Gives, ending.Ending.Ending, steps.Step.Step, verdict.Verdict.Verdict}
+use Rattle.passphrase_client.specs.declared.{course.Course.TheVariants.Gives, ending.{Ending.Ending, Lifetime.Lifetime}, steps.Step.Step, verdict.Verdict.Verdict}
 use Rattle.passphrase_client.specs.declared.steps.Step.TheVariants as step
 use Rattle.passphrase_client.specs.declared.verdict.Verdict.TheVariants as verdict_is
 use Rattle.passphrase_talk.specs.declared.told.Told.TheVariants as told
@@ -40,8 +40,8 @@ settled : (empty : Bool) (task : TaskValue) (terminal : EnvWords) (at : Step) (h
 settled false task terminal at held reply what before after settles = inl settles.0
 settled true task terminal at held reply what before after settles = inr (_, settles.2)
 
-emptied_gives : (at : Step) (failed : Option Ending) (secret : List ℕ) → verdict_is.Gives secret ≡ emptied_verdict at failed → ⊥
-emptied_gives at failed secret is = grind (arith, rules)
+emptied_gives : (at : Step) (failed : Option Ending) (secret : List ℕ) (lasts : Lifetime) → verdict_is.Gives secret lasts ≡ emptied_verdict at failed → ⊥
+emptied_gives at failed secret lasts is = grind (arith, rules)
 
 pub emptied_holds : (at : Step) (failed : Option Ending) (secret : List ℕ) → verdict_is.Holds secret ≡ emptied_verdict at failed → ⊥
 emptied_holds at failed secret is = grind (arith, rules)
@@ -52,8 +52,8 @@ emptied_notes at failed it is = grind (arith, rules)
 emptied_ask : (failed : Option Ending) → verdict_is.GoesOn ≡ emptied_verdict step.Ask failed → ⊥
 emptied_ask failed is = grind (arith, rules)
 
-gives_by : (act : Act) (held : List ℕ) (at : Step) (reply : Told) (secret : List ℕ) → verdict_is.Gives secret ≡ verdict act held at reply → IsReply at reply secret ⊎ ((at ≡ step.Keep) × (secret ≡ held))
-gives_by act held at reply secret is = grind (arith, rules)
+gives_by : (act : Act) (held : List ℕ) (at : Step) (reply : Told) (secret : List ℕ) (lasts : Lifetime) → verdict_is.Gives secret lasts ≡ verdict act held at reply → IsReply at reply secret ⊎ ((at ≡ step.Keep) × (secret ≡ held))
+gives_by act held at reply secret lasts is = grind (arith, rules)
 
 holds_by : (act : Act) (held : List ℕ) (at : Step) (reply : Told) (secret : List ℕ) → verdict_is.Holds secret ≡ verdict act held at reply → IsReply at reply secret
 holds_by act held at reply secret is = grind (arith, rules)
@@ -70,10 +70,10 @@ notes_look act held step.Store reply it steps is first = first
 notes_look act held step.Probe reply it steps is first = first
 notes_look act held step.Keep reply it steps is first = absurd (false≢true first)
 
-gives_reply : {task : TaskValue} {terminal : EnvWords} {at : Step} {held secret : List ℕ} {reply : Told} {before after : Contacts}
-    → DoesStep task terminal at held reply (verdict_is.Gives secret) before after → IsReply at reply secret ⊎ ((at ≡ step.Keep) × (secret ≡ held))
-gives_reply {task = task} {at = at} {held = held} {secret = secret} {reply = reply} does =
-    elim (settled _ _ _ _ _ _ _ _ _ does.settles) [ inl is ↦ gives_by task.act held at reply secret is | inr emptied ↦ absurd (emptied_gives at emptied.0 secret emptied.1) ]
+gives_reply : {task : TaskValue} {terminal : EnvWords} {at : Step} {held secret : List ℕ} {lasts : Lifetime} {reply : Told} {before after : Contacts}
+    → DoesStep task terminal at held reply (verdict_is.Gives secret lasts) before after → IsReply at reply secret ⊎ ((at ≡ step.Keep) × (secret ≡ held))
+gives_reply {task = task} {at = at} {held = held} {secret = secret} {lasts = lasts} {reply = reply} does =
+    elim (settled _ _ _ _ _ _ _ _ _ does.settles) [ inl is ↦ gives_by task.act held at reply secret lasts is | inr emptied ↦ absurd (emptied_gives at emptied.0 secret lasts emptied.1) ]
 
 holds_reply : {task : TaskValue} {terminal : EnvWords} {at : Step} {held secret : List ℕ} {reply : Told} {before after : Contacts}
     → DoesStep task terminal at held reply (verdict_is.Holds secret) before after → IsReply at reply secret
@@ -115,6 +115,8 @@ lists_ask_first (act.Give repeats false ttl feeds) agents = gives_ask_first repe
 lists_ask_first act.Cached agents = looks_ask_first agents
 lists_ask_first act.Forget One = refl
 lists_ask_first act.Forget Both = refl
+lists_ask_first act.ForgetAll One = refl
+lists_ask_first act.ForgetAll Both = refl
 lists_ask_first act.Store One = refl
 lists_ask_first act.Store Both = refl
 
@@ -142,8 +144,8 @@ further_is visit reply visits {replies = replies} {secret = secret} are = record
 }
 
 -- it was a reply, or is what was held
-pub reply_or_held : {task : TaskValue} {terminal : EnvWords} {steps : List Step} {held secret : List ℕ} {noted : Option Ending} {before after : Contacts} {replies : List Reply}
-    (comes : ComesTo task terminal steps held noted before replies (Gives secret) after) → AreReplies task terminal (visits_of comes) replies secret ⊎ (secret ≡ held)
+pub reply_or_held : {task : TaskValue} {terminal : EnvWords} {steps : List Step} {held secret : List ℕ} {lasts : Lifetime} {noted : Option Ending} {before after : Contacts} {replies : List Reply}
+    (comes : ComesTo task terminal steps held noted before replies (Gives secret lasts) after) → AreReplies task terminal (visits_of comes) replies secret ⊎ (secret ≡ held)
 reply_or_held (gives going does) = elim (gives_reply does) [ inl reply ↦ inl (first_is [] [] does reply) | inr kept ↦ inr kept.1 ]
 reply_or_held (goes_on {step = at} {told = reply} going does more) =
     elim (reply_or_held more) [ inl are ↦ inl (further_is (visited does) (record { to = at; told = reply }) (visits_of more) are) | inr held ↦ inr held ]
@@ -159,8 +161,8 @@ no_keep : (at : Step) (steps : List Step) → at ≡ step.Keep → asks_first (a
 no_keep at steps is first = false≢true (subst (λ (x : Step). asks_first (x ∷ steps) ≡ true) is first)
 
 -- where what is held is kept behind a question alone, what is given was a reply
-pub answered : {task : TaskValue} {terminal : EnvWords} {steps : List Step} {held secret : List ℕ} {noted : Option Ending} {before after : Contacts} {replies : List Reply}
-    → asks_first steps ≡ true → (comes : ComesTo task terminal steps held noted before replies (Gives secret) after) → AreReplies task terminal (visits_of comes) replies secret
+pub answered : {task : TaskValue} {terminal : EnvWords} {steps : List Step} {held secret : List ℕ} {lasts : Lifetime} {noted : Option Ending} {before after : Contacts} {replies : List Reply}
+    → asks_first steps ≡ true → (comes : ComesTo task terminal steps held noted before replies (Gives secret lasts) after) → AreReplies task terminal (visits_of comes) replies secret
 answered first (gives {step = at} {steps = steps} going does) =
     elim (gives_reply does) [ inl reply ↦ first_is [] [] does reply | inr kept ↦ absurd (no_keep at steps kept.0 first) ]
 answered first (goes_on {step = at} {steps = steps} {told = reply} going does more) =

@@ -6,7 +6,7 @@ use Rattle.passphrase_client.proofs.{Answering.emptied_notes, Given.{first_noted
 use Rattle.passphrase_client.specs.Laws.{Visited, visited, visits_of, AreDone, is_done, HasDone, HasKept, HasForgotten, before_new, asks_user, NobodyAsked}
 use Rattle.passphrase_client.specs.Runs.{GoesTo, refused_input, not_found, ended, given, ending_of, ending_of_unmet, World, ComesTo, TakesSteps, DoesStep, Reply, Settles, behind_all, stops, gives, ends, goes_on, notes, holds}
 use Rattle.passphrase_client.specs.{Steps.{steps_of, looks, place_of}, Verdicts.{verdict, found_verdict, look_verdict, end_of, emptied_verdict, empties, is_one_line, looks_alone, failure, stops_at}}
-use Rattle.passphrase_client.specs.declared.{course.Course.{Course, TheVariants.{Gives, Ends}}, ending.Ending.Ending, input.InputFault.InputFault, steps.Step.Step, verdict.Verdict.Verdict}
+use Rattle.passphrase_client.specs.declared.{course.Course.{Course, TheVariants.{Gives, Ends}}, ending.{Ending.Ending, Lifetime.Lifetime}, input.InputFault.InputFault, steps.Step.Step, verdict.Verdict.Verdict}
 use Rattle.passphrase_client.specs.declared.ending.Ending.TheVariants as ending
 use Rattle.passphrase_client.specs.declared.steps.Step.TheVariants as step
 use Rattle.passphrase_client.specs.declared.verdict.Verdict.TheVariants as verdict_is
@@ -33,8 +33,8 @@ never_notes act held at reply it change is = grind (arith, rules)
 never_holds : (act : Act) (held : List ℕ) (at : Step) (reply : Told) (secret : List ℕ) → changes at ≡ true → verdict_is.Holds secret ≡ verdict act held at reply → ⊥
 never_holds act held at reply secret change is = grind (arith, rules)
 
-never_gives : (act : Act) (held : List ℕ) (at : Step) (reply : Told) (secret : List ℕ) → changes at ≡ true → verdict_is.Gives secret ≡ verdict act held at reply → ⊥
-never_gives act held at reply secret change is = grind (arith, rules)
+never_gives : (act : Act) (held : List ℕ) (at : Step) (reply : Told) (secret : List ℕ) (lasts : Lifetime) → changes at ≡ true → verdict_is.Gives secret lasts ≡ verdict act held at reply → ⊥
+never_gives act held at reply secret lasts change is = grind (arith, rules)
 
 never_done : (act : Act) (held : List ℕ) (at : Step) (reply : Told) → changes at ≡ true → verdict_is.Ends ending.Done ≡ verdict act held at reply → ⊥
 never_done act held at reply change is = grind (arith, rules)
@@ -79,8 +79,8 @@ unmet_not_done why is = grind (arith, rules)
 input_not_done : (fault : InputFault) → ending.Input fault ≡ ending.Done → ⊥
 input_not_done fault is = grind (arith, rules)
 
-write_not_done : (written : Result (Unit {0}) WriteFault) → ending_of written ≡ ending.Done → ⊥
-write_not_done written is = grind (arith, rules)
+write_not_done : (lasts : Lifetime) (written : Result (Unit {0}) WriteFault) → ending_of lasts written ≡ ending.Done → ⊥
+write_not_done lasts written is = grind (arith, rules)
 
 pub has_done : {task : TaskValue} {terminal : EnvWords} {before after : World} {it : Ending} → ((agents : Agents) → list_all changes (steps_of task.act agents) ≡ true) → it ≡ ending.Done
     → GoesTo task terminal before after it → HasDone task terminal before after
@@ -89,11 +89,15 @@ has_done all is (not_found held {why = why} takes finds output) = absurd (unmet_
 has_done {task = task} {terminal = terminal} {before = before} {after = after} all is (ended {ending = it} steps output) =
     let well = rw is at steps in
     record { steps = well; done = all_done (all well.agents) refl refl well.comes }
-has_done all is (given {written = written} steps writes) = absurd (write_not_done written is)
+has_done all is (given {lasts = lasts} {written = written} steps writes) = absurd (write_not_done lasts written is)
 
 pub forgets_change : (it : Act) → it ≡ act.Forget → (agents : Agents) → list_all changes (steps_of it agents) ≡ true
 forgets_change it is One = ap (λ (a : Act). list_all changes (steps_of a One)) is
 forgets_change it is Both = ap (λ (a : Act). list_all changes (steps_of a Both)) is
+
+pub forgets_all_change : (it : Act) → it ≡ act.ForgetAll → (agents : Agents) → list_all changes (steps_of it agents) ≡ true
+forgets_all_change it is One = ap (λ (a : Act). list_all changes (steps_of a One)) is
+forgets_all_change it is Both = ap (λ (a : Act). list_all changes (steps_of a Both)) is
 
 pub stores_change : (it : Act) → it ≡ act.Store → (agents : Agents) → list_all changes (steps_of it agents) ≡ true
 stores_change it is One = ap (λ (a : Act). list_all changes (steps_of a One)) is
@@ -208,8 +212,8 @@ unmet_not_kept why is = grind (arith, rules)
 input_not_kept : (fault : InputFault) → ending.Input fault ≡ ending.Kept → ⊥
 input_not_kept fault is = grind (arith, rules)
 
-write_not_kept : (written : Result (Unit {0}) WriteFault) → ending_of written ≡ ending.Kept → ⊥
-write_not_kept written is = grind (arith, rules)
+write_not_kept : (lasts : Lifetime) (written : Result (Unit {0}) WriteFault) → ending_of lasts written ≡ ending.Kept → ⊥
+write_not_kept lasts written is = grind (arith, rules)
 
 pub has_kept : {task : TaskValue} {terminal : EnvWords} {before after : World} {it : Ending} → it ≡ ending.Kept → GoesTo task terminal before after it → HasKept task terminal before after
 has_kept is (refused_input {fault = fault} takes contacts output) = absurd (input_not_kept fault is)
@@ -218,7 +222,7 @@ has_kept is (ended steps output) =
     let well = rw is at steps in
     let one = looked none_is_kept refl well.comes in
     record { steps = well; contact = one.contact; made = one.made; place = one.place; to_is = one.to_is; secret = one.secret; told_is = one.told_is; one_line = one.one_line }
-has_kept is (given {written = written} steps writes) = absurd (write_not_kept written is)
+has_kept is (given {lasts = lasts} {written = written} steps writes) = absurd (write_not_kept lasts written is)
 
 -- ---- a new passphrase
 
@@ -243,14 +247,14 @@ asked_later at firsts reply done asked = record {
   replies_are = ap (λ (l : List Reply). record { to = at; told = reply } ∷ l) asked.replies_are;
 }
 
-asked : {task : TaskValue} {terminal : EnvWords} (firsts rest : List Step) {held secret : List ℕ} {noted : Option Ending} {before after : Contacts} {replies : List Reply}
-    → list_all changes firsts ≡ true → ComesTo task terminal (firsts ++ step.Ask ∷ rest) held noted before replies (Gives secret) after → AskedBehind firsts replies
+asked : {task : TaskValue} {terminal : EnvWords} (firsts rest : List Step) {held secret : List ℕ} {lasts : Lifetime} {noted : Option Ending} {before after : Contacts} {replies : List Reply}
+    → list_all changes firsts ≡ true → ComesTo task terminal (firsts ++ step.Ask ∷ rest) held noted before replies (Gives secret lasts) after → AskedBehind firsts replies
 asked [] rest all (gives {told = reply} going does) = asked_at_once reply []
 asked [] rest all (goes_on {told = reply} {others = others} going does more) = asked_at_once reply others
 asked [] rest all (notes {told = reply} {others = others} going does more) = asked_at_once reply others
 asked [] rest all (holds {told = reply} {others = others} going does more) = asked_at_once reply others
-asked {task = task} (at ∷ firsts) rest all (gives {held = held} {secret = secret} {told = reply} going does) =
-    let change = first_of_all at firsts all in absurd (never_gives task.act held at reply secret change (by_step does change))
+asked {task = task} (at ∷ firsts) rest all (gives {held = held} {secret = secret} {lasts = lasts} {told = reply} going does) =
+    let change = first_of_all at firsts all in absurd (never_gives task.act held at reply secret lasts change (by_step does change))
 asked {task = task} (at ∷ firsts) rest all (goes_on {held = held} {told = reply} going does more) =
     let change = first_of_all at firsts all in
     asked_later at firsts reply (goes_by task.act held at reply change (by_step does change)) (asked firsts rest (others_of_all at firsts all) more)
@@ -259,30 +263,30 @@ asked {task = task} (at ∷ firsts) rest all (notes {held = held} {ending = it} 
 asked {task = task} (at ∷ firsts) rest all (holds {held = held} {secret = secret} {told = reply} going does more) =
     let change = first_of_all at firsts all in absurd (never_holds task.act held at reply secret change (by_step does change))
 
-new_asked : {task : TaskValue} {terminal : EnvWords} (ttl : Option ℕ) (feeds : Bool) (agents : Agents) {held secret : List ℕ} {noted : Option Ending} {before after : Contacts} {replies : List Reply}
-    → ComesTo task terminal (steps_of (act.Give true false ttl feeds) agents) held noted before replies (Gives secret) after → AskedBehind (before_new ttl agents) replies
+new_asked : {task : TaskValue} {terminal : EnvWords} (ttl : Option ℕ) (feeds : Bool) (agents : Agents) {held secret : List ℕ} {lasts : Lifetime} {noted : Option Ending} {before after : Contacts} {replies : List Reply}
+    → ComesTo task terminal (steps_of (act.Give true false ttl feeds) agents) held noted before replies (Gives secret lasts) after → AskedBehind (before_new ttl agents) replies
 new_asked None feeds One comes = asked (before_new None One) [] refl comes
 new_asked None feeds Both comes = asked (before_new None Both) [] refl comes
 new_asked (Some seconds) feeds One comes = asked (before_new (Some seconds) One) (step.Keep ∷ []) refl comes
 new_asked (Some seconds) feeds Both comes = asked (before_new (Some seconds) Both) (step.Keep ∷ []) refl comes
 
-unmet_not_given : (why : Unmet) → ending_of_unmet why ≡ ending.Given → ⊥
-unmet_not_given why is = grind (arith, rules)
+unmet_not_given : (why : Unmet) (lasts : Lifetime) → ending_of_unmet why ≡ ending.Given lasts → ⊥
+unmet_not_given why lasts is = grind (arith, rules)
 
-input_not_given : (fault : InputFault) → ending.Input fault ≡ ending.Given → ⊥
-input_not_given fault is = grind (arith, rules)
+input_not_given : (fault : InputFault) (lasts : Lifetime) → ending.Input fault ≡ ending.Given lasts → ⊥
+input_not_given fault lasts is = grind (arith, rules)
 
-pub has_forgotten : {task : TaskValue} {terminal : EnvWords} {before after : World} {it : Ending} (ttl : Option ℕ) (feeds : Bool) → task.act ≡ act.Give true false ttl feeds → it ≡ ending.Given
+pub has_forgotten : {task : TaskValue} {terminal : EnvWords} {before after : World} {it : Ending} (ttl : Option ℕ) (feeds : Bool) (lasts : Lifetime) → task.act ≡ act.Give true false ttl feeds → it ≡ ending.Given lasts
     → GoesTo task terminal before after it → HasForgotten task terminal ttl before after
-has_forgotten ttl feeds new is (refused_input {fault = fault} takes contacts output) = absurd (input_not_given fault is)
-has_forgotten ttl feeds new is (not_found held {why = why} takes finds output) = absurd (unmet_not_given why is)
-has_forgotten ttl feeds new is (ended steps output) = absurd ((steps_end none_noted steps.comes).not_given is)
-has_forgotten {task = task} {terminal = terminal} {after = after} ttl feeds new is (given {secret = secret} steps writes) =
+has_forgotten ttl feeds lasts new is (refused_input {fault = fault} takes contacts output) = absurd (input_not_given fault lasts is)
+has_forgotten ttl feeds lasts new is (not_found held {why = why} takes finds output) = absurd (unmet_not_given why lasts is)
+has_forgotten ttl feeds lasts new is (ended steps output) = absurd ((steps_end none_noted steps.comes).not_given lasts is)
+has_forgotten {task = task} {terminal = terminal} {after = after} ttl feeds lasts new is (given {secret = secret} {lasts = of} steps writes) =
     let all =
     new_asked ttl feeds steps.agents
-    (subst (λ (a : Act). ComesTo task terminal (steps_of a steps.agents) steps.held None steps.between steps.replies (Gives secret) after.contacts) new steps.comes)
+    (subst (λ (a : Act). ComesTo task terminal (steps_of a steps.agents) steps.held None steps.between steps.replies (Gives secret of) after.contacts) new steps.comes)
     in
-    record { secret = secret; steps = steps; front = all.front; done = all.done; told = all.told; later = all.later; replies_are = all.replies_are }
+    record { secret = secret; lasts = of; steps = steps; front = all.front; done = all.done; told = all.told; later = all.later; replies_are = all.replies_are }
 
 -- ---- an act that asks nobody
 
@@ -314,6 +318,7 @@ quiet_steps (act.Give repeats true ttl feeds) agents alone = looks_ask_none agen
 quiet_steps (act.Give repeats false ttl feeds) agents alone = absurd (false≢true alone)
 quiet_steps act.Cached agents alone = looks_ask_none agents
 quiet_steps act.Forget agents alone = absurd (false≢true alone)
+quiet_steps act.ForgetAll agents alone = absurd (false≢true alone)
 quiet_steps act.Store agents alone = absurd (false≢true alone)
 
 pub nobody_asked : {task : TaskValue} {terminal : EnvWords} {before : World} {course : Course} {input : Side} {after : Contacts} → looks_alone task.act ≡ true

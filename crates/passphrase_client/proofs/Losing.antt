@@ -5,7 +5,7 @@ use Rattle.{passphrase_talk.specs.declared.{connector.{Place.Place, Unmet.Unmet,
 use Rattle.session_options.specs.OptionValues.{EnvWords}
 use Rattle.passphrase_client.proofs.Given.{steps_end, none_noted}
 use Rattle.passphrase_client.specs.Runs.{GoesTo, refused_input, not_found, ended, given, ending_of, ending_of_unmet, World, ComesTo, Reply, Settles, behind_all, stops, ends, goes_on, notes, holds, DoesStep}
-use Rattle.passphrase_client.specs.{Steps.{place_of, waits_of, request_of}, Verdicts.{verdict, end_of, failure, emptied_verdict, stops_at, first_of}, declared.{course.Course.TheVariants.Ends, ending.Ending.Ending}}
+use Rattle.passphrase_client.specs.{Steps.{place_of, waits_of, request_of}, Verdicts.{verdict, end_of, failure, emptied_verdict, stops_at, first_of}, declared.{course.Course.TheVariants.Ends, ending.{Ending.Ending, Lifetime.Lifetime}}}
 use Rattle.passphrase_client.specs.declared.{input.InputFault.InputFault, steps.Step.{Step, TheVariants.Forget}, verdict.Verdict.Verdict}
 use Rattle.passphrase_client.specs.declared.ending.Ending.TheVariants as ending
 use Rattle.passphrase_client.specs.declared.verdict.Verdict.TheVariants as verdict_is
@@ -129,8 +129,8 @@ unmet_not_lost of it is = grind (arith, rules)
 input_not_lost : (fault : InputFault) (it : Loss) → ending.Input fault ≡ ending.Lost it → ⊥
 input_not_lost fault it is = grind (arith, rules)
 
-write_not_lost : (written : Result (Unit {0}) WriteFault) (it : Loss) → ending_of written ≡ ending.Lost it → ⊥
-write_not_lost written it is = grind (arith, rules)
+write_not_lost : (lasts : Lifetime) (written : Result (Unit {0}) WriteFault) (it : Loss) → ending_of lasts written ≡ ending.Lost it → ⊥
+write_not_lost lasts written it is = grind (arith, rules)
 
 pub run_lost : {task : TaskValue} {terminal : EnvWords} {before after : World} {end : Ending} (it : Loss) → end ≡ ending.Lost it → GoesTo task terminal before after end
     → IsCounted it before.contacts after.contacts
@@ -138,13 +138,13 @@ run_lost it is (refused_input {fault = fault} takes contacts output) = absurd (i
 run_lost it is (not_found held {why = of} takes finds output) = absurd (unmet_not_lost of it is)
 run_lost {before = before} it is (ended steps output) =
     steps_lost before.contacts it steps.finds.faults (λ noted. absurd (nothing_noted (ending.Lost it) noted)) is steps.comes
-run_lost it is (given {written = written} steps writes) = absurd (write_not_lost written it is)
+run_lost it is (given {lasts = lasts} {written = written} steps writes) = absurd (write_not_lost lasts written it is)
 
 input_has_agent : (fault : InputFault) → ending.Input fault ≡ ending.NoAgent → ⊥
 input_has_agent fault is = grind (arith, rules)
 
-write_has_agent : (written : Result (Unit {0}) WriteFault) → ending_of written ≡ ending.NoAgent → ⊥
-write_has_agent written is = grind (arith, rules)
+write_has_agent : (lasts : Lifetime) (written : Result (Unit {0}) WriteFault) → ending_of lasts written ≡ ending.NoAgent → ⊥
+write_has_agent lasts written is = grind (arith, rules)
 
 no_agent_by : (of : Unmet) → ending_of_unmet of ≡ ending.NoAgent → of ≡ why.Fault
 no_agent_by of is = grind (arith, rules)
@@ -154,10 +154,10 @@ pub run_without_agent : {task : TaskValue} {terminal : EnvWords} {before after :
 run_without_agent is (refused_input {fault = fault} takes contacts output) = absurd (input_has_agent fault is)
 run_without_agent is (not_found held {why = of} takes finds output) = finds.failed (ap (λ (x : Unmet). Err x) (no_agent_by of is))
 run_without_agent is (ended steps output) = absurd ((steps_end none_noted steps.comes).has_agent is)
-run_without_agent is (given {written = written} steps writes) = absurd (write_has_agent written is)
+run_without_agent is (given {lasts = lasts} {written = written} steps writes) = absurd (write_has_agent lasts written is)
 
-given_not_cut : ending.Given ≡ ending.Unwritten → ⊥
-given_not_cut is = grind (arith, rules)
+given_not_cut : (lasts : Lifetime) → ending.Given lasts ≡ ending.Unwritten → ⊥
+given_not_cut lasts is = grind (arith, rules)
 
 input_is_read : (fault : InputFault) → ending.Input fault ≡ ending.Unwritten → ⊥
 input_is_read fault is = grind (arith, rules)
@@ -165,16 +165,16 @@ input_is_read fault is = grind (arith, rules)
 unmet_unwritten : (of : Unmet) → ending_of_unmet of ≡ ending.Unwritten → ⊥
 unmet_unwritten of is = grind (arith, rules)
 
-unwritten_by : (written : Result (Unit {0}) WriteFault) {text : List ℕ} {before after : Side} → Writes text before written after → ending_of written ≡ ending.Unwritten → Rose before.faults after.faults
-unwritten_by (Ok done) writes is = absurd (given_not_cut is)
-unwritten_by (Err fault) writes is = writes.went.rose
+unwritten_by : (lasts : Lifetime) (written : Result (Unit {0}) WriteFault) {text : List ℕ} {before after : Side} → Writes text before written after → ending_of lasts written ≡ ending.Unwritten → Rose before.faults after.faults
+unwritten_by lasts (Ok done) writes is = absurd (given_not_cut lasts is)
+unwritten_by lasts (Err fault) writes is = writes.went.rose
 
 pub run_unwritten : {task : TaskValue} {terminal : EnvWords} {before after : World} {end : Ending} → end ≡ ending.Unwritten → GoesTo task terminal before after end
     → Rose before.output.faults after.output.faults
 run_unwritten is (refused_input {fault = fault} takes contacts output) = absurd (input_is_read fault is)
 run_unwritten is (not_found held {why = of} takes finds output) = absurd (unmet_unwritten of is)
 run_unwritten is (ended steps output) = absurd ((steps_end none_noted steps.comes).not_cut is)
-run_unwritten is (given {written = written} steps writes) = unwritten_by written writes is
+run_unwritten is (given {lasts = lasts} {written = written} steps writes) = unwritten_by lasts written writes is
 
 pub counted : {it : Loss} {before after : Contacts} → IsCounted it before after → (it ≡ loss.Broken) ⊎ ((it ≡ loss.Ended) ⊎ Rose before.faults after.faults)
 counted (broken is) = inl is

@@ -5,7 +5,7 @@ use Rattle.{agent_ports.specs.declared.link.WriteFault.WriteFault, passphrase_ta
 use Rattle.{passphrase_words.specs.{Requests.act_ttl, Tasks.TaskValue, declared.task.Act.Act}, session_options.specs.OptionValues.EnvWords}
 use Rattle.passphrase_client.{proofs.{Answering.{emptied_notes, emptied_holds}, Given.{first_noted, stop_is_noted}}, specs.{Endings.status_of, Laws.{refuses, misses, is_refusal, is_missed, WasRefused, unfound, refused_step, nothing_kept}}}
 use Rattle.passphrase_client.specs.Runs.{GoesTo, refused_input, not_found, ended, given, ending_of, ending_of_unmet, World, ComesTo, Reply, Settles, TakesSteps, behind_all, stops, ends, goes_on, notes, holds}
-use Rattle.passphrase_client.specs.{Steps.{steps_of, steps_to_give, looks}, Verdicts.{verdict, end_of, emptied_verdict, first_of, empties, looks_alone}, declared.{course.Course.TheVariants.Ends, ending.Ending.Ending}}
+use Rattle.passphrase_client.specs.{Steps.{steps_of, steps_to_give, looks}, Verdicts.{verdict, end_of, emptied_verdict, first_of, empties, looks_alone}, declared.{course.Course.TheVariants.Ends, ending.{Ending.Ending, Lifetime.Lifetime}}}
 use Rattle.passphrase_client.specs.declared.{input.InputFault.InputFault, steps.Step.Step}
 use Rattle.passphrase_client.specs.declared.ending.Ending.TheVariants as ending
 use Rattle.passphrase_client.specs.declared.steps.Step.TheVariants as step
@@ -228,6 +228,10 @@ found_of act.Forget agents same one comes = a_refusal (any_of (came (inr (λ is.
   where
     done_is_well : status_of ending.Done ≡ 1 → ⊥
     done_is_well is = omega (arith, is)
+found_of act.ForgetAll agents same one comes = a_refusal (any_of (came (inr (λ is. done_is_well (ap (λ a. status_of (end_of a None)) same ∙ is))) one comes))
+  where
+    done_is_well : status_of ending.Done ≡ 1 → ⊥
+    done_is_well is = omega (arith, is)
 found_of act.Store agents same one comes = a_refusal (any_of (came (inr (λ is. done_is_well (ap (λ a. status_of (end_of a None)) same ∙ is))) one comes))
   where
     done_is_well : status_of ending.Done ≡ 1 → ⊥
@@ -241,8 +245,8 @@ ended_refused steps (no_more alone all) = nothing_kept steps alone all
 input_is_two : (fault : InputFault) → status_of (ending.Input fault) ≡ 1 → ⊥
 input_is_two fault is = grind (arith, rules)
 
-write_is_other : (written : Result (Unit {0}) WriteFault) → status_of (ending_of written) ≡ 1 → ⊥
-write_is_other written is = grind (arith, rules)
+write_is_other : (lasts : Lifetime) (written : Result (Unit {0}) WriteFault) → status_of (ending_of lasts written) ≡ 1 → ⊥
+write_is_other lasts written is = grind (arith, rules)
 
 unmet_by_memory : (why : Unmet) → status_of (ending_of_unmet why) ≡ 1 → why ≡ unmet.NoMemory
 unmet_by_memory why is = grind (arith, rules)
@@ -251,4 +255,4 @@ pub was_refused : {task : TaskValue} {terminal : EnvWords} {before after : World
 was_refused one (refused_input {fault = fault} takes contacts output) = absurd (input_is_two fault one)
 was_refused one (not_found held {why = why} takes finds output) = unfound (rw (unmet_by_memory why one) at finds)
 was_refused {task = task} one (ended steps output) = ended_refused steps (found_of task.act steps.agents refl one steps.comes)
-was_refused one (given {written = written} steps writes) = absurd (write_is_other written one)
+was_refused one (given {lasts = lasts} {written = written} steps writes) = absurd (write_is_other lasts written one)

@@ -22,5 +22,7 @@ all_wait act.Cached One never = All-from_recursion Waits-alone (looks One) (refl
 all_wait act.Cached Both never = All-from_recursion Waits-alone (looks Both) (refl, (refl, tt))
 all_wait act.Forget One never = All-from_recursion Waits-alone (forgets One) (refl, tt)
 all_wait act.Forget Both never = All-from_recursion Waits-alone (forgets Both) (refl, (refl, tt))
+all_wait act.ForgetAll One never = All-from_recursion Waits-alone (forgets One) (refl, tt)
+all_wait act.ForgetAll Both never = All-from_recursion Waits-alone (forgets Both) (refl, (refl, tt))
 all_wait act.Store One never = All-from_recursion Waits-alone (steps_of act.Store One) (refl, tt)
 all_wait act.Store Both never = All-from_recursion Waits-alone (steps_of act.Store Both) (refl, (refl, tt))

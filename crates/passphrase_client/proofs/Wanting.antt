@@ -5,7 +5,7 @@ use Rattle.{passphrase_talk.specs.declared.{connector.{Place.Place, Unmet.Unmet,
 use Rattle.session_options.specs.OptionValues.{EnvWords}
 use Rattle.passphrase_client.proofs.{Answering.emptied_notes, Given.{first_noted, stop_is_noted}}
 use Rattle.passphrase_client.specs.Runs.{GoesTo, refused_input, not_found, ended, given, ending_of, ending_of_unmet, World, ComesTo, Reply, Settles, behind_all, stops, ends, goes_on, notes, holds, DoesStep}
-use Rattle.passphrase_client.specs.{Steps.{place_of, waits_of, request_of}, Verdicts.{verdict, end_of, failure, emptied_verdict}, declared.{course.Course.TheVariants.Ends, ending.Ending.Ending}}
+use Rattle.passphrase_client.specs.{Steps.{place_of, waits_of, request_of}, Verdicts.{verdict, end_of, failure, emptied_verdict}, declared.{course.Course.TheVariants.Ends, ending.{Ending.Ending, Lifetime.Lifetime}}}
 use Rattle.passphrase_client.specs.declared.{input.InputFault.InputFault, steps.Step.{Step, TheVariants.Forget}, verdict.Verdict.Verdict}
 use Rattle.passphrase_client.specs.declared.ending.Ending.TheVariants as ending
 use Rattle.passphrase_client.specs.declared.verdict.Verdict.TheVariants as verdict_is
@@ -101,8 +101,8 @@ nothing_noted is = grind (arith, rules)
 input_has_memory : (fault : InputFault) → ending.Input fault ≡ ending.NoMemory → ⊥
 input_has_memory fault is = grind (arith, rules)
 
-write_has_memory : (written : Result (Unit {0}) WriteFault) → ending_of written ≡ ending.NoMemory → ⊥
-write_has_memory written is = grind (arith, rules)
+write_has_memory : (lasts : Lifetime) (written : Result (Unit {0}) WriteFault) → ending_of lasts written ≡ ending.NoMemory → ⊥
+write_has_memory lasts written is = grind (arith, rules)
 
 unmet_by : (of : Unmet) → ending_of_unmet of ≡ ending.NoMemory → of ≡ why.NoMemory
 unmet_by of is = grind (arith, rules)
@@ -112,4 +112,4 @@ pub run_short : {task : TaskValue} {terminal : EnvWords} {before after : World} 
 run_short is (refused_input {fault = fault} takes contacts output) = absurd (input_has_memory fault is)
 run_short is (not_found held {why = of} takes finds output) = finds.no_memory (ap (λ (x : Unmet). Err x) (unmet_by of is))
 run_short {before = before} is (ended steps output) = steps_short before.contacts steps.finds.shortages (λ noted. absurd (nothing_noted noted)) is steps.comes
-run_short is (given {written = written} steps writes) = absurd (write_has_memory written is)
+run_short is (given {lasts = lasts} {written = written} steps writes) = absurd (write_has_memory lasts written is)

@@ -7,7 +7,7 @@ use Rattle.passphrase_client.specs.declared.ending.Ending.TheVariants as ending
 -- The status: 0 where all was done, 1 where the agent refused or the passphrase can't be given, 2 where the input is refused or the output
 -- can't be written, and 3 where there is no agent, or it was lost.
 abbrev pub status_of : Ending → ℕ
-status_of ending.Given = 0
+status_of (ending.Given lifetime) = 0
 status_of ending.Done = 0
 status_of ending.Kept = 0
 status_of ending.NotCached = 1
@@ -30,7 +30,7 @@ cause_by code = if code == 58 then cause.NoData else cause.Other code
 -- of a request that may ask the user
 abbrev pub cause_of_ask : ℕ → Bool → Bool → Cause
 cause_of_ask code repeats launched =
-    if (code == 85) || ((code == 86) || nat_le 32768 code) then cause.NoPrompt
+    if (code == 85) || ((code == 86) || nat_le 32768 code) then (if launched then cause.Closed else cause.NoPrompt)
     else if (code == 99) || (code == 198) then cause.Canceled
     else if code == 62 then (if launched then cause.NotTyped else cause.OtherPrompt)
     else if code == 11 then (if repeats then cause.Differ else cause.Bad)
@@ -38,7 +38,7 @@ cause_of_ask code repeats launched =
 
 -- of a preset that has a lifetime, and of one that has none
 abbrev pub cause_of_lifetime : ℕ → Cause
-cause_of_lifetime code = if code == 60 then cause.NoPresets else if code == 69 then cause.NoLifetime else cause_by code
+cause_of_lifetime code = if code == 60 then cause.NoTtl else if code == 69 then cause.NoLifetime else cause_by code
 
 abbrev pub cause_of_preset : ℕ → Cause
 cause_of_preset code = if code == 60 then cause.NoPresets else cause_by code

@@ -3,7 +3,7 @@ use Rattle.std.specs.{Prelude.{◌≡◌, ◌&&◌, ◌%◌, ◌^◌, ◌==◌, 
 use Rattle.{agent_ports.specs.Sides.with_bytes, passphrase_talk.specs.{Contacts.Contacts, Visits.Visits, declared.{connector.{Agents.Agents, Place.Place}, told.Told.{Told, TheVariants.Passphrase}}}}
 use Rattle.{passphrase_words.specs.{Requests.line_of_request, Tasks.TaskValue}, session_options.specs.OptionValues.EnvWords}
 use Rattle.passphrase_client.specs.Runs.{World, TakesSteps, Finds, Reply, given_text, DoesStep, ComesTo, behind_all, stops, gives, ends, goes_on, notes, holds}
-use Rattle.passphrase_client.specs.{Steps.{steps_of, forgets, place_of, waits_of, request_of}, Verdicts.{is_one_line, looks_alone}, declared.{course.Course.{Course, TheVariants.{Gives, Ends}}, ending.Ending.Ending, steps.Step.Step, verdict.Verdict.Verdict}}
+use Rattle.passphrase_client.specs.{Steps.{steps_of, forgets, place_of, waits_of, request_of}, Verdicts.{is_one_line, looks_alone}, declared.{course.Course.{Course, TheVariants.{Gives, Ends}}, ending.{Ending.Ending, Lifetime.Lifetime}, steps.Step.Step, verdict.Verdict.Verdict}}
 use Rattle.passphrase_client.specs.declared.ending.Ending.TheVariants as ending
 use Rattle.passphrase_client.specs.declared.steps.Step.TheVariants as step
 use Rattle.passphrase_talk.specs.declared.connector.Unmet.TheVariants as unmet
@@ -43,7 +43,8 @@ is_question _ = false
 -- own contacts.
 pub record WasAnswered (task : TaskValue) (terminal : EnvWords) (before after : World) : Type 0 where
   pub secret : List ℕ
-  pub steps : TakesSteps task terminal before (Gives secret) after.input after.contacts
+  pub lasts : Lifetime
+  pub steps : TakesSteps task terminal before (Gives secret lasts) after.input after.contacts
   pub contact : Visited task terminal
   pub made : Contains (visits_of steps.comes) contact
   pub asks : is_question contact.to ≡ true
@@ -127,7 +128,8 @@ before_new (Some ttl) agents = step.Probe ∷ forgets agents
 -- That was done, and then the user was asked, before anything else.
 pub record HasForgotten (task : TaskValue) (terminal : EnvWords) (ttl : Option ℕ) (before after : World) : Type 0 where
   pub secret : List ℕ
-  pub steps : TakesSteps task terminal before (Gives secret) after.input after.contacts
+  pub lasts : Lifetime
+  pub steps : TakesSteps task terminal before (Gives secret lasts) after.input after.contacts
   pub front : List Reply
   pub done : AreDone (before_new ttl steps.agents) front
   pub told : Told

@@ -4,8 +4,9 @@ use Rattle.{agent_ports.specs.{Counts.Rose, Sides.Side, Writing.Writes, declared
 use Rattle.{passphrase_talk.specs.declared.{connector.{Agents.Agents, Unmet.Unmet, Waits.TheVariants.Answer}, told.Told.Told}, passphrase_words.specs.{Refusals.{Refuses, askpass_fault}, Requests.{line_of_request, Clears as ClearsRequest}}}
 use Rattle.{passphrase_words.specs.{Tasks.{TaskValue, WantedValue, WantsHelp, WantsVersion, WantsTask}, Words.{Reads, ReadsAskpass}, declared.{task.Act.Act, words.TheConstants.USAGE}}, assuan_text.specs.LineEnds.line_of}
 use Rattle.passphrase_client.specs.{Endings.status_of, Inputs.TakesSecret, Messages.{message_of, said}, Steps.{steps_of, place_of, waits_of, request_of}, Verdicts.{verdict, end_of, failure, empties, emptied_verdict, stops_at, first_of}}
-use Rattle.passphrase_client.specs.declared.{course.Course.{Course, TheVariants.{Gives, Ends}}, ending.Ending.Ending, input.InputFault.InputFault, run.TheConstants.VERSION, steps.Step.{Step, TheVariants.Forget}, verdict.Verdict.Verdict}
+use Rattle.passphrase_client.specs.declared.{course.Course.{Course, TheVariants.{Gives, Ends}}, ending.{Ending.Ending, Lifetime.Lifetime}, input.InputFault.InputFault, run.TheConstants.VERSION, steps.Step.{Step, TheVariants.Forget}, verdict.Verdict.Verdict}
 use Rattle.passphrase_client.specs.declared.ending.Ending.TheVariants as ending
+use Rattle.passphrase_client.specs.declared.ending.Lifetime.TheVariants as lifetime
 use Rattle.passphrase_client.specs.declared.verdict.Verdict.TheVariants as verdict_is
 use Rattle.passphrase_talk.specs.declared.connector.Unmet.TheVariants as unmet
 use Rattle.passphrase_words.specs.declared.task.Act.TheVariants as act
@@ -33,9 +34,9 @@ pub data ComesTo (task : TaskValue) (terminal : EnvWords) : List Step → List �
   behind_all : {held : List ℕ} {noted : Option Ending} {contacts : Contacts} → ComesTo task terminal [] held noted contacts [] (Ends (end_of task.act noted)) contacts
   stops : {step : Step} {steps : List Step} {held : List ℕ} {noted : Option Ending} {ending : Ending} {contacts : Contacts} → stops_at step noted ≡ Some ending
       → ComesTo task terminal (step ∷ steps) held noted contacts [] (Ends ending) contacts
-  gives : {step : Step} {steps : List Step} {held secret : List ℕ} {noted : Option Ending} {told : Told} {before after : Contacts} → stops_at step noted ≡ None
-      → DoesStep task terminal step held told (verdict_is.Gives secret) before after
-      → ComesTo task terminal (step ∷ steps) held noted before (record { to = step; told = told } ∷ []) (Gives secret) after
+  gives : {step : Step} {steps : List Step} {held secret : List ℕ} {lasts : Lifetime} {noted : Option Ending} {told : Told} {before after : Contacts} → stops_at step noted ≡ None
+      → DoesStep task terminal step held told (verdict_is.Gives secret lasts) before after
+      → ComesTo task terminal (step ∷ steps) held noted before (record { to = step; told = told } ∷ []) (Gives secret lasts) after
   ends : {step : Step} {steps : List Step} {held : List ℕ} {noted : Option Ending} {ending : Ending} {told : Told} {before after : Contacts} → stops_at step noted ≡ None
       → DoesStep task terminal step held told (verdict_is.Ends ending) before after
       → ComesTo task terminal (step ∷ steps) held noted before (record { to = step; told = told } ∷ []) (Ends ending) after
@@ -102,9 +103,9 @@ ending_of_unmet unmet.NoMemory = ending.NoMemory
 ending_of_unmet unmet.Fault = ending.NoAgent
 
 -- what the write of the passphrase makes of the run
-abbrev pub ending_of : Result (Unit {0}) WriteFault → Ending
-ending_of (Ok done) = ending.Given
-ending_of (Err fault) = ending.Unwritten
+abbrev pub ending_of : Lifetime → Result (Unit {0}) WriteFault → Ending
+ending_of lasts (Ok done) = ending.Given lasts
+ending_of lasts (Err fault) = ending.Unwritten
 
 -- What a task came to. The passphrase is written where the steps came to one, and nothing in any other end.
 pub data GoesTo (task : TaskValue) (terminal : EnvWords) (before after : World) : Ending → Type 0 where
@@ -114,8 +115,8 @@ pub data GoesTo (task : TaskValue) (terminal : EnvWords) (before after : World) 
       → GoesTo task terminal before after (ending_of_unmet why)
   ended : {ending : Ending} → TakesSteps task terminal before (Ends ending) after.input after.contacts → after.output ≡ before.output
       → GoesTo task terminal before after ending
-  given : {secret : List ℕ} {written : Result (Unit {0}) WriteFault} → TakesSteps task terminal before (Gives secret) after.input after.contacts
-      → Writes (given_text task.act secret) before.output written after.output → GoesTo task terminal before after (ending_of written)
+  given : {secret : List ℕ} {lasts : Lifetime} {written : Result (Unit {0}) WriteFault} → TakesSteps task terminal before (Gives secret lasts) after.input after.contacts
+      → Writes (given_text task.act secret) before.output written after.output → GoesTo task terminal before after (ending_of lasts written)
 
 -- A text was written, whole or in part. That it couldn't be written whole changes nothing else, where it says what is wrong.
 abbrev pub Says : List ℕ → Side → Side → Type 0
@@ -134,8 +135,8 @@ pub record HasTold (text : List ℕ) (before after : World) (status : ℕ) : Typ
   pub writes : Writes text before.output written after.output
   pub contacts : after.contacts ≡ before.contacts
   pub input : after.input ≡ before.input
-  pub says : Says (message_of (ending_of written) [] []) before.errors after.errors
-  pub status_is : status ≡ status_of (ending_of written)
+  pub says : Says (message_of (ending_of lifetime.AsWanted written) [] []) before.errors after.errors
+  pub status_is : status ≡ status_of (ending_of lifetime.AsWanted written)
 
 -- the words were refused, and nothing happened but that the error stream says this of them
 pub record HasRefused (text : List ℕ) (before after : World) (status : ℕ) : Type 0 where

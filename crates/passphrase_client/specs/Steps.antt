@@ -34,6 +34,7 @@ steps_of (act.Give repeats true ttl feeds) agents = looks agents
 steps_of (act.Give repeats false ttl feeds) agents = steps_to_give repeats (is_some ttl) agents
 steps_of act.Cached agents = looks agents
 steps_of act.Forget agents = forgets agents
+steps_of act.ForgetAll agents = forgets agents
 steps_of act.Store One = Store ∷ []
 steps_of act.Store Both = Store ∷ Forget Beside ∷ []
 
@@ -53,11 +54,16 @@ abbrev pub may_ask : Act → Bool
 may_ask (act.Give repeats quiet ttl feeds) = not quiet
 may_ask _ = false
 
+-- by what an act forgets: what is kept for its id, or all that is
+abbrev pub forgets_by : Act → RequestValue
+forgets_by act.ForgetAll = request.ClearsAll
+forgets_by _ = request.Clears
+
 -- what it asks for, where this passphrase is held
 abbrev pub request_of : Step → Act → List ℕ → RequestValue
 request_of (Look place) act held = request.Looks
 request_of Ask act held = request.Asks
-request_of (Forget place) act held = request.Clears
+request_of (Forget place) act held = forgets_by act
 request_of Probe act held = request.Probes
 request_of Store act held = request.Presets None held
 request_of Keep act held = request.Presets (act_ttl act) held

@@ -1,9 +1,10 @@
 -- What the reply to a step makes of a run: this project's own rules.
 use Rattle.std.specs.{Prelude.{ℕ, ◌&&◌, not, ◌==◌, Bool, true, false, List, Option, Some, None, if◌then◌else◌}, List.list_all}
 use Rattle.{passphrase_talk.specs.declared.{connector.Place.{Place, TheVariants.{Home, Beside}}, told.Told.Told}, passphrase_words.specs.{Requests.act_ttl, declared.task.Act.Act}}
-use Rattle.passphrase_client.specs.{Endings.cause_of, declared.{ending.Ending.Ending, steps.Step.Step, verdict.Verdict.{Verdict, TheVariants.{GoesOn, Notes, Holds, Gives, Ends}}}}
+use Rattle.passphrase_client.specs.{Endings.cause_of, declared.{ending.{Ending.Ending, Lifetime.Lifetime}, steps.Step.Step, verdict.Verdict.{Verdict, TheVariants.{GoesOn, Notes, Holds, Gives, Ends}}}}
 use Rattle.passphrase_client.specs.declared.ending.Cause.TheVariants as cause
 use Rattle.passphrase_client.specs.declared.ending.Ending.TheVariants as ending
+use Rattle.passphrase_client.specs.declared.ending.Lifetime.TheVariants as lifetime
 use Rattle.passphrase_client.specs.declared.steps.Step.TheVariants as step
 use Rattle.passphrase_talk.specs.declared.told.Loss.TheVariants as loss
 use Rattle.passphrase_talk.specs.declared.told.Told.TheVariants as told
@@ -47,13 +48,18 @@ goes_on_or None = GoesOn
 goes_on_or (Some ending) = Ends ending
 
 -- the passphrase is given where it can be one line
-abbrev pub given : List ℕ → Verdict
-given secret = if is_one_line secret then Gives secret else Ends ending.NotOneLine
+abbrev pub given : List ℕ → Lifetime → Verdict
+given secret lasts = if is_one_line secret then Gives secret lasts else Ends ending.NotOneLine
+
+-- where a lifetime is wanted, one that is kept has the lifetime that it had
+abbrev pub lifetime_found : Option ℕ → Lifetime
+lifetime_found None = lifetime.AsWanted
+lifetime_found (Some ttl) = lifetime.AsBefore
 
 -- one that is kept is given, or was only to be known
 abbrev pub found_verdict : Act → List ℕ → Verdict
 found_verdict act.Cached secret = if is_one_line secret then Ends ending.Kept else Ends ending.NotOneLine
-found_verdict _ secret = given secret
+found_verdict act secret = given secret (lifetime_found (act_ttl act))
 
 -- the agent is the one that would be asked, or none is to be asked
 abbrev pub matters : Act → Place → Bool
@@ -74,11 +80,11 @@ look_verdict act place other = missed_verdict act place (failure act (step.Look 
 
 -- what was typed and is to have a lifetime is held, to be kept so
 abbrev pub held_for_life : Option ℕ → Verdict → Verdict
-held_for_life (Some ttl) (Gives secret) = Holds secret
+held_for_life (Some ttl) (Gives secret lasts) = Holds secret
 held_for_life _ verdict = verdict
 
 abbrev pub ask_verdict : Act → Told → Verdict
-ask_verdict act (told.Passphrase secret) = held_for_life (act_ttl act) (given secret)
+ask_verdict act (told.Passphrase secret) = held_for_life (act_ttl act) (given secret lifetime.AsWanted)
 ask_verdict act told.Done = Ends ending.Empty
 ask_verdict act other = goes_on_or (failure act step.Ask other)
 
@@ -92,7 +98,7 @@ probe_verdict act other = goes_on_or (failure act step.Probe other)
 
 -- what is held is given once it is kept
 abbrev pub keep_verdict : List ℕ → Option Ending → Verdict
-keep_verdict held None = Gives held
+keep_verdict held None = Gives held lifetime.AsWanted
 keep_verdict held (Some ending) = Ends ending
 
 -- what the reply to a step makes of the run, where this passphrase is held
@@ -132,4 +138,5 @@ end_of act (Some ending) = ending
 end_of (act.Give repeats quiet ttl feeds) None = ending.NotKept
 end_of act.Cached None = ending.NotCached
 end_of act.Forget None = ending.Done
+end_of act.ForgetAll None = ending.Done
 end_of act.Store None = ending.Done

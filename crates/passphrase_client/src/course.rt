@@ -7,7 +7,7 @@ ghost use Rattle.passphrase_talk.specs.{Visits.Visits, declared.connector.Waits.
 ghost use Rattle.passphrase_words.specs.{Requests.{line_of_request, Clears}, Tasks.task_value};
 ghost use Rattle.passphrase_client.specs.{Runs.{ComesTo, DoesStep, Reply}, Steps.waits_of};
 
-use crate::ending::Ending;
+use crate::ending::{Ending, Lifetime};
 use crate::steps::Step;
 use crate::verdict::{
     Verdict, emptied_verdict, empties, end_of, failure, first_of, judge, stops_at,
@@ -20,8 +20,8 @@ use std::alloc::Global;
 /// What the steps of a run come to.
 #[derive(Drop)]
 pub(crate) enum Course {
-    /// This passphrase is given.
-    Gives(Secret),
+    /// This passphrase is given, and has this lifetime.
+    Gives(Secret, Lifetime),
     /// The run is over.
     Ends(Ending),
 }
@@ -60,7 +60,7 @@ pub(crate) fn come_to<C: Connector>(
             secret.clear();
             course
         }
-        Verdict::Gives(secret) => Course::Gives(secret),
+        Verdict::Gives(secret, lasts) => Course::Gives(secret, lasts),
         Verdict::Ends(ending) => Course::Ends(ending),
     }
 }

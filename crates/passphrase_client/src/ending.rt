@@ -37,7 +37,7 @@ const SYSTEM_ERRORS: u32 = 32_768;
 #[derive(Clone, Copy, PartialEq, Eq)]
 pub enum Ending {
     /// The passphrase was written.
-    Given,
+    Given(Lifetime),
     /// What is kept was forgotten, or one was stored.
     Done,
     /// One is kept.
@@ -64,13 +64,24 @@ pub enum Ending {
     Lost(Loss),
 }
 
+/// Whether what is given is kept for as long as was wanted.
+#[derive(Clone, Copy, PartialEq, Eq)]
+pub enum Lifetime {
+    /// It is, or nothing was said of it.
+    AsWanted,
+    /// It was kept already, and its lifetime wasn't changed.
+    AsBefore,
+}
+
 /// Why an agent refused, by its error's code (libgpg-error).
 #[derive(Clone, Copy, PartialEq, Eq)]
 pub enum Cause {
     /// Nothing is kept.
     NoData,
-    /// There is no pinentry, or none that could ask.
+    /// There is no pinentry.
     NoPrompt,
+    /// The pinentry ended without an answer: it had no terminal, or this program was stopped.
+    Closed,
     /// The user cancelled.
     Canceled,
     /// The user didn't answer in time.
@@ -83,6 +94,8 @@ pub enum Cause {
     Bad,
     /// The agent takes no presets.
     NoPresets,
+    /// Nor does it where one was to have a lifetime.
+    NoTtl,
     /// The agent takes no presets with a lifetime.
     NoLifetime,
     /// Another code.
@@ -95,7 +108,7 @@ impl Ending {
         ensures { result ≡ status_of self }
     {
         match self {
-            Ending::Given | Ending::Done | Ending::Kept => 0,
+            Ending::Given(_) | Ending::Done | Ending::Kept => 0,
             Ending::NotCached
             | Ending::NotKept
             | Ending::Refused(_)
@@ -127,6 +140,7 @@ fn cause_of_ask(code: u32, repeats: bool, launched: bool) -> Cause
     ensures { result ≡ cause_of_ask code repeats launched }
 {
     match code {
+        NO_PINENTRY | NO_PIN_ENTRY | SYSTEM_ERRORS.. if launched => Cause::Closed,
         NO_PINENTRY | NO_PIN_ENTRY | SYSTEM_ERRORS.. => Cause::NoPrompt,
         CANCELED | FULLY_CANCELED => Cause::Canceled,
         TIMEOUT if launched => Cause::NotTyped,
@@ -142,7 +156,7 @@ fn cause_of_lifetime(code: u32) -> Cause
     ensures { result ≡ cause_of_lifetime code }
 {
     match code {
-        NOT_SUPPORTED => Cause::NoPresets,
+        NOT_SUPPORTED => Cause::NoTtl,
         NOT_IMPLEMENTED => Cause::NoLifetime,
         code => cause_by(code),
     }

@@ -12,14 +12,14 @@ ghost use Rattle.passphrase_client.specs.Laws.{HasKept, NobodyAsked};
 ghost use Rattle.passphrase_client.specs.Runs.{GoesTo, HasRun, TakesSteps, World};
 ghost use Rattle.passphrase_client.specs.{Verdicts.looks_alone, declared.course.Course.Course};
 
-use crate::Ending;
+use crate::{Ending, Lifetime};
 use passphrase_talk::Loss;
 use passphrase_words::Act;
 
 /// A law: what is given is one line, and was an agent's reply in this run.
 pub fn what_is_given_was_answered()
-    ensures { (task : TaskValue) (terminal : EnvWords) (before after : World)
-        → GoesTo task terminal before after Ending.Given
+    ensures { (task : TaskValue) (terminal : EnvWords) (lasts : Lifetime) (before after : World)
+        → GoesTo task terminal before after (Ending.Given lasts)
         → WasAnswered task terminal before after }
 {}
 
@@ -27,8 +27,8 @@ pub fn what_is_given_was_answered()
 /// as it was.
 pub fn without_a_passphrase_nothing_is_written()
     ensures { (task : TaskValue) (terminal : EnvWords) (before after : World) (ending : Ending)
-        → GoesTo task terminal before after ending → ending ≢ Ending.Given
-        → ending ≢ Ending.Unwritten → after.output ≡ before.output }
+        → GoesTo task terminal before after ending
+        → ((lasts : Lifetime) → ending ≢ Ending.Given lasts) → ending ≢ Ending.Unwritten → after.output ≡ before.output }
 {}
 
 /// A law: where a run ends without an agent, or with one that was lost and neither ended nor broke
@@ -58,13 +58,16 @@ pub fn what_is_refused_has_its_reply()
         → HasRun task terminal reason before after 1 → WasRefused task terminal before after }
 {}
 
-/// A law: what status 0 says was done. Where what is kept was to be forgotten, each agent that was
-/// found said OK to that; where a passphrase was to be stored, the agent said OK to it, and the
+/// A law: what status 0 says was done. Where what is kept for an id was to be forgotten, or all that
+/// is, each agent that was found said OK to that; where a passphrase was to be stored, the agent said OK to it, and the
 /// other one, where both answer, to forgetting its own. Where it was asked whether one is kept, an
 /// agent gave one. Before a new passphrase is typed, what is kept was forgotten at each agent.
 pub fn what_is_done_was_answered()
     ensures forgets { (task : TaskValue) (terminal : EnvWords) (before after : World)
         → task.act ≡ Act.Forget → GoesTo task terminal before after Ending.Done
+        → HasDone task terminal before after }
+    ensures forgets_all { (task : TaskValue) (terminal : EnvWords) (before after : World)
+        → task.act ≡ Act.ForgetAll → GoesTo task terminal before after Ending.Done
         → HasDone task terminal before after }
     ensures stores { (task : TaskValue) (terminal : EnvWords) (before after : World)
         → task.act ≡ Act.Store → GoesTo task terminal before after Ending.Done
@@ -72,8 +75,8 @@ pub fn what_is_done_was_answered()
     ensures keeps { (task : TaskValue) (terminal : EnvWords) (before after : World)
         → GoesTo task terminal before after Ending.Kept → HasKept task terminal before after }
     ensures renews { (task : TaskValue) (terminal : EnvWords) (ttl : Option ℕ) (feeds : Bool)
-        (before after : World) → task.act ≡ Act.Give true false ttl feeds
-        → GoesTo task terminal before after Ending.Given
+        (lasts : Lifetime) (before after : World) → task.act ≡ Act.Give true false ttl feeds
+        → GoesTo task terminal before after (Ending.Given lasts)
         → HasForgotten task terminal ttl before after }
 {}
 

@@ -15,7 +15,7 @@ mod run;
 mod steps;
 mod verdict;
 
-pub use ending::{Cause, Ending};
+pub use ending::{Cause, Ending, Lifetime};
 pub use input::InputFault;
 pub use laws::{
     a_quiet_act_asks_nobody, each_failure_is_counted, what_is_done_was_answered,

@@ -10,7 +10,7 @@ ghost use Rattle.passphrase_client.specs.Messages.{loss_words, said, sentence_te
 ghost use Rattle.passphrase_client.specs.{Messages.code_in, Runs.Says};
 
 use crate::InputFault;
-use crate::ending::{Cause, Ending};
+use crate::ending::{Cause, Ending, Lifetime};
 use agent_ports::{Sink, WriteFault};
 use arrayvec::ArrayVec;
 use itoa::Buffer;
@@ -61,7 +61,8 @@ fn sentence_of<'a>(
         (λ words. message_of ending id.now reason.now ≡ said (sentence_text words)) }
 {
     match ending {
-        Ending::Given | Ending::Done | Ending::Kept | Ending::NotCached => None,
+        Ending::Given(Lifetime::AsWanted) | Ending::Done | Ending::Kept | Ending::NotCached => None,
+        Ending::Given(Lifetime::AsBefore) => Some(named(id, AS_BEFORE, b"")),
         Ending::NotKept => Some(cause_sentence(Cause::NoData, id, digits)),
         Ending::Refused(cause) => Some(cause_sentence(cause, id, digits)),
         Ending::Empty => Some(named(PASSPHRASE_OF, id, b" is empty, and is forgotten")),
@@ -82,21 +83,62 @@ fn cause_sentence<'a>(cause: Cause, id: &'a [u8], digits: &'a [u8]) -> Sentence<
     match cause {
         Cause::NoData => named(KEPT_AS, b"", id),
         Cause::NoPrompt => named(KEPT_AS, id, b", and there is no terminal to ask in"),
+        Cause::Closed => named(KEPT_AS, id, CLOSED),
         Cause::Canceled => named(b"the prompt for ", id, b" was cancelled"),
         Cause::NotTyped => named(b"nothing was typed for ", id, b" in time"),
         Cause::OtherPrompt => plain(b"another prompt is open, and was for a minute"),
         Cause::Differ => named(PASSPHRASE_OF, id, DIFFER),
         Cause::Bad => named(PASSPHRASE_OF, id, WEAK),
         Cause::NoPresets => plain(NO_PRESETS),
+        Cause::NoTtl => plain(NO_TTL),
         Cause::NoLifetime => plain(NO_LIFETIME),
-        Cause::Other(_) => Sentence {
-            first: b"the agent refused the request for ",
+        Cause::Other(code) => refused(id, code, digits),
+    }
+}
+
+/// That the agent refused, by the words of the error's code where it has some.
+fn refused<'a>(id: &'a [u8], code: u32, digits: &'a [u8]) -> Sentence<'a>
+    requires { digits.now ≡ decimal code }
+    ensures { sentence_text result ≡ cause_words (Cause.Other code) id.now }
+{
+    match code {
+        GENERAL => named(
+            REFUSED,
+            id,
+            b": its own work failed (error 1), of which its log may say more",
+        ),
+        FORBIDDEN => named(
+            REFUSED,
+            id,
+            b": its socket for other machines forbids it (error 251)",
+        ),
+        UNKNOWN_COMMAND => named(REFUSED, id, b": it doesn't know it (error 275)"),
+        PARAMETER => named(REFUSED, id, b": it doesn't take its words (error 280)"),
+        OUT_OF_CORE => named(REFUSED, id, b": it is out of memory (error 32854)"),
+        _ => Sentence {
+            first: REFUSED,
             second: id,
             third: b": error ",
             last: digits,
         },
     }
 }
+
+const REFUSED: &[u8] = b"the agent refused the request for ";
+
+// The codes of libgpg-error that have words of their own.
+const GENERAL: u32 = 1;
+
+const FORBIDDEN: u32 = 251;
+
+const UNKNOWN_COMMAND: u32 = 275;
+
+const PARAMETER: u32 = 280;
+
+const OUT_OF_CORE: u32 = 32_854;
+
+const CLOSED: &[u8] =
+    b", and its prompt was closed: there is no terminal to ask in, or this program was stopped";
 
 const KEPT_AS: &[u8] = b"nothing is kept as ";
 
@@ -109,8 +151,13 @@ const WEAK: &[u8] =
 
 const NO_PRESETS: &[u8] = b"the agent takes no presets: allow-preset-passphrase in gpg-agent.conf";
 
+const NO_TTL: &[u8] =
+    b"the agent takes no presets: --ttl wants allow-preset-passphrase in its gpg-agent.conf, or passphrase --homedir DIR with that line in DIR/gpg-agent.conf";
+
 const NO_LIFETIME: &[u8] =
-    b"the agent takes no presets with an end, as GnuPG's own doesn't: leave --ttl out";
+    b"the agent takes no presets with an end, as GnuPG's own doesn't: --ttl wants passphrase --homedir DIR, with allow-preset-passphrase in DIR/gpg-agent.conf";
+
+const AS_BEFORE: &[u8] = b" is kept already, and its end wasn't changed: --new --ttl asks anew";
 
 fn plain(words: &[u8]) -> Sentence<'_>
     ensures { sentence_text result ≡ words.now }

@@ -12,7 +12,7 @@ ghost use Rattle.passphrase_client.specs.Runs.{GoesTo, TakesHeld, Says, given_te
 ghost use Rattle.passphrase_client.specs.{Runs.ending_of_unmet, Messages.said, Steps.may_ask};
 
 use crate::course::{Course, come_to};
-use crate::ending::Ending;
+use crate::ending::{Ending, Lifetime};
 use crate::input::{InputFault, take_secret};
 use crate::message::{put, say, tell};
 use crate::steps::steps_of;
@@ -161,7 +161,7 @@ fn end_of_task<C: Connector, I: Source, O: Sink>(
     // Moves of the passphrase left copies below.
     wipe_stack();
     match &mut course {
-        Course::Gives(secret) => end_of(give(task.act, secret, output)),
+        Course::Gives(secret, lasts) => end_of(*lasts, give(task.act, secret, output)),
         Course::Ends(ending) => *ending,
     }
 }
@@ -215,7 +215,7 @@ fn show<O: Sink, E: Sink>(text: &str, output: &mut O, errors: &mut E) -> u8
       errors = E.output errors.new;
     }) result }
 {
-    let ending = end_of(put(output, text.as_bytes()));
+    let ending = end_of(Lifetime::AsWanted, put(output, text.as_bytes()));
     tell(errors, ending, b"", b"");
     ending.status()
 }
@@ -241,11 +241,11 @@ fn end_of_unmet(why: Unmet) -> Ending
 }
 
 /// What the write of the passphrase makes of the run.
-fn end_of(written: Result<(), WriteFault>) -> Ending
-    ensures { result ≡ ending_of written }
+fn end_of(lasts: Lifetime, written: Result<(), WriteFault>) -> Ending
+    ensures { result ≡ ending_of lasts written }
 {
     match written {
-        Ok(()) => Ending::Given,
+        Ok(()) => Ending::Given(lasts),
         Err(WriteFault) => Ending::Unwritten,
     }
 }

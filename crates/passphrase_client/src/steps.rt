@@ -4,7 +4,7 @@
 ghost use Rattle.std.specs.{Prelude.{◌≡◌, Bool}, Option.is_some};
 ghost use Rattle.passphrase_words.specs.Requests.{request_value};
 ghost use Rattle.passphrase_client.specs.Steps.{steps_of, steps_to_give, looks, forgets, place_of};
-ghost use Rattle.passphrase_client.specs.Steps.{waits_of, request_of};
+ghost use Rattle.passphrase_client.specs.Steps.{waits_of, request_of, forgets_by};
 
 use Step::{Ask, Forget, Keep, Look, Probe, Store};
 use cache_policy::Secret;
@@ -18,7 +18,7 @@ pub enum Step {
     Look(Place),
     /// The user is asked, where nothing is kept.
     Ask,
-    /// What is kept is forgotten.
+    /// What is kept is forgotten, for the id or for all, as the act says.
     Forget(Place),
     /// What stands on standard input is stored.
     Store,
@@ -35,7 +35,7 @@ pub(crate) fn steps_of(act: Act, agents: Agents) -> &'static [Step]
     match act {
         Act::Give { quiet: true, .. } | Act::Cached => looks(agents),
         Act::Give { repeats, ttl, .. } => steps_to_give(repeats, ttl.is_some(), agents),
-        Act::Forget => forgets(agents),
+        Act::Forget | Act::ForgetAll => forgets(agents),
         Act::Store => match agents {
             Agents::One => &[Store],
             Agents::Both => &[Store, Forget(Place::Beside)],
@@ -82,6 +82,16 @@ fn forgets(agents: Agents) -> &'static [Step]
     }
 }
 
+/// By what an act forgets.
+fn forgets_by(act: Act) -> Request<'static>
+    ensures { request_value result ≡ forgets_by act }
+{
+    match act {
+        Act::ForgetAll => Request::ClearAll,
+        _ => Request::Clear,
+    }
+}
+
 impl Step {
     /// Where its request goes.
     pub(crate) fn place(self) -> Place
@@ -110,7 +120,7 @@ impl Step {
         match self {
             Look(_) => Request::Look,
             Ask => Request::Ask,
-            Forget(_) => Request::Clear,
+            Forget(_) => forgets_by(act),
             Probe => Request::Probe,
             Store => Request::Preset {
                 ttl: None,

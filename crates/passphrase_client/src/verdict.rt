@@ -7,9 +7,9 @@ ghost use Rattle.passphrase_client.specs.Verdicts.{missed_verdict, found_verdict
 ghost use Rattle.passphrase_client.specs.Verdicts.{probe_verdict, given, goes_on_or, failure};
 ghost use Rattle.passphrase_client.specs.Verdicts.{cancelled, repeats, is_one_line, can_be_given};
 ghost use Rattle.passphrase_client.specs.Verdicts.{empties, emptied_verdict, first_of, stops_at};
-ghost use Rattle.passphrase_client.specs.Verdicts.{end_of};
+ghost use Rattle.passphrase_client.specs.Verdicts.{end_of, lifetime_found};
 
-use crate::ending::{Cause, Ending, cause_of};
+use crate::ending::{Cause, Ending, Lifetime, cause_of};
 use crate::steps::Step;
 use cache_policy::Secret;
 use passphrase_talk::{Loss, Place, Told};
@@ -24,8 +24,8 @@ pub(crate) enum Verdict {
     Notes(Ending),
     /// It comes, and this passphrase is held for it.
     Holds(Secret),
-    /// This passphrase is given.
-    Gives(Secret),
+    /// This passphrase is given, and has this lifetime.
+    Gives(Secret, Lifetime),
     /// The run is over.
     Ends(Ending),
 }
@@ -41,7 +41,7 @@ pub(crate) fn judge(act: Act, held: &Secret, step: Step, told: Told) -> Verdict
         Step::Probe => probe_verdict(act, told),
         Step::Keep => match failure(act, step, told) {
             Some(ending) => Verdict::Ends(ending),
-            None => Verdict::Gives(held.copy()),
+            None => Verdict::Gives(held.copy(), Lifetime::AsWanted),
         },
     }
 }
@@ -92,7 +92,17 @@ fn found_verdict(act: Act, secret: Secret) -> Verdict
     match act {
         Act::Cached if is_one_line(secret.bytes()) => Verdict::Ends(Ending::Kept),
         Act::Cached => Verdict::Ends(Ending::NotOneLine),
-        _ => given(secret),
+        act => given(secret, lifetime_found(act.ttl())),
+    }
+}
+
+/// What lifetime a passphrase that is kept has, where this one is wanted.
+fn lifetime_found(ttl: Option<u32>) -> Lifetime
+    ensures { result ≡ lifetime_found ttl }
+{
+    match ttl {
+        None => Lifetime::AsWanted,
+        Some(_) => Lifetime::AsBefore,
     }
 }
 
@@ -101,8 +111,8 @@ fn ask_verdict(act: Act, told: Told) -> Verdict
     ensures { result ≡ ask_verdict act told }
 {
     match told {
-        Told::Passphrase(secret) => match given(secret) {
-            Verdict::Gives(secret) if act.ttl().is_some() => Verdict::Holds(secret),
+        Told::Passphrase(secret) => match given(secret, Lifetime::AsWanted) {
+            Verdict::Gives(secret, _) if act.ttl().is_some() => Verdict::Holds(secret),
             verdict => verdict,
         },
         Told::Done => Verdict::Ends(Ending::Empty),
@@ -123,11 +133,11 @@ fn probe_verdict(act: Act, told: Told) -> Verdict
 }
 
 /// The passphrase is given where it can be one line.
-fn given(secret: Secret) -> Verdict
-    ensures { result ≡ given secret }
+fn given(secret: Secret, lasts: Lifetime) -> Verdict
+    ensures { result ≡ given secret lasts }
 {
     if is_one_line(secret.bytes()) {
-        Verdict::Gives(secret)
+        Verdict::Gives(secret, lasts)
     } else {
         Verdict::Ends(Ending::NotOneLine)
     }
@@ -218,7 +228,7 @@ pub(crate) fn end_of(act: Act, noted: Option<Ending>) -> Ending
         (Some(ending), _) => ending,
         (None, Act::Give { .. }) => Ending::NotKept,
         (None, Act::Cached) => Ending::NotCached,
-        (None, Act::Forget | Act::Store) => Ending::Done,
+        (None, Act::Forget | Act::ForgetAll | Act::Store) => Ending::Done,
     }
 }
 

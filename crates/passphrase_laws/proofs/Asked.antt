@@ -2,7 +2,7 @@
 use Rattle.std.proofs.Common.{◌≡◌, ◌≢◌, ℕ, Bool, true, false, cond, List, [], ◌∷◌, ◌++◌, codes, Option, Some, None, Ok, refl, ap, sym, ◌∙◌, arith, append_assoc}
 use Rattle.{agent_ask.specs.Plans.text, agent_commands.specs.{Fields.text_or, Requests.{GetFields, get_passphrase, get_of, request_of, either}, declared.request.Request.TheVariants.Cache}, command_table.specs.Commands.command_named}
 use Rattle.{arrayvec.specs.ArrayVec.ArrayVec, assuan_escape.specs.Escapes.unescaped, assuan_text.specs.{Options.{options_of, arguments_of}, Words.words}, passphrase_words.specs.{Requests.{Looks, Asks, line_of_request}, Tasks.TaskValue}}
-use Rattle.passphrase_words.specs.{Texts.{word_of, prompt_word, description_or}, declared.task.Act.{Act, TheVariants.{Give, Cached, Forget, Store}}}
+use Rattle.passphrase_words.specs.{Texts.{word_of, prompt_word, description_or}, declared.task.Act.{Act, TheVariants.{Give, Cached, Forget, ForgetAll, Store}}}
 use Rattle.passphrase_laws.{specs.Asking.{as_read, prompt_read, Says, is_quiet, repeats_of, fields_of}, proofs.{Fields.{behind, fields, id_word, quiet_read, repeat_read, plain_read}, Words.{IsWord, text_word}}}
 use Rattle.passphrase_words.specs.Requests as asking
 
@@ -100,6 +100,7 @@ module _ (task : TaskValue) (prompt : Option (List ℕ)) (description : List ℕ
   by_act (Give false false ttl feeds) = plain_line
   by_act Cached = quiet_line
   by_act Forget = quiet_line
+  by_act ForgetAll = quiet_line
   by_act Store = quiet_line
 
   pub looks_read : request_of (line_of_request task Looks) ≡ Cache (get_passphrase (fields_of task prompt description true 0))

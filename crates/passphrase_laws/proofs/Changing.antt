@@ -2,9 +2,9 @@
 use Rattle.std.proofs.{Common.{◌≡◌, ◌≢◌, ℕ, zero, suc, ◌+◌, ◌-◌, ◌*◌, ◌/◌, ◌%◌, ◌^◌, ◌<◌, ◌≤◌, ◌==◌, ◌&&◌, Bool, true, false, cond, List, [], ◌∷◌, ◌++◌, length, take, drop, slice_index, codes, decimal, unwrap_or, Option, Some, None, Result, Ok, inl, inr, All, refl, ap, sym, subst, ◌∙◌, arith, append_assoc, append-nil, rules}, lemmas.List.Elements.{All-head, All-tail}}
 use Rattle.std.proofs.lemmas.{Bool.{and_parts, cases_Bool, cond-false, cond-true, eqb-false, eqb-true, le-leb, ne_eqb, or_from, or_parts, false_from_ne_true, false≢true, Decides.nat_tests}, Fmt.{decimal_by_steps, decimal_nonempty, digits_decimal, digits_value-decimal, length-decimal-le}, List.Folds.list_any-append, Slice.Eq.bytes_eq-Decides, Str.Parse.{IsNumeralModel, numerals_by_fold}}
 use Rattle.std.specs.{List.{flat_map, fold, list_any, prefix_len}, Option.option_and_then, Prelude.nat_le, Str.{all_ascii_digits, bytes_eq}}
-use Rattle.{agent_commands.specs.{Answers.IsSecret, Fields.{given_passphrase, life, life_of_seconds, passphrase}, Requests.{clear_of, either, preset_of, request_of}, declared.request.{CacheCommand.{CacheCommand, TheVariants.{ClearPassphrase, PresetPassphrase}}, Request.TheVariants.Cache}}, command_table.specs.Commands.command_named}
+use Rattle.{agent_commands.specs.{Answers.IsSecret, Fields.{given_passphrase, life, life_of_seconds, passphrase}, Requests.{clear_of, either, preset_of, request_of}, declared.request.{CacheCommand.{CacheCommand, TheVariants.{ClearPassphrase, PresetPassphrase, ReloadAgent}}, Request.TheVariants.Cache}}, command_table.specs.Commands.command_named}
 use Rattle.{assuan_text.specs.{Blanks.{is_blank, without_blanks}, Numbers.{decimal as number_in, number_of}, Options.{arguments_of, is_option, options_of, without_mark}, Words.words}, cache_policy.specs.declared.{life.Life.{Life, TheVariants.{Endless, Seconds}}, mode.Mode.TheVariants.User}}
-use Rattle.{hex.{proofs.HexLemmas.decode_of-encode_upper, specs.Hex.{IsBytes, decode_of, encode_upper, encode_with, upper_digits}}, passphrase_words.specs.{Ids.is_id, Requests.{Clears, Presets, Probes, act_ttl, hex_digit, hex_of, line_of_request, seconds_word}, Tasks.TaskValue}}
+use Rattle.{hex.{proofs.HexLemmas.decode_of-encode_upper, specs.Hex.{IsBytes, decode_of, encode_upper, encode_with, upper_digits}}, passphrase_words.specs.{Ids.is_id, Requests.{Clears, ClearsAll, Presets, Probes, act_ttl, hex_digit, hex_of, line_of_request, seconds_word}, Tasks.TaskValue}}
 use Rattle.{session_client.specs.Fields.{◌>>=◌, in_form}, session_client.specs.declared.code.Code.Code}
 use Rattle.passphrase_laws.{specs.Asking.{AreSeconds, life_of}, proofs.{Fields.{IdWord, cached, id_word}, Words.{IsWord, last_word, next_word}}}
 
@@ -156,6 +156,10 @@ clear_begins rest is = ap (λ (r : List ℕ). either (clear_of (options_of (word
 preset_begins : (rest : List ℕ) → without_blanks rest ≡ rest → request_of (codes "PRESET_PASSPHRASE " ++ rest) ≡ either (preset_of (options_of (words rest)) (arguments_of (words rest)))
 unfolding request_of command_named
 preset_begins rest is = ap (λ (r : List ℕ). either (preset_of (options_of (words r)) (arguments_of (words r)))) (behind_blank rest ∙ is)
+
+pub all_read : (task : TaskValue) → request_of (line_of_request task ClearsAll) ≡ Cache ReloadAgent
+unfolding request_of command_named
+all_read task = refl
 
 module _ (task : TaskValue) (id_is : is_id task.id ≡ true) where
   abbrev word : IdWord task.id

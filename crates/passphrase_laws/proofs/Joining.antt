@@ -5,7 +5,7 @@ use Rattle.{agent_ask.specs.Session.SessionEvents.{cache_turn, said_last}, agent
 use Rattle.{agent_origin.specs.{DoorSessions.DoorExchange, SessionExchanges.kept_at_start, declared.door.Door.{Door, TheVariants.Home}}, agent_ports.specs.{Readings.Readings, Sides.Side}}
 use Rattle.{agent_serve.specs.Working.{HostViews, Post, ServesLinks, ServesNext, WorkEach, none, one_more}, agent_session.specs.Causes.{Has, later}, agent_top.specs.{Cache.limits_of, Daemon.{FirstLooks, Rounds, RunsDaemon, no_listener, one_more_round, one_round, summed}}}
 use Rattle.cache_policy.specs.{Turns.Given, declared.{life.Limits.Limits, mark.{Mark.Mark, MarkStep.TheVariants.Ask}, mode.Mode.TheVariants.User}}
-use Rattle.{counted_lock.specs.{Passes.{AllStandIn, AreNewPasses, AtCounted, AtPass}, Turns.CountedTurn}, passphrase_client.specs.{Laws.{WasAnswered, is_question}, Runs.{GoesTo, HasRun, RunsAskpass, RunsBy, World}, Steps.{request_of, waits_of}, declared.{ending.Ending.Ending, steps.Step.Step}}}
+use Rattle.{counted_lock.specs.{Passes.{AllStandIn, AreNewPasses, AtCounted, AtPass}, Turns.CountedTurn}, passphrase_client.specs.{Laws.{WasAnswered, is_question}, Runs.{GoesTo, HasRun, RunsAskpass, RunsBy, World}, Steps.{request_of, waits_of}, declared.{ending.{Ending.Ending, Lifetime.Lifetime}, steps.Step.Step}}}
 use Rattle.{passphrase_talk.specs.{Contacts.Contacts, Dialogues.{options_of, told_of}, Turns.Turn, Visits.{Talk, Visits, met, no_memory, unmet}, declared.{connector.{Place.Place, Waits.Waits}, told.Told.Told}}, passphrase_words.specs.{Requests.line_of_request, Tasks.{TaskValue, WantsTask}, Words.{Reads, ReadsAskpass}}}
 use Rattle.{pinentry_client.specs.Dialogues.PinentryDoes, session_client.specs.declared.refusal.Refusal.Refusal, session_options.specs.{OptionValues.EnvWords, declared.rules.Rules.Rules}}
 use Rattle.passphrase_laws.specs.{Asking.{HasTexts, Means, SaysRequest, asks, looks}, Joined.{AccountsFor, CarriedIn, EachInRound, EachLink, EachSession, IsAccounted, IsAccountedIn, IsJoined, IsJoinedAskpass, by_cache, by_prompt, fields_at}}
@@ -231,26 +231,26 @@ module _ {Ls E Li La C R K T : Type 0} (host : HostViews Ls E Li La C R K T) (ru
   -- ---- the run of the command
 
   -- what a task's words mean, and whence what is given is
-  module _ (law : AsSession) (answers : (task : TaskValue) (terminal : EnvWords) (before after : World) → GoesTo task terminal before after ending.Given → WasAnswered task terminal before after) where
+  module _ (law : AsSession) (answers : (task : TaskValue) (terminal : EnvWords) (lasts : Lifetime) (before after : World) → GoesTo task terminal before after (ending.Given lasts) → WasAnswered task terminal before after) where
     accounts : {words : List (List ℕ)} {task : TaskValue} {terminal : EnvWords} {reason : List ℕ} {start stop : World} {status : ℕ} → HasTexts words task → (run : HasRun task terminal reason start stop status)
-        → run.ending ≡ ending.Given → {listens listens_now number : ℕ} {before after : Side} (runs : RunsDaemon host rules listens before number listens_now after)
+        → (lasts : Lifetime) → run.ending ≡ ending.Given lasts → {listens listens_now number : ℕ} {before after : Side} (runs : RunsDaemon host rules listens before number listens_now after)
         → IsAccounted host rules words task terminal start stop runs
-    accounts {words} {task} {terminal} {start = start} {stop = stop} texts run given runs =
-        let answered = answers task terminal start stop (subst (λ (e : Ending). GoesTo task terminal start stop e) given run.goes) in
+    accounts {words} {task} {terminal} {start = start} {stop = stop} texts run lasts given runs =
+        let answered = answers task terminal lasts start stop (subst (λ (e : Ending). GoesTo task terminal start stop e) given run.goes) in
         record { texts = texts; answered = answered; in_daemon = accounted law words texts.prompt texts.description texts.means answered runs }
 
   pub joined : AsSession → ((words : List (List ℕ)) (task : TaskValue) → Reads words (WantsTask task) → HasTexts words task)
-      → ((task : TaskValue) (terminal : EnvWords) (before after : World) → GoesTo task terminal before after ending.Given → WasAnswered task terminal before after)
+      → ((task : TaskValue) (terminal : EnvWords) (lasts : Lifetime) (before after : World) → GoesTo task terminal before after (ending.Given lasts) → WasAnswered task terminal before after)
       → {words : List (List ℕ)} {terminal : EnvWords} {reason : List ℕ} {start stop : World} {status : ℕ} (run : RunsBy words terminal reason start stop status) {listens listens_now number : ℕ}
       {before after : Side} (runs : RunsDaemon host rules listens before number listens_now after) → IsJoined host rules run runs
-  joined law means answers (client.runs reads run) daemon = λ given. accounts law answers (means _ _ reads) run given daemon
+  joined law means answers (client.runs reads run) daemon = λ lasts given. accounts law answers (means _ _ reads) run lasts given daemon
   joined law means answers (client.refused never why told) daemon = tt
   joined law means answers (client.helps reads told) daemon = tt
   joined law means answers (client.tells_version reads told) daemon = tt
 
   pub joined_askpass : AsSession → ((words : List (List ℕ)) (task : TaskValue) → ReadsAskpass words task → HasTexts words task)
-      → ((task : TaskValue) (terminal : EnvWords) (before after : World) → GoesTo task terminal before after ending.Given → WasAnswered task terminal before after)
+      → ((task : TaskValue) (terminal : EnvWords) (lasts : Lifetime) (before after : World) → GoesTo task terminal before after (ending.Given lasts) → WasAnswered task terminal before after)
       → {words : List (List ℕ)} {terminal : EnvWords} {reason : List ℕ} {start stop : World} {status : ℕ} (run : RunsAskpass words terminal reason start stop status) {listens listens_now number : ℕ}
       {before after : Side} (runs : RunsDaemon host rules listens before number listens_now after) → IsJoinedAskpass host rules run runs
-  joined_askpass law means answers (client.runs_askpass reads run) daemon = λ given. accounts law answers (means _ _ reads) run given daemon
+  joined_askpass law means answers (client.runs_askpass reads run) daemon = λ lasts given. accounts law answers (means _ _ reads) run lasts given daemon
   joined_askpass law means answers (client.refused_askpass never why told) daemon = tt

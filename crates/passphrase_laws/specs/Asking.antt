@@ -1,6 +1,6 @@
 -- The requests of the command `passphrase` as the agent reads them (GnuPG manual, "Agent GET_PASSPHRASE").
-use Rattle.std.specs.Prelude.{◌≡◌, ◌≢◌, ◌≤◌, ℕ, ⊤, Bool, true, false, List, [], ◌∷◌, map, codes, get_or, Option, Some, None, if◌then◌else◌}
-use Rattle.{arrayvec.specs.ArrayVec.ArrayVec, agent_ask.specs.Plans.text, agent_commands.specs.Requests.GetFields, assuan_text.specs.Blanks.is_blank, cache_policy.specs.declared.life.{Life.{Life, TheVariants.{Endless, Seconds}}, TheConstants.MAX_SECONDS}, passphrase_words.specs.{Ids.is_id, Rules.{IsTask, askpass_task}}}
+use Rattle.std.specs.Prelude.{◌≡◌, ◌≢◌, ◌≤◌, ℕ, ⊤, Bool, true, false, List, [], ◌∷◌, map, codes, Option, Some, None, if◌then◌else◌}
+use Rattle.{arrayvec.specs.ArrayVec.ArrayVec, agent_ask.specs.Plans.text, agent_commands.specs.Requests.GetFields, assuan_text.specs.Blanks.is_blank, cache_policy.specs.declared.life.{Life.{Life, TheVariants.{Endless, Seconds}}, TheConstants.MAX_SECONDS}, passphrase_words.specs.{Ids.is_id, Questions.prompt_for, Rules.{IsTask, askpass_asked, askpass_task, description_given}}}
 use Rattle.passphrase_words.specs.{Requests.{Asks, Looks, line_of_request}, Spelling.{Setting, Spells, operands_of, value_given}, Tasks.TaskValue, Texts.{Fits, texts_of, description_or}, declared.task.Act.{Act, TheVariants.Give}}
 
 -- a text as the agent has it: a tab counts as a blank
@@ -18,11 +18,11 @@ pub record Says (task : TaskValue) (prompt : Option (List ℕ)) (description : L
   pub some : prompt ≢ Some []
   pub texts_are : task.texts ≡ texts_of task.id prompt description
 
--- The words are this task's, and give it this prompt, where they have one, and this description. An askpass's one text is its description.
+-- The words are this task's, and give it this prompt, where they have one, and this description. An askpass's text is its description, by which it has its prompt.
 pub data Means (words : List (List ℕ)) (task : TaskValue) : Option (List ℕ) → List ℕ → Type 0 where
   command : {given : List Setting} {rest operands : List (List ℕ)} → Spells given rest words → operands_of rest ≡ Some operands → IsTask given operands task
-      → Means words task (value_given (codes "--prompt") given) (get_or operands 1 [])
-  askpass : {text : List ℕ} → words ≡ text ∷ [] → task ≡ askpass_task text → Fits task.id task.texts → Means words task None text
+      → Means words task (value_given (codes "--prompt") given) (description_given given operands)
+  askpass : {text : List ℕ} {act : Act} → askpass_asked words ≡ Some (text, act) → task ≡ askpass_task text act → Fits task.id task.texts → Means words task (prompt_for text) text
 
 -- what the words of a task give it
 pub record HasTexts (words : List (List ℕ)) (task : TaskValue) : Type 0 where

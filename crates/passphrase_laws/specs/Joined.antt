@@ -4,7 +4,7 @@ use Rattle.{agent_ask.specs.{Plans.plan_of, Session.SessionEvents.cache_turn, de
 use Rattle.{agent_origin.specs.{DoorSessions.DoorExchange, declared.door.Door.TheVariants.Home}, agent_ports.specs.{Sides.Side, declared.session.SessionId.SessionId}, agent_serve.specs.Working.{HostViews, Post, ServesLinks, ServesNext, WorkEach, next_session, none, one_more}}
 use Rattle.{agent_session.specs.Causes.{Has, HasPrompt}, agent_top.specs.{Cache.limits_of, Daemon.{Rounds, RunsDaemon, no_listener, one_more_round, one_round, summed}}}
 use Rattle.cache_policy.specs.{Histories.{History, with_mark}, Live.live, Return.IsGivenRightly, Runs.last_history, Turns.Open, declared.{life.Limits.Limits, mark.{Mark.Mark, MarkReply.TheVariants.Given}, mode.Mode.TheVariants.User}}
-use Rattle.{counted_lock.specs.{Logs.run_of_log, Passes.AtPass}, passphrase_client.specs.{Laws.WasAnswered, Runs.{World, RunsAskpass, RunsBy, refused, helps, tells_version, runs, refused_askpass, runs_askpass}, Steps.{request_of, waits_of}, declared.steps.Step.Step}}
+use Rattle.{counted_lock.specs.{Logs.run_of_log, Passes.AtPass}, passphrase_client.specs.{Laws.WasAnswered, Runs.{World, RunsAskpass, RunsBy, refused, helps, tells_version, runs, refused_askpass, runs_askpass}, Steps.{request_of, waits_of}, declared.{ending.Lifetime.Lifetime, steps.Step.Step}}}
 use Rattle.passphrase_talk.specs.{Dialogues.options_of, Visits.{Visits, met, no_memory, unmet}, declared.{connector.{Place.Place, Waits.Waits}, told.Told.{Told, TheVariants.Passphrase}, visits.TheConstants.BUDGET}, Contacts.Contacts}
 use Rattle.{passphrase_words.specs.{Requests.line_of_request, Tasks.TaskValue}, session_options.specs.{OptionValues.{EnvWords, OptionValues}, declared.rules.Rules.Rules}}
 use Rattle.passphrase_laws.specs.{Asking.{HasTexts, fields_of, is_quiet, repeats_of}, Exchanges.texts_of, Roads.IsWhole, Served.{AnswersRequest, lines_read}}
@@ -118,7 +118,7 @@ module _ {Ls E Li La C R K T : Type 0} (host : HostViews Ls E Li La C R K T) (ru
   -- so of a run that gave a passphrase, by what it was read as
   abbrev pub IsJoined : {words : List (List ℕ)} {terminal : EnvWords} {reason : List ℕ} {start stop : World} {status : ℕ} → RunsBy words terminal reason start stop status
       → {listens listens_now number : ℕ} {before after : Side} → RunsDaemon host rules listens before number listens_now after → Type 0
-  IsJoined {words} {terminal} {start = start} {stop = stop} (runs {task} reads run) daemon = run.ending ≡ ending.Given → IsAccounted words task terminal start stop daemon
+  IsJoined {words} {terminal} {start = start} {stop = stop} (runs {task} reads run) daemon = (lasts : Lifetime) → run.ending ≡ ending.Given lasts → IsAccounted words task terminal start stop daemon
   IsJoined (refused never why told) daemon = ⊤
   IsJoined (helps reads told) daemon = ⊤
   IsJoined (tells_version reads told) daemon = ⊤
@@ -126,5 +126,5 @@ module _ {Ls E Li La C R K T : Type 0} (host : HostViews Ls E Li La C R K T) (ru
   -- and of a run as an askpass
   abbrev pub IsJoinedAskpass : {words : List (List ℕ)} {terminal : EnvWords} {reason : List ℕ} {start stop : World} {status : ℕ} → RunsAskpass words terminal reason start stop status
       → {listens listens_now number : ℕ} {before after : Side} → RunsDaemon host rules listens before number listens_now after → Type 0
-  IsJoinedAskpass {words} {terminal} {start = start} {stop = stop} (runs_askpass {task} reads run) daemon = run.ending ≡ ending.Given → IsAccounted words task terminal start stop daemon
+  IsJoinedAskpass {words} {terminal} {start = start} {stop = stop} (runs_askpass {task} reads run) daemon = (lasts : Lifetime) → run.ending ≡ ending.Given lasts → IsAccounted words task terminal start stop daemon
   IsJoinedAskpass (refused_askpass never why told) daemon = ⊤

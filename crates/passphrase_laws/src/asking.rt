@@ -10,12 +10,13 @@ ghost use Rattle.agent_commands.specs.Exchanges.{LineExchange};
 ghost use Rattle.agent_commands.specs.Requests.{get_passphrase, request_of};
 ghost use Rattle.agent_commands.specs.declared.request.CacheCommand.TheVariants.{ClearPassphrase};
 ghost use Rattle.agent_commands.specs.declared.request.CacheCommand.TheVariants.{PresetPassphrase};
+ghost use Rattle.agent_commands.specs.declared.request.CacheCommand.TheVariants.{ReloadAgent};
 ghost use Rattle.agent_commands.specs.declared.{request.Request.TheVariants.Cache, went.Went.Went};
 ghost use Rattle.assuan_server.specs.Inquiries.{Cancelled};
 ghost use Rattle.cache_policy.specs.declared.life.Life.TheVariants.{Seconds};
 ghost use Rattle.cache_policy.specs.declared.mode.Mode.TheVariants.{User};
 ghost use Rattle.passphrase_words.specs.{Ids.is_id, Tasks.TaskValue};
-ghost use Rattle.passphrase_words.specs.Requests.{Asks, Clears, Looks, Presets, Probes};
+ghost use Rattle.passphrase_words.specs.Requests.{Asks, Clears, ClearsAll, Looks, Presets, Probes};
 ghost use Rattle.passphrase_words.specs.Requests.{act_ttl, line_of_request};
 ghost use Rattle.session_client.specs.Asking.{Asked};
 ghost use Rattle.session_options.specs.{OptionValues.OptionValues, declared.rules.Rules.Rules};
@@ -39,11 +40,14 @@ pub fn a_request_is_read_as_meant()
 {}
 
 /// So are the requests that change what is kept: the id is forgotten as GET_PASSPHRASE keeps it;
+/// all that is kept is forgotten by a reload (`agent_commands`: its one turn at the cache flushes);
 /// exactly this passphrase is stored under the id, for as long as the seconds say; and a probe is a
 /// store whose passphrase its client is asked for.
 pub fn a_change_is_read_as_meant()
     ensures clears { (task : TaskValue) → is_id task.id ≡ true
         → request_of (line_of_request task Clears) ≡ Cache (ClearPassphrase task.id User) }
+    ensures clears_all { (task : TaskValue)
+        → request_of (line_of_request task ClearsAll) ≡ Cache ReloadAgent }
     ensures presets { (task : TaskValue) (seconds : Option ℕ) (secret : List ℕ)
         → is_id task.id ≡ true → AreSeconds seconds → IsSecret secret → secret ≢ []
         → request_of (line_of_request task (Presets seconds secret))

@@ -186,7 +186,7 @@ fn a_passphrase_is_given(rt: HostRuntime) -> Result<(), Fail> {
             words: &["--new", "id"],
             links: &["OK\n", "OK\nD new\nOK\n"],
             output: "new\n",
-            sent: "OPTION allow-pinentry-notify\nGET_PASSPHRASE --data --repeat=1 id X X Passphrase+id\n",
+            sent: "OPTION allow-pinentry-notify\nGET_PASSPHRASE --data --repeat=1 id X X New+passphrase+for+id\n",
             ..PLAIN
         },
         Row {
@@ -194,6 +194,25 @@ fn a_passphrase_is_given(rt: HostRuntime) -> Result<(), Fail> {
             links: &[
                 NO_DATA,
                 "INQUIRE PASSPHRASE\nERR 67109141 IPC\n",
+                "OK\nD ab\nOK\n",
+                "OK\n",
+            ],
+            output: "ab\n",
+            sent: "PRESET_PASSPHRASE id 60 6162\n",
+            ..PLAIN
+        },
+        Row {
+            words: &["--ttl", "60", "id"],
+            links: &["D ab\nOK\n"],
+            output: "ab\n",
+            says: "id is kept already, and its end wasn't changed: --new --ttl asks anew",
+            ..PLAIN
+        },
+        Row {
+            words: &["--new", "--ttl", "60", "id"],
+            links: &[
+                "INQUIRE PASSPHRASE\nERR 67109141 IPC\n",
+                "OK\n",
                 "OK\nD ab\nOK\n",
                 "OK\n",
             ],
@@ -213,6 +232,14 @@ fn a_passphrase_is_given(rt: HostRuntime) -> Result<(), Fail> {
             links: &["D secret\nOK\n"],
             output: "secret\n",
             sent: "GET_PASSPHRASE --data --no-ask askpass:94c177092139b46e0de7cbb44a4b2f7cadc4c820 X X Password+for+x:\n",
+            ..PLAIN
+        },
+        Row {
+            words: &["USERname for x:"],
+            is_askpass: true,
+            links: &["D me\nOK\n"],
+            output: "me\n",
+            sent: "GET_PASSPHRASE --data --no-ask askpass:f4c7aa5c698f330c2b59e9da54859083a7948e5d X User+name: USERname+for+x:\n",
             ..PLAIN
         },
     ];
@@ -278,7 +305,47 @@ fn what_is_refused_is_said(rt: HostRuntime) -> Result<(), Fail> {
             words: &["--ttl", "60", "id"],
             links: &[NO_DATA, "ERR 67108924 Not supported <GPG Agent>\n"],
             status: 1,
-            says: "the agent takes no presets: allow-preset-passphrase in gpg-agent.conf",
+            says: "the agent takes no presets: --ttl wants allow-preset-passphrase in its gpg-agent.conf, or passphrase --homedir DIR with that line in DIR/gpg-agent.conf",
+            ..PLAIN
+        },
+        Row {
+            words: &["--ttl", "60", "id"],
+            links: &[NO_DATA, "ERR 67108933 Not implemented <GPG Agent>\n"],
+            status: 1,
+            says: "the agent takes no presets with an end, as GnuPG's own doesn't: --ttl wants passphrase --homedir DIR, with allow-preset-passphrase in DIR/gpg-agent.conf",
+            ..PLAIN
+        },
+        Row {
+            words: &["--ttl", "60", "id"],
+            links: &["D ab\nOK\n"],
+            is_cut: true,
+            status: 2,
+            output: "a",
+            says: "standard output can't be written",
+            ..PLAIN
+        },
+        Row {
+            links: &[
+                NO_DATA,
+                "OK\nINQUIRE PINENTRY_LAUNCHED 12\nERR 67108950 No pinentry <GPG Agent>\n",
+            ],
+            status: 1,
+            says: "nothing is kept as id, and its prompt was closed: there is no terminal to ask in, or this program was stopped",
+            ..PLAIN
+        },
+        Row {
+            words: &["--forget", "id"],
+            links: &["ERR 67109115 Forbidden <GPG Agent>\n"],
+            status: 1,
+            says: "the agent refused the request for id: its socket for other machines forbids it (error 251)",
+            ..PLAIN
+        },
+        Row {
+            words: &["--forget-all"],
+            links: &["ERR 67109139 Unknown IPC command <GPG Agent>\n"],
+            status: 1,
+            says: "the agent refused the request for all: it doesn't know it (error 275)",
+            sent: "RELOADAGENT\n",
             ..PLAIN
         },
         Row {
@@ -423,6 +490,20 @@ fn what_is_kept_is_looked_after(rt: HostRuntime) -> Result<(), Fail> {
             words: &["--forget", "id"],
             agents: Agents::Both,
             links: &["OK\n", "OK\n"],
+            ..PLAIN
+        },
+        Row {
+            words: &["--forget-all"],
+            agents: Agents::Both,
+            links: &["OK\n", "OK\n"],
+            sent: "RELOADAGENT\n",
+            ..PLAIN
+        },
+        Row {
+            words: &["--forget", "Password for x:"],
+            is_askpass: true,
+            links: &["OK\n"],
+            sent: "CLEAR_PASSPHRASE askpass:94c177092139b46e0de7cbb44a4b2f7cadc4c820\n",
             ..PLAIN
         },
         Row {

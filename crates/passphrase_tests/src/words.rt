@@ -10,7 +10,7 @@ use std::test::Fail;
 type Row<'a> = (&'a str, &'a str);
 
 /// Words that are refused.
-const FAULTS: [Row<'_>; 71] = [
+const FAULTS: [Row<'_>; 82] = [
     ("", "an ID is wanted, and a DESCRIPTION may follow it"),
     (
         "|",
@@ -196,6 +196,41 @@ const FAULTS: [Row<'_>; 71] = [
         "an ID is wanted, and a DESCRIPTION may follow it",
     ),
     ("|--new", "an ID is wanted, and a DESCRIPTION may follow it"),
+    ("|--forget-all|--forget-all", "--forget-all is given twice"),
+    ("|--forget-all=id", "there is no option --forget-all=id"),
+    ("|--forget-all|id", "--forget-all wants no ID"),
+    (
+        "|--new|--forget-all",
+        "--forget-all and --new don't go together",
+    ),
+    (
+        "|--forget-all|--forget|id",
+        "--forget-all and --forget don't go together",
+    ),
+    (
+        "|--store|--forget-all",
+        "--forget-all and --store don't go together",
+    ),
+    (
+        "|--cached|--forget-all",
+        "--forget-all and --cached don't go together",
+    ),
+    (
+        "|--forget-all|--no-ask",
+        "--forget-all and --no-ask don't go together",
+    ),
+    (
+        "|--forget-all|--ttl|60",
+        "--forget-all and --ttl don't go together",
+    ),
+    (
+        "|--forget-all|--null",
+        "--forget-all and --null don't go together",
+    ),
+    (
+        "|--forget-all|--prompt|a",
+        "--forget-all and --prompt don't go together",
+    ),
 ];
 
 /// Words that aren't read as a task.
@@ -212,13 +247,14 @@ usage: passphrase [--homedir DIR] [--timeout SECONDS] [--new | --no-ask] [--ttl 
 [--prompt TEXT] [--null] ID [DESCRIPTION]
        passphrase [--homedir DIR] [--timeout SECONDS] --cached ID
        passphrase [--homedir DIR] [--timeout SECONDS] --forget ID
+       passphrase [--homedir DIR] [--timeout SECONDS] --forget-all
        passphrase [--homedir DIR] [--timeout SECONDS] --store ID < FILE
        passphrase --help | --version
-       passphrase-askpass TEXT
+       passphrase-askpass [--forget] TEXT
 ";
 
 /// Words with a text in place of `~`, the byte that it has so often, and what is said of them.
-const LONG: [(&str, &str, usize, &str); 4] = [
+const LONG: [(&str, &str, usize, &str); 5] = [
     (
         "|id|~",
         "d",
@@ -243,10 +279,16 @@ const LONG: [(&str, &str, usize, &str); 4] = [
         1000,
         "the texts are too long: with them the request has 1052 bytes of at most 1000",
     ),
+    (
+        "|--new|--prompt=~|id",
+        "p",
+        942,
+        "the texts are too long: with them the request has 1002 bytes of at most 1000",
+    ),
 ];
 
 /// Words of an askpass, and the id or what is said.
-const ASKED: [Row<'_>; 8] = [
+const ASKED: [Row<'_>; 11] = [
     (
         "|Enter passphrase for key '/home/me/.ssh/id_ed25519': ",
         "askpass:4119ca5c845ef1fe8cfd299c2339a09aa2efc09d",
@@ -265,13 +307,28 @@ const ASKED: [Row<'_>; 8] = [
         "askpass:772668c265bdf4ec5a85a856853aa00ba80cf2f4",
     ),
     ("|", "askpass:da39a3ee5e6b4b0d3255bfef95601890afd80709"),
-    ("", "one text is wanted"),
-    ("|one|two", "one text is wanted"),
+    (
+        "|--forget|Password for 'https://me@example.org': ",
+        "askpass:b12ddb00aab51058b3f4acc0ffb6289f5927b569",
+    ),
+    ("", "one text is wanted, and --forget may stand before it"),
+    (
+        "|one|two",
+        "one text is wanted, and --forget may stand before it",
+    ),
+    (
+        "|--forget",
+        "one text is wanted, and --forget may stand before it",
+    ),
+    (
+        "|--forget|one|two",
+        "one text is wanted, and --forget may stand before it",
+    ),
 ];
 
-/// Requests, each as a letter (`l`ook, `a`sk, `c`lear, pre`s`et and pro`b`e), of these words, and
+/// Requests, each as a letter (`l`ook, `a`sk, `c`lear, clear all (`r`), pre`s`et, pro`b`e), of these words, and
 /// their lines with ` ~ ` between them.
-const REQUESTS: [(&str, Row<'_>); 9] = [
+const REQUESTS: [(&str, Row<'_>); 11] = [
     (
         "l",
         ("|id", "GET_PASSPHRASE --data --no-ask id X X Passphrase+id"),
@@ -287,7 +344,15 @@ const REQUESTS: [(&str, Row<'_>); 9] = [
         "a",
         (
             "|--new|--prompt|X|Az09:._@/-|",
-            "GET_PASSPHRASE --data --repeat=1 Az09:._@/- X %58 Passphrase+Az09:._@/-",
+            "GET_PASSPHRASE --data --repeat=1 Az09:._@/- X %58 New+passphrase+for+Az09:._@/-",
+        ),
+    ),
+    ("r", ("|--forget-all|--homedir|d", "RELOADAGENT")),
+    (
+        "a",
+        (
+            "|--new|id|text",
+            "GET_PASSPHRASE --data --repeat=1 id X X text",
         ),
     ),
     (
@@ -451,6 +516,7 @@ fn put_request(out: &mut Vec<u8>, task: &Task<'_>, letter: u8) -> Result<(), All
         b'l' => task.line(&Request::Look),
         b'a' => task.line(&Request::Ask),
         b'c' => task.line(&Request::Clear),
+        b'r' => task.line(&Request::ClearAll),
         b's' => task.line(&Request::Preset {
             ttl: task.act.ttl(),
             secret: &secret,

@@ -1,6 +1,6 @@
 -- Bytes that a buffer takes one part after the other.
-use Rattle.std.{proofs.{Common.{◌≡◌, ◌<◌, ℕ, List, ◌++◌, length, take, get_or, ap, ◌∙◌, arith, length-append, append_assoc, Ok, Err, Result}, lemmas.List.Folds.length-flat_map-take}, specs.List.flat_map}
-use Rattle.passphrase_words.specs.Parts.{HasPushed}
+use Rattle.std.{proofs.{Common.{◌≡◌, ◌<◌, ℕ, Bool, true, false, refl, [], List, ◌++◌, length, take, get_or, ap, ◌∙◌, arith, length-append, append_assoc, Ok, Err, Result}, lemmas.List.Folds.length-flat_map-take}, specs.List.flat_map}
+use Rattle.passphrase_words.specs.{Parts.{HasPushed, default_front}, Texts.{description_by, description_or, escape_of, word_of}}
 
 -- two parts are one
 pub pushed_both : {E : Type 0} (one other before between after : List ℕ) (result : Result (Unit {0}) E) → between ≡ before ++ one → HasPushed other between result after
@@ -29,3 +29,8 @@ some_is_full word bytes before between after place full within so_far pushed = r
   full = omega (arith, pushed.full, ap (λ (b : List ℕ). length b) so_far, length-append before (flat_map word (take place bytes)), length-flat_map-take word bytes place 0 within);
   taken = tt;
 }
+
+-- the word of a description where none is given
+pub default_is : (is_new : Bool) (id : List ℕ) → word_of (description_or id (description_by is_new id [])) ≡ default_front is_new ++ flat_map escape_of id
+default_is true id = refl
+default_is false id = refl

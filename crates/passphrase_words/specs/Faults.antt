@@ -1,6 +1,6 @@
 -- What a user is told of words that aren't read.
-use Rattle.std.specs.{Prelude.{ℕ, ◌^◌, ◌-◌, min, Bool, List, ◌++◌, length, codes, decimal, Option, Some, None, if◌then◌else◌}, Str.bytes_eq}
-use Rattle.passphrase_words.specs.{Options.form_of, Texts.longest_line, declared.{fault.WordsFault.{WordsFault, TheVariants.{Unknown, Wants, Twice, Apart, Alone, Operands, Id, LongId, LongTexts, Askpass}}, options.Form.Form}}
+use Rattle.std.specs.{Prelude.{ℕ, ◌^◌, ◌-◌, min, Bool, List, ◌++◌, length, codes, decimal, Option, Some, if◌then◌else◌}, Str.bytes_eq}
+use Rattle.passphrase_words.specs.{Options.form_of, Texts.longest_line, declared.{fault.WordsFault.{WordsFault, TheVariants.{Unknown, Wants, Twice, Apart, Alone, NoId, Operands, Id, LongId, LongTexts, Askpass}}, options.Form.Form}}
 use Rattle.passphrase_words.specs.declared.options.Form.TheVariants.{Seconds}
 
 -- what the option wants
@@ -27,6 +27,9 @@ apart_text name other = name ++ codes " and " ++ other ++ codes " don't go toget
 abbrev pub alone_text : List ℕ → List ℕ
 alone_text name = name ++ codes " wants an ID alone"
 
+abbrev pub no_id_text : List ℕ
+no_id_text = codes "--forget-all wants no ID"
+
 abbrev pub operands_text : List ℕ
 operands_text = codes "an ID is wanted, and a DESCRIPTION may follow it"
 
@@ -37,7 +40,7 @@ abbrev pub long_id_text : List ℕ → List ℕ
 long_id_text id = codes "an ID has at most 50 bytes: " ++ id
 
 abbrev pub askpass_text : List ℕ
-askpass_text = codes "one text is wanted"
+askpass_text = codes "one text is wanted, and --forget may stand before it"
 
 abbrev pub fault_text : WordsFault → List ℕ
 fault_text (Unknown word) = unknown_text word.now
@@ -45,6 +48,7 @@ fault_text (Wants name what) = wants_text name.now what.now
 fault_text (Twice name) = twice_text name.now
 fault_text (Apart name other) = apart_text name.now other.now
 fault_text (Alone name) = alone_text name.now
+fault_text NoId = no_id_text
 fault_text Operands = operands_text
 fault_text (Id id) = id_text id.now
 fault_text (LongId id) = long_id_text id.now

@@ -2,6 +2,7 @@ pub mod Faults
 pub mod Ids
 pub mod Options
 pub mod Parts
+pub mod Questions
 pub mod Refusals
 pub mod Requests
 pub mod Rules

@@ -56,6 +56,11 @@ abbrev pub front_of : List (List ℕ) → Front
 front_of [] = Other
 front_of (word ∷ words) = front_word word
 
+-- the word that a description begins with where none is given
+abbrev pub default_front : Bool → List ℕ
+default_front true = codes "New+passphrase+for+"
+default_front false = codes "Passphrase+"
+
 -- the buffer of a line took these bytes, or has no room for them
 pub record HasPushed {E : Type 0} (bytes before : List ℕ) (result : Result (Unit {0}) E) (after : List ℕ) : Type 0 where
   pub full : OnErr result (MAX_LINE_LEN < length before + length bytes)

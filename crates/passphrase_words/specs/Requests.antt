@@ -1,13 +1,15 @@
--- The requests of a task, as lines (GnuPG manual, "Agent GET_PASSPHRASE", "Agent CLEAR_PASSPHRASE", "Agent PRESET_PASSPHRASE").
+-- The requests of a task, as lines (GnuPG manual, "Agent GET_PASSPHRASE", "Agent CLEAR_PASSPHRASE", "Agent PRESET_PASSPHRASE"). On
+-- RELOADAGENT an agent forgets all passphrases (GnuPG manual, "Controlling gpg-agent", SIGHUP).
 use Rattle.std.specs.{Prelude.{ℕ, ◌+◌, ◌/◌, ◌%◌, nat_lt, Bool, true, false, List, [], ◌∷◌, ◌++◌, codes, decimal, unwrap_or, Option, Some, None, if◌then◌else◌}, List.flat_map}
-use Rattle.passphrase_words.specs.{Tasks.TaskValue, declared.{task.Act.{Act, TheVariants.Give}, request.Request.{Request, TheVariants.{Look, Ask, Clear, Preset, Probe}}}}
+use Rattle.passphrase_words.specs.{Tasks.TaskValue, declared.{task.Act.{Act, TheVariants.Give}, request.Request.{Request, TheVariants.{Look, Ask, Clear, ClearAll, Preset, Probe}}}}
 
--- a look-up without a prompt, one with it, an id that is forgotten, a passphrase that is stored for so many seconds, and a request
--- that an agent which stores asks for a passphrase
+-- a look-up without a prompt, one with it, an id that is forgotten, all that is, a passphrase that is stored for so many seconds, and
+-- a request that an agent which stores asks for a passphrase
 pub data RequestValue : Type 0 where
   Looks : RequestValue
   Asks : RequestValue
   Clears : RequestValue
+  ClearsAll : RequestValue
   Presets : Option ℕ → List ℕ → RequestValue
   Probes : RequestValue
 
@@ -16,6 +18,7 @@ abbrev pub request_value : Request → RequestValue
 request_value Look = Looks
 request_value Ask = Asks
 request_value Clear = Clears
+request_value ClearAll = ClearsAll
 request_value (Preset ttl secret) = Presets ttl secret.now
 request_value Probe = Probes
 
@@ -55,6 +58,7 @@ abbrev pub line_of_request : TaskValue → RequestValue → List ℕ
 line_of_request task Looks = get_line task (options_of false true)
 line_of_request task Asks = get_line task (asking_options task.act)
 line_of_request task Clears = codes "CLEAR_PASSPHRASE " ++ task.id
+line_of_request task ClearsAll = codes "RELOADAGENT"
 line_of_request task (Presets ttl secret) =
     codes "PRESET_PASSPHRASE " ++ task.id ++ 32 ∷ (seconds_word ttl ++ 32 ∷ flat_map hex_of secret)
 line_of_request task Probes =

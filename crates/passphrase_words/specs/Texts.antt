@@ -1,5 +1,5 @@
 -- Texts as words of a request, in which the agent reads `+` as a blank and `%XX` as a byte (GnuPG manual, "Agent GET_PASSPHRASE").
-use Rattle.std.specs.{Prelude.{◌≡◌, ◌≤◌, ◌==◌, ℕ, false, true, List, [], ◌∷◌, ◌++◌, length, codes, Option, Some, None, if◌then◌else◌}, List.flat_map, Str.bytes_eq}
+use Rattle.std.specs.{Prelude.{◌≡◌, ◌≤◌, ◌==◌, ℕ, Bool, false, true, List, [], ◌∷◌, ◌++◌, length, codes, Option, Some, None, if◌then◌else◌}, List.flat_map, Str.bytes_eq}
 use Rattle.assuan_text.specs.{Blanks.is_blank, LineEnds.has_lf, declared.TheConstants.MAX_LINE_LEN}
 use Rattle.passphrase_words.specs.Ids.{is_id}
 
@@ -26,6 +26,11 @@ prompt_word (Some text) = word_of text
 abbrev pub description_or : List ℕ → List ℕ → List ℕ
 description_or id [] = codes "Passphrase " ++ id
 description_or id text = text
+
+-- what it is where a new passphrase is asked for, and none is given
+abbrev pub description_by : Bool → List ℕ → List ℕ → List ℕ
+description_by true id [] = codes "New passphrase for " ++ id
+description_by _ id text = text
 
 -- the words of a request for the prompt and the description
 abbrev pub texts_of : List ℕ → Option (List ℕ) → List ℕ → List ℕ

@@ -19,6 +19,8 @@ pub enum WordsFault<'a> {
     Apart(&'static str, &'static str),
     /// An option with more than an id.
     Alone(&'static str),
+    /// An operand where all is forgotten.
+    NoId,
     /// No operand, or too many.
     Operands,
     /// An id out of form.
@@ -62,6 +64,7 @@ impl WordsFault<'_> {
                 last: b" don't go together",
             },
             WordsFault::Alone(name) => ended(name.as_bytes(), b" wants an ID alone"),
+            WordsFault::NoId => ended(b"", b"--forget-all wants no ID"),
             WordsFault::Operands => {
                 ended(b"", b"an ID is wanted, and a DESCRIPTION may follow it")
             }
@@ -76,7 +79,9 @@ impl WordsFault<'_> {
                 third: digits.as_slice(),
                 last: b" bytes of at most 1000",
             },
-            WordsFault::Askpass => ended(b"", b"one text is wanted"),
+            WordsFault::Askpass => {
+                ended(b"", b"one text is wanted, and --forget may stand before it")
+            },
         }
     }
 }

@@ -9,6 +9,7 @@ mod fault;
 mod ids;
 mod laws;
 mod options;
+mod questions;
 mod request;
 mod rules;
 mod settings;

@@ -18,11 +18,12 @@ pub(crate) enum Form {
     Seconds,
 }
 
-const OPTIONS: [(&[u8], Form); 10] = [
+const OPTIONS: [(&[u8], Form); 11] = [
     (b"--new", Form::Flag),
     (b"--no-ask", Form::Flag),
     (b"--null", Form::Flag),
     (b"--forget", Form::Flag),
+    (b"--forget-all", Form::Flag),
     (b"--store", Form::Flag),
     (b"--cached", Form::Flag),
     (b"--prompt", Form::Text),

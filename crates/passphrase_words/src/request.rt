@@ -1,5 +1,5 @@
 //! The requests of `passphrase` to an agent, as lines (GnuPG manual, "Agent's Assuan protocol":
-//! GET_PASSPHRASE, PRESET_PASSPHRASE, CLEAR_PASSPHRASE). Pure; digits of a secret are overwritten.
+//! GET_PASSPHRASE, PRESET_PASSPHRASE, CLEAR_PASSPHRASE, RELOADAGENT). Pure; digits of a secret are overwritten.
 //! Begin with `Task::line`; the lines are `line_of_request` (`specs/Requests`).
 
 ghost use Rattle.std.specs.{Prelude.{◌≡◌, ◌≤◌, false, length, decimal}, List.flat_map};
@@ -28,6 +28,8 @@ pub enum Request<'a> {
     Ask,
     /// What is kept is forgotten.
     Clear,
+    /// All that is kept is, under whatever id.
+    ClearAll,
     /// The passphrase is stored for so many seconds.
     Preset {
         /// None: as long as the agent runs.
@@ -48,6 +50,7 @@ impl Task<'_> {
             Request::Look => self.get(b"--data --no-ask "),
             Request::Ask => self.get(asking_options(self.act)),
             Request::Clear => self.clear(),
+            Request::ClearAll => line_of(&[b"RELOADAGENT"]),
             Request::Preset { ttl, secret } => self.preset(*ttl, secret),
             Request::Probe => self.probe(),
         }

@@ -7,8 +7,9 @@ ghost use Rattle.std.specs.{Prelude.{Some, IfSome}, List.list_all};
 ghost use Rattle.assuan_text.specs.Rows.{pairs_of};
 ghost use Rattle.passphrase_words.specs.{Faults.fault_text, Parts.settings};
 ghost use Rattle.passphrase_words.specs.Refusals.{task_fault, pairs_fault, alone_fault, alone_word};
+ghost use Rattle.passphrase_words.specs.Refusals.{operands_fault_text};
 ghost use Rattle.passphrase_words.specs.Rules.{IsTask, is_apart, wants_id_alone, are_counted};
-ghost use Rattle.passphrase_words.specs.Rules.{is_alone_or_free, act_of};
+ghost use Rattle.passphrase_words.specs.Rules.{is_alone_or_free, act_of, id_given};
 ghost use Rattle.passphrase_words.specs.Tasks.{TaskValue, task_value};
 
 use crate::ids::id_of;
@@ -17,7 +18,7 @@ use crate::texts::texts_of;
 use crate::{Act, Task, WordsFault};
 
 /// Options that can't be given together.
-const EXCLUDED: [(&str, &str); 17] = [
+const EXCLUDED: [(&str, &str); 25] = [
     ("--new", "--forget"),
     ("--new", "--store"),
     ("--new", "--cached"),
@@ -35,6 +36,14 @@ const EXCLUDED: [(&str, &str); 17] = [
     ("--forget", "--null"),
     ("--store", "--null"),
     ("--cached", "--null"),
+    ("--forget-all", "--new"),
+    ("--forget-all", "--forget"),
+    ("--forget-all", "--store"),
+    ("--forget-all", "--cached"),
+    ("--forget-all", "--no-ask"),
+    ("--forget-all", "--ttl"),
+    ("--forget-all", "--null"),
+    ("--forget-all", "--prompt"),
 ];
 
 /// The task of the options in front of the words, and of these operands.
@@ -53,11 +62,12 @@ pub(crate) fn task_from<'a>(
     check_each(words)?;
     check_pairs(words, &EXCLUDED)?;
     check_alone(words, operands)?;
-    let Some((name, description)) = id_and_description(operands) else {
-        return Err(WordsFault::Operands);
+    let Some((name, description)) = id_and_description(words, operands) else {
+        return Err(operands_fault(words));
     };
     let id = id_of(name)?;
-    let texts = texts_of(&id, value_given(words, "--prompt"), description)?;
+    let prompt = value_given(words, "--prompt");
+    let texts = texts_of(&id, prompt, is_set(words, "--new"), description)?;
     Ok(Task {
         folder: value_given(words, "--homedir"),
         seconds: seconds_given(words, "--timeout"),
@@ -120,13 +130,21 @@ fn alone(words: &[String]) -> Option<&'static str>
     }
 }
 
-/// The id, and the description or an empty one.
-fn id_and_description(operands: &[String]) -> Option<(&str, &str)>
-    ensures counted { is_some result ≡ are_counted (map string_bytes operands.entry.now) }
-    ensures texts { MatchOption result (are_counted (map string_bytes operands.entry.now) ≡ false)
-        (λ texts. (texts.0.now ≡ get_or (map string_bytes operands.entry.now) 0 [])
-        × (texts.1.now ≡ get_or (map string_bytes operands.entry.now) 1 [])) }
+/// The id, and the description or an empty one. Where all is forgotten there is no operand.
+fn id_and_description<'a>(words: &[String], operands: &'a [String]) -> Option<(&'a str, &'a str)>
+    ensures counted { is_some result ≡ are_counted (settings (map string_bytes words.now))
+        (map string_bytes operands.entry.now) }
+    ensures texts { let given = settings (map string_bytes words.now) in
+        let these = map string_bytes operands.entry.now in
+        MatchOption result (are_counted given these ≡ false)
+        (λ texts. (texts.0.now ≡ id_given given these) × (texts.1.now ≡ get_or these 1 [])) }
 {
+    if is_set(words, "--forget-all") {
+        return match operands {
+            [] => Some(("all", "")),
+            _ => None,
+        };
+    }
     match operands {
         [id] => Some((id, "")),
         [id, description] => Some((id, description)),
@@ -134,11 +152,24 @@ fn id_and_description(operands: &[String]) -> Option<(&str, &str)>
     }
 }
 
+/// What is told of operands that are too many or too few.
+fn operands_fault(words: &[String]) -> WordsFault<'static>
+    ensures { fault_text result ≡ operands_fault_text (settings (map string_bytes words.now)) }
+{
+    if is_set(words, "--forget-all") {
+        WordsFault::NoId
+    } else {
+        WordsFault::Operands
+    }
+}
+
 /// What is to be done.
 fn act_of(words: &[String]) -> Act
     ensures { result ≡ act_of (settings (map string_bytes words.now)) }
 {
-    if is_set(words, "--forget") {
+    if is_set(words, "--forget-all") {
+        Act::ForgetAll
+    } else if is_set(words, "--forget") {
         Act::Forget
     } else if is_set(words, "--store") {
         Act::Store

@@ -35,6 +35,8 @@ pub enum Act {
     Cached,
     /// Has what is kept forgotten.
     Forget,
+    /// Has all that is kept forgotten (`--forget-all`), under whatever id.
+    ForgetAll,
     /// Stores the line on standard input.
     Store,
 }

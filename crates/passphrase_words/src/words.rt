@@ -2,16 +2,18 @@
 //! Pure. Begin with `read_words` and `read_askpass`; how they are read says `specs/Words`.
 
 ghost use Rattle.std.specs.Prelude.{◌≡◌, ◌∷◌, [], ℕ, List, Some, None, IfOk, IfErr, MatchResult};
-ghost use Rattle.std.specs.Prelude.{map, string_bytes};
+ghost use Rattle.std.specs.{Prelude.{map, string_bytes}, Option.option_map};
 ghost use Rattle.passphrase_words.specs.Faults.{fault_text};
 ghost use Rattle.passphrase_words.specs.Parts.{rest_of, settings, front_of, front_word};
 ghost use Rattle.passphrase_words.specs.Refusals.{Refuses, askpass_fault, unread_text};
+ghost use Rattle.passphrase_words.specs.Rules.{askpass_asked};
 ghost use Rattle.passphrase_words.specs.Spelling.{operands_of};
 ghost use Rattle.passphrase_words.specs.Tasks.{TaskValue, WantedValue, task_value, wanted_value};
 ghost use Rattle.passphrase_words.specs.Words.{Reads, ReadsAskpass, asks_for_help};
 
 use crate::ids::{askpass_id, begins_with_dash};
 use crate::options::takes;
+use crate::questions::prompt_for;
 use crate::rules::task_from;
 use crate::settings::{rest_of, wish};
 use crate::texts::texts_of;
@@ -23,9 +25,10 @@ usage: passphrase [--homedir DIR] [--timeout SECONDS] [--new | --no-ask] [--ttl 
 [--prompt TEXT] [--null] ID [DESCRIPTION]
        passphrase [--homedir DIR] [--timeout SECONDS] --cached ID
        passphrase [--homedir DIR] [--timeout SECONDS] --forget ID
+       passphrase [--homedir DIR] [--timeout SECONDS] --forget-all
        passphrase [--homedir DIR] [--timeout SECONDS] --store ID < FILE
        passphrase --help | --version
-       passphrase-askpass TEXT
+       passphrase-askpass [--forget] TEXT
 ";
 
 /// What a command line asks for.
@@ -143,7 +146,8 @@ fn unread(word: &str) -> WordsFault<'_>
     }
 }
 
-/// Reads the words of an askpass, without the program's name: one text, which the prompt shows.
+/// Reads the words of an askpass, without the program's name: one text, which the prompt shows, and
+/// before it `--forget` where its passphrase is to be forgotten.
 pub fn read_askpass(words: &[String]) -> Result<Task<'_>, WordsFault<'_>>
     ensures read { IfOk result
         (λ task. ReadsAskpass (map string_bytes words.entry.now) (task_value task)) }
@@ -152,21 +156,39 @@ pub fn read_askpass(words: &[String]) -> Result<Task<'_>, WordsFault<'_>>
     ensures told { IfErr result (λ fault. askpass_fault (map string_bytes words.entry.now)
         ≡ Some (fault_text fault)) }
 {
-    let [text] = words else {
+    let Some((text, act)) = askpass_asked(words) else {
         return Err(WordsFault::Askpass);
     };
     let id = askpass_id(text);
-    let texts = texts_of(&id, None, text)?;
+    let texts = texts_of(&id, prompt_for(text), false, text)?;
     Ok(Task {
         folder: None,
         seconds: None,
-        act: Act::Give {
-            repeats: false,
-            quiet: false,
-            ttl: None,
-            feeds: true,
-        },
+        act,
         id,
         texts,
     })
 }
+
+/// The text that an askpass is called with, and what is to be done for it.
+fn askpass_asked(words: &[String]) -> Option<(&str, Act)>
+    ensures { option_map (λ asked. (asked.0.now, asked.1)) result
+        ≡ askpass_asked (map string_bytes words.entry.now) }
+{
+    match words {
+        [text] if text.as_str() != FORGETS => Some((text, ASKS)),
+        [word, text] if word.as_str() == FORGETS => Some((text, Act::Forget)),
+        _ => None,
+    }
+}
+
+/// By this word the passphrase of an askpass's text is forgotten.
+const FORGETS: &str = "--forget";
+
+/// What an askpass does with a text alone.
+const ASKS: Act = Act::Give {
+    repeats: false,
+    quiet: false,
+    ttl: None,
+    feeds: true,
+};

@@ -11,9 +11,10 @@ for command in passphrase dogwoodcatch-passphrase
     complete -c $command -l null -d 'Print no line feed'
     complete -c $command -l cached -d 'Tell whether one is kept'
     complete -c $command -l forget -d 'Forget what is kept'
+    complete -c $command -l forget-all -d 'Forget all that is kept'
     complete -c $command -l store -d 'Keep the line on standard input'
     complete -c $command -l help -d 'Print how the command is used'
     complete -c $command -l version -d 'Print the version'
 end
-# Its only word is a text.
-complete -c passphrase-askpass -f
+# Its other word is a text.
+complete -c passphrase-askpass -f -l forget -d 'Forget what was typed for the text'

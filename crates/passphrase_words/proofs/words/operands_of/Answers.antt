@@ -1,4 +1,4 @@
-use Rattle.std.proofs.{Common.{refl, map, string_bytes, rules, arith}, lemmas.Grind.common_steps}
+use Rattle.std.proofs.{Common.{map, string_bytes, rules, arith}, lemmas.Grind.common_steps}
 use Rattle.passphrase_words.proofs.words.operands_of.Goals as goal
 
 pub returns-then-begins_with_dash : goal.returns-then-begins_with_dash
