@@ -31,7 +31,8 @@ limits =
     ∷ codes "inactivity-timeout"
     ∷ []
 
--- those of them that hold of this agent whether they are set or not: it has no other socket's cache, no scdaemon, and refuses a passphrase that is too weak
+-- those of them that hold of this agent whether they are set or not: it signs nothing, has no cache beside its own and no scdaemon,
+-- and refuses a passphrase that is too weak
 abbrev pub kept_anyway : List (List ℕ)
 kept_anyway =
     codes "enforce-passphrase-constraints"

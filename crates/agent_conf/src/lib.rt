@@ -41,7 +41,7 @@ pub use rules::{Mode, PROMPT_SECONDS};
 pub use setting::{Place, Setting};
 pub use start::{CALIBRATION, Start, StartFault, read_start};
 pub use table::{Row, Takes, Unkept, row_of};
-pub use telling::told_text;
+pub use telling::{printable_text, told_text};
 pub use told::Told;
 pub use verdict::{Passed, Refusal, Verdict};
 

@@ -112,7 +112,8 @@ fn shown(alloc: Global, text: &[u8]) -> Result<Vec<u8>, AllocError>
     joined(alloc, &[&told, b".."])
 }
 
-fn printable_text(alloc: Global, text: &[u8]) -> Result<Vec<u8>, AllocError>
+/// Bytes as a line of a terminal or a log can hold them.
+pub fn printable_text(alloc: Global, text: &[u8]) -> Result<Vec<u8>, AllocError>
     ensures { IfOk result (λ all. all.items ≡ printable text.now) }
 {
     let mut all = Vec::new(alloc);

@@ -20,6 +20,8 @@ use std::time;
 
 /// Serves one session on a link that came in by this door, with parts of its own from the host, and
 /// gives the pass back. It may wait for the turns of other sessions.
+// Not inlined, so that its frames lie below its caller's, who overwrites them.
+#[inline(never)]
 pub fn serve_one<W: Wait + time::Clock, H: Host>(
     rt: &W,
     alloc: Global,

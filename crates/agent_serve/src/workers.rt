@@ -22,6 +22,7 @@ use std::alloc::Global;
 use std::sync::Wait;
 use std::thread::Threads;
 use std::time;
+use wiping::wipe_stack;
 
 /// What the workers of a listener share.
 #[derive(Drop)]
@@ -104,6 +105,8 @@ where
             &mut link,
             self.door,
         );
+        // A worker may wait for long: the session's own frames had passphrases in hand.
+        wipe_stack();
         origin.take_back(link);
         self.stop_after(end, &pass, ear);
         pass

@@ -1,6 +1,7 @@
 -- What a run of the agent in gpg-agent's place leaves, from the bytes of its files of options to the bytes of its answers, and its status (GnuPG manual,
 -- "Agent Configuration"). How it is told of options, and the statuses, are this project's own.
 use Rattle.std.specs.{Prelude.{◌≡◌, ◌≤◌, ℕ, Bool, true, false, List, [], ◌∷◌, ◌++◌, length, codes, Option, None, Some, IfSome, Result, Ok, Err, ⊤}}
+use Rattle.printable.specs.Printables.{printable}
 use Rattle.agent_conf.specs.{Starts.{IsStart, texts_of, told_of}, Telling.told_text, Verdicts.{Told, has_refusal}, declared.{rules.Mode.{Mode, TheVariants.{Serve, Detach, Stay, Check}}, setting.Place.{Place, TheVariants.{Machine, Home, Words}}, start.Start.Start}}
 use Rattle.agent_ports.specs.{ConfFiles.{ConfState, ReadsConf}, Counts.Rose, Sides.{Side, IfCut, IsCut, sent_part, with_bytes}, HostParts.Views, declared.{conf.ConfRead.ConfRead, host.Parts.Parts, link.Sent.Sent}}
 use Rattle.agent_ports.specs.declared.conf.ConfRead.TheVariants as read
@@ -38,10 +39,10 @@ pub data ReadsNone (before : ConfState) (ends : Status) : ConfState → Type 0 w
   no_home : {machine_read answer : ConfRead} {machine_text : Option (List ℕ)} {between after : ConfState} → ReadsConf before.machine before machine_read between
       → found_in machine_read ≡ Some machine_text → ReadsConf between.home between answer after → EndsBy answer ends → ReadsNone before ends after
 
--- the path of the file that a setting stands in, and what parts it from the line's number
+-- the path of the file that a setting stands in, as a line can hold it, and what parts it from the line's number
 abbrev pub file_text : StartPlace → Place → List ℕ
-file_text place Machine = place.machine_file.now ++ codes ", "
-file_text place Home = place.home_file.now ++ codes ", "
+file_text place Machine = printable place.machine_file.now ++ codes ", "
+file_text place Home = printable place.home_file.now ++ codes ", "
 file_text place Words = []
 
 -- the line by which it is told of a setting: who tells it, which file it stands in, and what becomes of it
@@ -62,11 +63,12 @@ pub data Tells (place : StartPlace) (before : Side) : List Told → Side → Typ
   one_more : (told : List Told) (one : Told) {between after : Side} → Tells place before told between → Puts (told_line place one) between after
       → Tells place before (told ++ one ∷ []) after
 
--- some of them were told so, the first ones, and there was no memory for the others
+-- some of them were told so, the first ones, and there was no memory for the next one
 pub record TellsFirst (place : StartPlace) (before : Side) (told : List Told) (after : Side) : Type 0 where
   pub first : List Told
+  pub next : Told
   pub others : List Told
-  pub are : told ≡ first ++ others
+  pub are : told ≡ first ++ next ∷ others
   pub tells : Tells place before first after
 
 -- what is kept of a start whose settings were told
@@ -92,7 +94,8 @@ pub data MeansOptions (place : StartPlace) (words : List (List ℕ)) (machine_te
       → Tells place errors (told_in place machine_text home_text words) errors_now → MeansOptions place words machine_text home_text errors (Ok options) errors_now
   refused : {errors_now : Side} → has_refusal (told_in place machine_text home_text words) ≡ true
       → Tells place errors (told_in place machine_text home_text words) errors_now → MeansOptions place words machine_text home_text errors (Err status.BadWords) errors_now
-  no_memory : {errors_now : Side} → TellsFirst place errors (told_in place machine_text home_text words) errors_now
+  no_memory : MeansOptions place words machine_text home_text errors (Err status.NoMemory) errors
+  no_memory_to_tell : {errors_now : Side} → TellsFirst place errors (told_in place machine_text home_text words) errors_now
       → MeansOptions place words machine_text home_text errors (Err status.NoMemory) errors_now
 
 -- The options were read: both files, and what they mean with the words; or a file couldn't be read, and then nothing is told here.
@@ -167,8 +170,10 @@ is_check Detach = false
 is_check Stay = false
 is_check Check = true
 
--- what a run of an agent has to do with: both sides of its link, and of its host the parts, how many calls for a link failed, the process and the folder
-pub record Around (La C R K : Type 0) : Type 0 where
+-- what a run of an agent has to do with: its host, and as they are seen both sides of its link, the host's parts, how many calls for a link failed, the process
+-- and the folder
+pub record Around (H La C R K : Type 0) : Type 0 where
+  pub host : H
   pub input : Side
   pub output : Side
   pub server : Option (Parts La C R K)
@@ -176,9 +181,9 @@ pub record Around (La C R K : Type 0) : Type 0 where
   pub process : ℕ
   pub homedir : List ℕ
 
-module _ {Ls E Li La C R K T : Type 0} (views : List ℕ → HostViews Ls E Li La C R K T) where
+module _ {H Ls E Li La C R K T : Type 0} (views : List ℕ → HostViews Ls E Li La C R K T) where
   -- a session was served on standard input and output, with the key files of the rules' folder
-  abbrev pub ServesOne : Rules → Around La C R K → ℕ → Around La C R K → Type 0
+  abbrev pub ServesOne : Rules → Around H La C R K → ℕ → Around H La C R K → Type 0
   ServesOne rules before number after =
       UsesParts (λ had has. RunsServer rules
       (in_folder rules (machine before.input before.output ((views rules.homedir.items).parts.readings had.clock) ((views rules.homedir.items).parts.launches had.launcher)
@@ -188,13 +193,13 @@ module _ {Ls E Li La C R K T : Type 0} (views : List ℕ → HostViews Ls E Li L
       before.server after.server
 
   -- a daemon's sessions were served; nothing is read of standard input, and the host keeps its parts
-  abbrev pub ServesMany : Rules → Around La C R K → ℕ → Around La C R K → Type 0
+  abbrev pub ServesMany : Rules → Around H La C R K → ℕ → Around H La C R K → Type 0
   ServesMany rules before number after =
       RunsDaemon (views rules.homedir.items) rules before.listens before.output number after.listens after.output
       × (after.input ≡ before.input) × KeepsParts (views rules.homedir.items).parts rules.homedir.items before.server after.server
 
   -- one of both, by the rules, in the rules' folder
-  pub record Serves (rules : Rules) (before : Around La C R K) (number : ℕ) (after : Around La C R K) : Type 0 where
+  pub record Serves (rules : Rules) (before : Around H La C R K) (number : ℕ) (after : Around H La C R K) : Type 0 where
     pub one : IfServer rules.run (ServesOne rules before number after)
     pub many : IfDaemon rules.run (ServesMany rules before number after)
     pub homedir : after.homedir ≡ rules.homedir.items
@@ -202,9 +207,9 @@ module _ {Ls E Li La C R K T : Type 0} (views : List ℕ → HostViews Ls E Li L
 
   -- The agent read its options and served by the rules that they mean; or it served nothing, since it was only to tell what becomes of them, or the start was
   -- turned away, or there are no options. Then nothing of standard input is read, nothing is written on standard output, and the host is as it was.
-  pub data RunsGpgAgent (place : StartPlace) (words : List (List ℕ)) (files : ConfState) (starter : StarterState) (errors : Side) (before : Around La C R K)
-      : ℕ → ConfState → StarterState → Side → Around La C R K → Type 0 where
-    ran : {options : Options} {rules : Rules} {number : ℕ} {files_now : ConfState} {admitted starter_now : StarterState} {errors_now : Side} {after : Around La C R K}
+  pub data RunsGpgAgent (place : StartPlace) (words : List (List ℕ)) (files : ConfState) (starter : StarterState) (errors : Side) (before : Around H La C R K)
+      : ℕ → ConfState → StarterState → Side → Around H La C R K → Type 0 where
+    ran : {options : Options} {rules : Rules} {number : ℕ} {files_now : ConfState} {admitted starter_now : StarterState} {errors_now : Side} {after : Around H La C R K}
         → ReadsOptions place words files errors (Ok options) files_now errors_now → is_check options.mode ≡ false
         → Admits options.forces_network_home true starter admitted → AreFound options before.process admitted rules starter_now → Serves rules before number after
         → RunsGpgAgent place words files starter errors before number files_now starter_now errors_now after

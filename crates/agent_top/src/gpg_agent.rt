@@ -77,6 +77,7 @@ where
     requires { IsSome (H.server host.old) }
     ensures { RunsGpgAgent ⟦<H as ViewedHost>⟧.views place.now (map string_bytes words.now)
         (F.confs files.old) (P.starter starter.old) (E.output errors.old) (record {
+          host = host.old;
           input = S.input stdio.old;
           output = S.output stdio.old;
           server = H.server host.old;
@@ -84,6 +85,7 @@ where
           process = H.process host.old;
           homedir = H.homedir host.old;
         }) result (F.confs files.new) (P.starter starter.new) (E.output errors.new) (record {
+          host = host.new;
           input = S.input stdio.new;
           output = S.output stdio.new;
           server = H.server host.new;

@@ -6,7 +6,7 @@ ghost use Rattle.agent_conf.specs.{Told.told_by};
 ghost use Rattle.agent_top.specs.GpgAgent.{Tells, TellsFirst, file_text, told_line};
 
 use crate::gpg_agent::reading::StartPlace;
-use agent_conf::{Place, Told, told_text};
+use agent_conf::{Place, Told, printable_text, told_text};
 use agent_ports::Sink;
 use std::alloc::{AllocError, Global};
 
@@ -34,7 +34,7 @@ fn told_line(alloc: Global, place: &StartPlace<'_>, told: &Told<'_>) -> Result<V
     ensures { IfOk result (λ line. line.items ≡ told_line place.now (told_by told.now)) }
 {
     let mut line = Vec::from_slice(alloc, place.program)?;
-    put_file(&mut line, place, told.setting.place)?;
+    put_file(alloc, &mut line, place, told.setting.place)?;
     let text = told_text(alloc, told)?;
     line.extend_from_slice(&text)?;
     line.push(b'\n')?;
@@ -42,7 +42,12 @@ fn told_line(alloc: Global, place: &StartPlace<'_>, told: &Told<'_>) -> Result<V
 }
 
 /// The path of the file that a setting stands in.
-fn put_file(line: &mut Vec<u8>, place: &StartPlace<'_>, file: Place) -> Result<(), AllocError>
+fn put_file(
+    alloc: Global,
+    line: &mut Vec<u8>,
+    place: &StartPlace<'_>,
+    file: Place,
+) -> Result<(), AllocError>
     ensures { IfOk result (λ done. line.new.items
         ≡ line.old.items ++ file_text place.now file) }
 {
@@ -51,6 +56,7 @@ fn put_file(line: &mut Vec<u8>, place: &StartPlace<'_>, file: Place) -> Result<(
         Place::Home => place.home_file,
         Place::Words => return Ok(()),
     };
-    line.extend_from_slice(path)?;
+    let path = printable_text(alloc, path)?;
+    line.extend_from_slice(&path)?;
     line.extend_from_slice(b", ")
 }

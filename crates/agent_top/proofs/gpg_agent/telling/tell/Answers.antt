@@ -9,7 +9,7 @@ loop-one-init g c = nothing
 pub returns-in_err-line : goal.returns-in_err-line
 returns-in_err-line g c =
     let p = err_from_is_err_and c.from_residual.result c.from_residual.ensures.1 in
-    rw p.1 (tells_first c.args.told.now c.loop-one.one-index c.loop-one.invariant)
+    rw p.1 (tells_first c.args.told.now c.loop-one.one-index c.loop-one-test.true c.loop-one.invariant)
 
 pub loop-one-preserved : goal.loop-one-preserved
 loop-one-preserved g c =
