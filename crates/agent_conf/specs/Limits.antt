@@ -1,8 +1,8 @@
 -- Which of gpg-agent's options limit (GnuPG manual, "Agent Options"): how long a passphrase is kept or a prompt stays, which new passphrases
 -- are taken and how often they are hashed, and what clients and users are forbidden.
 use Rattle.std.specs.{Prelude.{ℕ, Bool, true, false, not, ◌||◌, List, [], ◌∷◌, codes}, List.list_any, Str.bytes_eq}
-use Rattle.agent_conf.specs.declared.table.Row.{Row, TheVariants.{Number, Flag, Pinentry, ExtraSocket, IgnoresNames, SoAnyway, Unkept, LimitsNothing, Folder, OfWords, Supervised}}
-use Rattle.agent_conf.specs.declared.verdict.Verdict.{Verdict, TheVariants.{Kept, Nearest, PassedOver, Refused}}
+use Rattle.agent_conf.specs.declared.table.Row.{Row, TheVariants.{Number, Flag, ExtraSocket, IgnoresNames, SoAnyway, Unkept, LimitsNothing, Folder, OfWords, Supervised}}
+use Rattle.agent_conf.specs.declared.verdict.Verdict.{Verdict, TheVariants.{PassedOver}}
 
 abbrev pub limits : List (List ℕ)
 limits =
@@ -48,29 +48,15 @@ is_named names name = list_any (λ one. bytes_eq one name) names
 abbrev pub holds_by : List ℕ → Row → Bool
 holds_by name (Number range) = true
 holds_by name Flag = true
-holds_by name Pinentry = false
-holds_by name ExtraSocket = false
-holds_by name IgnoresNames = false
 holds_by name SoAnyway = is_named kept_anyway name
 holds_by name (Unkept unkept takes) = true
-holds_by name (LimitsNothing takes) = false
-holds_by name Folder = false
-holds_by name (OfWords takes) = false
-holds_by name Supervised = false
+holds_by name _ = false
 
 -- a row of a number, or of what can't be kept, is one of a limit
 abbrev pub is_limit : Row → Bool
 is_limit (Number range) = true
-is_limit Flag = false
-is_limit Pinentry = false
-is_limit ExtraSocket = false
-is_limit IgnoresNames = false
-is_limit SoAnyway = false
 is_limit (Unkept unkept takes) = true
-is_limit (LimitsNothing takes) = false
-is_limit Folder = false
-is_limit (OfWords takes) = false
-is_limit Supervised = false
+is_limit _ = false
 
 -- a row of the table is one of a limit only where it is listed above
 abbrev pub is_listed : List ℕ × Row → Bool
@@ -78,20 +64,14 @@ is_listed row = not (is_limit row.1) || is_named limits row.0
 
 -- what an option of this row is set to may be passed over
 abbrev pub may_pass : Row → Bool
-may_pass (Number range) = false
-may_pass Flag = false
-may_pass Pinentry = false
 may_pass ExtraSocket = true
 may_pass IgnoresNames = true
-may_pass SoAnyway = false
-may_pass (Unkept unkept takes) = false
 may_pass (LimitsNothing takes) = true
 may_pass Folder = true
 may_pass (OfWords takes) = true
 may_pass Supervised = true
+may_pass _ = false
 
 abbrev pub is_passed_over : Verdict → Bool
 is_passed_over (PassedOver passed) = true
-is_passed_over Kept = false
-is_passed_over (Nearest kept) = false
-is_passed_over (Refused refusal) = false
+is_passed_over _ = false

@@ -1,5 +1,5 @@
 -- What is told of a setting, as a line without its end and without the path of the file, which whoever tells it knows. All of it is this project's own.
-use Rattle.std.specs.{Prelude.{ℕ, ◌==◌, ◌&&◌, nat_le, List, [], ◌∷◌, ◌++◌, length, take, codes, decimal, unwrap_or, Bool, true, false, if◌then◌else◌}, List.flat_map}
+use Rattle.std.specs.{Prelude.{ℕ, ◌==◌, ◌&&◌, nat_le, List, [], ◌∷◌, length, take, codes, decimal, unwrap_or, Bool, true, false, if◌then◌else◌}, List.flat_map}
 use Rattle.{printable.specs.Printables.printable, agent_conf.specs.{Settled.option_of, Verdicts.{Told, by_place}, Written.Written, declared.telling.TheConstants.MAX_TOLD}}
 use Rattle.agent_conf.specs.declared.{verdict.{Passed.Passed, Refusal.Refusal, Verdict.{Verdict, TheVariants.{Kept, Nearest, PassedOver, Refused}}}, table.Unkept.Unkept}
 use Rattle.agent_conf.specs.declared.verdict.Passed.TheVariants as passed

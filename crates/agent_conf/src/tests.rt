@@ -355,14 +355,16 @@ const REFUSED: [Row; 26] = [
         b"",
         "--homedir= --supervised",
         "refused",
-        "a word of the command line keeps the agent from starting: --homedir= (it wants a folder, whose path has at most 200 bytes)\na word of the command line keeps the agent from starting: --supervised (sockets that a service manager hands over aren't taken: use --no-detach)\n",
+        "a word of the command line keeps the agent from starting: --homedir= (it wants a folder, whose path has at most 200 bytes)\n\
+         a word of the command line keeps the agent from starting: --supervised (sockets that a service manager hands over aren't taken: use --no-detach)\n",
     ),
     (
         b"",
         b"inactivity-timeout 60\n",
         "xterm -q",
         "refused",
-        "line 1, keeps the agent from starting: inactivity-timeout 60 (the agent stays when nobody calls it: take it out, or leave this folder to GnuPG's own agent)\na word of the command line keeps the agent from starting: xterm (no command is run beside the agent: start it by itself)\n",
+        "line 1, keeps the agent from starting: inactivity-timeout 60 (the agent stays when nobody calls it: take it out, or leave this folder to GnuPG's own agent)\n\
+         a word of the command line keeps the agent from starting: xterm (no command is run beside the agent: start it by itself)\n",
     ),
     (
         b"",
@@ -376,14 +378,16 @@ const REFUSED: [Row; 26] = [
         b"keep-tty\nallow-loopback-pinentry no\n",
         "",
         "refused",
-        "line 1, keeps the agent from starting: keep-tty (the agent asks in the terminal that its client names: take it out, or leave this folder to GnuPG's own agent)\nline 2, keeps the agent from starting: allow-loopback-pinentry no (it has no value: take the value out, or the line)\n",
+        "line 1, keeps the agent from starting: keep-tty (the agent asks in the terminal that its client names: take it out, or leave this folder to GnuPG's own agent)\n\
+         line 2, keeps the agent from starting: allow-loopback-pinentry no (it has no value: take the value out, or the line)\n",
     ),
     (
         b"force-network-home=1\n",
         b"s2k-calibration 100000\n",
         "",
         "refused",
-        "line 1, keeps the agent from starting: force-network-home=1 (it has no value: take the value out, or the line)\nline 1, keeps the agent from starting: s2k-calibration 100000 (the agent counts up to 99999, which is laxer: write at most 99999)\n",
+        "line 1, keeps the agent from starting: force-network-home=1 (it has no value: take the value out, or the line)\n\
+         line 1, keeps the agent from starting: s2k-calibration 100000 (the agent counts up to 99999, which is laxer: write at most 99999)\n",
     ),
 ];
 
